@@ -1,0 +1,9 @@
+pub mod Numbers
+pub mod Aligned
+pub mod Frees
+pub mod Counts
+pub mod Unique
+pub mod Values
+pub mod Decimals
+pub mod Cuts
+pub mod RoundTrip

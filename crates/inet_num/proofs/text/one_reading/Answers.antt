@@ -1,0 +1,5 @@
+use Rattle.inet_num.proofs.RoundTrip.{reading_is_one}
+use Rattle.inet_num.proofs.text.one_reading.Goals as goal
+
+pub returns : goal.returns
+returns c = reading_is_one

@@ -1,0 +1,5 @@
+pub mod Net
+pub mod Text
+pub mod Fault
+pub mod Free
+pub mod Count
