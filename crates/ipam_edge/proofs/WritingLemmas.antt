@@ -1,0 +1,23 @@
+-- What a writer's sink gained, step by step.
+use Rattle.std.proofs.Common.{◌∙◌, List, ◌++◌, ℕ, Option, Result, Ok, Err, IsErr, sym, ap, append_assoc}
+use Rattle.std.specs.Io.KnownBytes.{Appends}
+use Rattle.std.proofs.KnownBytes.{Appends-trans}
+use Rattle.ipam_edge.specs.Writing.{AppendsFront, IsFrontOf, WritesAll}
+
+pub writes_at_err : {E : Type 0} (old new : Option (List ℕ)) (r : Result (Unit {0}) E) (text : List ℕ) → IsErr r → AppendsFront old new text → WritesAll old new r text
+writes_at_err old new (Ok x) text h f = cc h
+writes_at_err old new (Err e) text h f = f
+
+pub front_longer : (front text more : List ℕ) → IsFrontOf front text → IsFrontOf front (text ++ more)
+front_longer front text more h = (h.0 ++ more, ap (λ t. t ++ more) h.1 ∙ append_assoc front h.0 more)
+
+pub front_after : (before front text : List ℕ) → IsFrontOf front text → IsFrontOf (before ++ front) (before ++ text)
+front_after before front text h = (h.0, ap (λ t. before ++ t) h.1 ∙ sym (append_assoc before front h.0))
+
+-- a front of the text stays one of a longer text
+pub appends_front_longer : (old new : Option (List ℕ)) (text more : List ℕ) → AppendsFront old new text → AppendsFront old new (text ++ more)
+appends_front_longer old new text more h = (h.0, front_longer h.0 text more h.1, h.2)
+
+-- some text was written, and then a front of the next
+pub appends_front_after : (old mid new : Option (List ℕ)) (before text : List ℕ) → Appends old mid before → AppendsFront mid new text → AppendsFront old new (before ++ text)
+appends_front_after old mid new before text h f = (before ++ f.0, front_after before f.0 text f.1, Appends-trans _ _ _ _ _ h f.2)

@@ -1,0 +1,67 @@
+//! The outside: what bytes are read from and written to, the same objects over memory and over the
+//! standard streams. Every failure is counted, so that a program can show why it failed.
+#![tactic(auto)]
+
+mod memory;
+mod streams;
+
+ghost use Rattle.std.specs.Prelude.{◌≡◌, ◌<◌, ◌≤◌, ℕ, List, Option, IfOk, length};
+ghost use Rattle.std.specs.Io.KnownBytes.{ReadConsumes, WriteAppends};
+ghost use Rattle.ipam_edge.specs.Faults.{HasCause};
+ghost use Rattle.ipam_edge.specs.Writing.{WritesAll};
+
+pub use memory::{BytesSink, BytesSource};
+pub use streams::{StdSink, StdSource, standard_error, standard_input, standard_output};
+
+/// The object failed, and counted it.
+#[derive(Clone, Copy, Debug, PartialEq, Eq)]
+pub struct Failed;
+
+/// What bytes are read from.
+pub trait Source {
+    /// The bytes that reads will give from here on, where the object tells them. An object that
+    /// tells them goes on telling them.
+    ghost left: { Self → Option (List ℕ) };
+
+    /// How often it has failed so far: a count that never falls.
+    ghost faults: { Self → ℕ };
+
+    /// Reads the next bytes into the front of the piece, and says how many. Into a piece that is
+    /// not empty, 0 says that the input has ended, and at the end of a told input the answer is 0.
+    /// After `Failed` no told byte is lost; what the piece holds then is open.
+    fn read(&mut self, into: &mut [u8]) -> Result<usize, Failed>
+        ensures most { IfOk result (λ n. n ≤ length into.new) }
+        ensures took { ReadConsumes (left self.old) (left self.new) result into.new }
+        ensures cause { HasCause (faults self.old) (faults self.new) result };
+}
+
+/// What bytes are written to.
+pub trait Sink {
+    /// The bytes that were written so far, where the object tells them. An object that tells them
+    /// goes on telling them.
+    ghost written: { Self → Option (List ℕ) };
+
+    /// How often it has failed so far: a count that never falls.
+    ghost faults: { Self → ℕ };
+
+    /// Writes bytes from the front of the piece, and says how many: at least one, where the piece
+    /// is not empty. `Failed` wrote nothing.
+    fn write(&mut self, from: &[u8]) -> Result<usize, Failed>
+        ensures most { IfOk result (λ n. n ≤ length from.now) }
+        ensures some { IfOk result (λ n. 0 < length from.now → 0 < n) }
+        ensures gave { WriteAppends (written self.old) (written self.new) result from.now }
+        ensures cause { HasCause (faults self.old) (faults self.new) result };
+}
+
+/// Writes all of the bytes. `Failed` comes where a write failed, and then a front of the bytes was
+/// written, which may be empty.
+pub fn write_all<S: Sink>(sink: &mut S, bytes: &[u8]) -> Result<(), Failed>
+    ensures told { WritesAll (S.written sink.old) (S.written sink.new) result bytes.now }
+    ensures cause { HasCause (S.faults sink.old) (S.faults sink.new) result }
+{
+    let mut done = 0;
+    while done < bytes.len() {
+        done += sink.write(&bytes[done..])?;
+    }
+    Ok(())
+}
