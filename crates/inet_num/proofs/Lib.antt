@@ -1,6 +1,8 @@
 pub mod Numbers
 pub mod Aligned
 pub mod Frees
+pub mod Nested
+pub mod Available
 pub mod Counts
 pub mod Unique
 pub mod Values

@@ -4,8 +4,10 @@
 ghost use Rattle.std.specs.Prelude.{◌≡◌, ℕ, ◌+◌, ◌-◌, ◌*◌, ◌%◌, ◌^◌, ◌<◌, ◌≤◌, ◌↔◌, IsTrue, IfSome, IsSome, IsNone};
 ghost use Rattle.inet_num.specs.Net.{width_of, Address, IsAddress, Cidr, size_of, IsBlock, HasAddress, IsInside, IsStrictlyInside, low_half_of, high_half_of, block_at, first_of, last_of};
 
+mod plain;
 mod text;
 
+pub use plain::available_blocks_are_those;
 use std::marker::Model;
 pub use text::{TextFault, one_reading, read_block, write_block, writing_is_read};
 
