@@ -7,7 +7,7 @@ use Rattle.std.proofs.lemmas.Nat.{pow_pos}
 use Rattle.inet_num.specs.declared.Family.{Family}
 use Rattle.inet_num.specs.Net.{width_of, Cidr, IsBlock, size_of, IsInside, enclosing_of}
 use Rattle.inet_num.specs.Count.{numbers_from, addresses_of}
-use Rattle.inet_num.specs.Free.{IsFree, is_free, meets, is_inside, is_aligned, is_available, IsAvailable, blocks_at, available_blocks_of, InOrder, ListsAvailable, AvailableBlocksAreThose}
+use Rattle.inet_num.specs.Free.{IsFree, is_free, meets, is_inside, is_aligned, is_available, IsAvailable, blocks_at, picked_at, available_blocks_of, InOrder, ListsAvailable, AvailableBlocksAreThose}
 use Rattle.inet_num.proofs.Numbers.{inside_by_ends, ends_of_inside, block_fits}
 use Rattle.inet_num.proofs.Frees.{free_by_test, not_free_by_test}
 use Rattle.inet_num.proofs.Nested.{available_apart}
@@ -15,10 +15,10 @@ use Rattle.inet_num.proofs.Unique.{Member, Contains-from_Member, one_list}
 
 -- ---- the tests mean what they are named for
 
-inside_test : (b w : Cidr) → b.family ≡ w.family → is_inside b w ≡ true → IsInside b w
+pub inside_test : (b w : Cidr) → b.family ≡ w.family → is_inside b w ≡ true → IsInside b w
 inside_test b w same t = inside_by_ends b w same (grind (arith, nat_tests)) (grind (arith, nat_tests))
 
-inside_tested : (b w : Cidr) → IsInside b w → is_inside b w ≡ true
+pub inside_tested : (b w : Cidr) → IsInside b w → is_inside b w ≡ true
 inside_tested b w h = let ends = ends_of_inside b w h in let low = ends.0 in let high = ends.1 in grind (arith, nat_tests)
 
 free_test : (blocks : List Cidr) (b : Cidr) → is_free blocks b ≡ true → IsFree blocks b
@@ -125,9 +125,9 @@ pick within blocks a hw l (suc n) top = go (is_available within blocks c) refl (
       let hc = available_test within blocks c hw refl (omega arith) e in
       one c (ap (λ (bs : List Cidr). c ∷ bs) (none_after within blocks a c hw hc refl (l + 1) n (omega arith) (omega arith))) refl hc
 
-picked_at : (within : Cidr) (blocks : List Cidr) (a : ℕ) → IsBlock within → Picked within blocks a (filter (is_available within blocks) (blocks_at within a))
-unfolding blocks_at
-picked_at within blocks a hw = pick within blocks a hw 0 (width_of within.family + 1) (omega arith)
+picked : (within : Cidr) (blocks : List Cidr) (a : ℕ) → IsBlock within → Picked within blocks a (picked_at within blocks a)
+unfolding picked_at blocks_at
+picked within blocks a hw = pick within blocks a hw 0 (width_of within.family + 1) (omega arith)
 
 -- ---- the list is in order
 
@@ -166,12 +166,12 @@ record Listing (within : Cidr) (blocks : List Cidr) (a n : ℕ) (bs : List Cidr)
   each : AllByRecursion (IsAvailable within blocks) bs
   rising : Rising a bs
 
-listing : (within : Cidr) (blocks : List Cidr) → IsBlock within → (a n : ℕ) → Listing within blocks a n (flat_map (λ x. filter (is_available within blocks) (blocks_at within x)) (numbers_from a n))
+listing : (within : Cidr) (blocks : List Cidr) → IsBlock within → (a n : ℕ) → Listing within blocks a n (flat_map (picked_at within blocks) (numbers_from a n))
 unfolding numbers_from
 listing within blocks hw a zero = record { each = tt; rising = tt }
-listing within blocks hw a (suc n) = go (filter (is_available within blocks) (blocks_at within a)) (picked_at within blocks a hw) (listing within blocks hw (a + 1) n) where
+listing within blocks hw a (suc n) = go (picked_at within blocks a) (picked within blocks a hw) (listing within blocks hw (a + 1) n) where
   rest : List Cidr
-  rest = flat_map (λ x. filter (is_available within blocks) (blocks_at within x)) (numbers_from (a + 1) n)
+  rest = flat_map (picked_at within blocks) (numbers_from (a + 1) n)
 
   go : (bs : List Cidr) → Picked within blocks a bs → Listing within blocks (a + 1) n rest → Listing within blocks a (suc n) (bs ++ rest)
   go bs (nothing e) later = rw e (record { each = later.each; rising = rising_below a (a + 1) rest (omega arith) later.rising })
@@ -214,7 +214,7 @@ among_addresses f a (suc n) x m low high h = elim (cases_lt a x) [
 ]
 
 whole : (within : Cidr) (blocks : List Cidr) (m : Cidr) → IsAvailable within blocks m → Member (available_blocks_of within blocks) m
-unfolding available_blocks_of addresses_of blocks_at
+unfolding available_blocks_of addresses_of picked_at blocks_at
 whole within blocks m h =
     let ends = ends_of_inside m within h.inside in
     let some = pow_pos (width_of m.family - m.len) in
@@ -223,7 +223,7 @@ whole within blocks m h =
     let low = ends.0 in
     let high = ends.1 in
     let named : Member (blocks_at within m.first) m = subst (λ (f : Family). Member (map (λ k. record { family = f; first = m.first; len = k }) (numbers_from 0 (width_of within.family + 1))) m) h.inside.family (among_lengths m.family m.first 0 (width_of within.family + 1) m.len (omega arith) (omega arith)) in
-    among_addresses (λ x. filter (is_available within blocks) (blocks_at within x)) within.first (size_of within) m.first m low (omega arith)
+    among_addresses (picked_at within blocks) within.first (size_of within) m.first m low (omega arith)
     (passes within blocks (blocks_at within m.first) m (available_tested within blocks m h) named)
 
 -- the definition lists the available blocks
