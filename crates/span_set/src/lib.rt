@@ -2,9 +2,9 @@
 //! fewest aligned blocks.
 #![tactic(auto)]
 
-ghost use Rattle.std.specs.Prelude.{◌≡◌, ℕ, ◌<◌, ◌≤◌, ◌↔◌, ◌⊎◌, [], OnOk, OnErr, IfOk, IsTrue};
+ghost use Rattle.std.specs.Prelude.{◌≡◌, ℕ, ◌<◌, ◌≤◌, ◌↔◌, ◌⊎◌, [], OnOk, OnErr, IfOk, IfSome, IsTrue};
 ghost use Rattle.std.specs.List.{AllByRecursion};
-ghost use Rattle.inet_num.specs.Net.{IsBlock};
+ghost use Rattle.inet_num.specs.Net.{IsBlock, first_of, last_of};
 ghost use Rattle.inet_num.specs.Count.{count_of};
 ghost use Rattle.inet_num.specs.Free.{is_taken};
 ghost use Rattle.span_set.specs.Runs.{IsBetween};
@@ -125,24 +125,93 @@ pub fn largest_are_available()
 {
 }
 
+/// The span of a block's addresses.
+pub fn span_of(block: &Block) -> Span
+    ensures first { result.first ≡ first_of block.now }
+    ensures last { result.last ≡ last_of block.now }
+    ensures order { result.first.value ≤ result.last.value }
+{
+    Span {
+        first: block.first(),
+        last: block.last(),
+    }
+}
+
 #[cfg(test)]
 mod tests {
     use super::*;
-    use inet_num::{Addr, read_block};
+    use inet_num::Addr;
 
-    fn span(family: Family, first: u128, last: u128) -> Option<Span>
+    /// The block of this length at the address of this number.
+    fn block(family: Family, first: u128, len: u8) -> Option<Block>
+        ensures { IfSome result (λ b. b.family ≡ family) }
     {
-        Some(Span {
-            first: Addr::of(family, first)?,
-            last: Addr::of(family, last)?,
-        })
+        Block::of(Addr::of(family, first)?, len)
     }
 
+    /// What the set's blocks are, as first numbers and lengths.
+    fn listed(alloc: Global, set: &SpanSet) -> Result<Vec<(u128, u8)>, AllocError> {
+        let blocks = set.blocks()?;
+        let mut out = Vec::new(alloc);
+        for block in &blocks {
+            out.push((block.addr().value(), block.len()))?;
+        }
+        Ok(out)
+    }
+
+    /// The fewest blocks of a block's addresses without those of its children.
+    fn left_of(
+        alloc: Global,
+        family: Family,
+        within: (u128, u8),
+        children: &[(u128, u8)],
+    ) -> Result<Vec<(u128, u8)>, AllocError> {
+        let mut set = SpanSet::new(alloc, family);
+        if let Some(outer) = block(family, within.0, within.1) {
+            set.add(span_of(&outer))?;
+        }
+        'children: for child in children {
+            if let Some(inner) = block(family, child.0, child.1) {
+                set.subtract(span_of(&inner))?;
+            }
+        }
+        listed(alloc, &set)
+    }
+
+    const NET: u128 = 10 << 24;
+
     #[test]
-    fn one_address_taken_away(rt: HostRuntime) {
-        let first: u128 = 10 << 24;
-        let mut set = SpanSet::new(rt.alloc(), Family::V4);
-        let Some(all) = span(Family::V4, first, first + 255) else { return };
-        set.runs.clear();
+    fn blocks_are_the_fewest(rt: HostRuntime) -> Result<(), AllocError> {
+        let alloc = rt.alloc();
+        // ten and its children, by hand
+        let table: [(Family, (u128, u8), &[(u128, u8)], &[(u128, u8)]); 10] = [
+            // nothing taken: the block itself
+            (Family::V4, (NET, 24), &[], &[(NET, 24)]),
+            // its first address taken: eight blocks, from a /32 to a /25
+            (
+                Family::V4,
+                (NET, 24),
+                &[(NET, 32)],
+                &[(NET + 1, 32), (NET + 2, 31), (NET + 4, 30), (NET + 8, 29), (NET + 16, 28), (NET + 32, 27), (NET + 64, 26), (NET + 128, 25)],
+            ),
+            // its last address taken
+            (Family::V4, (NET, 30), &[(NET + 3, 32)], &[(NET, 31), (NET + 2, 32)]),
+            // children at both ends
+            (Family::V4, (NET, 29), &[(NET, 31), (NET + 6, 31)], &[(NET + 2, 31), (NET + 4, 31)]),
+            // equal children, and one that contains another
+            (Family::V4, (NET, 28), &[(NET + 4, 30), (NET + 4, 30)], &[(NET, 30), (NET + 8, 29)]),
+            (Family::V4, (NET, 28), &[(NET + 5, 32), (NET + 4, 30)], &[(NET, 30), (NET + 8, 29)]),
+            (Family::V4, (NET, 28), &[(NET + 4, 30), (NET + 5, 32)], &[(NET, 30), (NET + 8, 29)]),
+            // filled whole, by itself and by its halves in the other order
+            (Family::V4, (NET, 28), &[(NET, 28)], &[]),
+            (Family::V4, (NET, 28), &[(NET + 8, 29), (NET, 29)], &[]),
+            // all of IPv6 without its lower half
+            (Family::V6, (0, 0), &[(0, 1)], &[(1 << 127, 1)]),
+        ];
+        for (family, within, children, want) in table {
+            let got = left_of(alloc, family, within, children)?;
+            assert!(rt; got.as_slice() == want, "{within:?} without {children:?}: {got:?}");
+        }
+        Ok(())
     }
 }
