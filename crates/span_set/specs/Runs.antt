@@ -1,5 +1,5 @@
 -- Runs of numbers: those from a first one to a last one, both among them, and lists of runs that rise and do not touch.
-use Rattle.std.specs.Prelude.{ℕ, ◌+◌, ◌<◌, ◌≤◌, Bool, ◌&&◌, nat_le, List, [], ◌∷◌}
+use Rattle.std.specs.Prelude.{ℕ, ◌+◌, ◌-◌, ◌<◌, ◌≤◌, min, max, Bool, ◌&&◌, nat_le, nat_lt, if◌then◌else◌, List, [], ◌∷◌}
 use Rattle.std.specs.List.{list_any, AllByRecursion}
 use Rattle.span_set.specs.declared.runs.Run.{Run}
 
@@ -23,3 +23,15 @@ AreApart from (run ∷ runs) = (from ≤ run.first) × (run.first ≤ run.last) 
 -- each run ends below the limit
 abbrev pub EndBelow : ℕ → List Run → Type 0
 EndBelow limit runs = AllByRecursion (λ run. run.last < limit) runs
+
+-- what a run has before a number, as a list of one run or none
+abbrev pub left_part : ℕ → Run → List Run
+left_part first run = if nat_lt run.first first then (record { first = run.first; last = first - 1 }) ∷ [] else []
+
+-- what a run has behind a number, as a list of one run or none
+abbrev pub right_part : ℕ → Run → List Run
+right_part last run = if nat_lt last run.last then (record { first = last + 1; last = run.last }) ∷ [] else []
+
+-- how many numbers a run has of those from first to last
+abbrev pub shared : ℕ → ℕ → Run → ℕ
+shared first last run = (min run.last last + 1) - max run.first first

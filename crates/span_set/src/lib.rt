@@ -16,7 +16,7 @@ mod runs;
 
 use blocks::push_blocks;
 use inet_num::{Block, Family, Span};
-use runs::{Run, add_run, met, subtract_run};
+use runs::{Run, add_run, count_between, subtract_run};
 use std::alloc::{AllocError, Global};
 use std::marker::Model;
 
@@ -93,14 +93,7 @@ impl SpanSet {
         requires long { 1 ≤ within.len }
         ensures { result ≡ count_of (is_in self.now) within }
     {
-        let first = within.first().value();
-        let last = within.last().value();
-        let (from, to) = met(&self.runs, first, last);
-        let mut total = 0;
-        'met: for run in &self.runs[from..to] {
-            total += run.last.min(last) - run.first.max(first) + 1;
-        }
-        total
+        count_between(&self.runs, within.first().value(), within.last().value())
     }
 
     /// The fewest aligned blocks that have just the set's addresses, in address order. The one error is want of memory.

@@ -1,9 +1,9 @@
 //! Runs of numbers, and a list of them as a set of numbers.
 
-ghost use Rattle.std.specs.Prelude.{◌≡◌, ℕ, ◌+◌, ◌<◌, ◌≤◌, ◌↔◌, ◌⊎◌, ◌++◌, ◌∷◌, OnOk, OnErr, IsTrue, take, drop, length, vec_len, min, max, slice_index_or};
-ghost use Rattle.std.specs.List.{AllByRecursion, remove_range};
+ghost use Rattle.std.specs.Prelude.{◌≡◌, ℕ, ◌+◌, ◌-◌, ◌^◌, ◌<◌, ◌≤◌, ◌↔◌, ◌⊎◌, ◌++◌, ◌∷◌, OnOk, OnErr, IsTrue, take, drop, length, vec_len, sum_by};
+ghost use Rattle.std.specs.List.{AllByRecursion};
 ghost use Rattle.std.specs.Option.{option_to_list};
-ghost use Rattle.span_set.specs.Runs.{in_runs, IsBetween, AreApart, EndBelow};
+ghost use Rattle.span_set.specs.Runs.{in_runs, IsBetween, AreApart, EndBelow, left_part, right_part, shared};
 
 use std::alloc::AllocError;
 
@@ -33,6 +33,23 @@ fn beginning_by(runs: &[Run], last: u128, gap: u128) -> usize
     ensures others { AllByRecursion (λ run. last + gap < run.first) (drop result runs.now) }
 {
     runs.partition_point(|run| run.first.saturating_sub(gap) <= last)
+}
+
+/// Which runs the numbers from the first to the last meet, or come within the gap of: those from the first index up to
+/// the second.
+fn touched(runs: &[Run], first: u128, last: u128, gap: u128) -> (usize, usize)
+    requires order { first ≤ last }
+    requires apart { AreApart 0 runs.now }
+    ensures order { result.0 ≤ result.1 }
+    ensures bound { result.1 ≤ length runs.now }
+    ensures before { AllByRecursion (λ run. run.last + gap < first) (take result.0 runs.now) }
+    ensures reached { AllByRecursion (λ run. first ≤ run.last + gap) (drop result.0 runs.now) }
+    ensures begun { AllByRecursion (λ run. run.first ≤ last + gap) (take result.1 runs.now) }
+    ensures behind { AllByRecursion (λ run. last + gap < run.first) (drop result.1 runs.now) }
+{
+    let from = ending_before(runs, first, gap);
+    let to = beginning_by(runs, last, gap);
+    (from, to)
 }
 
 /// Takes the runs from one index up to another out.
@@ -102,42 +119,24 @@ pub fn add_run(runs: &mut Vec<Run>, first: u128, last: u128) -> Result<(), Alloc
     requires order { first ≤ last }
     requires apart { AreApart 0 runs.old.items }
     ensures added { OnOk result ((a : ℕ) → IsTrue (in_runs runs.new.items a) ↔ (IsTrue (in_runs runs.old.items a) ⊎ IsBetween first last a)) }
-    ensures apart { AreApart 0 runs.new.items }
-    ensures within { (limit : ℕ) → last < limit → EndBelow limit runs.old.items → EndBelow limit runs.new.items }
+    ensures apart { OnOk result (AreApart 0 runs.new.items) }
+    ensures within { OnOk result ((limit : ℕ) → last < limit → EndBelow limit runs.old.items → EndBelow limit runs.new.items) }
     ensures err { OnErr result (runs.new.items ≡ runs.old.items) }
 {
-    let from = ending_before(runs, first, 1);
-    let to = beginning_by(runs, last, 1);
-    if from < to {
-        let first = first.min(runs[from].first);
-        let last = last.max(runs[to - 1].last);
-        put_over(runs, from, to, Run { first, last })
-    } else {
-        put_over(runs, from, from, Run { first, last })
+    let (from, to) = touched(runs, first, last, 1);
+    if from == to {
+        return put_over(runs, from, to, Run { first, last });
     }
-}
-
-/// Takes the numbers from the first to the last away. After want of memory the list is as before.
-pub fn subtract_run(runs: &mut Vec<Run>, first: u128, last: u128) -> Result<(), AllocError>
-    requires order { first ≤ last }
-    requires apart { AreApart 0 runs.old.items }
-    ensures taken { OnOk result ((a : ℕ) → IsTrue (in_runs runs.new.items a) ↔ (IsTrue (in_runs runs.old.items a) × ¬ IsBetween first last a)) }
-    ensures apart { AreApart 0 runs.new.items }
-    ensures within { (limit : ℕ) → EndBelow limit runs.old.items → EndBelow limit runs.new.items }
-    ensures err { OnErr result (runs.new.items ≡ runs.old.items) }
-{
-    let from = ending_before(runs, first, 0);
-    let to = beginning_by(runs, last, 0);
-    if to <= from {
-        return Ok(());
-    }
-    let left = before(runs[from], first);
-    let right = behind(runs[to - 1], last);
-    put_rests(runs, from, to, left, right)
+    let joined = Run {
+        first: first.min(runs[from].first),
+        last: last.max(runs[to - 1].last),
+    };
+    put_over(runs, from, to, joined)
 }
 
 /// What a run has before the number.
-fn before(run: Run, first: u128) -> Option<Run>
+fn left_of(run: Run, first: u128) -> Option<Run>
+    ensures { option_to_list result ≡ left_part first run }
 {
     if run.first < first {
         Some(Run {
@@ -150,7 +149,8 @@ fn before(run: Run, first: u128) -> Option<Run>
 }
 
 /// What a run has behind the number.
-fn behind(run: Run, last: u128) -> Option<Run>
+fn right_of(run: Run, last: u128) -> Option<Run>
+    ensures { option_to_list result ≡ right_part last run }
 {
     if last < run.last {
         Some(Run {
@@ -162,12 +162,35 @@ fn behind(run: Run, last: u128) -> Option<Run>
     }
 }
 
-/// The indexes of the first run that meets the numbers from the first to the last, and of the run behind the last one.
-pub fn met(runs: &[Run], first: u128, last: u128) -> (usize, usize)
+/// Takes the numbers from the first to the last away. After want of memory the list is as before.
+pub fn subtract_run(runs: &mut Vec<Run>, first: u128, last: u128) -> Result<(), AllocError>
     requires order { first ≤ last }
-    requires apart { AreApart 0 runs.now }
-    ensures order { result.0 ≤ result.1 }
-    ensures bound { result.1 ≤ length runs.now }
+    requires apart { AreApart 0 runs.old.items }
+    ensures taken { OnOk result ((a : ℕ) → IsTrue (in_runs runs.new.items a) ↔ (IsTrue (in_runs runs.old.items a) × ¬ IsBetween first last a)) }
+    ensures apart { OnOk result (AreApart 0 runs.new.items) }
+    ensures within { OnOk result ((limit : ℕ) → EndBelow limit runs.old.items → EndBelow limit runs.new.items) }
+    ensures err { OnErr result (runs.new.items ≡ runs.old.items) }
 {
-    (ending_before(runs, first, 0), beginning_by(runs, last, 0))
+    let (from, to) = touched(runs, first, last, 0);
+    if from == to {
+        return Ok(());
+    }
+    let left = left_of(runs[from], first);
+    let right = right_of(runs[to - 1], last);
+    put_rests(runs, from, to, left, right)
+}
+
+/// How many of the numbers from the first to the last, fewer than two to the 128, the runs have.
+pub fn count_between(runs: &[Run], first: u128, last: u128) -> u128
+    requires order { first ≤ last }
+    requires few { last - first + 1 < 2 ^ 128 }
+    requires apart { AreApart 0 runs.now }
+    ensures { result ≡ sum_by (shared first last) runs.now }
+{
+    let (from, to) = touched(runs, first, last, 0);
+    let mut total = 0;
+    'met: for run in &runs[from..to] {
+        total += run.last.min(last) - run.first.max(first) + 1;
+    }
+    total
 }
