@@ -1,5 +1,7 @@
-use Rattle.std.proofs.Common.{◌≡◌, ◌⊎◌, ℕ, ◌+◌, ◌-◌, ◌<◌, ◌≤◌, ◌↔◌, min, max, refl, sym, ◌∙◌, ap, subst, arith, inl, inr, IsTrue, List, [], ◌∷◌, ◌++◌}
+use Rattle.std.proofs.Common.{◌≡◌, ◌⊎◌, ℕ, ◌+◌, ◌-◌, ◌<◌, ◌≤◌, ◌↔◌, min, max, refl, sym, ◌∙◌, ap, subst, arith, inl, inr, IsTrue, List, [], ◌∷◌, ◌++◌, length, take, drop, get_or}
 use Rattle.std.specs.List.{AllByRecursion}
+use Rattle.std.proofs.lemmas.List.{drop_more, take-append-drop, length-take, get_or-take}
+use Rattle.std.proofs.lemmas.List.Elements.{All-from_recursion}
 use Rattle.std.proofs.lemmas.Bool.{cases_lt}
 use Rattle.span_set.specs.declared.runs.Run.{Run}
 use Rattle.span_set.specs.Runs.{in_runs, IsBetween, AreApart, EndBelow}
@@ -34,17 +36,17 @@ pub within_between : (limit first last : ℕ) (xs ys : List Run) → last < limi
 within_between limit first last xs ys l h = All-append (λ run. run.last < limit) xs (record { first = first; last = last } ∷ ys) (All-front _ xs ys h) (l, All-back _ xs ys h)
 
 -- the runs of a list from the first one, low, to the last one, high, that the span touches
-pub record Touches (first last : ℕ) (runs xs ys : List Run) (low high : Run) : Type 0 where
+pub record Touches (gap first last : ℕ) (runs xs ys : List Run) (low high : Run) : Type 0 where
   pub tail : List Run
   pub head : List Run
   pub begins : runs ≡ xs ++ low ∷ tail
   pub ends : runs ≡ head ++ high ∷ ys
   pub apart : AreApart 0 runs
-  pub reached : first ≤ low.last + 1
-  pub begun : high.first ≤ last + 1
+  pub reached : first ≤ low.last + gap
+  pub begun : high.first ≤ last + gap
 
 -- what is known of the two
-pub record Ends (first last : ℕ) (runs xs ys : List Run) (low high : Run) : Type 0 where
+pub record Ends (runs xs ys : List Run) (low high : Run) : Type 0 where
   pub low_in : (a : ℕ) → IsBetween low.first low.last a → InRuns runs a
   pub high_in : (a : ℕ) → IsBetween high.first high.last a → InRuns runs a
   pub low_own : low.first ≤ low.last
@@ -65,8 +67,8 @@ In_until from (x ∷ xs) run ys a h (inl k) =
     inr (omega (arith, k.1, later.0, later.1))
 In_until from (x ∷ xs) run ys a h (inr k) = In_until (x.last + 2) xs run ys a h.2 k
 
-pub ends_of : (first last : ℕ) (runs xs ys : List Run) (low high : Run) → Touches first last runs xs ys low high → Ends first last runs xs ys low high
-ends_of first last runs xs ys low high t =
+pub ends_of : (gap first last : ℕ) (runs xs ys : List Run) (low high : Run) → Touches gap first last runs xs ys low high → Ends runs xs ys low high
+ends_of gap first last runs xs ys low high t =
     let begins_apart : AreApart 0 (xs ++ low ∷ t.tail) = subst (AreApart 0) t.begins t.apart in
     let ends_apart : AreApart 0 (t.head ++ high ∷ ys) = subst (AreApart 0) t.ends t.apart in
     let low_apart = apart_back 0 xs (low ∷ t.tail) begins_apart in
@@ -92,14 +94,39 @@ ends_of first last runs xs ys low high t =
       ];
     }
 
+-- from the indexes of the first run that is touched, and of the one behind the last
+pub touches_at : (gap first last : ℕ) (runs : List Run) (from to : ℕ) (low high : Run) → AreApart 0 runs → from < to → to ≤ length runs
+    → low ≡ get_or runs from low → high ≡ get_or runs (to - 1) high
+    → AllByRecursion (λ run. first ≤ run.last + gap) (drop from runs) → AllByRecursion (λ run. run.first ≤ last + gap) (take to runs)
+    → Touches gap first last runs (take from runs) (drop to runs) low high
+touches_at gap first last runs from to low high h o l low_is high_is reached begun =
+    let P : Run → Type 0 = λ run. first ≤ run.last + gap in
+    let Q : Run → Type 0 = λ run. run.first ≤ last + gap in
+    let inside : from < length runs = omega arith in
+    let low_here : drop from runs ≡ low ∷ drop (from + 1) runs = drop_more runs from low inside ∙ ap (λ (run : Run). run ∷ drop (from + 1) runs) (sym low_is) in
+    let next : to - 1 + 1 ≡ to = omega arith in
+    let high_here : drop (to - 1) runs ≡ high ∷ drop to runs =
+        drop_more runs (to - 1) high (omega arith) ∙ ap (λ (run : Run). run ∷ drop (to - 1 + 1) runs) (sym high_is) ∙ ap (λ k. high ∷ drop k runs) next in
+    let short : to - 1 < length (take to runs) = omega (arith, length-take to runs) in
+    let high_there : get_or (take to runs) (to - 1) high ≡ high = get_or-take to runs (to - 1) high (omega arith) ∙ sym high_is in
+    record {
+      tail = drop (from + 1) runs;
+      head = take (to - 1) runs;
+      begins = sym (take-append-drop from runs) ∙ ap (λ zs. take from runs ++ zs) low_here;
+      ends = sym (take-append-drop (to - 1) runs) ∙ ap (λ zs. take (to - 1) runs ++ zs) high_here;
+      apart = h;
+      reached = (subst (λ (zs : List Run). AllByRecursion P zs) low_here reached).0;
+      begun = subst Q high_there (All-from_recursion Q (take to runs) begun (to - 1) high short);
+    }
+
 -- the span and the runs that it touches, as one run
 abbrev pub joined : ℕ → ℕ → Run → Run → Run
 joined first last low high = record { first = min first low.first; last = max last high.last }
 
-pub added_joined : (first last : ℕ) (runs xs ys : List Run) (low high : Run) → first ≤ last → Touches first last runs xs ys low high
+pub added_joined : (first last : ℕ) (runs xs ys : List Run) (low high : Run) → first ≤ last → Touches 1 first last runs xs ys low high
     → IsAdded first last runs (xs ++ joined first last low high ∷ ys)
 added_joined first last runs xs ys low high o t a =
-    let e = ends_of first last runs xs ys low high t in
+    let e = ends_of 1 first last runs xs ys low high t in
     let run : Run = joined first last low high in
     let reached = t.reached in
     let begun = t.begun in (
@@ -125,11 +152,11 @@ added_joined first last runs xs ys low high o t a =
       ])),
     )
 
-pub apart_with_joined : (first last : ℕ) (runs xs ys : List Run) (low high : Run) → first ≤ last → Touches first last runs xs ys low high
+pub apart_with_joined : (first last : ℕ) (runs xs ys : List Run) (low high : Run) → first ≤ last → Touches 1 first last runs xs ys low high
     → AllByRecursion (λ run. run.last + 1 < first) xs → AllByRecursion (λ run. last + 1 < run.first) ys
     → AreApart 0 (xs ++ joined first last low high ∷ ys)
 apart_with_joined first last runs xs ys low high o t before behind =
-    let e = ends_of first last runs xs ys low high t in
+    let e = ends_of 1 first last runs xs ys low high t in
     let run : Run = joined first last low high in
     apart_joined 0 run.first xs (run ∷ ys) e.front_apart (both xs before e.ahead) (omega arith)
     (omega arith, omega arith, further ys behind e.back_apart) where
@@ -140,7 +167,7 @@ apart_with_joined first last runs xs ys low high o t before behind =
   further [] h k = tt
   further (z ∷ zs) h k = (omega (arith, h.0, k.0), k.1, k.2)
 
-pub within_joined : (limit first last : ℕ) (runs xs ys : List Run) (low high : Run) → last < limit → Touches first last runs xs ys low high
+pub within_joined : (limit first last : ℕ) (runs xs ys : List Run) (low high : Run) → last < limit → Touches 1 first last runs xs ys low high
     → EndBelow limit runs → EndBelow limit (xs ++ joined first last low high ∷ ys)
 within_joined limit first last runs xs ys low high l t h =
     let P : Run → Type 0 = λ run. run.last < limit in

@@ -1,4 +1,4 @@
-use Rattle.std.proofs.Common.{◌≡◌, ◌⊎◌, ℕ, ◌+◌, ◌-◌, ◌<◌, ◌≤◌, ◌↔◌, refl, sym, ◌∙◌, ap, subst, arith, inl, inr, Bool, true, false, ◌||◌, ◌&&◌, nat_le, nat_lt, IsTrue, List, [], ◌∷◌, ◌++◌}
+use Rattle.std.proofs.Common.{◌≡◌, ◌⊎◌, ℕ, ◌+◌, ◌-◌, ◌<◌, ◌≤◌, ◌↔◌, refl, sym, ◌∙◌, ap, subst, arith, inl, inr, Bool, true, false, ◌||◌, ◌&&◌, nat_le, nat_lt, IsTrue, Result, Ok, Err, OnOk, List, [], ◌∷◌, ◌++◌}
 use Rattle.std.specs.List.{AllByRecursion}
 use Rattle.std.proofs.lemmas.Bool.Decides.{nat_tests}
 use Rattle.span_set.specs.declared.runs.Run.{Run}
@@ -104,3 +104,8 @@ All-back P (x ∷ xs) ys h = All-back P xs ys h.1
 pub All-weaker : (P Q : Run → Type 0) (xs : List Run) → ((x : Run) → P x → Q x) → AllByRecursion P xs → AllByRecursion Q xs
 All-weaker P Q [] f h = tt
 All-weaker P Q (x ∷ xs) f h = (f x h.0, All-weaker P Q xs f h.1)
+
+-- what an Ok brings
+pub on_ok : {T E : Type 0} (r : Result T E) {P Q : Type 0} → (P → Q) → OnOk r P → OnOk r Q
+on_ok (Ok x) f h = f h
+on_ok (Err e) f h = tt
