@@ -1,0 +1,36 @@
+-- The fewest aligned blocks of a set of addresses: all that are largest, that is in the set with the enclosing block
+-- (of one length less, RFC 4632 3.1) not in it; and how they are the available blocks of a block.
+use Rattle.std.specs.Prelude.{◌≡◌, ℕ, ◌+◌, ◌<◌, ◌≤◌, ◌↔◌, false, List, Contains}
+use Rattle.std.specs.List.{AllByRecursion}
+use Rattle.inet_num.specs.declared.Family.{Family}
+use Rattle.inet_num.specs.Net.{Cidr, Address, IsBlock, size_of, HasAddress, enclosing_of, block_at}
+use Rattle.inet_num.specs.Free.{InOrder, is_taken, ListsAvailable}
+use Rattle.span_set.specs.Spans.{Spans, IsIn}
+
+-- each address of the block is one of the set
+abbrev pub AllIn : (ℕ → Type 0) → Cidr → Type 0
+AllIn set b = (a : ℕ) → HasAddress b a → set a
+
+-- a block of the set whose enclosing block is not one
+pub record IsLargest (family : Family) (set : ℕ → Type 0) (b : Cidr) : Type 0 where
+  pub lawful : IsBlock b
+  pub family_is : b.family ≡ family
+  pub inside : AllIn set b
+  pub largest : 0 < b.len → ¬ AllIn set (enclosing_of b)
+
+-- all largest blocks of the set, each once, in address order: the fewest that have just its addresses
+pub record ListsLargest (family : Family) (set : ℕ → Type 0) (bs : List Cidr) : Type 0 where
+  pub each : AllByRecursion (IsLargest family set) bs
+  pub complete : (b : Cidr) → IsLargest family set b → Contains bs b
+  pub ordered : InOrder 0 bs
+
+-- the block of this length at this address is lawful and ends at the last number or before
+pub record FitsAt (first : Address) (last len : ℕ) : Type 0 where
+  pub lawful : IsBlock (block_at first len)
+  pub within : first.value + size_of (block_at first len) ≤ last + 1
+
+-- where a set has the addresses of a block that are not taken, its largest blocks are the block's available ones
+abbrev pub LargestAreAvailable : Type 0
+LargestAreAvailable = (set : Spans) (within : Cidr) (blocks bs : List Cidr) → IsBlock within → set.family ≡ within.family
+    → ((a : ℕ) → IsIn set a ↔ (HasAddress within a × (is_taken blocks a ≡ false)))
+    → ListsLargest set.family (IsIn set) bs → ListsAvailable within blocks bs
