@@ -1,0 +1,110 @@
+//! The words of a command and what it answers.
+
+ghost use Rattle.std.specs.Prelude.{◌≡◌, ◌≢◌, ℕ, ◌+◌, ◌<◌, ◌≤◌, ◌⊎◌, ◌++◌, ◌∷◌, [], List, length, map, IfSome, IfNone, Contains};
+ghost use Rattle.std.specs.Io.KnownBytes.{Appends, Keeps};
+ghost use Rattle.inet_num.specs.Net.{Cidr};
+ghost use Rattle.ipam_edge.specs.Faults.{Rose};
+ghost use Rattle.ipamd.specs.Free.{IsRefusedLine};
+ghost use Rattle.ipamd.specs.Run.{AsksFree, IsNoCommand, usage_text, PrintsFree, NamesLine};
+
+use crate::free::{LineFault, Stop, free, refusal_text};
+use inet_num::{Block, read_block};
+use ipam_edge::{Sink, Source, write_all};
+use std::alloc::Global;
+
+/// Done.
+const DONE: u8 = 0;
+/// The input breaks a stated rule, which the line on `errors` names.
+const REFUSED: u8 = 1;
+/// The words are no command.
+const USAGE: u8 = 2;
+/// An object of the outside failed.
+const FAULT: u8 = 3;
+/// Want of memory.
+const MEMORY: u8 = 5;
+
+/// The block that `free` is asked for, where the words are its.
+fn block_of(words: &[&str]) -> Option<Block>
+    ensures some { IfSome result (AsksFree (map (λ w. w.now) words.now)) }
+    ensures none { IfNone result (IsNoCommand (map (λ w. w.now) words.now)) }
+{
+    let [command, block] = words else {
+        return None;
+    };
+    if *command != "free" {
+        return None;
+    }
+    match read_block(block.as_bytes()) {
+        Ok(block) if block.len() > 0 => Some(block),
+        _ => None,
+    }
+}
+
+/// Writes a message, after which the program ends with the status, or with that of a fault where it can't be written.
+fn end_with<Se: Sink>(errors: &mut Se, message: &[u8], status: u8) -> u8
+    requires { status ≢ 3 }
+    ensures said { result ≡ status → Appends (Se.written errors.old) (Se.written errors.new) message.now }
+    ensures fault { result ≢ status → (result ≡ 3) × Rose (Se.faults errors.old) (Se.faults errors.new) }
+    ensures later { Se.faults errors.old ≤ Se.faults errors.new }
+{
+    match write_all(errors, message) {
+        Ok(()) => status,
+        Err(_) => FAULT,
+    }
+}
+
+/// Runs a command: the words after the program's name, the input, the output and where messages go.
+pub fn run<So: Source, Si: Sink, Se: Sink>(
+    alloc: Global,
+    words: &[&str],
+    input: &mut So,
+    output: &mut Si,
+    errors: &mut Se,
+) -> u8
+    // The status is one of these.
+    ensures status { Contains (0 ∷ 1 ∷ 2 ∷ 3 ∷ 5 ∷ []) result }
+
+    // 0: the words ask for it, the input was read to its end, and the output gained exactly the text for it.
+    ensures done { result ≡ 0 → (within : Cidr) × AsksFree (map (λ w. w.now) words.now) within
+        × PrintsFree within (So.left input.old) (So.left input.new) (Si.written output.old) (Si.written output.new)
+        × Keeps (Se.written errors.old) (Se.written errors.new) }
+
+    // 1: a line is refused, nothing is on the output, and the message gained exactly the text that names the first such line.
+    ensures refused { result ≡ 1 → (within : Cidr) × AsksFree (map (λ w. w.now) words.now) within
+        × NamesLine within (So.left input.old) (Se.written errors.old) (Se.written errors.new)
+        × Keeps (Si.written output.old) (Si.written output.new) }
+
+    // 2: the words are no command, nothing was read or written but the usage line.
+    ensures usage { result ≡ 2 → IsNoCommand (map (λ w. w.now) words.now)
+        × Appends (Se.written errors.old) (Se.written errors.new) usage_text }
+    ensures usage_first { IsNoCommand (map (λ w. w.now) words.now) → (input.new ≡ input.old) × (output.new ≡ output.old)
+        × ((result ≡ 2) ⊎ ((result ≡ 3) × Rose (Se.faults errors.old) (Se.faults errors.new))) }
+
+    // 3: an object failed in this call.
+    ensures fault { result ≡ 3 → Rose (So.faults input.old) (So.faults input.new) ⊎ Rose (Si.faults output.old) (Si.faults output.new)
+        ⊎ Rose (Se.faults errors.old) (Se.faults errors.new) }
+
+    // 5: want of memory, with nothing on the output.
+    ensures memory { result ≡ 5 → Keeps (Si.written output.old) (Si.written output.new) }
+
+    // A told input with a refused line has no other answer, unless an object fails or memory is wanting.
+    ensures refuses { (within : Cidr) (number : ℕ) (fault : LineFault) → AsksFree (map (λ w. w.now) words.now) within
+        → IfSome (So.left input.old) (λ bytes. IsRefusedLine within bytes number fault → result ≢ 0) }
+
+    ensures input_later { So.faults input.old ≤ So.faults input.new }
+    ensures output_later { Si.faults output.old ≤ Si.faults output.new }
+    ensures errors_later { Se.faults errors.old ≤ Se.faults errors.new }
+{
+    let Some(within) = block_of(words) else {
+        return end_with(errors, b"usage: ipamd COMMAND\n", USAGE);
+    };
+    match free(alloc, &within, input, output) {
+        Ok(()) => DONE,
+        Err(Stop::Failed) => FAULT,
+        Err(Stop::Memory) => MEMORY,
+        Err(Stop::Line(number, fault)) => match refusal_text(alloc, &within, number, fault) {
+            Ok(text) => end_with(errors, &text, REFUSED),
+            Err(_) => MEMORY,
+        },
+    }
+}

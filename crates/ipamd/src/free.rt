@@ -1,0 +1,135 @@
+//! The command `free`: blocks come in, one to a line, and the available blocks of a block beside them go out.
+
+ghost use Rattle.std.specs.Prelude.{◌≡◌, ◌≢◌, ℕ, ◌+◌, ◌<◌, ◌≤◌, ◌⊎◌, ◌++◌, ◌∷◌, [], List, length, map, OnOk, OnErr, IfOk, IfErr, IsErr, IsErrOf, Result, Ok, Err};
+ghost use Rattle.std.specs.List.{AllByRecursion};
+ghost use Rattle.inet_num.specs.Net.{Cidr, IsStrictlyInside};
+ghost use Rattle.inet_num.specs.Free.{available_blocks_of};
+ghost use Rattle.ipam_edge.specs.Faults.{Rose};
+ghost use Rattle.ipamd.specs.Free.{lines_text_of, refusal_text_of, FreeHasOneAnswer};
+ghost use Rattle.ipamd.specs.Run.{IsFreeEnd};
+
+use crate::lines::read_children;
+use inet_num::{Block, available_blocks, write_block};
+use ipam_edge::{Sink, Source, write_all};
+use itoa::Buffer;
+use std::alloc::{AllocError, AllocFailed, Global};
+
+/// Why a line is refused.
+#[derive(Clone, Copy, Debug, PartialEq, Eq)]
+pub enum LineFault {
+    /// It is no block's text, or longer than 64 bytes.
+    NotAPrefix,
+    /// It names a block that is not strictly inside the one asked for.
+    NotInside,
+    /// It stands behind the most lines that an input may have.
+    TooManyLines,
+}
+
+/// Why `free` stops without an answer on its output.
+#[derive(Clone, Copy, Debug, PartialEq, Eq)]
+pub enum Stop {
+    /// The first refused line: its number, counted from 1, and its fault.
+    Line(u32, LineFault),
+    /// The input or the output failed, and counted it.
+    Failed,
+    /// Want of memory.
+    Memory,
+}
+
+impl From<AllocError> for Stop {
+    ghost use Rattle.std.specs.Prelude.{◌≡◌};
+    ghost use Rattle.ipamd.specs.declared.free.Stop.TheVariants.{Memory};
+
+    ghost from_gives = { λ _ s. s ≡ Memory };
+
+    fn from(_: AllocError) -> Stop {
+        Stop::Memory
+    }
+}
+
+impl<T: Drop> From<AllocFailed<T>> for Stop {
+    ghost use Rattle.std.specs.Prelude.{◌≡◌};
+    ghost use Rattle.ipamd.specs.declared.free.Stop.TheVariants.{Memory};
+
+    ghost from_gives = { λ _ s. s ≡ Memory };
+
+    fn from(_: AllocFailed<T>) -> Stop {
+        Stop::Memory
+    }
+}
+
+/// The available blocks of a block beside blocks inside it, in whatever order they come.
+fn blocks_left(
+    alloc: Global,
+    within: &Block,
+    children: Vec<Block>,
+) -> Result<Vec<Block>, AllocError>
+    requires { AllByRecursion (λ c. IsStrictlyInside c within.now) children.items }
+    ensures { IfOk result (λ v. v.items ≡ available_blocks_of within.now children.items) }
+{
+    available_blocks(alloc, within, &children)
+}
+
+/// The blocks as text, one to a line.
+fn text_of(alloc: Global, blocks: &[Block]) -> Result<Vec<u8>, AllocError>
+    ensures { IfOk result (λ v. v.items ≡ lines_text_of blocks.now) }
+{
+    let mut text = Vec::new(alloc);
+    for block in blocks {
+        write_block(*block, &mut text)?;
+        text.push(b'\n')?;
+    }
+    Ok(text)
+}
+
+/// Reads all lines of the input, and then writes the available blocks.
+pub fn free<So: Source, Si: Sink>(
+    alloc: Global,
+    within: &Block,
+    input: &mut So,
+    output: &mut Si,
+) -> Result<(), Stop>
+    ensures end { IsFreeEnd within.now (So.left input.old) (So.left input.new) (Si.written output.old) (Si.written output.new) result }
+    ensures failed { IsErrOf result Stop.Failed → Rose (So.faults input.old) (So.faults input.new) ⊎ Rose (Si.faults output.old) (Si.faults output.new) }
+    ensures input_later { So.faults input.old ≤ So.faults input.new }
+    ensures output_later { Si.faults output.old ≤ Si.faults output.new }
+{
+    let children = read_children(alloc, within, input)?;
+    let blocks = blocks_left(alloc, within, children)?;
+    let text = text_of(alloc, &blocks)?;
+    match write_all(output, &text) {
+        Ok(()) => Ok(()),
+        Err(_) => Err(Stop::Failed),
+    }
+}
+
+/// What is printed for a refused line.
+pub fn refusal_text(
+    alloc: Global,
+    within: &Block,
+    number: u32,
+    fault: LineFault,
+) -> Result<Vec<u8>, AllocError>
+    ensures { IfOk result (λ v. v.items ≡ refusal_text_of within.now number fault) }
+{
+    let mut digits = Buffer::new();
+    let mut text = Vec::from_slice(alloc, b"line ")?;
+    text.extend_from_slice(digits.format(number).as_bytes())?;
+    text.extend_from_slice(b": ")?;
+    match fault {
+        LineFault::NotAPrefix => text.extend_from_slice(b"not a prefix")?,
+        LineFault::NotInside => {
+            text.extend_from_slice(b"not strictly inside ")?;
+            write_block(*within, &mut text)?;
+        }
+        LineFault::TooManyLines => text.extend_from_slice(b"too many lines")?,
+    }
+    text.push(b'\n')?;
+    Ok(text)
+}
+
+/// An input has one answer: one output, or one first refused line.
+pub fn free_has_one_answer()
+    ensures { FreeHasOneAnswer }
+{
+}
