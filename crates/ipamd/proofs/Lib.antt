@@ -1,1 +1,3 @@
 pub mod Readings
+pub mod WordsLemmas
+pub mod OneAnswer

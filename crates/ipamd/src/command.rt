@@ -62,7 +62,7 @@ pub fn run<So: Source, Si: Sink, Se: Sink>(
     errors: &mut Se,
 ) -> u8
     // The status is one of these.
-    ensures status { Contains (0 ∷ 1 ∷ 2 ∷ 3 ∷ 5 ∷ []) result }
+    ensures status { (result ≤ 3) ⊎ (result ≡ 5) }
 
     // 0: the words ask for it, the input was read to its end, and the output gained exactly the text for it.
     ensures done { result ≡ 0 → (within : Cidr) × AsksFree (map (λ w. w.now) words.now) within
@@ -87,9 +87,9 @@ pub fn run<So: Source, Si: Sink, Se: Sink>(
     // 5: want of memory, with nothing on the output.
     ensures memory { result ≡ 5 → Keeps (Si.written output.old) (Si.written output.new) }
 
-    // A told input with a refused line has no other answer, unless an object fails or memory is wanting.
+    // Where a line of a told input is refused, the status is 1, or 3 or 5 for their causes.
     ensures refuses { (within : Cidr) (number : ℕ) (fault : LineFault) → AsksFree (map (λ w. w.now) words.now) within
-        → IfSome (So.left input.old) (λ bytes. IsRefusedLine within bytes number fault → result ≢ 0) }
+        → IfSome (So.left input.old) (λ bytes. IsRefusedLine within bytes number fault → (result ≡ 1) ⊎ (result ≡ 3) ⊎ (result ≡ 5)) }
 
     ensures input_later { So.faults input.old ≤ So.faults input.new }
     ensures output_later { Si.faults output.old ≤ Si.faults output.new }
