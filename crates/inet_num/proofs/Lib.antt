@@ -7,3 +7,5 @@ pub mod Values
 pub mod Decimals
 pub mod Cuts
 pub mod RoundTrip
+pub mod Readings
+pub mod Colons
