@@ -7,7 +7,7 @@ use Rattle.std.proofs.lemmas.Fmt.{decimal_injective}
 use Rattle.std.proofs.Math.Nat.{mul-mod_left}
 use Rattle.std.proofs.lemmas.Nat.{div-add-mod'}
 use Rattle.inet_num.specs.Net.{Address, IsAddress, Cidr, IsBlock, width_of, block_at, block_around}
-use Rattle.inet_num.specs.Text.{is_slash, front_of, EndsInLength}
+use Rattle.inet_num.specs.Text.{is_slash, front_of, HasNoSlash, EndsInLength}
 use Rattle.inet_num.specs.declared.Family.{Family}
 use Rattle.inet_num.specs.declared.Family.TheVariants.{V4, V6}
 use Rattle.inet_num.proofs.Numbers.{and_ones}
@@ -29,6 +29,10 @@ cut_there text i l e here =
 
 pub not_longer : (text rest : List ℕ) → text ≡ text ++ 47 ∷ rest → ⊥
 not_longer text rest e = omega (arith, ap length e, length-append text (47 ∷ rest))
+
+-- with a slash in it the text is not all front
+pub slash_stands : (text rest : List ℕ) → text ≡ front_of text ++ 47 ∷ rest → ¬ HasNoSlash text
+slash_stands text rest cut none = not_longer text rest (cut ∙ ap (λ (f : List ℕ). f ++ 47 ∷ rest) none)
 
 pub same_rest : (front a b : List ℕ) → front ++ 47 ∷ a ≡ front ++ 47 ∷ b → a ≡ b
 same_rest [] a b e = cc

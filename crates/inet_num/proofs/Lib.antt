@@ -9,3 +9,4 @@ pub mod Cuts
 pub mod RoundTrip
 pub mod Readings
 pub mod Colons
+pub mod FaultKinds

@@ -56,18 +56,18 @@ pub fn read_addr(text: &[u8]) -> Result<Addr, TextFault>
     ensures in_range { IfOk result IsAddress }
     ensures fault { IfErr result (IsAddressFault text.now) }
 {
-    if let Some(value) = read_quad(text) {
-        return Ok(Addr {
+    match read_quad(text) {
+        Some(value) => Ok(Addr {
             family: Family::V4,
             value: u128::from(value),
-        });
-    }
-    match read_groups(text) {
-        Some(value) => Ok(Addr {
-            family: Family::V6,
-            value,
         }),
-        None => Err(address_fault(text)),
+        None => match read_groups(text) {
+            Some(value) => Ok(Addr {
+                family: Family::V6,
+                value,
+            }),
+            None => Err(address_fault(text)),
+        },
     }
 }
 

@@ -1,8 +1,13 @@
 use Rattle.std.proofs.Common.{◌≡◌, ℕ, ◌-◌, ◌++◌, ◌∷◌, List, sym, ◌∙◌, ap, arith, subst, bit_and}
 use Rattle.inet_num.specs.Net.{Address, IsBlock, width_of}
 use Rattle.inet_num.specs.Text.{front_of, IsAddressText}
+use Rattle.inet_num.specs.Fault.{IsAddressFault}
+use Rattle.inet_num.proofs.FaultKinds.{block_fault}
 use Rattle.inet_num.proofs.Cuts.{no_length, long_length, width_narrow, lawful_around, around_is, not_lawful}
 use Rattle.inet_num.proofs.text.read_block.Goals as goal
+
+pub returns-in-Err-clause-fault : goal.returns-in-Err-clause-fault
+returns-in-Err-clause-fault c = block_fault c.args.text.now c.in-Err.fault (subst (λ (t : List ℕ). IsAddressFault t c.in-Err.fault) c.cut.ensures.front c.in-Err.ensures.fault)
 
 pub returns-in_default-read_length-clause-fault : goal.returns-in_default-read_length-clause-fault
 returns-in_default-read_length-clause-fault c = record {
