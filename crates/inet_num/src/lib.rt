@@ -7,6 +7,8 @@ ghost use Rattle.inet_num.specs.Net.{width_of, Address, IsAddress, Cidr, size_of
 mod fault;
 mod percentage;
 mod text;
+#[cfg(test)]
+mod text_tests;
 mod written;
 
 use std::marker::Model;
