@@ -118,7 +118,11 @@ fn has_wrong_count(text: &[u8]) -> bool
     ensures { result ≡ is_count_wrong text.now }
 {
     let pieces = written_pieces(text);
-    let wanted = if last_piece(text).contains(&b'.') { 7 } else { 8 };
+    let wanted = if last_piece(text).contains(&b'.') {
+        7
+    } else {
+        8
+    };
     if colon_pairs(text) == 0 {
         pieces != wanted
     } else {

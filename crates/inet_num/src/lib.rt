@@ -11,9 +11,12 @@ mod text;
 mod text_tests;
 mod written;
 
-use std::marker::Model;
 pub use percentage::percent;
-pub use text::{TextFault, canonical_text_is_one, one_reading, read_addr, read_block, read_host, writing_is_read, written_address_is_read};
+use std::marker::Model;
+pub use text::{
+    TextFault, canonical_text_is_one, one_reading, read_addr, read_block, read_host,
+    writing_is_read, written_address_is_read,
+};
 pub use written::{write_addr, write_block};
 
 /// A family of addresses: IPv4, whose addresses have 32 bits, or IPv6, whose addresses have 128.

@@ -21,9 +21,15 @@ fn double(part: Part, size: u128) -> Part
 {
     let rest = 2 * part.rest;
     if rest >= size {
-        Part { quotient: 2 * part.quotient + 1, rest: rest - size }
+        Part {
+            quotient: 2 * part.quotient + 1,
+            rest: rest - size,
+        }
     } else {
-        Part { quotient: 2 * part.quotient, rest }
+        Part {
+            quotient: 2 * part.quotient,
+            rest,
+        }
     }
 }
 
@@ -39,9 +45,15 @@ fn plus(part: Part, count: u128, size: u128) -> Part
 {
     let rest = part.rest + count;
     if rest >= size {
-        Part { quotient: part.quotient + 1, rest: rest - size }
+        Part {
+            quotient: part.quotient + 1,
+            rest: rest - size,
+        }
     } else {
-        Part { quotient: part.quotient, rest }
+        Part {
+            quotient: part.quotient,
+            rest,
+        }
     }
 }
 
@@ -54,7 +66,10 @@ pub fn percent(count: u128, size: u128) -> u8
     if count >= size {
         return 100;
     }
-    let one = Part { quotient: 0, rest: count };
+    let one = Part {
+        quotient: 0,
+        rest: count,
+    };
     let three = plus(double(one, size), count, size);
     let six = double(three, size);
     let twelve = double(six, size);

@@ -1,6 +1,6 @@
 //! Addresses, hosts and blocks read from text.
 
-ghost use Rattle.std.specs.Prelude.{◌≡◌, ◌≢◌, ℕ, ◌<◌, ◌∷◌, ◌++◌, IfOk, IfErr, IfSome, IfNone, decimal, List};
+ghost use Rattle.std.specs.Prelude.{◌≡◌, ◌≢◌, ℕ, ◌<◌, ◌≤◌, ◌∷◌, ◌++◌, IfOk, IfErr, IfSome, IfNone, decimal, List};
 ghost use Rattle.inet_num.specs.Net.{Address, IsAddress, Cidr, IsBlock, width_of};
 ghost use Rattle.inet_num.specs.Text.{front_of, HasNoSlash, Spells, IsAddressText, IsHostText, IsBlockText, WritingIsRead, WrittenAddressIsRead, CanonicalTextIsOne};
 ghost use Rattle.inet_num.specs.Fault.{IsAddressFault, IsHostFault, IsBlockFault, ReadingIsOne};
@@ -72,7 +72,7 @@ pub fn read_addr(text: &[u8]) -> Result<Addr, TextFault>
 }
 
 /// The number that this text is the decimal text of, up to 255.
-fn read_length(text: &[u8]) -> Option<u8>
+fn read_byte(text: &[u8]) -> Option<u8>
     ensures some { IfSome result (λ n. text.now ≡ decimal n) }
     ensures none { IfNone result ((n : ℕ) → n < 256 → text.now ≢ decimal n) }
 {
@@ -98,6 +98,21 @@ fn read_length(text: &[u8]) -> Option<u8>
         return None;
     }
     Some(value as u8)
+}
+
+/// The length that this text is the decimal text of, up to the family's width.
+fn read_length(text: &[u8], family: Family) -> Option<u8>
+    ensures some { IfSome result (λ n. text.now ≡ decimal n) }
+    ensures short { IfSome result (λ n. n ≤ width_of family) }
+    ensures none { IfNone result ((n : ℕ) → n ≤ width_of family → text.now ≢ decimal n) }
+{
+    let Some(len) = read_byte(text) else {
+        return None;
+    };
+    if len > family.width() {
+        return None;
+    }
+    Some(len)
 }
 
 /// What stands before the first slash, and what follows it.
@@ -126,17 +141,14 @@ pub fn read_host(text: &[u8]) -> Result<(Addr, u8), TextFault>
     let (front, rest) = cut(text);
     let addr = match read_addr(front) {
         Ok(addr) => addr,
-        Err(fault) => return Err(fault),
+        Err(none) => return Err(none),
     };
     let Some(rest) = rest else {
         return Ok((addr, addr.family.width()));
     };
-    let Some(len) = read_length(rest) else {
+    let Some(len) = read_length(rest, addr.family) else {
         return Err(TextFault::Length);
     };
-    if len > addr.family.width() {
-        return Err(TextFault::Length);
-    }
     Ok((addr, len))
 }
 
@@ -155,12 +167,9 @@ pub fn read_block(text: &[u8]) -> Result<Block, TextFault>
     let Some(rest) = rest else {
         return Err(TextFault::Length);
     };
-    let Some(len) = read_length(rest) else {
+    let Some(len) = read_length(rest, addr.family) else {
         return Err(TextFault::Length);
     };
-    if len > addr.family.width() {
-        return Err(TextFault::Length);
-    }
     let ones = low_ones(addr.family, len);
     let past = addr.value & ones;
     let block = Block {

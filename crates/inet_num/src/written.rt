@@ -125,25 +125,6 @@ fn longest_zero_run(groups: &[u16]) -> ZeroRun
     ZeroRun { start, len }
 }
 
-/// Appends the canonical text of an IPv6 address to an empty one.
-#[tactic(auto, unfolding(std::specs::Net::Addr::IsIpv6OfBits, std::specs::Net::Text::hex_groups_text))]
-fn push_address(text: &mut ArrayVec<u8, 48>, value: u128)
-    requires { array_vec_len text.old ≡ 0 }
-    ensures items { text.new.items ≡ text.old.items ++ canonical_text_of V6 value }
-    ensures len { array_vec_len text.new ≤ 42 }
-{
-    let groups = Ipv6Addr::from_bits(value).segments();
-    let run = longest_zero_run(&groups);
-    if run.len > 1 {
-        push_groups(text, &groups[..run.start]);
-        text.push(b':');
-        text.push(b':');
-        push_groups(text, &groups[run.start + run.len..]);
-    } else {
-        push_groups(text, &groups);
-    }
-}
-
 /// Appends the bytes, for which there is room.
 fn push_all(text: &mut ArrayVec<u8, 48>, more: &[u8])
     requires { array_vec_len text.old + length more.now ≤ 48 }
@@ -155,13 +136,23 @@ fn push_all(text: &mut ArrayVec<u8, 48>, more: &[u8])
     }
 }
 
-/// The canonical text of an IPv6 address.
+/// The canonical text of an IPv6 address: always in groups, with `::` for the longest run of at least two groups of zero.
+#[tactic(auto, unfolding(std::specs::Net::Addr::IsIpv6OfBits, std::specs::Net::Text::hex_groups_text))]
 fn groups_text(value: u128) -> ArrayVec<u8, 48>
     ensures text { result.items ≡ canonical_text_of V6 value }
     ensures len { array_vec_len result ≤ 42 }
 {
+    let groups = Ipv6Addr::from_bits(value).segments();
+    let run = longest_zero_run(&groups);
     let mut text = ArrayVec::new();
-    push_address(&mut text, value);
+    if run.len > 1 {
+        push_groups(&mut text, &groups[..run.start]);
+        text.push(b':');
+        text.push(b':');
+        push_groups(&mut text, &groups[run.start + run.len..]);
+    } else {
+        push_groups(&mut text, &groups);
+    }
     text
 }
 
@@ -188,8 +179,8 @@ pub fn write_addr(addr: Addr, out: &mut Vec<u8>) -> Result<(), AllocError>
             out.extend_from_slice(text.as_str().as_bytes())
         }
         Family::V6 => {
-            let text = groups_text(addr.value);
-            out.extend_from_slice(text.as_slice())
+            let groups = groups_text(addr.value);
+            out.extend_from_slice(groups.as_slice())
         }
     }
 }
