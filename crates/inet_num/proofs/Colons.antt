@@ -1,11 +1,10 @@
 -- The pieces between the colons of a text.
-use Rattle.std.proofs.Common.{◌≡◌, ◌≢◌, ℕ, zero, suc, ◌+◌, ◌-◌, ◌<◌, ◌≤◌, refl, sym, ◌∙◌, ap, arith, Bool, true, false, ◌&&◌, ◌||◌, not, cond, List, [], ◌∷◌, length, get_or, take, drop}
-use Rattle.std.specs.List.{position_or_len, slice_split, onto_first, count_by, before_first, after_first}
+use Rattle.std.proofs.Common.{◌≡◌, ◌≢◌, ℕ, zero, suc, ◌+◌, ◌-◌, ◌<◌, ◌≤◌, refl, sym, ◌∙◌, ap, arith, Bool, true, false, ◌&&◌, cond, List, [], ◌∷◌, length, get_or, take, drop}
+use Rattle.std.specs.List.{position_or_len, onto_first, count_by}
 use Rattle.std.proofs.lemmas.Bool.Decides.{nat_tests}
 use Rattle.std.proofs.lemmas.List.{take_rest, get_or_default}
 use Rattle.std.proofs.lemmas.List.Sums.{position_or_len_is, sum_by-cons}
 use Rattle.std.proofs.lemmas.List.Splits.{slice_split_first, slice_split_none}
-use Rattle.inet_num.specs.declared.text.TextFault.{TextFault}
 use Rattle.inet_num.specs.declared.text.TextFault.TheVariants.{Group}
 use Rattle.inet_num.specs.Fault.{is_colon, is_written, is_bad, pieces_of, last_of, colon_pairs_of, pieces_fault_of}
 

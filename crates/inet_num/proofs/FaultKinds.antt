@@ -1,5 +1,5 @@
 -- The fault of an address text is Shape, Octet or Group, also where the text is read as a host or block.
-use Rattle.std.proofs.Common.{◌≡◌, ℕ, ◌==◌, List, [], ◌∷◌, Bool, true, false, cond, sym, subst}
+use Rattle.std.proofs.Common.{ℕ, ◌==◌, List, [], ◌∷◌, Bool, true, false, cond, sym, subst}
 use Rattle.std.specs.List.{list_any, count_by}
 use Rattle.inet_num.specs.declared.text.TextFault.{TextFault}
 use Rattle.inet_num.specs.declared.text.TextFault.TheVariants.{Octet, Group, Shape, Length, HostBits}

@@ -9,7 +9,7 @@ use Rattle.inet_num.specs.declared.Family.{Family}
 use Rattle.inet_num.specs.declared.Family.TheVariants.{V4, V6}
 use Rattle.inet_num.specs.declared.text.TextFault.{TextFault}
 use Rattle.inet_num.specs.declared.text.TextFault.TheVariants.{Octet, Group, Shape, Length, HostBits}
-use Rattle.inet_num.specs.Net.{Address, IsAddress, Cidr, IsBlock, width_of, block_at, block_around}
+use Rattle.inet_num.specs.Net.{Address, Cidr, IsBlock, width_of, block_at, block_around}
 use Rattle.inet_num.specs.Text.{IsAddressText, IsNoAddressText, Spells, canonical_text_of, front_of, HasNoSlash, EndsInLength, IsHostText, IsBlockText, CanonicalTextIsOne}
 use Rattle.inet_num.specs.Fault.{IsAddressFault, IsLengthFault, IsHostBitsFault, IsHostFault, IsBlockFault, ReadingIsOne}
 use Rattle.inet_num.proofs.Numbers.{same_block}

@@ -1,5 +1,5 @@
 -- What is written of an address or a block is read as that one.
-use Rattle.std.proofs.Common.{◌≡◌, ℕ, zero, suc, get_or, ◌+◌, ◌^◌, ◌<◌, ◌≤◌, List, [], ◌∷◌, ◌++◌, take, refl, sym, ◌∙◌, ap, subst, arith, Bool, true, false, not, cond, decimal, All, inl, inr}
+use Rattle.std.proofs.Common.{◌≡◌, ℕ, zero, suc, get_or, ◌+◌, ◌^◌, ◌<◌, List, [], ◌∷◌, ◌++◌, take, refl, sym, ◌∙◌, ap, subst, arith, Bool, true, false, not, cond, decimal, All, inl, inr}
 use Rattle.std.specs.Int.{w32, w128, to_be_bytes}
 use Rattle.std.specs.Int.Digits.{number_from_digits}
 use Rattle.std.specs.List.{list_any, position_or_len}
@@ -13,8 +13,8 @@ use Rattle.std.proofs.lemmas.Bool.Decides.{nat_tests}
 use Rattle.std.proofs.lemmas.List.Folds.{list_any-append, list_any_none}
 use Rattle.inet_num.specs.declared.Family.{Family}
 use Rattle.inet_num.specs.declared.Family.TheVariants.{V4, V6}
-use Rattle.inet_num.specs.Net.{Address, IsAddress, Cidr, IsBlock, width_of}
-use Rattle.inet_num.specs.Text.{Spells, canonical_text_of, block_text_of, is_slash, front_of, HasNoSlash, IsHostText, WritingIsRead, WrittenAddressIsRead}
+use Rattle.inet_num.specs.Net.{width_of}
+use Rattle.inet_num.specs.Text.{Spells, canonical_text_of, block_text_of, is_slash, front_of, HasNoSlash, WritingIsRead, WrittenAddressIsRead}
 use Rattle.inet_num.proofs.Decimals.{decimal_is}
 
 -- the value of the octets of a number is the number

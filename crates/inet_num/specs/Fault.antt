@@ -1,7 +1,7 @@
 -- Why a text is no address, host or block text: the first fault that holds, in the order Shape, then Octet or Group from
 -- the left, Length, HostBits. A fault of the address text comes before one of the length behind it (RFC 4291 2.2 and 2.3,
 -- RFC 4632 3.1). An address text with a colon is one of IPv6, every other one of IPv4.
-use Rattle.std.specs.Prelude.{ℕ, ◌≡◌, ◌≢◌, ◌+◌, ◌≤◌, Bool, true, false, not, ◌&&◌, ◌||◌, nat_lt, nat_le, nat_eq, List, [], ◌∷◌, length, if◌then◌else◌, ◌==◌, count_by, codes}
+use Rattle.std.specs.Prelude.{ℕ, ◌≡◌, ◌+◌, ◌≤◌, Bool, true, false, not, ◌&&◌, ◌||◌, nat_lt, nat_le, nat_eq, List, [], ◌∷◌, length, if◌then◌else◌, ◌==◌, count_by, codes}
 use Rattle.std.specs.List.{list_any, list_all, slice_split, starts_with, ends_with}
 use Rattle.std.specs.Char.{is_ascii_hexdigit}
 use Rattle.inet_num.specs.declared.text.TextFault.{TextFault}

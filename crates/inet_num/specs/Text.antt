@@ -1,6 +1,6 @@
 -- Addresses and blocks as text (RFC 4291 2.2 for IPv6, RFC 4632 3.1 for `/L`, RFC 5952 4 for the canonical text).
 -- The grammar of one address and its canonical text are std's.
-use Rattle.std.specs.Prelude.{Bool, ◌≡◌, ◌≢◌, ◌≤◌, ◌⊎◌, ℕ, List, ◌∷◌, ◌++◌, ◌==◌, decimal}
+use Rattle.std.specs.Prelude.{Bool, ◌≡◌, ◌≤◌, ◌⊎◌, ℕ, List, ◌∷◌, ◌++◌, ◌==◌, decimal}
 use Rattle.std.specs.List.{before_first}
 use Rattle.std.specs.Net.Grammar.{IsDotted, IsColonHex}
 use Rattle.std.specs.Net.Text.{ipv4_text, hex_groups_text}

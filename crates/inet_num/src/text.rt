@@ -144,7 +144,8 @@ pub fn read_host(text: &[u8]) -> Result<(Addr, u8), TextFault>
         Err(none) => return Err(none),
     };
     let Some(rest) = rest else {
-        return Ok((addr, addr.family.width()));
+        let width = addr.family.width();
+        return Ok((addr, width));
     };
     let Some(len) = read_length(rest, addr.family) else {
         return Err(TextFault::Length);

@@ -1,6 +1,9 @@
 //! Worked examples of text: those of RFC 4291 2.2 and RFC 5952 4 and 5, and of this repository's rules.
 
-use crate::{TextFault, percent, read_addr, read_block, read_host, write_addr, write_block};
+use crate::{
+    Addr, Block, TextFault, percent, read_addr, read_block, read_host, write_addr, write_block,
+};
+use std::alloc::{AllocError, Global};
 use std::test::Fail;
 
 fn name_of(fault: TextFault) -> &'static str {
@@ -11,6 +14,40 @@ fn name_of(fault: TextFault) -> &'static str {
         TextFault::Length => "length",
         TextFault::HostBits(_) => "host bits",
     }
+}
+
+fn length_or_fault(host: Result<(Addr, u8), TextFault>) -> &'static str {
+    let len = match host {
+        Ok((_, len)) => len,
+        Err(fault) => return name_of(fault),
+    };
+    match len {
+        0 => "0",
+        24 => "24",
+        32 => "32",
+        60 => "60",
+        128 => "128",
+        _ => "another length",
+    }
+}
+
+fn write_fault(fault: TextFault, out: &mut Vec<u8>) -> Result<(), AllocError> {
+    match fault {
+        TextFault::HostBits(block) => {
+            out.extend_from_slice(b"host bits ")?;
+            write_block(block, out)
+        }
+        _ => out.extend_from_slice(name_of(fault).as_bytes()),
+    }
+}
+
+fn block_or_fault(alloc: Global, read: Result<Block, TextFault>) -> Result<Vec<u8>, AllocError> {
+    let mut out = Vec::new(alloc);
+    match read {
+        Ok(block) => write_block(block, &mut out)?,
+        Err(fault) => write_fault(fault, &mut out)?,
+    }
+    Ok(out)
 }
 
 #[test]
@@ -86,15 +123,7 @@ fn texts_of_hosts_and_their_faults(rt: HostRuntime) {
         ("10.0.0.0/::", "length"),
     ];
     for (text, want) in cases {
-        let got = match read_host(text.as_bytes()) {
-            Ok((_, 0)) => "0",
-            Ok((_, 24)) => "24",
-            Ok((_, 32)) => "32",
-            Ok((_, 60)) => "60",
-            Ok((_, 128)) => "128",
-            Ok(_) => "another length",
-            Err(fault) => name_of(fault),
-        };
+        let got = length_or_fault(read_host(text.as_bytes()));
         assert!(rt; got == want, "{text}");
     }
 }
@@ -115,15 +144,7 @@ fn texts_of_blocks_and_their_faults(rt: HostRuntime) -> Result<(), Fail> {
         ("1:2/129", "shape"),
     ];
     for (text, want) in cases {
-        let mut out = Vec::new(rt.alloc());
-        match read_block(text.as_bytes()) {
-            Ok(block) => write_block(block, &mut out)?,
-            Err(TextFault::HostBits(block)) => {
-                out.extend_from_slice(b"host bits ")?;
-                write_block(block, &mut out)?;
-            }
-            Err(fault) => out.extend_from_slice(name_of(fault).as_bytes())?,
-        }
+        let out = block_or_fault(rt.alloc(), read_block(text.as_bytes()))?;
         assert!(rt; out.as_slice() == want.as_bytes(), "{text}");
     }
     Ok(())

@@ -1,4 +1,4 @@
-use Rattle.std.proofs.Common.{◌≡◌, List, ◌∷◌, ℕ, sym, ◌∙◌, ap}
+use Rattle.std.proofs.Common.{◌≡◌, ◌∷◌, sym, ◌∙◌, ap}
 use Rattle.inet_num.specs.Fault.{last_of, pieces_of}
 use Rattle.inet_num.proofs.Colons.{last_later}
 use Rattle.inet_num.proofs.fault.last_piece.Goals as goal

@@ -1,6 +1,5 @@
-use Rattle.std.proofs.Common.{◌≡◌, ◌≤◌, ◌*◌, ◌/◌, sym, arith}
+use Rattle.std.proofs.Common.{◌≤◌, ◌*◌, ◌/◌, arith}
 use Rattle.std.proofs.lemmas.Nat.{le-div}
-use Rattle.std.proofs.Math.Nat.{min-eq_left}
 use Rattle.inet_num.proofs.percentage.percent.Goals as goal
 
 pub returns-then-count-size : goal.returns-then-count-size

@@ -1,4 +1,4 @@
-use Rattle.std.proofs.Common.{◌≡◌, ℕ, ◌++◌, ◌∷◌, List, sym, arith, subst}
+use Rattle.std.proofs.Common.{ℕ, List, sym, subst}
 use Rattle.inet_num.specs.Net.{Address, width_of}
 use Rattle.inet_num.specs.Text.{IsAddressText}
 use Rattle.inet_num.specs.Fault.{IsAddressFault}

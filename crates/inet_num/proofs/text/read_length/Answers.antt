@@ -1,4 +1,4 @@
-use Rattle.std.proofs.Common.{◌<◌, arith}
+use Rattle.std.proofs.Common.{arith}
 use Rattle.inet_num.specs.Net.{width_of}
 use Rattle.inet_num.proofs.Cuts.{too_long, width_narrow}
 use Rattle.inet_num.proofs.text.read_length.Goals as goal
