@@ -10,3 +10,4 @@ pub mod RoundTrip
 pub mod Readings
 pub mod Colons
 pub mod FaultKinds
+pub mod TextExamples
