@@ -8,7 +8,7 @@ each it prints what read_addr, read_host and read_block answer, a value as its c
 the accepted texts, values and canonical texts with `ipaddress`, and the faults with the rule as it is written in the
 documents of this repository, spelled here once more by splitting at the colons. The differences on purpose are counted:
 
-  zone         `fe80::1%eth0`: ipaddress takes a zone, we refuse it (Group)
+  zone         `fe80::1%eth0`: ipaddress takes a zone, we refuse it
   no length    `10.0.0.0`: ipaddress takes it as a network of one address, read_block asks for a length (Length)
   mask         `10.0.0.0/255.0.0.0`: ipaddress takes masks of IPv4, we refuse them (Length)
   leading zero `10.0.0.0/08`: ipaddress takes it, we refuse it (Length)
@@ -136,12 +136,12 @@ def random_text(rng):
             text = cleared(text, length)
         text += "/" + rng.choice(["%d", "%d", "%d", "%02d", "+%d", " %d", "%d/", "%d "]) % length
         if form < 0.01:
-            text += "/255.255.255.0"
+            text = text.split("/")[0] + "/255.255.255." + rng.choice(["0", "255"])
     return text
 
 
 def cleared(text, length):
-    """The network address of this length, sometimes in upper case."""
+    """The network address of this length."""
     value = ipaddress.ip_address(text)
     family = ipaddress.IPv4Network if value.version == 4 else ipaddress.IPv6Network
     return str(family((int(value), length), strict=False).network_address)
@@ -261,7 +261,7 @@ def purpose(text, kind, ours, theirs):
     """Why the two differ on purpose, or None."""
     front, slash, rest = text.partition("/")
     if theirs is not None and is_fault(ours):
-        if "%" in front and ours == "Group":
+        if "%" in front:
             return "zone"
         if kind == "block" and ours == "Length":
             if not slash:
