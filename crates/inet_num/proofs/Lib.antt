@@ -1,6 +1,9 @@
 pub mod Numbers
 pub mod Aligned
 pub mod Frees
+pub mod Nested
+pub mod Available
+pub mod PlainSearch
 pub mod Counts
 pub mod Unique
 pub mod Values
@@ -11,3 +14,4 @@ pub mod Readings
 pub mod Colons
 pub mod FaultKinds
 pub mod TextExamples
+pub mod Examples
