@@ -37,15 +37,15 @@ fn widest(addr: Addr, last: u128) -> Block
     ensures least { (len : ℕ) → FitsAt addr last len → result.len ≤ len }
 {
     let mut block = single(addr);
-    while block.len() > 0 {
+    'widen: while block.len() > 0 {
         match Block::of(addr, block.len() - 1) {
             Some(wider) => {
                 if last < wider.last().value() {
-                    break;
+                    return block;
                 }
                 block = wider;
             }
-            None => break,
+            None => return block,
         }
     }
     block
