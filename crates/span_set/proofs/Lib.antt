@@ -2,3 +2,5 @@ pub mod Rising
 pub mod Members
 pub mod Joined
 pub mod Parted
+pub mod Fits
+pub mod Greedy

@@ -1,6 +1,6 @@
 -- The fewest aligned blocks of a set of addresses: all that are largest, that is in the set with the enclosing block
 -- (of one length less, RFC 4632 3.1) not in it; and how they are the available blocks of a block.
-use Rattle.std.specs.Prelude.{◌≡◌, ℕ, ◌+◌, ◌<◌, ◌≤◌, ◌↔◌, false, List, Contains}
+use Rattle.std.specs.Prelude.{◌≡◌, ℕ, ◌+◌, ◌<◌, ◌≤◌, ◌↔◌, false, IsTrue, List, Contains}
 use Rattle.std.specs.List.{AllByRecursion}
 use Rattle.inet_num.specs.declared.Family.{Family}
 use Rattle.inet_num.specs.Net.{Cidr, Address, IsBlock, size_of, HasAddress, enclosing_of, block_at}
@@ -23,6 +23,11 @@ pub record ListsLargest (family : Family) (set : ℕ → Type 0) (bs : List Cidr
   pub each : AllByRecursion (IsLargest family set) bs
   pub complete : (b : Cidr) → IsLargest family set b → Contains bs b
   pub ordered : InOrder 0 bs
+
+-- and each address of the set is in one of them
+pub record IsFewest (family : Family) (set : ℕ → Type 0) (bs : List Cidr) : Type 0 where
+  pub lists : ListsLargest family set bs
+  pub covers : (a : ℕ) → set a → IsTrue (is_taken bs a)
 
 -- the block of this length at this address is lawful and ends at the last number or before
 pub record FitsAt (first : Address) (last len : ℕ) : Type 0 where

@@ -1,13 +1,21 @@
-use Rattle.std.proofs.Common.{rules, ◌≡◌, ℕ, ◌+◌, ◌^◌, ◌<◌, ◌≤◌, ◌++◌, List, OnOk, OnErr, IfOk, ◌-◌, ◌*◌, length, ◌/◌, ◌%◌, Bool, true, false, nat_eq, nat_lt, [], ◌∷◌, slice_index_or, slice_set, bit_and, bit_or, Fits, w8, w32, w64, Bor, MutBor}
-use Rattle.inet_num.specs.Net.{Cidr, width_of, block_at}
-use Rattle.span_set.specs.Runs.{IsBetween}
-use Rattle.span_set.specs.Blocks.{FitsAt, ListsLargest}
+use Rattle.std.proofs.Common.{◌≡◌, ℕ, ◌+◌, ◌-◌, ◌<◌, ◌≤◌, refl, sym, ◌∙◌, ap, subst, arith}
+use Rattle.inet_num.specs.Net.{width_of, Address, Cidr, IsBlock, block_at, last_of}
+use Rattle.span_set.specs.Blocks.{FitsAt}
+use Rattle.span_set.proofs.Fits.{least_here, too_long}
 use Rattle.span_set.proofs.blocks.widest.Goals as goal
 
--- src/blocks.rt:44:21
 pub returns-then-last-value-clause-least : goal.returns-then-last-value-clause-least
-returns-then-last-value-clause-least c = ?
+returns-then-last-value-clause-least c =
+    let e = c.len.ensures.len in
+    let len_is = ap (λ (k : ℕ). k - 1) c.len-in-widen.ensures.len in
+    let is : c.in-Some.wider ≡ block_at c.args.addr (c.widen.block.len - 1) = c.in-Some.ensures.some ∙ ap (λ k. block_at c.args.addr k) len_is in
+    let end_is : c.value.result ≡ (last_of c.in-Some.wider).value = c.value.ensures.value ∙ ap (λ (a : Address). a.value) c.last.ensures in
+    least_here c.args.addr c.args.last c.widen.block.len (omega arith) c.widen.invariant.fits.lawful.short
+    (too_long c.args.addr c.args.last (c.widen.block.len - 1) c.in-Some.wider c.value.result is end_is c.if-last-value.true)
 
--- src/blocks.rt:48:21
 pub returns-in-None-clause-least : goal.returns-in-None-clause-least
-returns-in-None-clause-least c = ?
+returns-in-None-clause-least c =
+    let e = c.len.ensures.len in
+    let len_is = ap (λ (k : ℕ). k - 1) c.len-in-widen.ensures.len in
+    least_here c.args.addr c.args.last c.widen.block.len (omega arith) c.widen.invariant.fits.lawful.short
+    (λ h. let none = c.in-None.ensures.cause.1 (rw len_is h.lawful) in cc)
