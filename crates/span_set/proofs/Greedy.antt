@@ -6,7 +6,7 @@ use Rattle.std.proofs.lemmas.Nat.{pow_pos, pow_below, div-add-mod'}
 use Rattle.std.proofs.lemmas.List.Elements.{Contains-append_left, Contains-append_right}
 use Rattle.std.proofs.Math.Nat.{add-mod_right, lt-div-mul-add, mul-mod_left}
 use Rattle.inet_num.specs.declared.Family.{Family}
-use Rattle.inet_num.specs.Net.{width_of, Address, Cidr, IsBlock, size_of, HasAddress, IsInside, enclosing_of, block_at}
+use Rattle.inet_num.specs.Net.{width_of, Address, Cidr, IsBlock, size_of, HasAddress, IsInside, enclosing_of, block_at, last_of}
 use Rattle.inet_num.specs.Free.{InOrder, has_address, is_taken}
 use Rattle.inet_num.proofs.Numbers.{inside_by_ends, ends_of_inside, same_block}
 use Rattle.inet_num.proofs.Aligned.{aligned_smaller, multiples_apart, enclosing_inside}
@@ -224,3 +224,18 @@ found_all family first last at bs found past = record {
   };
   covers = λ a h. found.covers a h.0 (omega (arith, h.1));
 }
+
+-- one more block, as the code makes it
+pub found_step : (family : Family) (first last at : ℕ) (bs : List Cidr) (addr : Address) (block : Cidr) (end : ℕ) → addr ≡ record { family = family; value = at } → block ≡ block_at addr block.len
+    → FitsAt addr last block.len → ((l : ℕ) → FitsAt addr last l → block.len ≤ l) → end ≡ (last_of block).value
+    → Found family first last at bs → first ≤ at → at ≤ last → (at ≤ end) × Found family first last (end + 1) (bs ++ block ∷ [])
+found_step family first last at bs addr block end addr_is at_addr fits least end_is found low high =
+    let fits_at : FitsAt (record { family = family; value = at }) last block.len = subst (λ (a : Address). FitsAt a last block.len) addr_is fits in
+    let least_at : (l : ℕ) → FitsAt (record { family = family; value = at }) last l → block.len ≤ l = λ l h. least l (subst (λ (a : Address). FitsAt a last l) (sym addr_is) h) in
+    let block_is : block ≡ record { family = family; first = at; len = block.len } = at_addr ∙ ap (λ (a : Address). block_at a block.len) addr_is in
+    let some = pow_pos (width_of family - block.len) in
+    let last_is : (last_of block).value ≡ at + 2 ^ (width_of family - block.len) - 1 = ap (λ (b : Cidr). (last_of b).value) block_is in
+    let next : at + 2 ^ (width_of family - block.len) ≡ end + 1 = omega arith in
+    let more = found_more family first last at block.len bs found low high fits_at least_at in
+    let named : Found family first last (at + 2 ^ (width_of family - block.len)) (bs ++ block ∷ []) = subst (λ (b : Cidr). Found family first last (at + 2 ^ (width_of family - block.len)) (bs ++ b ∷ [])) (sym block_is) more in
+    (omega arith, subst (λ n. Found family first last n (bs ++ block ∷ [])) next named)
