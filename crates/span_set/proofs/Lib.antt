@@ -4,3 +4,4 @@ pub mod Joined
 pub mod Parted
 pub mod Fits
 pub mod Greedy
+pub mod Union
