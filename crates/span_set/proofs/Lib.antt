@@ -5,3 +5,4 @@ pub mod Parted
 pub mod Fits
 pub mod Greedy
 pub mod Union
+pub mod Available

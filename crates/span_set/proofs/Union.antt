@@ -15,7 +15,7 @@ use Rattle.span_set.proofs.Members.{InRuns, in_from_test, test_from_in, In-left,
 use Rattle.span_set.proofs.Greedy.{All-more, All-weaker, InOrder-more, taken_left, taken_right, in_from_taken, enclosing_has, ends_in}
 
 -- a block has its first address and its last one
-first_in : (m : Cidr) → HasAddress m m.first
+pub first_in : (m : Cidr) → HasAddress m m.first
 first_in m = (omega arith, omega (arith, pow_pos (width_of m.family - m.len)))
 
 -- a block of the runs' numbers is one of the first run's or of the others', since no two runs touch
@@ -55,7 +55,7 @@ end_below first xs m ahead all =
     omega arith
 
 -- in order from a number on, where the first begins there or behind
-order_raised : (from first : ℕ) (bs : List Cidr) → InOrder from bs → AllByRecursion (λ m. first ≤ m.first) bs → InOrder first bs
+pub order_raised : (from first : ℕ) (bs : List Cidr) → InOrder from bs → AllByRecursion (λ m. first ≤ m.first) bs → InOrder first bs
 order_raised from first [] h k = tt
 order_raised from first (b ∷ bs) h k = (k.0, h.1)
 
