@@ -1,9 +1,13 @@
 pub mod Numbers
 pub mod Aligned
 pub mod Frees
+pub mod Nested
+pub mod Available
+pub mod PlainSearch
 pub mod Counts
 pub mod Unique
 pub mod Values
 pub mod Decimals
 pub mod Cuts
 pub mod RoundTrip
+pub mod Examples

@@ -14,6 +14,11 @@ Member-from_Contains [] m h = absurd (omega (arith, h.1))
 Member-from_Contains (x ∷ xs) m (zero, l, e) = inl (sym e)
 Member-from_Contains (x ∷ xs) m (suc k, l, e) = inr (Member-from_Contains xs m (k, omega arith, e))
 
+pub Contains-from_Member : (xs : List Cidr) (m : Cidr) → Member xs m → Contains xs m
+Contains-from_Member [] m h = elim h [ ]
+Contains-from_Member (x ∷ xs) m (inl e) = (0, omega arith, sym e)
+Contains-from_Member (x ∷ xs) m (inr h) = let later = Contains-from_Member xs m h in (suc later.0, (let l = later.1 in omega arith), later.2)
+
 -- what is listed in order begins at the number or after it
 after : (from : ℕ) (xs : List Cidr) (m : Cidr) → InOrder from xs → Member xs m → from ≤ m.first
 after from [] m o h = elim h [ ]

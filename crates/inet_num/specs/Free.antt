@@ -1,6 +1,6 @@
 -- What of a block is free beside a list of blocks of its family, and its available blocks: the largest free blocks,
 -- in address order, as an operator reads them off a register.
-use Rattle.std.specs.Prelude.{◌≡◌, ℕ, ◌+◌, ◌%◌, ◌<◌, ◌≤◌, Bool, false, not, ◌&&◌, ◌==◌, nat_lt, nat_le, List, [], ◌∷◌, Contains, filter, map}
+use Rattle.std.specs.Prelude.{◌≡◌, ℕ, ◌+◌, ◌%◌, ◌<◌, ◌≤◌, Bool, false, not, ◌&&◌, ◌==◌, nat_lt, nat_le, List, [], ◌∷◌, Contains, filter, map, if◌then◌else◌}
 use Rattle.std.specs.List.{list_any, flat_map, AllByRecursion}
 use Rattle.inet_num.specs.Net.{width_of, Cidr, IsBlock, size_of, HasAddress, IsInside, enclosing_of}
 use Rattle.inet_num.specs.Count.{numbers_from, addresses_of}
@@ -51,9 +51,17 @@ is_available within blocks b =
 unfoldable pub blocks_at : Cidr → ℕ → List Cidr
 blocks_at within a = map (λ l. record { family = within.family; first = a; len = l }) (numbers_from 0 (width_of within.family + 1))
 
+-- the block, where it is available, and else nothing
+abbrev pub picked_of : Cidr → List Cidr → Cidr → List Cidr
+picked_of within blocks b = if is_available within blocks b then b ∷ [] else []
+
+-- the available blocks that begin at this address
+unfoldable pub picked_at : Cidr → List Cidr → ℕ → List Cidr
+picked_at within blocks a = filter (is_available within blocks) (blocks_at within a)
+
 -- the available blocks of a block beside a list of blocks of its family, in address order
 unfoldable pub available_blocks_of : Cidr → List Cidr → List Cidr
-available_blocks_of within blocks = flat_map (λ a. filter (is_available within blocks) (blocks_at within a)) (addresses_of within)
+available_blocks_of within blocks = flat_map (picked_at within blocks) (addresses_of within)
 
 -- ---- what makes that list the one meant
 

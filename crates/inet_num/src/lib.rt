@@ -2,10 +2,12 @@
 #![tactic(auto)]
 
 ghost use Rattle.std.specs.Prelude.{◌≡◌, ℕ, ◌+◌, ◌-◌, ◌*◌, ◌%◌, ◌^◌, ◌<◌, ◌≤◌, ◌↔◌, IsTrue, IfSome, IsSome, IsNone};
-ghost use Rattle.inet_num.specs.Net.{width_of, Address, IsAddress, Cidr, size_of, IsBlock, HasAddress, IsInside, IsStrictlyInside, low_half_of, high_half_of, block_at, first_of, last_of};
+ghost use Rattle.inet_num.specs.Net.{width_of, Address, IsAddress, Cidr, size_of, IsBlock, HasAddress, IsInside, IsStrictlyInside, low_half_of, high_half_of, enclosing_of, block_at, first_of, last_of};
 
+mod plain;
 mod text;
 
+pub use plain::{available_blocks, available_blocks_are_those};
 use std::marker::Model;
 pub use text::{TextFault, one_reading, read_block, write_block, writing_is_read};
 
@@ -235,6 +237,24 @@ impl Block {
         other.len < self.len && other.contains(self)
     }
 
+    /// The block of one length less that this one is a half of, or `None` for a block of length 0.
+    pub fn enclosing(&self) -> Option<Block>
+        ensures some { IfSome result (λ b. b ≡ enclosing_of self.now) }
+        ensures cause { IsSome result ↔ (0 < self.now.len) }
+        ensures lawful { IsBlock self.now }
+    {
+        if self.len == 0 {
+            return None;
+        }
+        let len = self.len - 1;
+        let past = self.first & low_ones(self.family, len);
+        Some(Block {
+            family: self.family,
+            first: self.first - past,
+            len,
+        })
+    }
+
     /// The two blocks of the next length that make up this one, the lower first, or `None` for a single address.
     pub fn halves(&self) -> Option<(Block, Block)>
         ensures some { IfSome result (λ p. p ≡ (low_half_of self.now, high_half_of self.now)) }
@@ -258,3 +278,6 @@ impl Block {
         Some((low, high))
     }
 }
+
+#[cfg(test)]
+mod tests;
