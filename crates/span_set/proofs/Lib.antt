@@ -6,3 +6,4 @@ pub mod Fits
 pub mod Greedy
 pub mod Union
 pub mod Available
+pub mod Counted

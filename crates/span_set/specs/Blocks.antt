@@ -4,7 +4,7 @@ use Rattle.std.specs.Prelude.{◌≡◌, ℕ, ◌+◌, ◌<◌, ◌≤◌, ◌�
 use Rattle.std.specs.List.{AllByRecursion}
 use Rattle.inet_num.specs.declared.Family.{Family}
 use Rattle.inet_num.specs.Net.{Cidr, Address, IsBlock, size_of, HasAddress, enclosing_of, block_at}
-use Rattle.inet_num.specs.Free.{InOrder, is_taken, ListsAvailable}
+use Rattle.inet_num.specs.Free.{InOrder, is_taken, available_blocks_of}
 use Rattle.span_set.specs.Spans.{Spans, IsIn}
 
 -- each address of the block is one of the set
@@ -34,8 +34,8 @@ pub record FitsAt (first : Address) (last len : ℕ) : Type 0 where
   pub lawful : IsBlock (block_at first len)
   pub within : first.value + size_of (block_at first len) ≤ last + 1
 
--- where a set has the addresses of a block that are not taken, its largest blocks are the block's available ones
+-- where a set has the addresses of a block that are not taken, its fewest blocks are the block's available ones
 abbrev pub LargestAreAvailable : Type 0
 LargestAreAvailable = (set : Spans) (within : Cidr) (blocks bs : List Cidr) → IsBlock within → set.family ≡ within.family
     → ((a : ℕ) → IsIn set a ↔ (HasAddress within a × (is_taken blocks a ≡ false)))
-    → ListsLargest set.family (IsIn set) bs → ListsAvailable within blocks bs
+    → ListsLargest set.family (IsIn set) bs → bs ≡ available_blocks_of within blocks

@@ -1,0 +1,1 @@
+use Rattle.span_set.proofs.SpanSet.count.Goals as goal
