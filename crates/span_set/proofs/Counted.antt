@@ -4,10 +4,13 @@ use Rattle.std.proofs.lemmas.Bool.Decides.{nat_tests}
 use Rattle.std.proofs.lemmas.List.{take-append-drop, take_all, drop-drop, get_or-take, get_or-drop, length-take, length-drop}
 use Rattle.std.proofs.lemmas.List.Elements.{All-from_recursion}
 use Rattle.std.proofs.lemmas.List.Sums.{sum_by-cons, sum_by-take-drop, sum_by_more_le}
-use Rattle.inet_num.specs.Count.{numbers_from}
+use Rattle.std.proofs.lemmas.Nat.{pow_pos}
+use Rattle.inet_num.specs.Net.{Cidr, width_of, size_of}
+use Rattle.inet_num.specs.Count.{numbers_from, addresses_of, count_of}
 use Rattle.inet_num.proofs.Counts.{count-cons, count_either}
 use Rattle.span_set.specs.declared.runs.Run.{Run}
 use Rattle.span_set.specs.Runs.{in_run, in_runs, AreApart, shared}
+use Rattle.span_set.specs.Spans.{Spans, is_in}
 use Rattle.span_set.proofs.Members.{in_from_test, In_from, apart_front, apart_back}
 use Rattle.span_set.proofs.Rising.{at_least}
 
@@ -119,3 +122,13 @@ sum_whole first last runs from to i o before behind all =
     let low = sum_before first last (take from runs) before in
     let high = sum_behind first last (drop to runs) behind in
     omega (arith, sum_by-take-drop (shared first last) runs from, sum_by-take-drop (shared first last) (drop from runs) (to - from))
+
+-- ---- as the public call has it
+
+pub counted_within : (set : Spans) (slice : List Run) (within : Cidr) (first last total : ℕ) → slice ≡ set.runs → AreApart 0 set.runs → first ≡ within.first → last ≡ within.first + size_of within - 1
+    → total ≡ sum_by (shared first last) slice → total ≡ count_of (is_in set) within
+unfolding addresses_of
+counted_within set slice within first last total e h first_is last_is t =
+    let some = pow_pos (width_of within.family - within.len) in
+    let law = counted 0 set.runs h within.first (size_of within) some in
+    t ∙ ap (λ zs. sum_by (shared first last) zs) e ∙ ap (λ n. sum_by (shared n last) set.runs) first_is ∙ ap (λ n. sum_by (shared within.first n) set.runs) last_is ∙ sym law
