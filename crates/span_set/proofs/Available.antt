@@ -1,14 +1,10 @@
-use Rattle.std.proofs.Common.{◌≡◌, ◌≤◌, ℕ, sym, ◌∙◌, false, List, ◌↔◌}
-use Rattle.inet_num.specs.Net.{Cidr, IsBlock, HasAddress}
-use Rattle.inet_num.specs.Free.{is_taken, IsAvailable, ListsAvailable}
+use Rattle.std.proofs.Common.{◌≡◌, ◌≤◌, sym, ◌∙◌, List}
+use Rattle.inet_num.specs.Net.{Cidr}
+use Rattle.inet_num.specs.Free.{IsAvailable, ListsAvailable}
 use Rattle.span_set.specs.Spans.{Spans, IsIn}
-use Rattle.span_set.specs.Blocks.{IsLargest, ListsLargest}
+use Rattle.span_set.specs.Blocks.{IsLargest, ListsLargest, IsRest}
 use Rattle.span_set.proofs.Greedy.{All-weaker}
 use Rattle.span_set.proofs.Union.{first_in, order_raised}
-
--- the set has the block's addresses that are not taken
-abbrev pub IsRest : Spans → Cidr → List Cidr → Type 0
-IsRest set within blocks = (a : ℕ) → IsIn set a ↔ (HasAddress within a × (is_taken blocks a ≡ false))
 
 available_is_largest : (set : Spans) (within : Cidr) (blocks : List Cidr) → set.family ≡ within.family → IsRest set within blocks → (m : Cidr) → IsAvailable within blocks m → IsLargest set.family (IsIn set) m
 available_is_largest set within blocks same e m k = record {

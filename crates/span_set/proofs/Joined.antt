@@ -32,9 +32,6 @@ apart_between first last xs ys o h before behind =
     apart_joined 0 first xs (run ∷ ys) (apart_front 0 xs ys h) (All-weaker _ _ xs (λ x (k : x.last + 1 < first). (let e : x.last + 2 ≤ first = omega arith in e)) before) (omega arith)
     (omega arith, o, apart_raised (last + 2) 0 ys (apart_back 0 xs ys h) (All-weaker _ _ ys (λ x (k : last + 1 < x.first). (let e : last + 2 ≤ x.first = omega arith in e)) behind))
 
-pub within_between : (limit first last : ℕ) (xs ys : List Run) → last < limit → EndBelow limit (xs ++ ys) → EndBelow limit (xs ++ record { first = first; last = last } ∷ ys)
-within_between limit first last xs ys l h = All-append (λ run. run.last < limit) xs (record { first = first; last = last } ∷ ys) (All-front _ xs ys h) (l, All-back _ xs ys h)
-
 -- the runs of a list from the first one, low, to the last one, high, that the span touches
 pub record Touches (gap first last : ℕ) (runs xs ys : List Run) (low high : Run) : Type 0 where
   pub tail : List Run
@@ -166,11 +163,3 @@ apart_with_joined first last runs xs ys low high o t before behind =
   further : (zs : List Run) → AllByRecursion (λ run. last + 1 < run.first) zs → AreApart (high.last + 2) zs → AreApart (max last high.last + 2) zs
   further [] h k = tt
   further (z ∷ zs) h k = (omega (arith, h.0, k.0), k.1, k.2)
-
-pub within_joined : (limit first last : ℕ) (runs xs ys : List Run) (low high : Run) → last < limit → Touches 1 first last runs xs ys low high
-    → EndBelow limit runs → EndBelow limit (xs ++ joined first last low high ∷ ys)
-within_joined limit first last runs xs ys low high l t h =
-    let P : Run → Type 0 = λ run. run.last < limit in
-    let by_begins = subst (EndBelow limit) t.begins h in
-    let by_ends = All-back P t.head (high ∷ ys) (subst (EndBelow limit) t.ends h) in
-    All-append P xs (joined first last low high ∷ ys) (All-front P xs (low ∷ t.tail) by_begins) (omega (arith, by_ends.0), by_ends.1)

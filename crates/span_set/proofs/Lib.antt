@@ -7,3 +7,4 @@ pub mod Greedy
 pub mod Union
 pub mod Available
 pub mod Counted
+pub mod Rest

@@ -102,23 +102,3 @@ apart_parted first last runs xs ys low high o t before behind =
     let e = ends_of 0 first last runs xs ys low high t in
     let right = right_apart last high (right_part last high) ys (right_cases last high) e.back_apart behind in
     left_apart first last low xs (left_part first low) (right_part last high ++ ys) o (left_cases first low) e.front_apart e.ahead before right
-
-within_left : (limit first : ℕ) (low : Run) (part : List Run) → first ≤ low.last → low.last < limit → LeftPart first low part → EndBelow limit part
-within_left limit first low part le l (some p e) = rw e (omega arith, tt)
-within_left limit first low part le l (none p e) = rw e tt
-
-within_right : (limit last : ℕ) (high : Run) (part : List Run) → high.last < limit → RightPart last high part → EndBelow limit part
-within_right limit last high part l (more p e) = rw e (l, tt)
-within_right limit last high part l (less p e) = rw e tt
-
-pub within_parted : (limit first last : ℕ) (runs xs ys : List Run) (low high : Run) → Touches 0 first last runs xs ys low high
-    → EndBelow limit runs → EndBelow limit (parted first last xs low high ys)
-within_parted limit first last runs xs ys low high t h =
-    let P : Run → Type 0 = λ run. run.last < limit in
-    let reached = t.reached in
-    let by_begins = subst (EndBelow limit) t.begins h in
-    let by_ends = All-back P t.head (high ∷ ys) (subst (EndBelow limit) t.ends h) in
-    let low_in = All-back P xs (low ∷ t.tail) by_begins in
-    All-append P xs (left_part first low ++ (right_part last high ++ ys)) (All-front P xs (low ∷ t.tail) by_begins)
-    (All-append P (left_part first low) (right_part last high ++ ys) (within_left limit first low (left_part first low) (omega arith) low_in.0 (left_cases first low))
-    (All-append P (right_part last high) ys (within_right limit last high (right_part last high) by_ends.0 (right_cases last high)) by_ends.1))

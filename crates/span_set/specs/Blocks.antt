@@ -34,8 +34,11 @@ pub record FitsAt (first : Address) (last len : ℕ) : Type 0 where
   pub lawful : IsBlock (block_at first len)
   pub within : first.value + size_of (block_at first len) ≤ last + 1
 
--- where a set has the addresses of a block that are not taken, its fewest blocks are the block's available ones
-abbrev pub LargestAreAvailable : Type 0
-LargestAreAvailable = (set : Spans) (within : Cidr) (blocks bs : List Cidr) → IsBlock within → set.family ≡ within.family
-    → ((a : ℕ) → IsIn set a ↔ (HasAddress within a × (is_taken blocks a ≡ false)))
+-- the set has just the block's addresses that are not taken
+abbrev pub IsRest : Spans → Cidr → List Cidr → Type 0
+IsRest set within blocks = (a : ℕ) → IsIn set a ↔ (HasAddress within a × (is_taken blocks a ≡ false))
+
+-- the fewest blocks of such a set are the block's available ones
+abbrev pub FewestAreAvailable : Type 0
+FewestAreAvailable = (set : Spans) (within : Cidr) (blocks bs : List Cidr) → IsBlock within → set.family ≡ within.family → IsRest set within blocks
     → ListsLargest set.family (IsIn set) bs → bs ≡ available_blocks_of within blocks

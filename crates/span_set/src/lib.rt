@@ -9,7 +9,7 @@ ghost use Rattle.inet_num.specs.Count.{count_of};
 ghost use Rattle.inet_num.specs.Free.{is_taken};
 ghost use Rattle.span_set.specs.Runs.{IsBetween};
 ghost use Rattle.span_set.specs.Spans.{IsSpans, is_in, IsIn};
-ghost use Rattle.span_set.specs.Blocks.{ListsLargest, LargestAreAvailable};
+ghost use Rattle.span_set.specs.Blocks.{ListsLargest, FewestAreAvailable};
 
 mod blocks;
 mod runs;
@@ -113,8 +113,8 @@ impl SpanSet {
 
 /// A law: where a set has just the addresses of a block that a list of blocks does not take, the fewest blocks of the set
 /// are the block's available ones beside that list.
-pub fn largest_are_available()
-    ensures { LargestAreAvailable }
+pub fn fewest_are_available()
+    ensures { FewestAreAvailable }
 {
 }
 
