@@ -27,5 +27,5 @@ lists_available set within blocks bs same e h = record {
   each = All-weaker _ _ bs (largest_is_available set within blocks same e) h.each;
   complete = λ m k. h.complete m (available_is_largest set within blocks same e m k);
   ordered = order_raised 0 within.first bs h.ordered
-  (All-weaker _ _ bs (λ m (k : IsLargest set.family (IsIn set) m). (let low = (e m.first).0 (k.inside m.first (first_in m)) in let l : within.first ≤ m.first = low.0.0 in l)) h.each);
+      (All-weaker _ _ bs (λ m (k : IsLargest set.family (IsIn set) m). (let low = (e m.first).0 (k.inside m.first (first_in m)) in let l : within.first ≤ m.first = low.0.0 in l)) h.each);
 }

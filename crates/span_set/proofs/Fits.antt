@@ -1,7 +1,7 @@
-use Rattle.std.proofs.Common.{◌≡◌, ℕ, ◌+◌, ◌-◌, ◌^◌, ◌<◌, ◌≤◌, ap, arith, inl, inr}
+use Rattle.std.proofs.Common.{◌≡◌, ℕ, ◌-◌, ◌^◌, ◌<◌, ◌≤◌, ap, arith, inl, inr}
 use Rattle.std.proofs.lemmas.Bool.{cases_lt}
 use Rattle.std.proofs.lemmas.Nat.{pow_below}
-use Rattle.inet_num.specs.Net.{width_of, Address, Cidr, IsBlock, size_of, block_at, last_of}
+use Rattle.inet_num.specs.Net.{width_of, Address, Cidr, block_at, last_of}
 use Rattle.inet_num.proofs.Aligned.{aligned_smaller}
 use Rattle.span_set.specs.Blocks.{FitsAt}
 

@@ -1,17 +1,18 @@
-use Rattle.std.proofs.Common.{◌≡◌, ◌⊎◌, ℕ, ◌+◌, ◌-◌, ◌*◌, ◌/◌, ◌%◌, ◌^◌, ◌<◌, ◌≤◌, refl, sym, ◌∙◌, ap, subst, arith, inl, inr, Bool, true, false, IsTrue, List, [], ◌∷◌, ◌++◌}
+use Rattle.std.proofs.Common.{◌≡◌, ℕ, ◌+◌, ◌-◌, ◌%◌, ◌^◌, ◌<◌, ◌≤◌, refl, sym, ◌∙◌, ap, subst, arith, inl, inr, Bool, true, false, IsTrue, List, [], ◌∷◌, ◌++◌}
 use Rattle.std.specs.List.{AllByRecursion, Contains}
 use Rattle.std.proofs.lemmas.Bool.{cases_lt}
 use Rattle.std.proofs.lemmas.Bool.Decides.{nat_tests}
-use Rattle.std.proofs.lemmas.Nat.{pow_pos, pow_below, div-add-mod'}
+use Rattle.std.proofs.lemmas.Nat.{pow_pos, div-add-mod'}
 use Rattle.std.proofs.lemmas.List.Elements.{Contains-append_left, Contains-append_right}
 use Rattle.std.proofs.Math.Nat.{add-mod_right, lt-div-mul-add, mul-mod_left}
 use Rattle.inet_num.specs.declared.Family.{Family}
 use Rattle.inet_num.specs.Net.{width_of, Address, Cidr, IsBlock, size_of, HasAddress, IsInside, enclosing_of, block_at, last_of}
 use Rattle.inet_num.specs.Free.{InOrder, has_address, is_taken}
-use Rattle.inet_num.proofs.Numbers.{inside_by_ends, ends_of_inside, same_block}
+use Rattle.inet_num.proofs.Numbers.{inside_by_ends}
 use Rattle.inet_num.proofs.Aligned.{aligned_smaller, multiples_apart, enclosing_inside}
+use Rattle.inet_num.proofs.Nested.{same_by_len}
 use Rattle.span_set.specs.Runs.{IsBetween}
-use Rattle.span_set.specs.Blocks.{FitsAt, AllIn, IsLargest, ListsLargest, IsFewest}
+use Rattle.span_set.specs.Blocks.{FitsAt, AllIn, IsLargest, IsFewest}
 
 pub All-more : (P : Cidr → Type 0) (xs ys : List Cidr) → AllByRecursion P xs → AllByRecursion P ys → AllByRecursion P (xs ++ ys)
 All-more P [] ys h k = k
@@ -56,18 +57,6 @@ in_from_taken set (b ∷ bs) a h t = go (has_address b a) refl (in_from_taken se
   go : (u : Bool) → has_address b a ≡ u → (IsTrue (is_taken bs a) → set a) → set a
   go true e later = h.0 a (grind (arith, nat_tests), grind (arith, nat_tests))
   go false e later = let rest : IsTrue (is_taken bs a) = grind arith in later rest
-
--- a block inside another that is no longer is that one
-pub same_by_len : (m b : Cidr) → IsInside m b → m.len ≤ b.len → m.len ≤ width_of m.family → b.len ≤ width_of b.family → m ≡ b
-same_by_len m b h le short short_b =
-    let same : width_of m.family ≡ width_of b.family = ap width_of h.family in
-    let ends = ends_of_inside m b h in
-    let len : m.len ≡ b.len = elim (cases_lt m.len b.len) [
-      | inl less ↦ let bigger = pow_below (width_of b.family - b.len) (width_of m.family - m.len) (omega arith) in absurd (omega arith)
-      | inr ge ↦ omega arith
-    ] in
-    let sizes : size_of m ≡ size_of b = ap (λ k. 2 ^ k) (let e : width_of m.family - m.len ≡ width_of b.family - b.len = omega arith in e) in
-    same_block m b h.family (omega arith) len
 
 -- the enclosing block of a block is one, and has its first address
 pub enclosing_lawful : (b : Cidr) → IsBlock b → IsBlock (enclosing_of b)

@@ -1,11 +1,11 @@
-use Rattle.std.proofs.Common.{◌≡◌, ◌⊎◌, ℕ, ◌+◌, ◌-◌, ◌<◌, ◌≤◌, ◌↔◌, min, max, refl, sym, ◌∙◌, ap, subst, arith, inl, inr, IsTrue, List, [], ◌∷◌, ◌++◌, length, take, drop, get_or}
+use Rattle.std.proofs.Common.{◌≡◌, ◌⊎◌, ℕ, ◌+◌, ◌-◌, ◌<◌, ◌≤◌, ◌↔◌, min, max, sym, ◌∙◌, ap, subst, arith, inl, inr, IsTrue, List, [], ◌∷◌, ◌++◌, length, take, drop, get_or}
 use Rattle.std.specs.List.{AllByRecursion}
 use Rattle.std.proofs.lemmas.List.{drop_more, take-append-drop, length-take, get_or-take}
 use Rattle.std.proofs.lemmas.List.Elements.{All-from_recursion}
 use Rattle.std.proofs.lemmas.Bool.{cases_lt}
 use Rattle.span_set.specs.declared.runs.Run.{Run}
-use Rattle.span_set.specs.Runs.{in_runs, IsBetween, AreApart, EndBelow}
-use Rattle.span_set.proofs.Members.{InRuns, in_from_test, test_from_in, In-left, In-right, In-cases, In_from, apart_joined, apart_raised, apart_front, apart_back, ends_ahead, All-append, All-front, All-back, All-weaker}
+use Rattle.span_set.specs.Runs.{in_runs, IsBetween, AreApart}
+use Rattle.span_set.proofs.Members.{InRuns, in_from_test, test_from_in, In-left, In-right, In-cases, In_from, apart_joined, apart_raised, apart_front, apart_back, ends_ahead, All-weaker}
 
 -- the new list has the numbers of the old one, and those from first to last
 abbrev pub IsAdded : ℕ → ℕ → List Run → List Run → Type 0
@@ -103,7 +103,7 @@ touches_at gap first last runs from to low high h o l low_is high_is reached beg
     let low_here : drop from runs ≡ low ∷ drop (from + 1) runs = drop_more runs from low inside ∙ ap (λ (run : Run). run ∷ drop (from + 1) runs) (sym low_is) in
     let next : to - 1 + 1 ≡ to = omega arith in
     let high_here : drop (to - 1) runs ≡ high ∷ drop to runs =
-        drop_more runs (to - 1) high (omega arith) ∙ ap (λ (run : Run). run ∷ drop (to - 1 + 1) runs) (sym high_is) ∙ ap (λ k. high ∷ drop k runs) next in
+    drop_more runs (to - 1) high (omega arith) ∙ ap (λ (run : Run). run ∷ drop (to - 1 + 1) runs) (sym high_is) ∙ ap (λ k. high ∷ drop k runs) next in
     let short : to - 1 < length (take to runs) = omega (arith, length-take to runs) in
     let high_there : get_or (take to runs) (to - 1) high ≡ high = get_or-take to runs (to - 1) high (omega arith) ∙ sym high_is in
     record {
@@ -157,9 +157,10 @@ apart_with_joined first last runs xs ys low high o t before behind =
     let run : Run = joined first last low high in
     apart_joined 0 run.first xs (run ∷ ys) e.front_apart (both xs before e.ahead) (omega arith)
     (omega arith, omega arith, further ys behind e.back_apart) where
-  both : (zs : List Run) → AllByRecursion (λ run. run.last + 1 < first) zs → AllByRecursion (λ x. x.last + 2 ≤ low.first) zs → AllByRecursion (λ x. x.last + 2 ≤ min first low.first) zs
-  both [] h k = tt
-  both (z ∷ zs) h k = (omega (arith, h.0, k.0), both zs h.1 k.1)
-  further : (zs : List Run) → AllByRecursion (λ run. last + 1 < run.first) zs → AreApart (high.last + 2) zs → AreApart (max last high.last + 2) zs
-  further [] h k = tt
-  further (z ∷ zs) h k = (omega (arith, h.0, k.0), k.1, k.2)
+      both : (zs : List Run) → AllByRecursion (λ run. run.last + 1 < first) zs → AllByRecursion (λ x. x.last + 2 ≤ low.first) zs → AllByRecursion (λ x. x.last + 2 ≤ min first low.first) zs
+      both [] h k = tt
+      both (z ∷ zs) h k = (omega (arith, h.0, k.0), both zs h.1 k.1)
+
+      further : (zs : List Run) → AllByRecursion (λ run. last + 1 < run.first) zs → AreApart (high.last + 2) zs → AreApart (max last high.last + 2) zs
+      further [] h k = tt
+      further (z ∷ zs) h k = (omega (arith, h.0, k.0), k.1, k.2)

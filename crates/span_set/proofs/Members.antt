@@ -1,8 +1,8 @@
-use Rattle.std.proofs.Common.{◌≡◌, ◌⊎◌, ℕ, ◌+◌, ◌-◌, ◌<◌, ◌≤◌, ◌↔◌, refl, sym, ◌∙◌, ap, subst, arith, inl, inr, Bool, true, false, ◌||◌, ◌&&◌, nat_le, nat_lt, IsTrue, Result, Ok, Err, OnOk, OnErr, List, [], ◌∷◌, ◌++◌}
+use Rattle.std.proofs.Common.{◌≡◌, ◌⊎◌, ℕ, ◌+◌, ◌<◌, ◌≤◌, refl, arith, inl, inr, Bool, true, false, IsTrue, Result, Ok, Err, OnOk, OnErr, List, [], ◌∷◌, ◌++◌}
 use Rattle.std.specs.List.{AllByRecursion}
 use Rattle.std.proofs.lemmas.Bool.Decides.{nat_tests}
 use Rattle.span_set.specs.declared.runs.Run.{Run}
-use Rattle.span_set.specs.Runs.{in_run, in_runs, IsBetween, AreApart, EndBelow}
+use Rattle.span_set.specs.Runs.{in_run, in_runs, IsBetween, AreApart}
 
 -- some run has the number, by recursion on the list
 abbrev pub InRuns : List Run → ℕ → Type 0

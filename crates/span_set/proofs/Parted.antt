@@ -1,11 +1,11 @@
-use Rattle.std.proofs.Common.{◌≡◌, ◌⊎◌, ℕ, ◌+◌, ◌-◌, ◌<◌, ◌≤◌, ◌↔◌, refl, sym, ◌∙◌, ap, subst, arith, inl, inr, Bool, true, false, cond, nat_lt, IsTrue, List, [], ◌∷◌, ◌++◌}
+use Rattle.std.proofs.Common.{◌≡◌, ℕ, ◌+◌, ◌-◌, ◌<◌, ◌≤◌, ◌↔◌, refl, arith, inl, inr, Bool, true, false, cond, nat_lt, IsTrue, List, [], ◌∷◌, ◌++◌}
 use Rattle.std.specs.List.{AllByRecursion}
 use Rattle.std.proofs.lemmas.Bool.{cases_lt}
 use Rattle.std.proofs.lemmas.Bool.Decides.{nat_tests}
 use Rattle.span_set.specs.declared.runs.Run.{Run}
-use Rattle.span_set.specs.Runs.{in_runs, IsBetween, AreApart, EndBelow, left_part, right_part}
-use Rattle.span_set.proofs.Members.{InRuns, in_from_test, test_from_in, In-left, In-right, In-cases, In_before, In_behind, apart_from, apart_joined, apart_raised, All-append, All-front, All-back, All-weaker}
-use Rattle.span_set.proofs.Joined.{Touches, Ends, ends_of}
+use Rattle.span_set.specs.Runs.{in_runs, IsBetween, AreApart, left_part, right_part}
+use Rattle.span_set.proofs.Members.{InRuns, in_from_test, test_from_in, In-left, In-right, In-cases, In_before, In_behind, apart_from, apart_joined, apart_raised, All-weaker}
+use Rattle.span_set.proofs.Joined.{Touches, ends_of}
 
 -- the new list has the numbers of the old one but those from first to last
 abbrev pub IsTaken : ℕ → ℕ → List Run → List Run → Type 0
@@ -34,14 +34,16 @@ right_cases last run = go (nat_lt last run.last) refl where
 
 left_members : (first : ℕ) (run : Run) (part : List Run) → LeftPart first run part → (a : ℕ) → InRuns part a ↔ ((run.first ≤ a) × (a < first))
 left_members first run part (some p e) a = rw e (
-    (λ h. elim h [ inl k ↦ (let l = k.0 in let u = k.1 in (omega arith, omega arith)) | inr k ↦ absurd k ]),
-    (λ h. let l = h.0 in let u = h.1 in inl (omega arith, omega arith)))
+  (λ h. elim h [ inl k ↦ (let l = k.0 in let u = k.1 in (omega arith, omega arith)) | inr k ↦ absurd k ]),
+  (λ h. let l = h.0 in let u = h.1 in inl (omega arith, omega arith)),
+)
 left_members first run part (none p e) a = rw e ((λ h. absurd h), (λ h. let l = h.0 in let u = h.1 in absurd (omega arith)))
 
 right_members : (last : ℕ) (run : Run) (part : List Run) → RightPart last run part → (a : ℕ) → InRuns part a ↔ ((last < a) × (a ≤ run.last))
 right_members last run part (more p e) a = rw e (
-    (λ h. elim h [ inl k ↦ (let l = k.0 in let u = k.1 in (omega arith, omega arith)) | inr k ↦ absurd k ]),
-    (λ h. let l = h.0 in let u = h.1 in inl (omega arith, omega arith)))
+  (λ h. elim h [ inl k ↦ (let l = k.0 in let u = k.1 in (omega arith, omega arith)) | inr k ↦ absurd k ]),
+  (λ h. let l = h.0 in let u = h.1 in inl (omega arith, omega arith)),
+)
 right_members last run part (less p e) a = rw e ((λ h. absurd h), (λ h. let l = h.0 in let u = h.1 in absurd (omega arith)))
 
 -- some runs, what is left of the first and of the last run that are met, and the runs behind

@@ -1,10 +1,8 @@
 -- For callers: a block is added, and then blocks are taken away one after another.
-use Rattle.std.proofs.Common.{◌≡◌, ◌⊎◌, ℕ, ◌+◌, ◌-◌, ◌<◌, ◌≤◌, ◌↔◌, refl, arith, inl, inr, Bool, true, false, IsTrue, List, [], ◌∷◌, ◌++◌}
-use Rattle.std.specs.List.{list_any}
+use Rattle.std.proofs.Common.{◌≡◌, ◌⊎◌, ℕ, ◌-◌, ◌↔◌, refl, arith, inl, inr, Bool, true, false, IsTrue, List, [], ◌∷◌, ◌++◌}
 use Rattle.std.proofs.lemmas.Bool.Decides.{nat_tests}
 use Rattle.std.proofs.lemmas.Nat.{pow_pos}
-use Rattle.inet_num.specs.declared.Family.{Family}
-use Rattle.inet_num.specs.Net.{Cidr, width_of, size_of, HasAddress, first_of, last_of}
+use Rattle.inet_num.specs.Net.{Cidr, width_of, HasAddress, first_of, last_of}
 use Rattle.inet_num.specs.Free.{has_address, is_taken}
 use Rattle.span_set.specs.Runs.{IsBetween}
 use Rattle.span_set.specs.Spans.{Spans, IsIn}
@@ -51,14 +49,17 @@ rest_more old new within c blocks rest taken a =
     let span = between_of_block c a in (
       (λ h.
           let was = (taken a).0 h in
-          let before = (rest a).0 was.0 in
-          (before.0, not_taken (blocks ++ c ∷ []) a (λ t. elim (taken_cases blocks c a t) [
-            | inl k ↦ (let b = before.1 in let f : IsTrue false = rw b at k in cc)
-            | inr k ↦ was.1 (span.1 k)
-          ]))),
+          let before = (rest a).0 was.0 in (
+            before.0,
+            not_taken (blocks ++ c ∷ []) a (λ t. elim (taken_cases blocks c a t) [
+              | inl k ↦ (let b = before.1 in let f : IsTrue false = rw b at k in cc)
+              | inr k ↦ was.1 (span.1 k)
+            ]),
+          )),
       (λ h.
           let none = h.1 in
           (taken a).1 (
             (rest a).1 (h.0, not_taken blocks a (λ t. (let k = taken_left blocks (c ∷ []) a t in let f : IsTrue false = rw none at k in cc))),
-            λ b. (let k = taken_right blocks (c ∷ []) a (taken_by c a (span.0 b)) in let f : IsTrue false = rw none at k in cc))),
+            λ b. (let k = taken_right blocks (c ∷ []) a (taken_by c a (span.0 b)) in let f : IsTrue false = rw none at k in cc),
+          )),
     )

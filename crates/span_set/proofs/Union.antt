@@ -1,18 +1,18 @@
-use Rattle.std.proofs.Common.{◌≡◌, ◌⊎◌, ℕ, ◌+◌, ◌-◌, ◌^◌, ◌<◌, ◌≤◌, ◌↔◌, refl, sym, ◌∙◌, ap, subst, arith, inl, inr, IsTrue, List, [], ◌∷◌, ◌++◌, length, take, drop, get_or}
-use Rattle.std.specs.List.{AllByRecursion, Contains}
+use Rattle.std.proofs.Common.{◌≡◌, ◌⊎◌, ℕ, ◌+◌, ◌-◌, ◌<◌, ◌≤◌, ◌↔◌, sym, subst, arith, inl, inr, IsTrue, List, [], ◌∷◌, ◌++◌, length, take, drop, get_or}
+use Rattle.std.specs.List.{AllByRecursion}
 use Rattle.std.proofs.lemmas.Bool.{cases_lt}
 use Rattle.std.proofs.lemmas.Nat.{pow_pos}
 use Rattle.std.proofs.lemmas.List.{take-append-drop, take_more, take_all}
 use Rattle.std.proofs.lemmas.List.Elements.{Contains-append_left, Contains-append_right}
 use Rattle.inet_num.specs.declared.Family.{Family}
-use Rattle.inet_num.specs.Net.{width_of, Cidr, IsBlock, size_of, HasAddress, enclosing_of}
+use Rattle.inet_num.specs.Net.{width_of, Cidr, size_of, HasAddress, enclosing_of}
 use Rattle.inet_num.specs.Free.{InOrder, is_taken}
 use Rattle.span_set.specs.declared.runs.Run.{Run}
 use Rattle.span_set.specs.Runs.{IsBetween, AreApart}
 use Rattle.span_set.specs.Spans.{Spans, IsIn}
-use Rattle.span_set.specs.Blocks.{AllIn, IsLargest, ListsLargest, IsFewest}
+use Rattle.span_set.specs.Blocks.{AllIn, IsLargest, IsFewest}
 use Rattle.span_set.proofs.Members.{InRuns, in_from_test, test_from_in, In-left, In-right, In-cases, In_from, apart_front, ends_ahead}
-use Rattle.span_set.proofs.Greedy.{All-more, All-weaker, InOrder-more, taken_left, taken_right, in_from_taken, enclosing_has, ends_in}
+use Rattle.span_set.proofs.Greedy.{All-more, All-weaker, InOrder-more, taken_left, taken_right, in_from_taken, enclosing_has}
 
 -- a block has its first address and its last one
 pub first_in : (m : Cidr) → HasAddress m m.first
@@ -93,21 +93,21 @@ fewest_more family xs x bs cs h f g =
       lists = record {
         each = All-more P bs cs (All-weaker _ P bs lower f.lists.each) (All-weaker _ P cs upper g.lists.each);
         ordered = InOrder-more 0 x.first bs cs f.lists.ordered
-        (All-weaker _ _ bs (λ m (k : IsLargest family (InRuns xs) m). end_below x.first xs m ahead k.inside) f.lists.each) (omega arith)
-        (order_raised 0 x.first cs g.lists.ordered (All-weaker _ _ cs (λ m (k : IsLargest family (IsBetween x.first x.last) m). (k.inside m.first (first_in m)).0) g.lists.each));
+            (All-weaker _ _ bs (λ m (k : IsLargest family (InRuns xs) m). end_below x.first xs m ahead k.inside) f.lists.each) (omega arith)
+            (order_raised 0 x.first cs g.lists.ordered (All-weaker _ _ cs (λ m (k : IsLargest family (IsBetween x.first x.last) m). (k.inside m.first (first_in m)).0) g.lists.each));
         complete = λ m k. elim (one_side 0 xs (x ∷ []) h m k.inside) [
           | inl here ↦ Contains-append_left bs cs m (f.lists.complete m (record {
-              lawful = k.lawful;
-              family_is = k.family_is;
-              inside = here;
-              largest = λ some all. k.largest some (λ a i. In-left xs (x ∷ []) a (all a i));
-            }))
+            lawful = k.lawful;
+            family_is = k.family_is;
+            inside = here;
+            largest = λ some all. k.largest some (λ a i. In-left xs (x ∷ []) a (all a i));
+          }))
           | inr there ↦ Contains-append_right bs cs m (g.lists.complete m (record {
-              lawful = k.lawful;
-              family_is = k.family_is;
-              inside = alone x m there;
-              largest = λ some all. k.largest some (λ a i. In-right xs (x ∷ []) a (inl (all a i)));
-            }))
+            lawful = k.lawful;
+            family_is = k.family_is;
+            inside = alone x m there;
+            largest = λ some all. k.largest some (λ a i. In-right xs (x ∷ []) a (inl (all a i)));
+          }))
         ];
       };
       covers = λ a k. elim (In-cases xs (x ∷ []) a k) [

@@ -1,11 +1,10 @@
-use Rattle.std.proofs.Common.{◌≡◌, ℕ, ◌^◌, ◌<◌, ◌≤◌, List, length, get_or, sym, subst, arith}
-use Rattle.std.specs.List.{AllByRecursion}
+use Rattle.std.proofs.Common.{◌≡◌, ℕ, ◌^◌, ◌<◌, ◌≤◌, List, length, get_or, sym, subst}
 use Rattle.std.proofs.lemmas.List.Elements.{All-from_recursion}
 use Rattle.inet_num.specs.Net.{Cidr, IsBlock, width_of}
 use Rattle.span_set.specs.declared.runs.Run.{Run}
 use Rattle.span_set.specs.Runs.{AreApart, EndBelow}
 use Rattle.span_set.specs.Spans.{Spans, IsIn}
-use Rattle.span_set.specs.Blocks.{IsFewest, IsLargest, ListsLargest}
+use Rattle.span_set.specs.Blocks.{IsFewest, IsLargest}
 use Rattle.span_set.proofs.Rising.{at_least}
 use Rattle.span_set.proofs.Greedy.{All-weaker}
 use Rattle.span_set.proofs.Union.{fewest_none, fewest_step, fewest_whole, fewest_members}

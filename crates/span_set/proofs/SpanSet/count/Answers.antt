@@ -1,9 +1,7 @@
-use Rattle.std.proofs.Common.{◌≡◌, ℕ, ◌+◌, ◌-◌, ◌<◌, ◌≤◌, List, ◌∙◌, ap, subst, arith}
-use Rattle.inet_num.specs.Net.{Address, Cidr, width_of, size_of}
+use Rattle.std.proofs.Common.{◌≡◌, ◌∙◌, ap, subst, arith}
+use Rattle.inet_num.specs.Net.{Address}
 use Rattle.inet_num.specs.Count.{count_of}
 use Rattle.inet_num.proofs.Numbers.{size_fits}
-use Rattle.span_set.specs.declared.runs.Run.{Run}
-use Rattle.span_set.specs.Runs.{AreApart}
 use Rattle.span_set.specs.Spans.{Spans, is_in}
 use Rattle.span_set.proofs.Counted.{counted_within}
 use Rattle.span_set.proofs.SpanSet.count.Goals as goal

@@ -1,4 +1,4 @@
-use Rattle.std.proofs.Common.{◌≡◌, ℕ, ◌^◌, ◌<◌, sym, ◌∙◌, ap, subst}
+use Rattle.std.proofs.Common.{◌^◌, sym, subst}
 use Rattle.inet_num.specs.Net.{width_of}
 use Rattle.span_set.specs.Runs.{AreApart, EndBelow}
 use Rattle.span_set.proofs.Members.{either}

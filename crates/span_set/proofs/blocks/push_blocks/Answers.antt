@@ -1,7 +1,7 @@
-use Rattle.std.proofs.Common.{◌≡◌, ℕ, ◌+◌, ◌-◌, ◌<◌, ◌≤◌, List, [], ◌∷◌, ◌++◌, refl, sym, ◌∙◌, ap, arith, append_assoc}
+use Rattle.std.proofs.Common.{[], ◌∷◌, ◌++◌, sym, ◌∙◌, ap, arith, append_assoc}
 use Rattle.std.proofs.lemmas.List.{append-nil}
-use Rattle.inet_num.specs.Net.{Address, Cidr}
-use Rattle.span_set.proofs.Greedy.{Found, found_none, found_all, found_step}
+use Rattle.inet_num.specs.Net.{Address}
+use Rattle.span_set.proofs.Greedy.{found_none, found_all, found_step}
 use Rattle.span_set.proofs.blocks.push_blocks.Goals as goal
 
 pub walk-init : goal.walk-init

@@ -1,4 +1,4 @@
-use Rattle.std.proofs.Common.{ℕ, ◌≡◌, ◌≤◌, ◌-◌, ◌++◌, List, vec_len}
+use Rattle.std.proofs.Common.{◌≡◌, ◌≤◌, ◌-◌, ◌++◌, List}
 use Rattle.inet_num.specs.Net.{Cidr}
 use Rattle.span_set.proofs.Greedy.{Found}
 use Rattle.span_set.proofs.blocks.push_blocks.Given as goal

@@ -1,6 +1,5 @@
-use Rattle.std.proofs.Common.{◌≡◌, ℕ, ◌+◌, ◌-◌, ◌<◌, ◌≤◌, refl, sym, ◌∙◌, ap, subst, arith}
-use Rattle.inet_num.specs.Net.{width_of, Address, Cidr, IsBlock, block_at, last_of}
-use Rattle.span_set.specs.Blocks.{FitsAt}
+use Rattle.std.proofs.Common.{◌≡◌, ℕ, ◌-◌, ◌∙◌, ap, arith}
+use Rattle.inet_num.specs.Net.{Address, block_at, last_of}
 use Rattle.span_set.proofs.Fits.{least_here, too_long}
 use Rattle.span_set.proofs.blocks.widest.Goals as goal
 

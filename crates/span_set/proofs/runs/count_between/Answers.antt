@@ -1,7 +1,5 @@
-use Rattle.std.proofs.Common.{◌≡◌, ℕ, ◌+◌, ◌-◌, ◌<◌, ◌≤◌, ◌^◌, min, max, take, drop, get_or, length, arith, ◌∙◌}
-use Rattle.std.specs.List.{sum_by}
+use Rattle.std.proofs.Common.{◌-◌, take, drop, arith, ◌∙◌}
 use Rattle.std.proofs.lemmas.List.Sums.{sum_by_more}
-use Rattle.span_set.specs.declared.runs.Run.{Run}
 use Rattle.span_set.specs.Runs.{shared}
 use Rattle.span_set.proofs.Counted.{met_at, sum_fits, sum_whole}
 use Rattle.span_set.proofs.runs.count_between.Goals as goal
