@@ -7,7 +7,7 @@ use Rattle.std.proofs.lemmas.Fmt.{decimal_injective}
 use Rattle.std.proofs.Math.Nat.{mul-mod_left}
 use Rattle.std.proofs.lemmas.Nat.{div-add-mod'}
 use Rattle.inet_num.specs.Net.{Address, IsAddress, Cidr, IsBlock, width_of, block_at, block_around}
-use Rattle.inet_num.specs.Text.{is_slash, front_of, EndsInLength}
+use Rattle.inet_num.specs.Text.{is_slash, front_of, HasNoSlash, EndsInLength}
 use Rattle.inet_num.specs.declared.Family.{Family}
 use Rattle.inet_num.specs.declared.Family.TheVariants.{V4, V6}
 use Rattle.inet_num.proofs.Numbers.{and_ones}
@@ -30,20 +30,23 @@ cut_there text i l e here =
 pub not_longer : (text rest : List ℕ) → text ≡ text ++ 47 ∷ rest → ⊥
 not_longer text rest e = omega (arith, ap length e, length-append text (47 ∷ rest))
 
+-- with a slash in it the text is not all front
+pub slash_stands : (text rest : List ℕ) → text ≡ front_of text ++ 47 ∷ rest → ¬ HasNoSlash text
+slash_stands text rest cut none = not_longer text rest (cut ∙ ap (λ (f : List ℕ). f ++ 47 ∷ rest) none)
+
 pub same_rest : (front a b : List ℕ) → front ++ 47 ∷ a ≡ front ++ 47 ∷ b → a ≡ b
 same_rest [] a b e = cc
 same_rest (x ∷ front) a b e = (let tails : front ++ 47 ∷ a ≡ front ++ 47 ∷ b = cc in same_rest front a b tails)
 
--- a rest that is no length up to the width
-pub no_length : (w : ℕ) (text rest : List ℕ) → w < 256 → text ≡ front_of text ++ 47 ∷ rest → ((n : ℕ) → n < 256 → rest ≢ decimal n) → (len : ℕ) → len ≤ w → EndsInLength text len → ⊥
-no_length w text rest small cut none len le e = none len (omega arith) (same_rest (front_of text) rest (decimal len) (sym cut ∙ e))
-
--- a rest that is a length above the width
-pub long_length : (w : ℕ) (text rest : List ℕ) (l : ℕ) → w < 256 → text ≡ front_of text ++ 47 ∷ rest → rest ≡ decimal l → l < 256 → w < l → (len : ℕ) → len ≤ w → EndsInLength text len → ⊥
-long_length w text rest l narrow cut is small big len le e =
-    let same : decimal l ≡ decimal len = sym is ∙ same_rest (front_of text) rest (decimal len) (sym cut ∙ e) in
-    let n : l ≡ len = decimal_injective l len (omega arith) (omega arith) same in
+-- a number above the width is no length
+pub too_long : (w : ℕ) (text : List ℕ) (l : ℕ) → w < 256 → text ≡ decimal l → l < 256 → w < l → (n : ℕ) → n ≤ w → text ≢ decimal n
+too_long w text l narrow is small big n le e =
+    let same : l ≡ n = decimal_injective l n (omega arith) (omega arith) (sym is ∙ e) in
     omega arith
+
+-- a rest that is no length up to the width
+pub no_length : (w : ℕ) (text rest : List ℕ) → text ≡ front_of text ++ 47 ∷ rest → ((n : ℕ) → n ≤ w → rest ≢ decimal n) → (len : ℕ) → len ≤ w → EndsInLength text len → ⊥
+no_length w text rest cut none len le e = none len le (same_rest (front_of text) rest (decimal len) (sym cut ∙ e))
 
 -- two lengths behind one slash are one
 pub one_length : (text : List ℕ) (m n : ℕ) → m < 256 → n < 256 → EndsInLength text m → EndsInLength text n → m ≡ n

@@ -10,4 +10,8 @@ pub mod Values
 pub mod Decimals
 pub mod Cuts
 pub mod RoundTrip
+pub mod Readings
+pub mod Colons
+pub mod FaultKinds
+pub mod TextExamples
 pub mod Examples

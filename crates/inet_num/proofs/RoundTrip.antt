@@ -1,25 +1,20 @@
--- What is written of a block is read as that block, and a text has one reading.
-use Rattle.std.proofs.Common.{◌≡◌, ℕ, zero, suc, get_or, ◌+◌, ◌^◌, ◌<◌, ◌≤◌, List, [], ◌∷◌, ◌++◌, take, refl, sym, ◌∙◌, ap, subst, arith, Bool, true, false, not, cond, decimal}
-use Rattle.std.specs.Int.{w32, to_be_bytes}
+-- What is written of an address or a block is read as that one.
+use Rattle.std.proofs.Common.{◌≡◌, ℕ, zero, suc, get_or, ◌+◌, ◌^◌, ◌<◌, List, [], ◌∷◌, ◌++◌, take, refl, sym, ◌∙◌, ap, subst, arith, Bool, true, false, not, cond, decimal, All, inl, inr}
+use Rattle.std.specs.Int.{w32, w128, to_be_bytes}
 use Rattle.std.specs.Int.Digits.{number_from_digits}
 use Rattle.std.specs.List.{list_any, position_or_len}
 use Rattle.std.specs.Char.{digit_value}
 use Rattle.std.specs.Str.Parse.{AllDigits}
 use Rattle.std.specs.Net.Text.{dotted_text}
-use Rattle.std.specs.declared.net.ipv4_addr.Ipv4Addr.{Ipv4Addr}
-use Rattle.std.proofs.NetLemmas.Texts.{IsDotted-ipv4_text}
-use Rattle.std.proofs.NetLemmas.Theorems.{IsIpv4Text_unique}
+use Rattle.std.specs.Net.Addr.{segments_of}
+use Rattle.std.proofs.NetLemmas.Texts.{IsDotted-ipv4_text, IsColonHex-hex_groups_text}
+use Rattle.std.proofs.NetLemmas.Alphabet.{IsHexOrColon, All-hex_groups_text}
 use Rattle.std.proofs.lemmas.Bool.Decides.{nat_tests}
-use Rattle.std.proofs.lemmas.List.Folds.{list_any-append}
+use Rattle.std.proofs.lemmas.List.Folds.{list_any-append, list_any_none}
 use Rattle.inet_num.specs.declared.Family.{Family}
 use Rattle.inet_num.specs.declared.Family.TheVariants.{V4, V6}
-use Rattle.inet_num.specs.declared.text.TextFault.{TextFault}
-use Rattle.inet_num.specs.declared.text.TextFault.TheVariants.{Octet, Group, Shape, Length, HostBits}
-use Rattle.inet_num.specs.Net.{Address, Cidr, IsBlock, width_of, block_at, block_around}
-use Rattle.inet_num.specs.Text.{IsAddressText, IsNoAddressText, Spells, canonical_text_of, block_text_of, is_slash, front_of, EndsInLength, IsBlockText, WritingIsRead}
-use Rattle.inet_num.specs.Fault.{IsAddressFault, IsLengthFault, IsHostBitsFault, IsBlockFault, ReadingIsOne}
-use Rattle.inet_num.proofs.Numbers.{same_block}
-use Rattle.inet_num.proofs.Cuts.{one_length, width_narrow}
+use Rattle.inet_num.specs.Net.{width_of}
+use Rattle.inet_num.specs.Text.{Spells, canonical_text_of, block_text_of, is_slash, front_of, HasNoSlash, WritingIsRead, WrittenAddressIsRead}
 use Rattle.inet_num.proofs.Decimals.{decimal_is}
 
 -- the value of the octets of a number is the number
@@ -36,6 +31,32 @@ four_small a b c d p q r s (suc (suc (suc (suc k)))) = omega arith
 
 pub quad_round : (n : ℕ) → n < 2 ^ 32 → Spells (canonical_text_of V4 n) V4 n
 quad_round n h = (to_be_bytes w32 n, IsDotted-ipv4_text (to_be_bytes w32 n) refl (four_small _ _ _ _ (omega arith) (omega arith) (omega arith) (omega arith)), octets_value n h)
+
+-- the value of the groups of a number is the number
+groups_value : (n : ℕ) → n < 2 ^ 128 → n ≡ number_from_digits 65536 (segments_of (to_be_bytes w128 n))
+groups_value n h = omega arith
+
+-- eight groups are below 65536, and past them there is 0
+eight_small : (a b c d e f g h : ℕ) → a < 65536 → b < 65536 → c < 65536 → d < 65536 → e < 65536 → f < 65536 → g < 65536 → h < 65536 → (k : ℕ) → get_or (a ∷ b ∷ c ∷ d ∷ e ∷ f ∷ g ∷ h ∷ []) k 0 < 65536
+eight_small a b c d e f g h p q r s t u v w zero = p
+eight_small a b c d e f g h p q r s t u v w (suc zero) = q
+eight_small a b c d e f g h p q r s t u v w (suc (suc zero)) = r
+eight_small a b c d e f g h p q r s t u v w (suc (suc (suc zero))) = s
+eight_small a b c d e f g h p q r s t u v w (suc (suc (suc (suc zero)))) = t
+eight_small a b c d e f g h p q r s t u v w (suc (suc (suc (suc (suc zero))))) = u
+eight_small a b c d e f g h p q r s t u v w (suc (suc (suc (suc (suc (suc zero)))))) = v
+eight_small a b c d e f g h p q r s t u v w (suc (suc (suc (suc (suc (suc (suc zero))))))) = w
+eight_small a b c d e f g h p q r s t u v w (suc (suc (suc (suc (suc (suc (suc (suc k)))))))) = omega arith
+
+groups_small : (n : ℕ) → n < 2 ^ 128 → (k : ℕ) → get_or (segments_of (to_be_bytes w128 n)) k 0 < 65536
+groups_small n h = eight_small _ _ _ _ _ _ _ _ (omega arith) (omega arith) (omega arith) (omega arith) (omega arith) (omega arith) (omega arith) (omega arith)
+
+pub groups_round : (n : ℕ) → n < 2 ^ 128 → Spells (canonical_text_of V6 n) V6 n
+groups_round n h = (segments_of (to_be_bytes w128 n), IsColonHex-hex_groups_text (segments_of (to_be_bytes w128 n)) refl (groups_small n h), groups_value n h)
+
+pub address_round : (f : Family) (n : ℕ) → n < 2 ^ width_of f → Spells (canonical_text_of f n) f n
+address_round V4 n h = quad_round n h
+address_round V6 n h = groups_round n h
 
 -- digits have no slash among them
 no_slash_digits : (text : List ℕ) → AllDigits 10 text → list_any is_slash text ≡ false
@@ -78,104 +99,48 @@ front-append (x ∷ xs) ys h = go (is_slash x) refl (front-append xs ys) where
       let rest : list_any is_slash xs ≡ false = (let step : list_any is_slash (x ∷ xs) ≡ list_any is_slash xs = rw e refl in sym step ∙ h) in
       front-cons x (xs ++ 47 ∷ ys) e ∙ ap (λ (zs : List ℕ). x ∷ zs) (later rest)
 
--- what is written of an IPv4 block is one of its texts
-pub written_is_read : WritingIsRead
-written_is_read b four h =
-    let range : b.first < 2 ^ 32 = subst (λ (f : Family). b.first < 2 ^ width_of f) four h.in_range in
-    let front : front_of (block_text_of b) ≡ canonical_text_of b.family b.first =
-    front-append (canonical_text_of b.family b.first) (decimal b.len) (subst (λ (f : Family). list_any is_slash (canonical_text_of f b.first) ≡ false) (sym four) (no_slash_dotted _ _ _ _ (omega arith) (omega arith) (omega arith) (omega arith))) in
+-- a hexadecimal digit or a colon is no slash
+no_slash_byte : (c : ℕ) → IsHexOrColon c → is_slash c ≡ false
+no_slash_byte c (inl h) = grind (arith, nat_tests)
+no_slash_byte c (inr h) = grind (arith, nat_tests)
+
+no_slash_hex : (text : List ℕ) → All IsHexOrColon text → list_any is_slash text ≡ false
+no_slash_hex text h = list_any_none is_slash text (λ k d l. no_slash_byte _ (h k d l))
+
+no_slash_address : (f : Family) (n : ℕ) → n < 2 ^ width_of f → list_any is_slash (canonical_text_of f n) ≡ false
+no_slash_address V4 n h = no_slash_dotted _ _ _ _ (omega arith) (omega arith) (omega arith) (omega arith)
+no_slash_address V6 n h = no_slash_hex (canonical_text_of V6 n) (All-hex_groups_text (segments_of (to_be_bytes w128 n)) (groups_small n h))
+
+-- a text without a slash is all front
+front-none : (text : List ℕ) → list_any is_slash text ≡ false → HasNoSlash text
+front-none [] h = refl
+front-none (x ∷ xs) h = go (is_slash x) refl (front-none xs) where
+  go : (t : Bool) → is_slash x ≡ t → (list_any is_slash xs ≡ false → front_of xs ≡ xs) → front_of (x ∷ xs) ≡ x ∷ xs
+  go true e later = (let no : list_any is_slash (x ∷ xs) ≡ true = rw e refl in cc)
+  go false e later =
+      let rest : list_any is_slash xs ≡ false = (let step : list_any is_slash (x ∷ xs) ≡ list_any is_slash xs = rw e refl in sym step ∙ h) in
+      front-cons x xs e ∙ ap (λ (zs : List ℕ). x ∷ zs) (later rest)
+
+-- what is written of an address is one of its texts, and one of it as a host
+pub written_address : WrittenAddressIsRead
+written_address a h =
+    let none : HasNoSlash (canonical_text_of a.family a.value) = front-none (canonical_text_of a.family a.value) (no_slash_address a.family a.value h) in
+    let round = address_round a.family a.value h in
     record {
-      address = subst (λ (t : List ℕ). Spells t b.family b.first) (sym front) (subst (λ (f : Family). Spells (canonical_text_of f b.first) f b.first) (sym four) (quad_round b.first range));
+      address = round;
+      host = record {
+        address = subst (λ (t : List ℕ). Spells t a.family a.value) (sym none) round;
+        length_is = inl (none, refl);
+      };
+    }
+
+-- what is written of a block is one of its texts
+pub written_is_read : WritingIsRead
+written_is_read b h =
+    let front : front_of (block_text_of b) ≡ canonical_text_of b.family b.first =
+    front-append (canonical_text_of b.family b.first) (decimal b.len) (no_slash_address b.family b.first h.in_range) in
+    record {
+      address = subst (λ (t : List ℕ). Spells t b.family b.first) (sym front) (address_round b.family b.first h.in_range);
       length_is = ap (λ (t : List ℕ). t ++ 47 ∷ decimal b.len) (sym front);
       lawful = h;
     }
-
--- a text spells one number of one family
-pub one_address : (text : List ℕ) (f g : Family) (m n : ℕ) → Spells text f m → Spells text g n → (f ≡ g) × (m ≡ n)
-one_address text V4 V4 m n h k =
-    let a : Ipv4Addr = record { octets = h.0 } in
-    let b : Ipv4Addr = record { octets = k.0 } in
-    let same : a ≡ b = IsIpv4Text_unique text a b h.1 k.1 in
-    (refl, h.2 ∙ ap (λ (x : Ipv4Addr). number_from_digits 256 x.octets) same ∙ sym k.2)
-one_address text V6 g m n h k = elim h [ ]
-one_address text V4 V6 m n h k = elim k [ ]
-
-same_address : (text : List ℕ) (a b : Address) → IsAddressText text a → IsAddressText text b → a ≡ b
-same_address text a b h k =
-    let one = one_address text a.family b.family a.value b.value h k in
-    ap (λ (f : Family). let x : Address = record { family = f; value = a.value } in x) one.0
-    ∙ ap (λ (n : ℕ). let x : Address = record { family = b.family; value = n } in x) one.1
-
-first_address : (text : List ℕ) (b : Cidr) → IsBlockText text b → IsAddressText (front_of text) (record { family = b.family; value = b.first })
-first_address text b h = h.address
-
-one_block : (text : List ℕ) (b c : Cidr) → IsBlockText text b → IsBlockText text c → b ≡ c
-one_block text b c h k =
-    let one = one_address (front_of text) b.family c.family b.first c.first h.address k.address in
-    let short_b = h.lawful.short in
-    let short_c = k.lawful.short in
-    let len : b.len ≡ c.len = one_length text b.len c.len (omega (arith, width_narrow b.family)) (omega (arith, width_narrow c.family)) h.length_is k.length_is in
-    same_block b c one.0 one.1 len
-
--- without an IPv4 reading there is none
-pub no_address : (text : List ℕ) → ((n : ℕ) → ¬ Spells text V4 n) → IsNoAddressText text
-no_address text none a h = go a.family a.value h where
-  go : (f : Family) (n : ℕ) → Spells text f n → ⊥
-  go V4 n k = none n k
-  go V6 n k = k
-
--- where a fault is found: in the address text, in the length, or past it
-data Place (text : List ℕ) (f : TextFault) : Type 0 where
-  in_address : IsAddressFault (front_of text) f → Place text f
-  in_length : f ≡ Length → IsLengthFault text → Place text f
-  past_length : (b : Cidr) → f ≡ HostBits b → IsHostBitsFault text b → Place text f
-
-place_of : (text : List ℕ) (f : TextFault) → IsBlockFault text f → Place text f
-place_of text Shape h = in_address h
-place_of text Octet h = in_address h
-place_of text Group h = in_address h
-place_of text Length h = in_length refl h
-place_of text (HostBits b) h = past_length b refl h
-
--- no length in one reading, one in the other
-length_against : (text : List ℕ) (a : Address) (len : ℕ) → IsLengthFault text → IsAddressText (front_of text) a → EndsInLength text len → len ≤ width_of a.family → ⊥
-length_against text a len h k e le =
-    let same = same_address (front_of text) h.addr a h.address k in
-    h.none len (subst (λ (x : Address). len ≤ width_of x.family) (sym same) le) e
-
--- two readings with bits past the length clear the same ones
-same_cleared : (text : List ℕ) (b c : Cidr) → IsHostBitsFault text b → IsHostBitsFault text c → b ≡ c
-same_cleared text b c h k =
-    let same = same_address (front_of text) h.addr k.addr h.address k.address in
-    let short_b = h.short in
-    let short_c = k.short in
-    let len : h.len ≡ k.len = one_length text h.len k.len (omega (arith, width_narrow h.addr.family)) (omega (arith, width_narrow k.addr.family)) h.length_is k.length_is in
-    h.cleared ∙ ap (λ (x : Address). block_around x h.len) same ∙ ap (λ (l : ℕ). block_around k.addr l) len ∙ sym k.cleared
-
-one_fault : (text : List ℕ) (f g : TextFault) → Place text f → Place text g → f ≡ g
-one_fault text f g (in_address h) (in_address k) = h.is ∙ sym k.is
-one_fault text f g (in_address h) (in_length e k) = absurd (h.none k.addr k.address)
-one_fault text f g (in_address h) (past_length b e k) = absurd (h.none k.addr k.address)
-one_fault text f g (in_length e h) (in_address k) = absurd (k.none h.addr h.address)
-one_fault text f g (in_length d h) (in_length e k) = d ∙ sym e
-one_fault text f g (in_length d h) (past_length b e k) = absurd (length_against text k.addr k.len h k.address k.length_is k.short)
-one_fault text f g (past_length b d h) (in_address k) = absurd (k.none h.addr h.address)
-one_fault text f g (past_length b d h) (in_length e k) = absurd (length_against text h.addr h.len k h.address h.length_is h.short)
-one_fault text f g (past_length b d h) (past_length c e k) = d ∙ ap (λ (x : Cidr). HostBits x) (same_cleared text b c h k) ∙ sym e
-
-no_fault : (text : List ℕ) (b : Cidr) (f : TextFault) → IsBlockText text b → Place text f → ⊥
-no_fault text b f h (in_address k) = k.none _ (first_address text b h)
-no_fault text b f h (in_length e k) = length_against text _ b.len k (first_address text b h) h.length_is h.lawful.short
-no_fault text b f h (past_length c e k) =
-    let same = same_address (front_of text) k.addr (record { family = b.family; value = b.first }) k.address (first_address text b h) in
-    let short = h.lawful.short in
-    let short_k = k.short in
-    let len : k.len ≡ b.len = one_length text k.len b.len (omega (arith, width_narrow k.addr.family)) (omega (arith, width_narrow b.family)) k.length_is h.length_is in
-    k.set (subst (λ (l : ℕ). IsBlock (block_at k.addr l)) (sym len) (subst (λ (x : Address). IsBlock (block_at x b.len)) (sym same) h.lawful))
-
-pub reading_is_one : ReadingIsOne
-reading_is_one = record {
-  blocks = one_block;
-  faults = λ text f g h k. one_fault text f g (place_of text f h) (place_of text g k);
-  apart = λ text b f h k. no_fault text b f h (place_of text f k);
-}

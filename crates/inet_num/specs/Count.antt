@@ -1,5 +1,5 @@
 -- The addresses of a block, one by one, and how many of them meet a test.
-use Rattle.std.specs.Prelude.{ℕ, zero, suc, ◌+◌, Bool, List, [], ◌∷◌, count_by}
+use Rattle.std.specs.Prelude.{ℕ, zero, suc, ◌+◌, ◌*◌, ◌/◌, min, Bool, List, [], ◌∷◌, count_by}
 use Rattle.inet_num.specs.Net.{Cidr, size_of}
 
 -- n numbers from a on
@@ -14,3 +14,7 @@ addresses_of b = numbers_from b.first (size_of b)
 -- how many addresses of the block meet the test
 abbrev pub count_of : (ℕ → Bool) → Cidr → ℕ
 count_of test b = count_by test (addresses_of b)
+
+-- the whole part of a hundred times the count over the size, at most 100
+abbrev pub percent_of : ℕ → ℕ → ℕ
+percent_of count size = min 100 (100 * count / size)

@@ -4,12 +4,22 @@
 ghost use Rattle.std.specs.Prelude.{◌≡◌, ℕ, ◌+◌, ◌-◌, ◌*◌, ◌%◌, ◌^◌, ◌<◌, ◌≤◌, ◌↔◌, IsTrue, IfSome, IsSome, IsNone};
 ghost use Rattle.inet_num.specs.Net.{width_of, Address, IsAddress, Cidr, size_of, IsBlock, HasAddress, IsInside, IsStrictlyInside, low_half_of, high_half_of, enclosing_of, block_at, first_of, last_of};
 
+mod fault;
+mod percentage;
 mod plain;
 mod text;
+#[cfg(test)]
+mod text_tests;
+mod written;
 
+pub use percentage::percent;
 pub use plain::{available_blocks, available_blocks_are_those};
 use std::marker::Model;
-pub use text::{TextFault, one_reading, read_block, write_block, writing_is_read};
+pub use text::{
+    TextFault, canonical_text_is_one, one_reading, read_addr, read_block, read_host,
+    writing_is_read, written_address_is_read,
+};
+pub use written::{write_addr, write_block};
 
 /// A family of addresses: IPv4, whose addresses have 32 bits, or IPv6, whose addresses have 128.
 #[derive(Clone, Copy, Debug, PartialEq, Eq)]

@@ -1,11 +1,11 @@
-use Rattle.std.proofs.Common.{◌≡◌, ◌⊎◌, ℕ, ◌+◌, ◌-◌, ◌<◌, ◌≤◌, ◌↔◌, min, max, refl, sym, ◌∙◌, ap, subst, arith, inl, inr, IsTrue, List, [], ◌∷◌, ◌++◌, length, take, drop, get_or}
+use Rattle.std.proofs.Common.{◌≡◌, ◌⊎◌, ℕ, ◌+◌, ◌-◌, ◌<◌, ◌≤◌, ◌↔◌, min, max, sym, ◌∙◌, ap, subst, arith, inl, inr, IsTrue, List, [], ◌∷◌, ◌++◌, length, take, drop, get_or}
 use Rattle.std.specs.List.{AllByRecursion}
 use Rattle.std.proofs.lemmas.List.{drop_more, take-append-drop, length-take, get_or-take}
 use Rattle.std.proofs.lemmas.List.Elements.{All-from_recursion}
 use Rattle.std.proofs.lemmas.Bool.{cases_lt}
 use Rattle.span_set.specs.declared.runs.Run.{Run}
-use Rattle.span_set.specs.Runs.{in_runs, IsBetween, AreApart, EndBelow}
-use Rattle.span_set.proofs.Members.{InRuns, in_from_test, test_from_in, In-left, In-right, In-cases, In_from, apart_joined, apart_raised, apart_front, apart_back, ends_ahead, All-append, All-front, All-back, All-weaker}
+use Rattle.span_set.specs.Runs.{in_runs, IsBetween, AreApart}
+use Rattle.span_set.proofs.Members.{InRuns, in_from_test, test_from_in, In-left, In-right, In-cases, In_from, apart_joined, apart_raised, apart_front, apart_back, ends_ahead, All-weaker}
 
 -- the new list has the numbers of the old one, and those from first to last
 abbrev pub IsAdded : ℕ → ℕ → List Run → List Run → Type 0
@@ -31,9 +31,6 @@ apart_between first last xs ys o h before behind =
     let run : Run = record { first = first; last = last } in
     apart_joined 0 first xs (run ∷ ys) (apart_front 0 xs ys h) (All-weaker _ _ xs (λ x (k : x.last + 1 < first). (let e : x.last + 2 ≤ first = omega arith in e)) before) (omega arith)
     (omega arith, o, apart_raised (last + 2) 0 ys (apart_back 0 xs ys h) (All-weaker _ _ ys (λ x (k : last + 1 < x.first). (let e : last + 2 ≤ x.first = omega arith in e)) behind))
-
-pub within_between : (limit first last : ℕ) (xs ys : List Run) → last < limit → EndBelow limit (xs ++ ys) → EndBelow limit (xs ++ record { first = first; last = last } ∷ ys)
-within_between limit first last xs ys l h = All-append (λ run. run.last < limit) xs (record { first = first; last = last } ∷ ys) (All-front _ xs ys h) (l, All-back _ xs ys h)
 
 -- the runs of a list from the first one, low, to the last one, high, that the span touches
 pub record Touches (gap first last : ℕ) (runs xs ys : List Run) (low high : Run) : Type 0 where
@@ -106,7 +103,7 @@ touches_at gap first last runs from to low high h o l low_is high_is reached beg
     let low_here : drop from runs ≡ low ∷ drop (from + 1) runs = drop_more runs from low inside ∙ ap (λ (run : Run). run ∷ drop (from + 1) runs) (sym low_is) in
     let next : to - 1 + 1 ≡ to = omega arith in
     let high_here : drop (to - 1) runs ≡ high ∷ drop to runs =
-        drop_more runs (to - 1) high (omega arith) ∙ ap (λ (run : Run). run ∷ drop (to - 1 + 1) runs) (sym high_is) ∙ ap (λ k. high ∷ drop k runs) next in
+    drop_more runs (to - 1) high (omega arith) ∙ ap (λ (run : Run). run ∷ drop (to - 1 + 1) runs) (sym high_is) ∙ ap (λ k. high ∷ drop k runs) next in
     let short : to - 1 < length (take to runs) = omega (arith, length-take to runs) in
     let high_there : get_or (take to runs) (to - 1) high ≡ high = get_or-take to runs (to - 1) high (omega arith) ∙ sym high_is in
     record {
@@ -160,17 +157,10 @@ apart_with_joined first last runs xs ys low high o t before behind =
     let run : Run = joined first last low high in
     apart_joined 0 run.first xs (run ∷ ys) e.front_apart (both xs before e.ahead) (omega arith)
     (omega arith, omega arith, further ys behind e.back_apart) where
-  both : (zs : List Run) → AllByRecursion (λ run. run.last + 1 < first) zs → AllByRecursion (λ x. x.last + 2 ≤ low.first) zs → AllByRecursion (λ x. x.last + 2 ≤ min first low.first) zs
-  both [] h k = tt
-  both (z ∷ zs) h k = (omega (arith, h.0, k.0), both zs h.1 k.1)
-  further : (zs : List Run) → AllByRecursion (λ run. last + 1 < run.first) zs → AreApart (high.last + 2) zs → AreApart (max last high.last + 2) zs
-  further [] h k = tt
-  further (z ∷ zs) h k = (omega (arith, h.0, k.0), k.1, k.2)
+      both : (zs : List Run) → AllByRecursion (λ run. run.last + 1 < first) zs → AllByRecursion (λ x. x.last + 2 ≤ low.first) zs → AllByRecursion (λ x. x.last + 2 ≤ min first low.first) zs
+      both [] h k = tt
+      both (z ∷ zs) h k = (omega (arith, h.0, k.0), both zs h.1 k.1)
 
-pub within_joined : (limit first last : ℕ) (runs xs ys : List Run) (low high : Run) → last < limit → Touches 1 first last runs xs ys low high
-    → EndBelow limit runs → EndBelow limit (xs ++ joined first last low high ∷ ys)
-within_joined limit first last runs xs ys low high l t h =
-    let P : Run → Type 0 = λ run. run.last < limit in
-    let by_begins = subst (EndBelow limit) t.begins h in
-    let by_ends = All-back P t.head (high ∷ ys) (subst (EndBelow limit) t.ends h) in
-    All-append P xs (joined first last low high ∷ ys) (All-front P xs (low ∷ t.tail) by_begins) (omega (arith, by_ends.0), by_ends.1)
+      further : (zs : List Run) → AllByRecursion (λ run. last + 1 < run.first) zs → AreApart (high.last + 2) zs → AreApart (max last high.last + 2) zs
+      further [] h k = tt
+      further (z ∷ zs) h k = (omega (arith, h.0, k.0), k.1, k.2)

@@ -2,3 +2,9 @@ pub mod Rising
 pub mod Members
 pub mod Joined
 pub mod Parted
+pub mod Fits
+pub mod Greedy
+pub mod Union
+pub mod Available
+pub mod Counted
+pub mod Rest

@@ -1,8 +1,8 @@
-use Rattle.std.proofs.Common.{◌≡◌, ◌⊎◌, ℕ, ◌+◌, ◌-◌, ◌<◌, ◌≤◌, ◌↔◌, refl, sym, ◌∙◌, ap, subst, arith, inl, inr, Bool, true, false, ◌||◌, ◌&&◌, nat_le, nat_lt, IsTrue, Result, Ok, Err, OnOk, List, [], ◌∷◌, ◌++◌}
+use Rattle.std.proofs.Common.{◌≡◌, ◌⊎◌, ℕ, ◌+◌, ◌<◌, ◌≤◌, refl, arith, inl, inr, Bool, true, false, IsTrue, Result, Ok, Err, OnOk, OnErr, List, [], ◌∷◌, ◌++◌}
 use Rattle.std.specs.List.{AllByRecursion}
 use Rattle.std.proofs.lemmas.Bool.Decides.{nat_tests}
 use Rattle.span_set.specs.declared.runs.Run.{Run}
-use Rattle.span_set.specs.Runs.{in_run, in_runs, IsBetween, AreApart, EndBelow}
+use Rattle.span_set.specs.Runs.{in_run, in_runs, IsBetween, AreApart}
 
 -- some run has the number, by recursion on the list
 abbrev pub InRuns : List Run → ℕ → Type 0
@@ -109,3 +109,8 @@ All-weaker P Q (x ∷ xs) f h = (f x h.0, All-weaker P Q xs f h.1)
 pub on_ok : {T E : Type 0} (r : Result T E) {P Q : Type 0} → (P → Q) → OnOk r P → OnOk r Q
 on_ok (Ok x) f h = f h
 on_ok (Err e) f h = tt
+
+-- a fact that either answer brings
+pub either : {T E : Type 0} (r : Result T E) {P Q S : Type 0} → OnOk r P → OnErr r Q → (P → S) → (Q → S) → S
+either (Ok x) h k f g = f h
+either (Err e) h k f g = g k

@@ -1,11 +1,11 @@
-use Rattle.std.proofs.Common.{◌≡◌, ◌⊎◌, ℕ, ◌+◌, ◌-◌, ◌<◌, ◌≤◌, ◌↔◌, refl, sym, ◌∙◌, ap, subst, arith, inl, inr, Bool, true, false, cond, nat_lt, IsTrue, List, [], ◌∷◌, ◌++◌}
+use Rattle.std.proofs.Common.{◌≡◌, ℕ, ◌+◌, ◌-◌, ◌<◌, ◌≤◌, ◌↔◌, refl, arith, inl, inr, Bool, true, false, cond, nat_lt, IsTrue, List, [], ◌∷◌, ◌++◌}
 use Rattle.std.specs.List.{AllByRecursion}
 use Rattle.std.proofs.lemmas.Bool.{cases_lt}
 use Rattle.std.proofs.lemmas.Bool.Decides.{nat_tests}
 use Rattle.span_set.specs.declared.runs.Run.{Run}
-use Rattle.span_set.specs.Runs.{in_runs, IsBetween, AreApart, EndBelow, left_part, right_part}
-use Rattle.span_set.proofs.Members.{InRuns, in_from_test, test_from_in, In-left, In-right, In-cases, In_before, In_behind, apart_from, apart_joined, apart_raised, All-append, All-front, All-back, All-weaker}
-use Rattle.span_set.proofs.Joined.{Touches, Ends, ends_of}
+use Rattle.span_set.specs.Runs.{in_runs, IsBetween, AreApart, left_part, right_part}
+use Rattle.span_set.proofs.Members.{InRuns, in_from_test, test_from_in, In-left, In-right, In-cases, In_before, In_behind, apart_from, apart_joined, apart_raised, All-weaker}
+use Rattle.span_set.proofs.Joined.{Touches, ends_of}
 
 -- the new list has the numbers of the old one but those from first to last
 abbrev pub IsTaken : ℕ → ℕ → List Run → List Run → Type 0
@@ -34,14 +34,16 @@ right_cases last run = go (nat_lt last run.last) refl where
 
 left_members : (first : ℕ) (run : Run) (part : List Run) → LeftPart first run part → (a : ℕ) → InRuns part a ↔ ((run.first ≤ a) × (a < first))
 left_members first run part (some p e) a = rw e (
-    (λ h. elim h [ inl k ↦ (let l = k.0 in let u = k.1 in (omega arith, omega arith)) | inr k ↦ absurd k ]),
-    (λ h. let l = h.0 in let u = h.1 in inl (omega arith, omega arith)))
+  (λ h. elim h [ inl k ↦ (let l = k.0 in let u = k.1 in (omega arith, omega arith)) | inr k ↦ absurd k ]),
+  (λ h. let l = h.0 in let u = h.1 in inl (omega arith, omega arith)),
+)
 left_members first run part (none p e) a = rw e ((λ h. absurd h), (λ h. let l = h.0 in let u = h.1 in absurd (omega arith)))
 
 right_members : (last : ℕ) (run : Run) (part : List Run) → RightPart last run part → (a : ℕ) → InRuns part a ↔ ((last < a) × (a ≤ run.last))
 right_members last run part (more p e) a = rw e (
-    (λ h. elim h [ inl k ↦ (let l = k.0 in let u = k.1 in (omega arith, omega arith)) | inr k ↦ absurd k ]),
-    (λ h. let l = h.0 in let u = h.1 in inl (omega arith, omega arith)))
+  (λ h. elim h [ inl k ↦ (let l = k.0 in let u = k.1 in (omega arith, omega arith)) | inr k ↦ absurd k ]),
+  (λ h. let l = h.0 in let u = h.1 in inl (omega arith, omega arith)),
+)
 right_members last run part (less p e) a = rw e ((λ h. absurd h), (λ h. let l = h.0 in let u = h.1 in absurd (omega arith)))
 
 -- some runs, what is left of the first and of the last run that are met, and the runs behind
@@ -102,23 +104,3 @@ apart_parted first last runs xs ys low high o t before behind =
     let e = ends_of 0 first last runs xs ys low high t in
     let right = right_apart last high (right_part last high) ys (right_cases last high) e.back_apart behind in
     left_apart first last low xs (left_part first low) (right_part last high ++ ys) o (left_cases first low) e.front_apart e.ahead before right
-
-within_left : (limit first : ℕ) (low : Run) (part : List Run) → first ≤ low.last → low.last < limit → LeftPart first low part → EndBelow limit part
-within_left limit first low part le l (some p e) = rw e (omega arith, tt)
-within_left limit first low part le l (none p e) = rw e tt
-
-within_right : (limit last : ℕ) (high : Run) (part : List Run) → high.last < limit → RightPart last high part → EndBelow limit part
-within_right limit last high part l (more p e) = rw e (l, tt)
-within_right limit last high part l (less p e) = rw e tt
-
-pub within_parted : (limit first last : ℕ) (runs xs ys : List Run) (low high : Run) → Touches 0 first last runs xs ys low high
-    → EndBelow limit runs → EndBelow limit (parted first last xs low high ys)
-within_parted limit first last runs xs ys low high t h =
-    let P : Run → Type 0 = λ run. run.last < limit in
-    let reached = t.reached in
-    let by_begins = subst (EndBelow limit) t.begins h in
-    let by_ends = All-back P t.head (high ∷ ys) (subst (EndBelow limit) t.ends h) in
-    let low_in = All-back P xs (low ∷ t.tail) by_begins in
-    All-append P xs (left_part first low ++ (right_part last high ++ ys)) (All-front P xs (low ∷ t.tail) by_begins)
-    (All-append P (left_part first low) (right_part last high ++ ys) (within_left limit first low (left_part first low) (omega arith) low_in.0 (left_cases first low))
-    (All-append P (right_part last high) ys (within_right limit last high (right_part last high) by_ends.0 (right_cases last high)) by_ends.1))

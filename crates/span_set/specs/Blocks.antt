@@ -1,10 +1,10 @@
 -- The fewest aligned blocks of a set of addresses: all that are largest, that is in the set with the enclosing block
 -- (of one length less, RFC 4632 3.1) not in it; and how they are the available blocks of a block.
-use Rattle.std.specs.Prelude.{◌≡◌, ℕ, ◌+◌, ◌<◌, ◌≤◌, ◌↔◌, false, List, Contains}
+use Rattle.std.specs.Prelude.{◌≡◌, ℕ, ◌+◌, ◌<◌, ◌≤◌, ◌↔◌, false, IsTrue, List, Contains}
 use Rattle.std.specs.List.{AllByRecursion}
 use Rattle.inet_num.specs.declared.Family.{Family}
 use Rattle.inet_num.specs.Net.{Cidr, Address, IsBlock, size_of, HasAddress, enclosing_of, block_at}
-use Rattle.inet_num.specs.Free.{InOrder, is_taken, ListsAvailable}
+use Rattle.inet_num.specs.Free.{InOrder, is_taken, available_blocks_of}
 use Rattle.span_set.specs.Spans.{Spans, IsIn}
 
 -- each address of the block is one of the set
@@ -24,13 +24,21 @@ pub record ListsLargest (family : Family) (set : ℕ → Type 0) (bs : List Cidr
   pub complete : (b : Cidr) → IsLargest family set b → Contains bs b
   pub ordered : InOrder 0 bs
 
+-- and each address of the set is in one of them
+pub record IsFewest (family : Family) (set : ℕ → Type 0) (bs : List Cidr) : Type 0 where
+  pub lists : ListsLargest family set bs
+  pub covers : (a : ℕ) → set a → IsTrue (is_taken bs a)
+
 -- the block of this length at this address is lawful and ends at the last number or before
 pub record FitsAt (first : Address) (last len : ℕ) : Type 0 where
   pub lawful : IsBlock (block_at first len)
   pub within : first.value + size_of (block_at first len) ≤ last + 1
 
--- where a set has the addresses of a block that are not taken, its largest blocks are the block's available ones
-abbrev pub LargestAreAvailable : Type 0
-LargestAreAvailable = (set : Spans) (within : Cidr) (blocks bs : List Cidr) → IsBlock within → set.family ≡ within.family
-    → ((a : ℕ) → IsIn set a ↔ (HasAddress within a × (is_taken blocks a ≡ false)))
-    → ListsLargest set.family (IsIn set) bs → ListsAvailable within blocks bs
+-- the set has just the block's addresses that are not taken
+abbrev pub IsRest : Spans → Cidr → List Cidr → Type 0
+IsRest set within blocks = (a : ℕ) → IsIn set a ↔ (HasAddress within a × (is_taken blocks a ≡ false))
+
+-- the fewest blocks of such a set are the block's available ones
+abbrev pub FewestAreAvailable : Type 0
+FewestAreAvailable = (set : Spans) (within : Cidr) (blocks bs : List Cidr) → IsBlock within → set.family ≡ within.family → IsRest set within blocks
+    → ListsLargest set.family (IsIn set) bs → bs ≡ available_blocks_of within blocks

@@ -3,7 +3,7 @@
 ghost use Rattle.std.specs.Prelude.{◌≡◌, ℕ, ◌+◌, ◌^◌, ◌<◌, ◌≤◌, ◌++◌, List, OnOk, OnErr, IfOk};
 ghost use Rattle.inet_num.specs.Net.{Cidr, width_of, block_at};
 ghost use Rattle.span_set.specs.Runs.{IsBetween};
-ghost use Rattle.span_set.specs.Blocks.{FitsAt, ListsLargest};
+ghost use Rattle.span_set.specs.Blocks.{FitsAt, IsFewest};
 
 use inet_num::{Addr, Block, Family};
 use std::alloc::AllocError;
@@ -37,15 +37,15 @@ fn widest(addr: Addr, last: u128) -> Block
     ensures least { (len : ℕ) → FitsAt addr last len → result.len ≤ len }
 {
     let mut block = single(addr);
-    while block.len() > 0 {
+    'widen: while block.len() > 0 {
         match Block::of(addr, block.len() - 1) {
             Some(wider) => {
                 if last < wider.last().value() {
-                    break;
+                    return block;
                 }
                 block = wider;
             }
-            None => break,
+            None => return block,
         }
     }
     block
@@ -60,7 +60,7 @@ pub fn push_blocks(
 ) -> Result<(), AllocError>
     requires order { first ≤ last }
     requires range { last < 2 ^ width_of family }
-    ensures ok { OnOk result ((bs : List Cidr) × ListsLargest family (IsBetween first last) bs × (out.new.items ≡ out.old.items ++ bs)) }
+    ensures ok { OnOk result ((bs : List Cidr) × IsFewest family (IsBetween first last) bs × (out.new.items ≡ out.old.items ++ bs)) }
 {
     let mut at = first;
     'walk: loop {

@@ -9,7 +9,7 @@ ghost use Rattle.inet_num.specs.Count.{count_of};
 ghost use Rattle.inet_num.specs.Free.{is_taken};
 ghost use Rattle.span_set.specs.Runs.{IsBetween};
 ghost use Rattle.span_set.specs.Spans.{IsSpans, is_in, IsIn};
-ghost use Rattle.span_set.specs.Blocks.{ListsLargest, LargestAreAvailable};
+ghost use Rattle.span_set.specs.Blocks.{ListsLargest, FewestAreAvailable};
 
 mod blocks;
 mod runs;
@@ -113,10 +113,9 @@ impl SpanSet {
 
 /// A law: where a set has just the addresses of a block that a list of blocks does not take, the fewest blocks of the set
 /// are the block's available ones beside that list.
-pub fn largest_are_available()
-    ensures { LargestAreAvailable }
-{
-}
+pub fn fewest_are_available()
+    ensures { FewestAreAvailable }
+{}
 
 /// The span of a block's addresses.
 pub fn span_of(block: &Block) -> Span
@@ -131,80 +130,4 @@ pub fn span_of(block: &Block) -> Span
 }
 
 #[cfg(test)]
-mod tests {
-    use super::*;
-    use inet_num::Addr;
-
-    /// The block of this length at the address of this number.
-    fn block(family: Family, first: u128, len: u8) -> Option<Block>
-        ensures { IfSome result (λ b. b.family ≡ family) }
-    {
-        Block::of(Addr::of(family, first)?, len)
-    }
-
-    /// What the set's blocks are, as first numbers and lengths.
-    fn listed(alloc: Global, set: &SpanSet) -> Result<Vec<(u128, u8)>, AllocError> {
-        let blocks = set.blocks()?;
-        let mut out = Vec::new(alloc);
-        for block in &blocks {
-            out.push((block.addr().value(), block.len()))?;
-        }
-        Ok(out)
-    }
-
-    /// The fewest blocks of a block's addresses without those of its children.
-    fn left_of(
-        alloc: Global,
-        family: Family,
-        within: (u128, u8),
-        children: &[(u128, u8)],
-    ) -> Result<Vec<(u128, u8)>, AllocError> {
-        let mut set = SpanSet::new(alloc, family);
-        if let Some(outer) = block(family, within.0, within.1) {
-            set.add(span_of(&outer))?;
-        }
-        'children: for child in children {
-            if let Some(inner) = block(family, child.0, child.1) {
-                set.subtract(span_of(&inner))?;
-            }
-        }
-        listed(alloc, &set)
-    }
-
-    const NET: u128 = 10 << 24;
-
-    #[test]
-    fn blocks_are_the_fewest(rt: HostRuntime) -> Result<(), AllocError> {
-        let alloc = rt.alloc();
-        // ten and its children, by hand
-        let table: [(Family, (u128, u8), &[(u128, u8)], &[(u128, u8)]); 10] = [
-            // nothing taken: the block itself
-            (Family::V4, (NET, 24), &[], &[(NET, 24)]),
-            // its first address taken: eight blocks, from a /32 to a /25
-            (
-                Family::V4,
-                (NET, 24),
-                &[(NET, 32)],
-                &[(NET + 1, 32), (NET + 2, 31), (NET + 4, 30), (NET + 8, 29), (NET + 16, 28), (NET + 32, 27), (NET + 64, 26), (NET + 128, 25)],
-            ),
-            // its last address taken
-            (Family::V4, (NET, 30), &[(NET + 3, 32)], &[(NET, 31), (NET + 2, 32)]),
-            // children at both ends
-            (Family::V4, (NET, 29), &[(NET, 31), (NET + 6, 31)], &[(NET + 2, 31), (NET + 4, 31)]),
-            // equal children, and one that contains another
-            (Family::V4, (NET, 28), &[(NET + 4, 30), (NET + 4, 30)], &[(NET, 30), (NET + 8, 29)]),
-            (Family::V4, (NET, 28), &[(NET + 5, 32), (NET + 4, 30)], &[(NET, 30), (NET + 8, 29)]),
-            (Family::V4, (NET, 28), &[(NET + 4, 30), (NET + 5, 32)], &[(NET, 30), (NET + 8, 29)]),
-            // filled whole, by itself and by its halves in the other order
-            (Family::V4, (NET, 28), &[(NET, 28)], &[]),
-            (Family::V4, (NET, 28), &[(NET + 8, 29), (NET, 29)], &[]),
-            // all of IPv6 without its lower half
-            (Family::V6, (0, 0), &[(0, 1)], &[(1 << 127, 1)]),
-        ];
-        for (family, within, children, want) in table {
-            let got = left_of(alloc, family, within, children)?;
-            assert!(rt; got.as_slice() == want, "{within:?} without {children:?}: {got:?}");
-        }
-        Ok(())
-    }
-}
+mod tests;

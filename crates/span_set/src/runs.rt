@@ -66,12 +66,7 @@ fn cut(runs: &mut Vec<Run>, from: usize, to: usize)
 }
 
 /// Puts one run in the place of those from one index up to another. After want of memory the list is as before.
-fn put_over(
-    runs: &mut Vec<Run>,
-    from: usize,
-    to: usize,
-    run: Run,
-) -> Result<(), AllocError>
+fn put_over(runs: &mut Vec<Run>, from: usize, to: usize, run: Run) -> Result<(), AllocError>
     requires order { from ≤ to }
     requires bound { to ≤ vec_len runs.old }
     ensures ok { OnOk result (runs.new.items ≡ take from runs.old.items ++ run ∷ drop to runs.old.items) }

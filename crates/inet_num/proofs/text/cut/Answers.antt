@@ -17,3 +17,7 @@ pub returns-clause-none : goal.returns-clause-none
 returns-clause-none c = λ rest e.
     let whole : front_of c.args.text.now ≡ c.args.text.now = ap (λ (k : ℕ). take k c.args.text.now) (no_slash c.args.text.now c.scan.i c.scan-test.false c.scan.auto.i-end c.scan.invariant) ∙ take_all (length c.args.text.now) c.args.text.now (omega arith) in
     not_longer c.args.text.now rest (e ∙ ap (λ (f : List ℕ). f ++ 47 ∷ rest) whole)
+
+pub returns-clause-whole : goal.returns-clause-whole
+returns-clause-whole c =
+    ap (λ (k : ℕ). take k c.args.text.now) (no_slash c.args.text.now c.scan.i c.scan-test.false c.scan.auto.i-end c.scan.invariant) ∙ take_all (length c.args.text.now) c.args.text.now (omega arith)

@@ -1,4 +1,4 @@
-use Rattle.inet_num.proofs.RoundTrip.{reading_is_one}
+use Rattle.inet_num.proofs.Readings.{reading_is_one}
 use Rattle.inet_num.proofs.text.one_reading.Goals as goal
 
 pub returns : goal.returns

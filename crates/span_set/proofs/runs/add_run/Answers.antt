@@ -2,9 +2,9 @@ use Rattle.std.proofs.Common.{◌≡◌, ℕ, ◌+◌, ◌-◌, ◌<◌, ◌≤�
 use Rattle.std.specs.List.{AllByRecursion}
 use Rattle.std.proofs.lemmas.List.{take-append-drop}
 use Rattle.span_set.specs.declared.runs.Run.{Run}
-use Rattle.span_set.specs.Runs.{AreApart, EndBelow}
+use Rattle.span_set.specs.Runs.{AreApart}
 use Rattle.span_set.proofs.Members.{on_ok}
-use Rattle.span_set.proofs.Joined.{IsAdded, Touches, touches_at, joined, added_between, apart_between, within_between, added_joined, apart_with_joined, within_joined}
+use Rattle.span_set.proofs.Joined.{IsAdded, Touches, touches_at, joined, added_between, apart_between, added_joined, apart_with_joined}
 use Rattle.span_set.proofs.runs.add_run.Goals as goal
 
 -- the runs in front of an index, the added one, and the runs from it on

@@ -1,4 +1,4 @@
-use Rattle.std.proofs.Common.{◌≡◌, ℕ, ◌+◌, ◌<◌, ◌≤◌, ◌++◌, ◌∷◌, List, [], length, take, drop, get_or, set, sym, ◌∙◌, ap, arith}
+use Rattle.std.proofs.Common.{◌≡◌, ℕ, ◌+◌, ◌<◌, ◌++◌, ◌∷◌, List, [], length, take, get_or, set, ◌∙◌, ap, arith}
 use Rattle.std.proofs.lemmas.List.{length-take, set_at, take_more, append_assoc}
 use Rattle.span_set.specs.declared.runs.Run.{Run}
 use Rattle.span_set.proofs.runs.put_rests.Goals as goal

@@ -1,10 +1,9 @@
-use Rattle.std.proofs.Common.{◌≡◌, ℕ, ◌+◌, ◌-◌, ◌<◌, ◌≤◌, ◌++◌, ◌∷◌, List, length, take, drop, get_or, refl, sym, ◌∙◌, ap, subst, arith, inl, inr}
+use Rattle.std.proofs.Common.{◌≡◌, ℕ, ◌+◌, ◌-◌, ◌<◌, ◌≤◌, ◌++◌, List, length, take, drop, get_or, refl, sym, ◌∙◌, ap, subst, arith, inl, inr}
 use Rattle.std.specs.List.{AllByRecursion}
-use Rattle.std.specs.Option.{option_to_list}
 use Rattle.std.proofs.lemmas.List.{take-append-drop}
 use Rattle.span_set.specs.declared.runs.Run.{Run}
-use Rattle.span_set.specs.Runs.{AreApart, EndBelow, left_part, right_part}
-use Rattle.span_set.proofs.Members.{InRuns, in_from_test, test_from_in, In-cases, In_before, In_behind, on_ok}
+use Rattle.span_set.specs.Runs.{AreApart, left_part, right_part}
+use Rattle.span_set.proofs.Members.{InRuns, in_from_test, In-cases, In_before, In_behind, on_ok}
 use Rattle.span_set.proofs.Joined.{Touches, touches_at}
 use Rattle.span_set.proofs.Parted.{IsTaken, parted, taken_parted, apart_parted}
 use Rattle.span_set.proofs.runs.subtract_run.Goals as goal
@@ -13,14 +12,18 @@ use Rattle.span_set.proofs.runs.subtract_run.Goals as goal
 none_met : (first last : ℕ) (runs slice : List Run) (from to : ℕ) → from ≡ to → slice ≡ runs
     → AllByRecursion (λ run. run.last + 0 < first) (take from slice) → AllByRecursion (λ run. last + 0 < run.first) (drop to slice) → IsTaken first last runs runs
 none_met first last runs slice from to same e before behind a = (
-    (λ s. (s, λ b.
+  (λ s. (
+    s,
+    λ b.
         let there : InRuns slice a = subst (λ (zs : List Run). InRuns zs a) (sym e) (in_from_test runs a s) in
         let whole : slice ≡ take from slice ++ drop to slice = sym (take-append-drop from slice) ∙ ap (λ k. take from slice ++ drop k slice) same in
         elim (In-cases (take from slice) (drop to slice) a (subst (λ (zs : List Run). InRuns zs a) whole there)) [
           | inl h ↦ omega (arith, b.0, In_before 0 first (take from slice) a before h)
           | inr h ↦ omega (arith, b.1, In_behind 0 last (drop to slice) a behind h)
-        ])),
-    (λ s. s.0))
+        ],
+  )),
+  (λ s. s.0),
+)
 
 pub returns-then-from-to-clause-taken : goal.returns-then-from-to-clause-taken
 returns-then-from-to-clause-taken c =
