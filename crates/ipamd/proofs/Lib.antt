@@ -1,3 +1,4 @@
 pub mod Readings
 pub mod WordsLemmas
 pub mod OneAnswer
+pub mod Leaving

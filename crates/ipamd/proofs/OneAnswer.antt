@@ -2,11 +2,12 @@
 use Rattle.std.proofs.Common.{◌≡◌, ◌≢◌, ◌⊎◌, ℕ, zero, suc, ◌+◌, ◌<◌, ◌≤◌, refl, sym, ◌∙◌, ap, subst, arith, inl, inr, List, [], ◌∷◌, ◌++◌, length, length-append, Option, Some, None, IfSome}
 use Rattle.std.specs.Str.Lines.{lines}
 use Rattle.std.proofs.lemmas.Bool.{cases_lt}
+use Rattle.inet_num.specs.declared.text.TextFault.TheVariants as Bits
 use Rattle.inet_num.specs.Net.{Cidr, IsStrictlyInside}
 use Rattle.inet_num.specs.Free.{available_blocks_of}
-use Rattle.inet_num.proofs.RoundTrip.{reading_is_one}
+use Rattle.inet_num.proofs.Readings.{reading_is_one}
 use Rattle.ipamd.specs.declared.free.LineFault.{LineFault}
-use Rattle.ipamd.specs.declared.free.LineFault.TheVariants.{NotAPrefix, NotInside, TooManyLines}
+use Rattle.ipamd.specs.declared.free.LineFault.TheVariants.{NotAPrefix, HostBits, NotInside, TooManyLines}
 use Rattle.std.specs.List.{AllByRecursion}
 use Rattle.inet_num.specs.Text.{IsBlockText}
 use Rattle.ipamd.specs.Run.{AsksFree, PrintsFree}
@@ -29,8 +30,10 @@ not_refused : (within : Cidr) (before after : List (List ℕ)) (line : List ℕ)
     → AreChildren within (before ++ line ∷ after) cs → number ≤ most_lines → ¬ IsLineFault within number line fault
 not_refused within [] after [] cs number NotAPrefix h few f = f.1 refl
 not_refused within [] after [] cs number NotInside h few (low, b, named, out) = (let e = named.text.length_is in cc)
+not_refused within [] after [] cs number (HostBits b) h few f = (let e = f.1.set.length_is in cc)
 not_refused within [] after line cs number TooManyLines h few f = omega arith
 not_refused within [] after (x ∷ xs) cs number NotAPrefix (b, bs, one, is, rest) few f = f.2 b one.named
+not_refused within [] after (x ∷ xs) cs number (HostBits c) (b, bs, one, is, rest) few f = reading_is_one.apart (x ∷ xs) b (Bits.HostBits c) one.named.text f.1.set
 not_refused within [] after (x ∷ xs) cs number NotInside (b, bs, one, is, rest) few (low, c, named, out) =
     out (subst (λ (y : Cidr). IsStrictlyInside y within) (one_child (x ∷ xs) b c one.named named) one.inside)
 not_refused within ([] ∷ before) after line cs number fault h few f = not_refused within before after line cs number fault h few f
@@ -78,12 +81,19 @@ not_before within input m n f g h k less =
 -- one line has one fault
 same_fault : (within : Cidr) (n : ℕ) (line : List ℕ) (f g : LineFault) → IsLineFault within n line f → IsLineFault within n line g → f ≡ g
 same_fault within n line NotAPrefix NotAPrefix h k = refl
+same_fault within n line NotAPrefix (HostBits c) h k = absurd (h.3 c k.1)
 same_fault within n line NotAPrefix NotInside h k = absurd (h.2 k.1 k.2)
 same_fault within n line NotAPrefix TooManyLines h k = (let low = h.0 in absurd (omega arith))
+same_fault within n line (HostBits b) NotAPrefix h k = absurd (k.3 b h.1)
+same_fault within n line (HostBits b) (HostBits c) h k = (let e = reading_is_one.faults line (Bits.HostBits b) (Bits.HostBits c) h.1.set k.1.set in let same : b ≡ c = cc in ap HostBits same)
+same_fault within n line (HostBits b) NotInside h k = absurd (reading_is_one.apart line k.1 (Bits.HostBits b) k.2.text h.1.set)
+same_fault within n line (HostBits b) TooManyLines h k = (let low = h.0 in absurd (omega arith))
 same_fault within n line NotInside NotAPrefix h k = absurd (k.2 h.1 h.2)
+same_fault within n line NotInside (HostBits c) h k = absurd (reading_is_one.apart line h.1 (Bits.HostBits c) h.2.text k.1.set)
 same_fault within n line NotInside NotInside h k = refl
 same_fault within n line NotInside TooManyLines h k = (let low = h.0 in absurd (omega arith))
 same_fault within n line TooManyLines NotAPrefix h k = (let low = k.0 in absurd (omega arith))
+same_fault within n line TooManyLines (HostBits c) h k = (let low = k.0 in absurd (omega arith))
 same_fault within n line TooManyLines NotInside h k = (let low = k.0 in absurd (omega arith))
 same_fault within n line TooManyLines TooManyLines h k = refl
 

@@ -9,8 +9,13 @@ use Rattle.std.proofs.lemmas.Grind.{flat_map-append}
 use Rattle.std.proofs.lemmas.List.Elements.{All-append, All-nil, All-cons}
 use Rattle.std.proofs.lemmas.List.Splits.{slice_split_at, slice_split_none, length-slice_split}
 use Rattle.inet_num.specs.Net.{Cidr, IsStrictlyInside}
+use Rattle.inet_num.specs.declared.text.TextFault.{TextFault}
+use Rattle.inet_num.specs.declared.text.TextFault.TheVariants as text
+use Rattle.inet_num.specs.Fault.{IsBlockFault}
+use Rattle.inet_num.proofs.Readings.{reading_is_one}
+use Rattle.ipamd.specs.Reading.{line_fault_of}
 use Rattle.ipamd.specs.declared.free.LineFault.{LineFault}
-use Rattle.ipamd.specs.declared.free.LineFault.TheVariants.{NotAPrefix, NotInside, TooManyLines}
+use Rattle.ipamd.specs.declared.free.LineFault.TheVariants.{NotAPrefix, HostBits, NotInside, TooManyLines}
 use Rattle.ipamd.specs.Free.{most_lines, IsLineOf, IsChildLine, AreChildren, IsLineFault, IsRefusedLine}
 use Rattle.ipamd.specs.declared.free.Stop.{Stop}
 use Rattle.ipamd.specs.declared.free.Stop.TheVariants as stop
@@ -280,3 +285,15 @@ stopped_within within (Some x) None fo fn bytes (stop.Line number fault) c h = a
 stopped_within within (Some x) (Some y) fo fn bytes (stop.Line number fault) c h = subst (λ (xs : List ℕ). IsRefusedLine within xs number fault) (sym c) (h y)
 stopped_within within old new fo fn bytes stop.Failed c h = absurd h
 stopped_within within old new fo fn bytes stop.Memory c h = tt
+
+-- ---- a line that is no block's text
+
+no_prefix : (within : Cidr) (number : ℕ) (line : List ℕ) (f : TextFault) → number ≤ most_lines → line ≢ [] → IsBlockFault line f → ((b : Cidr) → f ≢ text.HostBits b) → IsLineFault within number line NotAPrefix
+no_prefix within number line f few some h other = (few, some, λ b one. reading_is_one.apart line b f one.text h, λ b one. other b (reading_is_one.faults line f (text.HostBits b) h one.set))
+
+pub text_refused : (within : Cidr) (number : ℕ) (line : List ℕ) (f : TextFault) → number ≤ most_lines → line ≢ [] → length line ≤ 64 → IsBlockFault line f → IsLineFault within number line (line_fault_of f)
+text_refused within number line (text.HostBits b) few some short h = (few, record { short = short; set = h })
+text_refused within number line text.Shape few some short h = no_prefix within number line text.Shape few some h (λ b e. cc)
+text_refused within number line text.Octet few some short h = no_prefix within number line text.Octet few some h (λ b e. cc)
+text_refused within number line text.Group few some short h = no_prefix within number line text.Group few some h (λ b e. cc)
+text_refused within number line text.Length few some short h = no_prefix within number line text.Length few some h (λ b e. cc)

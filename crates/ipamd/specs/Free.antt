@@ -6,9 +6,10 @@ use Rattle.std.specs.List.{flat_map}
 use Rattle.std.specs.Str.Lines.{lines}
 use Rattle.inet_num.specs.Net.{Cidr, IsBlock, IsStrictlyInside}
 use Rattle.inet_num.specs.Text.{block_text_of, IsBlockText}
+use Rattle.inet_num.specs.Fault.{IsHostBitsFault}
 use Rattle.inet_num.specs.Free.{available_blocks_of}
 use Rattle.ipamd.specs.declared.free.LineFault.{LineFault}
-use Rattle.ipamd.specs.declared.free.LineFault.TheVariants.{NotAPrefix, NotInside, TooManyLines}
+use Rattle.ipamd.specs.declared.free.LineFault.TheVariants.{NotAPrefix, HostBits, NotInside, TooManyLines}
 
 -- how many lines an input may have
 abbrev pub most_lines : ℕ
@@ -18,6 +19,11 @@ most_lines = 200000
 pub record IsLineOf (line : List ℕ) (b : Cidr) : Type 0 where
   pub short : length line ≤ 64
   pub text : IsBlockText line b
+
+-- the line is an address with a length, and bits past it are set; without them it would name this block
+pub record IsHostLine (line : List ℕ) (b : Cidr) : Type 0 where
+  pub short : length line ≤ 64
+  pub set : IsHostBitsFault line b
 
 -- the line names a block strictly inside
 pub record IsChildLine (within : Cidr) (line : List ℕ) (b : Cidr) : Type 0 where
@@ -49,7 +55,8 @@ pub record IsFreeText (within : Cidr) (input output : List ℕ) : Type 0 where
 -- why the line with this number is refused
 abbrev pub IsLineFault : Cidr → ℕ → List ℕ → LineFault → Type 0
 IsLineFault within number line TooManyLines = most_lines < number
-IsLineFault within number line NotAPrefix = (number ≤ most_lines) × (line ≢ []) × ((b : Cidr) → ¬ IsLineOf line b)
+IsLineFault within number line NotAPrefix = (number ≤ most_lines) × (line ≢ []) × ((b : Cidr) → ¬ IsLineOf line b) × ((b : Cidr) → ¬ IsHostLine line b)
+IsLineFault within number line (HostBits b) = (number ≤ most_lines) × IsHostLine line b
 IsLineFault within number line NotInside = (number ≤ most_lines) × (b : Cidr) × IsLineOf line b × (¬ IsStrictlyInside b within)
 
 -- the first line that is refused is the one with this number, counted from 1, for this fault
@@ -67,6 +74,7 @@ pub record IsRefusedLine (within : Cidr) (input : List ℕ) (number : ℕ) (faul
 -- the words for a fault
 abbrev pub fault_words_of : Cidr → LineFault → List ℕ
 fault_words_of within NotAPrefix = codes "not a prefix"
+fault_words_of within (HostBits b) = codes "host bits set, the prefix is " ++ block_text_of b
 fault_words_of within NotInside = codes "not strictly inside " ++ block_text_of within
 fault_words_of within TooManyLines = codes "too many lines"
 

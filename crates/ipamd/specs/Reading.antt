@@ -6,11 +6,22 @@ use Rattle.std.specs.Str.Lines.{lines, strip_carriage_return}
 use Rattle.std.specs.Io.KnownBytes.{Consumes, IsAtEnd, Appends, Keeps}
 use Rattle.inet_num.specs.Net.{Cidr, IsStrictlyInside}
 use Rattle.ipam_edge.specs.Faults.{Rose}
+use Rattle.inet_num.specs.declared.text.TextFault.{TextFault}
+use Rattle.inet_num.specs.declared.text.TextFault.TheVariants as text
 use Rattle.ipamd.specs.declared.free.LineFault.{LineFault}
+use Rattle.ipamd.specs.declared.free.LineFault.TheVariants as line
 use Rattle.ipamd.specs.declared.free.Stop.{Stop}
 use Rattle.ipamd.specs.declared.free.Stop.TheVariants as stop
 use Rattle.ipamd.specs.declared.lines.Lines.{Lines}
 use Rattle.ipamd.specs.Free.{most_lines, IsChildLine, AreChildren, IsLineFault, IsRefusedLine, IsFreeText}
+
+-- why a line is refused whose text has this fault as a block's
+abbrev pub line_fault_of : TextFault → LineFault
+line_fault_of (text.HostBits b) = line.HostBits b
+line_fault_of text.Shape = line.NotAPrefix
+line_fault_of text.Octet = line.NotAPrefix
+line_fault_of text.Group = line.NotAPrefix
+line_fault_of text.Length = line.NotAPrefix
 
 -- no line feed stands in the bytes
 abbrev pub HasNoFeed : List ℕ → Type 0

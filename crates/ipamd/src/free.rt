@@ -2,16 +2,18 @@
 
 ghost use Rattle.std.specs.Prelude.{◌≡◌, ◌≢◌, ℕ, ◌+◌, ◌<◌, ◌≤◌, ◌⊎◌, ◌++◌, ◌∷◌, [], List, length, map, OnOk, OnErr, IfOk, IfErr, IsErr, IsErrOf, Result, Ok, Err};
 ghost use Rattle.std.specs.List.{AllByRecursion};
-ghost use Rattle.inet_num.specs.Net.{Cidr, IsStrictlyInside};
+ghost use Rattle.inet_num.specs.Net.{Cidr, IsBlock, IsStrictlyInside};
 ghost use Rattle.inet_num.specs.Free.{available_blocks_of};
+ghost use Rattle.span_set.specs.Blocks.{IsRest};
 ghost use Rattle.ipam_edge.specs.Faults.{Rose};
 ghost use Rattle.ipamd.specs.Free.{lines_text_of, refusal_text_of, FreeHasOneAnswer};
 ghost use Rattle.ipamd.specs.Run.{IsFreeEnd};
 
 use crate::lines::read_children;
-use inet_num::{Block, available_blocks, write_block};
+use inet_num::{Block, write_block};
 use ipam_edge::{Sink, Source, write_all};
 use itoa::Buffer;
+use span_set::{SpanSet, span_of};
 use std::alloc::{AllocError, AllocFailed, Global};
 
 /// Why a line is refused.
@@ -19,6 +21,8 @@ use std::alloc::{AllocError, AllocFailed, Global};
 pub enum LineFault {
     /// It is no block's text, or longer than 64 bytes.
     NotAPrefix,
+    /// It is an address with bits set past its length. It carries the block with those bits cleared.
+    HostBits(Block),
     /// It names a block that is not strictly inside the one asked for.
     NotInside,
     /// It stands behind the most lines that an input may have.
@@ -58,16 +62,34 @@ impl<T: Drop> From<AllocFailed<T>> for Stop {
     }
 }
 
+/// The addresses of a block that none of the blocks inside it has.
+fn left_of(alloc: Global, within: &Block, children: &[Block]) -> Result<SpanSet, AllocError>
+    requires { AllByRecursion (λ c. IsStrictlyInside c within.now) children.now }
+    ensures family { IfOk result (λ left. left.family ≡ within.now.family) }
+    ensures rest { IfOk result (λ left. IsRest left within.now children.now) }
+    ensures lawful { IfOk result (λ _. IsBlock within.now) }
+{
+    let mut left = SpanSet::new(alloc, within.family());
+    left.add(span_of(within))?;
+    for child in children {
+        left.subtract(span_of(child))?;
+    }
+    Ok(left)
+}
+
 /// The available blocks of a block beside blocks inside it, in whatever order they come.
 fn blocks_left(
     alloc: Global,
     within: &Block,
-    children: Vec<Block>,
+    mut children: Vec<Block>,
 ) -> Result<Vec<Block>, AllocError>
     requires { AllByRecursion (λ c. IsStrictlyInside c within.now) children.items }
     ensures { IfOk result (λ v. v.items ≡ available_blocks_of within.now children.items) }
 {
-    available_blocks(alloc, within, &children)
+    // In the order of their addresses each one takes from the last span only.
+    children.sort_unstable_by_key(|child| child.first().value());
+    let left = left_of(alloc, within, &children)?;
+    left.blocks()
 }
 
 /// The blocks as text, one to a line.
@@ -118,6 +140,10 @@ pub fn refusal_text(
     text.extend_from_slice(b": ")?;
     match fault {
         LineFault::NotAPrefix => text.extend_from_slice(b"not a prefix")?,
+        LineFault::HostBits(block) => {
+            text.extend_from_slice(b"host bits set, the prefix is ")?;
+            write_block(block, &mut text)?;
+        }
         LineFault::NotInside => {
             text.extend_from_slice(b"not strictly inside ")?;
             write_block(*within, &mut text)?;

@@ -6,11 +6,11 @@ ghost use Rattle.std.specs.Str.Lines.{strip_carriage_return};
 ghost use Rattle.ipam_edge.specs.Faults.{Rose};
 ghost use Rattle.inet_num.specs.Net.{Cidr};
 ghost use Rattle.ipamd.specs.Free.{most_lines};
-ghost use Rattle.ipamd.specs.Reading.{IsEnded, IsVerdict, Names, IsReading, StopsWhatever, StopsAtEnd, HasRead, IsRead};
+ghost use Rattle.ipamd.specs.Reading.{line_fault_of, IsEnded, IsVerdict, Names, IsReading, StopsWhatever, StopsAtEnd, HasRead, IsRead};
 
 use crate::free::{LineFault, Stop};
 use arrayvec::ArrayVec;
-use inet_num::{Block, read_block};
+use inet_num::{Block, TextFault, read_block};
 use ipam_edge::{Failed, Source};
 use std::alloc::{AllocError, Global};
 
@@ -42,6 +42,16 @@ fn without_return(line: &[u8]) -> &[u8]
     }
 }
 
+/// Why a line is refused whose text has this fault.
+fn line_fault(fault: TextFault) -> LineFault
+    ensures { result ≡ line_fault_of fault }
+{
+    match fault {
+        TextFault::HostBits(block) => LineFault::HostBits(block),
+        _ => LineFault::NotAPrefix,
+    }
+}
+
 /// The block that the line with this number names, or `None` where it is empty.
 fn verdict(
     within: &Block,
@@ -68,7 +78,7 @@ fn verdict(
                 Err(LineFault::NotInside)
             }
         }
-        Err(_) => Err(LineFault::NotAPrefix),
+        Err(fault) => Err(line_fault(fault)),
     }
 }
 

@@ -1,7 +1,7 @@
 use Rattle.std.proofs.Common.{◌≡◌, ℕ, List, [], ◌∷◌, ◌++◌, ◌<◌, ◌≤◌, codes, map, get_or, Bor, sym, ◌∙◌, ap, subst, arith, refl}
 use Rattle.inet_num.specs.Net.{Cidr}
 use Rattle.inet_num.specs.Text.{IsBlockText}
-use Rattle.inet_num.proofs.RoundTrip.{reading_is_one}
+use Rattle.inet_num.proofs.Readings.{reading_is_one}
 use Rattle.ipamd.specs.Run.{AsksFree}
 use Rattle.ipamd.proofs.WordsLemmas.{two_words, second_word, same_word}
 use Rattle.ipamd.proofs.command.block_of.Goals.{in_default-read_block-via-in-Ok+else-len-gt0, in_default-read_block-via-in_default-read_block}

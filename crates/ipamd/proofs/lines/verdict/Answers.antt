@@ -1,15 +1,17 @@
-use Rattle.std.proofs.Common.{◌≡◌, ℕ, Bool, true, false, List, [], ◌<◌, ◌≤◌, arith, length, refl, sym, ap, subst, ◌∙◌, rules, ◌==◌}
+use Rattle.std.proofs.Common.{◌≡◌, ◌≢◌, ℕ, Bool, true, false, List, [], ◌<◌, ◌≤◌, arith, length, refl, sym, ap, subst, ◌∙◌, ◌==◌}
 use Rattle.std.proofs.lemmas.Bool.Decides.{nat_tests}
-use Rattle.inet_num.specs.Net.{Cidr}
-use Rattle.inet_num.specs.Text.{IsBlockText}
-use Rattle.inet_num.proofs.RoundTrip.{reading_is_one}
-use Rattle.ipamd.specs.Free.{IsLineOf}
-use Rattle.ipamd.specs.Reading.{IsEnded}
+use Rattle.inet_num.specs.Fault.{IsBlockFault}
+use Rattle.ipamd.specs.declared.free.LineFault.{LineFault}
+use Rattle.ipamd.specs.Free.{IsLineFault}
+use Rattle.ipamd.specs.Reading.{IsEnded, line_fault_of}
+use Rattle.ipamd.proofs.Readings.{text_refused}
 use Rattle.ipamd.proofs.lines.verdict.Goals as goal
 
 pub returns-in-Err : goal.returns-in-Err
 returns-in-Err c = λ whole h.
-    let is : c.args.line.now ≡ whole = subst (IsEnded whole c.args.line.now) c.if-long.false h in
-    let some : whole ≡ [] → ⊥ = λ none. (let z : length c.args.line.now ≡ 0 = ap length (is ∙ none) in let t : (length c.args.line.now == 0) ≡ true = grind (arith, nat_tests) in let wrong : true ≡ false = sym (c.is_empty.ensures ∙ t) ∙ c.if-is_empty.false in cc) in
-    (c.if-number-gt-MOST_LINES.false, some,
-     λ b line. reading_is_one.apart c.args.line.now b c.in-Err.field-0 (subst (λ (l : List ℕ). IsBlockText l b) (sym is) line.text) c.in-Err.ensures.fault)
+    let line = c.args.line.now in
+    let is : line ≡ whole = subst (IsEnded whole line) c.if-long.false h in
+    let some : line ≢ [] = λ none. (let z : length line ≡ 0 = ap length none in let t : (length line == 0) ≡ true = grind (arith, nat_tests) in let wrong : true ≡ false = sym (c.is_empty.ensures ∙ t) ∙ c.if-is_empty.false in cc) in
+    let refused = text_refused c.args.within.now c.args.number line c.in-Err.fault c.if-number-gt-MOST_LINES.false some c.if-line-gt64.false c.in-Err.ensures.fault in
+    subst (λ (f : LineFault). IsLineFault c.args.within.now c.args.number whole f) (sym c.line_fault.ensures)
+        (subst (λ (l : List ℕ). IsLineFault c.args.within.now c.args.number l (line_fault_of c.in-Err.fault)) is refused)
