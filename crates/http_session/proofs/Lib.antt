@@ -1,0 +1,9 @@
+pub mod FieldLemmas
+pub mod Growth
+pub mod Heads
+pub mod ItemLemmas
+pub mod Items
+pub mod Lengths
+pub mod Talks
+pub mod Texts
+pub mod Unique
