@@ -10,6 +10,8 @@ mod laws;
 mod reply;
 mod request;
 mod session;
+#[cfg(test)]
+mod tests;
 mod wait;
 
 pub use answer::{PutEnd, put_answer};
