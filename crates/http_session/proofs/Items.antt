@@ -1,5 +1,5 @@
 -- Items as the code finds them.
-use Rattle.std.proofs.Common.{◌≡◌, ◌∙◌, ◌+◌, ◌<◌, ◌≤◌, ◌||◌, ℕ, nat_le, List, ◌++◌, length, take, drop, map, Ok, Err, inl, inr, sym, ap, subst, arith, take-append-drop, length-append, length-drop}
+use Rattle.std.proofs.Common.{◌≡◌, ◌∙◌, ◌+◌, ◌<◌, ◌≤◌, ◌||◌, ℕ, nat_le, List, ◌++◌, length, take, drop, map, Ok, Err, inl, inr, refl, sym, ap, subst, arith, take-append-drop, length-append, length-drop}
 use Rattle.std.proofs.lemmas.List.{append_cancel_left, drop-append-le}
 use Rattle.httparse.specs.Grammar.{RequestHead}
 use Rattle.httparse.specs.Spans.{name_and_value}
@@ -7,8 +7,9 @@ use Rattle.httparse.proofs.GrammarLemmas.{ReadsRequest-append}
 use Rattle.http_session.specs.declared.request.Fault.{Fault}
 use Rattle.http_session.specs.declared.request.Fault.TheVariants.{BadHead, LargeHead, LargeBody, Coding}
 use Rattle.http_session.specs.declared.head.Head.{Head}
-use Rattle.http_session.specs.Requests.{Framed, HasHead, IsRefused, IsRequest, StopsInBody}
-use Rattle.http_session.specs.Steps.{IsHead}
+use Rattle.http_session.specs.Requests.{Framed, HasHead, IsRefused, IsRequest, IsUnfinished, StopsInBody, StopsInHead}
+use Rattle.http_session.specs.Steps.{IsHead, IsReadWhile, IsShort}
+use Rattle.http_session.proofs.Growth.{read_both, read_weaker}
 use Rattle.http_session.proofs.Lengths.{length_small, never_large_head}
 
 -- a head stays one in more bytes
@@ -33,6 +34,16 @@ stops_in_body old new more kept n h e g short =
     let few : length (rest ++ more) < n = omega (arith, length-append rest more, length-drop kept.len old, length-append old more, ap length g) in
     let has = HasHead-append old more h.head rest h.has in
     subst StopsInBody (sym g) (n, rest ++ more, (h.head, has, sym h.length ∙ e), few)
+
+-- what was read of a head was needed
+pub head_was_needed : (start now : List ℕ) → IsReadWhile StopsInHead start now → IsReadWhile IsUnfinished start now
+head_was_needed start now read = read_weaker StopsInHead IsUnfinished start now (λ bytes h. inl h) read
+
+-- and what was read of a body after it
+pub body_was_needed : (start mid now got : List ℕ) (kept : Head) (n : ℕ) → IsHead mid kept → kept.length ≡ Ok n → mid ≡ start ++ got
+    → IsReadWhile StopsInHead start mid → IsReadWhile (IsShort (kept.len + n)) mid now → IsReadWhile IsUnfinished start now
+body_was_needed start mid now got kept n h e grown head body =
+    read_both (IsShort (kept.len + n)) IsUnfinished start mid now got grown (λ more short. inr (stops_in_body mid (mid ++ more) more kept n h e refl short)) (head_was_needed start mid head) body
 
 -- what follows the head, in two ways
 rest_is : (old new more after : List ℕ) (n : ℕ) → n ≤ length old → new ≡ old ++ more → new ≡ take n new ++ after → drop n old ++ more ≡ after

@@ -1,5 +1,6 @@
 -- How a talk goes on, and how it ends.
 use Rattle.std.proofs.Common.{◌≡◌, ◌∙◌, ◌+◌, ◌≤◌, ◌⊎◌, ◌||◌, nat_le, None, ℕ, Bool, true, false, List, [], ◌∷◌, ◌++◌, length, Option, inl, inr, refl, sym, ap, subst, arith, append_assoc, append-nil, zero-add, length-append}
+use Rattle.std.proofs.lemmas.List.{append_cancel_left}
 use Rattle.std.specs.Io.KnownBytes.{Appends}
 use Rattle.std.proofs.KnownBytes.{Appends-nil, Appends-trans, Consumes-trans}
 use Rattle.ipam_edge.specs.Writing.{AppendsFront}
@@ -10,10 +11,10 @@ use Rattle.http_session.specs.Answers.{answer_text}
 use Rattle.http_session.specs.declared.reply.Reply.{Reply}
 use Rattle.http_session.specs.Replies.{answer_of, body_bytes}
 use Rattle.std.proofs.lemmas.Bool.Decides.{nat_tests}
-use Rattle.http_session.specs.Steps.{Grown, next_number}
+use Rattle.http_session.specs.Steps.{Grown, IsReadWhile, next_number}
 use Rattle.http_session.proofs.ItemLemmas.{all_open_more, ends_closed, items_more, items_wait}
 use Rattle.http_session.specs.Talk.{Answer, Answered, May, Run, texts, refusal_answer, refusal_body, refusal_status, text_of}
-use Rattle.http_session.specs.Ends.{IsBetween, IsLeft, IsClosed, IsCutShort, IsStarved, IsTalk, IsUnsaid}
+use Rattle.http_session.specs.Ends.{IsReadAsNeeded, IsBetween, IsLeft, IsClosed, IsCutShort, IsStarved, IsTalk, IsUnsaid}
 
 run_more : {S : Type 0} (may : May S) (s : S) (items : List Item) (answers : List Answer) (t : S) (item : Item) (a : Answer) (u : S) → Run may s items answers t → Answered may t item a u → Run may s (items ++ item ∷ []) (answers ++ a ∷ []) u
 run_more may s [] [] t item a u run h = (u, subst (λ x. Answered may x item a u) run h, refl)
@@ -79,6 +80,25 @@ module _ {S : Type 0} (may : May S) (s t : S) (old now : Option (List ℕ)) (byt
         run = run_more may s so_far.items so_far.talk.answers t item a u so_far.talk.run h;
         told = subst (Appends old new) (sym (texts_more may s so_far.items so_far.talk.answers t item a so_far.talk.run)) (Appends-trans old now new _ _ so_far.talk.told (subst (Appends now new) e said));
       }
+
+  -- no more was read than was needed
+  pub still_needed : IsReadAsNeeded bytes → IsReadWhile IsUnfinished rest all → IsReadAsNeeded (bytes ++ got)
+  still_needed read (inl none) =
+      let nothing : got ≡ [] = append_cancel_left rest got [] (sym is_all ∙ none ∙ sym (append-nil rest)) in
+      subst IsReadAsNeeded (sym (ap (λ l. bytes ++ l) nothing ∙ append-nil bytes)) read
+  still_needed read (inr h) =
+      let split : got ≡ h.more ++ h.last = append_cancel_left rest got (h.more ++ h.last) (sym is_all ∙ h.grown ∙ append_assoc rest h.more h.last) in
+      inr (record {
+        items = so_far.items;
+        before = bytes ++ h.more;
+        last = h.last;
+        rest = rest ++ h.more;
+        bytes_are = ap (λ l. bytes ++ l) split ∙ sym (append_assoc bytes h.more h.last);
+        short = h.short;
+        items_are = items_wait 0 bytes h.more rest ⊥ ⊥ so_far.items so_far.open_ so_far.items_are;
+        open_ = so_far.open_;
+        unfinished = h.before;
+      })
 
   -- the next item was answered, and the connection stays open
   pub goes_on : (E : Type 0) (item : Item) (kept : List ℕ) (a : Answer) (u : S) (new : Option (List ℕ)) (text : List ℕ) → IsItem n all E item kept → closes item ≡ false → n + 1 ≤ 999

@@ -48,6 +48,22 @@ pub record IsStarved {S : Type 0} (may : May S) (s t : S) (old new : Option (Lis
   pub items_are : AreItems 0 bytes ⊥ items rest
   pub talk : IsTalk may s t old new items
 
+-- before the last piece was read, of at most 4,096 bytes, the bytes held some items that leave the connection open, and then an unfinished one
+pub record HadToRead (bytes : List ℕ) : Type 0 where
+  pub items : List Item
+  pub before : List ℕ
+  pub last : List ℕ
+  pub rest : List ℕ
+  pub bytes_are : bytes ≡ before ++ last
+  pub short : length last ≤ 4096
+  pub items_are : AreItems 0 before ⊥ items rest
+  pub open_ : AllOpen items
+  pub unfinished : IsUnfinished rest
+
+-- no more was read than was needed: nothing is read behind an item that closes
+abbrev pub IsReadAsNeeded : List ℕ → Type 0
+IsReadAsNeeded bytes = (bytes ≡ []) ⊎ HadToRead bytes
+
 -- how the session ended, from the view s of the seat to the view t
 abbrev pub IsEnd : {S : Type 0} → May S → S → S → Option (List ℕ) → Option (List ℕ) → List ℕ → Option (List ℕ) → SessionEnd → Type 0
 IsEnd may s t old new bytes left (end.Closed n) = IsClosed may s t old new bytes (IsAtEnd left) n

@@ -1,5 +1,5 @@
 -- What the steps of reading leave.
-use Rattle.std.specs.Prelude.{◌≡◌, ℕ, ◌+◌, ◌<◌, ◌≤◌, List, [], ◌++◌, length, min, ◌-◌, ◌^◌, drop, Result, Ok, Err, Option}
+use Rattle.std.specs.Prelude.{◌⊎◌, ◌≡◌, ℕ, ◌+◌, ◌<◌, ◌≤◌, List, [], ◌++◌, length, min, ◌-◌, ◌^◌, drop, Result, Ok, Err, Option}
 use Rattle.std.specs.Io.KnownBytes.{Consumes, IsAtEnd}
 use Rattle.ipam_edge.specs.Faults.{Rose}
 use Rattle.httparse.specs.Grammar.{RequestHead}
@@ -21,6 +21,22 @@ pub record Grown (left_old left_new : Option (List ℕ)) (old new : List ℕ) : 
   pub got : List ℕ
   pub consumes : Consumes left_old left_new got
   pub grown : new ≡ old ++ got
+
+-- the last piece that was read, of at most 4,096 bytes, and what held of the bytes before it
+pub record HasLastPiece (P : List ℕ → Type 0) (old new : List ℕ) : Type 0 where
+  pub more : List ℕ
+  pub last : List ℕ
+  pub grown : new ≡ (old ++ more) ++ last
+  pub short : length last ≤ 4096
+  pub before : P (old ++ more)
+
+-- the bytes are fewer than so many
+abbrev pub IsShort : ℕ → List ℕ → Type 0
+IsShort needed bytes = length bytes < needed
+
+-- nothing was read, or P held of the bytes when the last piece was read
+abbrev pub IsReadWhile : (List ℕ → Type 0) → List ℕ → List ℕ → Type 0
+IsReadWhile P old new = (new ≡ old) ⊎ HasLastPiece P old new
 
 -- this error comes only where the count rose, and the count never falls
 pub record HasCauseOf {T E : Type 0} (fault : E) (old new : ℕ) (result : Result T E) : Type 0 where

@@ -2,8 +2,8 @@
 ghost use Rattle.std.specs.Prelude.{◌≡◌, ◌<◌, ◌≤◌, ◌+◌, ◌-◌, ◌^◌, ◌++◌, ℕ, List, [], length, take, drop, min, IfOk, OnErr, ◌||◌, nat_le};
 ghost use Rattle.std.specs.Io.KnownBytes.{IsAtEnd};
 ghost use Rattle.ipam_edge.specs.Faults.{Rose};
-ghost use Rattle.http_session.specs.Requests.{InboxView};
-ghost use Rattle.http_session.specs.Steps.{Grown, HasCauseOf, IsAsk, IsAsked};
+ghost use Rattle.http_session.specs.Requests.{InboxView, IsUnfinished};
+ghost use Rattle.http_session.specs.Steps.{Grown, HasCauseOf, IsAsk, IsAsked, IsReadWhile};
 
 use crate::head::Head;
 use crate::wait::{Short, wait_for_body, wait_for_head};
@@ -147,7 +147,7 @@ fn ask<S: Source>(
     bytes: &mut Vec<u8>,
     number: u32,
 ) -> Result<HttpRequest, Stop>
-    ensures item { (all : List ℕ) × Grown (S.left source.old) (S.left source.new) bytes.old.items all × IsAsk number all (S.left source.new) result bytes.new.items }
+    ensures item { (all : List ℕ) × Grown (S.left source.old) (S.left source.new) bytes.old.items all × IsAsk number all (S.left source.new) result bytes.new.items × IsReadWhile IsUnfinished bytes.old.items all }
     ensures cause { HasCauseOf Stop.SourceFault (S.faults source.old) (S.faults source.new) result }
 {
     let head = wait_for_head(alloc, source, bytes)?;
@@ -171,7 +171,7 @@ fn ask<S: Source>(
 /// between two requests. `SourceFault` comes where a read failed while more bytes were needed,
 /// `Memory` where memory was wanting; after both no byte is lost, and the call may be made again.
 pub fn next_request<S: Source>(alloc: Global, source: &mut S, inbox: &mut Inbox) -> Asked
-    ensures item { (all : List ℕ) × Grown (S.left source.old) (S.left source.new) inbox.old.bytes all × IsAsked inbox.old.number all (S.left source.new) result inbox.new }
+    ensures item { (all : List ℕ) × Grown (S.left source.old) (S.left source.new) inbox.old.bytes all × IsAsked inbox.old.number all (S.left source.new) result inbox.new × IsReadWhile IsUnfinished inbox.old.bytes all }
     ensures later { S.faults source.old ≤ S.faults source.new }
     ensures cause { result ≡ Asked.SourceFault → Rose (S.faults source.old) (S.faults source.new) }
 {

@@ -4,7 +4,7 @@ ghost use Rattle.ipam_edge.specs.Faults.{Rose};
 ghost use Rattle.http_session.specs.Requests.{Framed};
 ghost use Rattle.http_session.specs.Steps.{Grown, framed};
 ghost use Rattle.http_session.specs.Talk.{Answer, refusal_status, refusal_body};
-ghost use Rattle.http_session.specs.Ends.{IsEnd, IsLeft};
+ghost use Rattle.http_session.specs.Ends.{IsEnd, IsLeft, IsReadAsNeeded};
 ghost use Rattle.http_session.specs.Replies.{answer_of};
 
 use crate::{Asked, Fault, HttpRequest, Inbox, PutEnd, Reply, next_request, put_answer};
@@ -84,7 +84,8 @@ pub fn serve<D: Desk, R: Source, W: Sink>(
     sink: &mut W,
 ) -> (D::Seat, SessionEnd)
     ensures talk { (bytes : List ℕ) × Grown (R.left source.old) (R.left source.new) [] bytes
-        × IsEnd D.may (D.view seat) (D.view result.0) (W.written sink.old) (W.written sink.new) bytes (R.left source.new) result.1 }
+        × IsEnd D.may (D.view seat) (D.view result.0) (W.written sink.old) (W.written sink.new) bytes (R.left source.new) result.1
+        × IsReadAsNeeded bytes }
     ensures source_later { R.faults source.old ≤ R.faults source.new }
     ensures source { result.1 ≡ SessionEnd.SourceFault → Rose (R.faults source.old) (R.faults source.new) }
     ensures sink_later { W.faults sink.old ≤ W.faults sink.new }

@@ -1,6 +1,7 @@
 //! Waiting for bytes.
 ghost use Rattle.std.specs.Prelude.{◌≡◌, ◌<◌, ◌≤◌, ◌+◌, ◌++◌, ℕ, List, length};
-ghost use Rattle.http_session.specs.Steps.{Grown, HasCauseOf, IsPiece, IsHeadWait, IsBodyWait};
+ghost use Rattle.http_session.specs.Requests.{StopsInHead};
+ghost use Rattle.http_session.specs.Steps.{Grown, HasCauseOf, IsPiece, IsReadWhile, IsShort, IsHeadWait, IsBodyWait};
 
 use crate::Fault;
 use crate::head::{Head, HeadAnswer, look};
@@ -32,6 +33,7 @@ impl From<AllocError> for Short {
 /// Adds the next piece of the source. The memory for it is taken first.
 fn read_piece<S: Source>(source: &mut S, bytes: &mut Vec<u8>) -> Result<(), Short>
     ensures grown { Grown (S.left source.old) (S.left source.new) bytes.old.items bytes.new.items }
+    ensures most { length bytes.new.items ≤ length bytes.old.items + 4096 }
     ensures piece { IsPiece bytes.old.items bytes.new.items (S.left source.new) result }
     ensures cause { HasCauseOf Short.SourceFault (S.faults source.old) (S.faults source.new) result }
 {
@@ -55,6 +57,7 @@ pub fn wait_for_head<S: Source>(
     bytes: &mut Vec<u8>,
 ) -> Result<Head, Stop>
     ensures grown { Grown (S.left source.old) (S.left source.new) bytes.old.items bytes.new.items }
+    ensures needed { IsReadWhile StopsInHead bytes.old.items bytes.new.items }
     ensures head { IsHeadWait bytes.new.items (S.left source.new) result }
     ensures cause { HasCauseOf Stop.SourceFault (S.faults source.old) (S.faults source.new) result }
 {
@@ -89,6 +92,7 @@ pub fn wait_for_body<S: Source>(
     needed: usize,
 ) -> Result<(), Short>
     ensures grown { Grown (S.left source.old) (S.left source.new) bytes.old.items bytes.new.items }
+    ensures needed { IsReadWhile (IsShort needed) bytes.old.items bytes.new.items }
     ensures body { IsBodyWait needed bytes.new.items (S.left source.new) result }
     ensures cause { HasCauseOf Short.SourceFault (S.faults source.old) (S.faults source.new) result }
 {
