@@ -4,6 +4,7 @@ pub mod Heads
 pub mod ItemLemmas
 pub mod Items
 pub mod Lengths
+pub mod ListLemmas
 pub mod Talks
 pub mod Texts
 pub mod Unique

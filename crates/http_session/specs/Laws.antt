@@ -19,3 +19,11 @@ IsCorner bytes = (16384 ≤ length bytes) × NeverHead (front bytes) × MayBecom
 abbrev pub OneReading : Type 0 → Type 0
 OneReading ended = (n : ℕ) (bytes : List ℕ) (item other : Item) (rest rest_too : List ℕ) → IsItem n bytes ended item rest → IsItem n bytes ended other rest_too
     → ((item ≡ other) × (rest ≡ rest_too)) ⊎ IsCorner bytes
+
+-- some items stand there, one after another, and then the corner
+abbrev pub HasCorner : ℕ → List ℕ → Type 0 → Type 0
+HasCorner n bytes ended = (items : List Item) × (rest : List ℕ) × AreItems n bytes ended items rest × IsCorner rest
+
+-- the bytes have one list of all their items, unless it comes to the corner
+abbrev pub OneList : Type 0 → Type 0
+OneList ended = (bytes : List ℕ) (items others : List Item) → AreAllItems bytes ended items → AreAllItems bytes ended others → (items ≡ others) ⊎ HasCorner 0 bytes ended
