@@ -15,10 +15,11 @@ phrase_of status = unwrap_or (reason_phrase status) []
 abbrev pub line_where : Bool → List ℕ → List ℕ → List ℕ
 line_where there name text = if there then name ++ text ++ codes "\r\n" else []
 
+-- there are some bytes
 abbrev pub is_there : List ℕ → Bool
 is_there text = nat_lt 0 (length text)
 
--- the place of a reply of the register
+-- the line of the answer's place, where it has one
 abbrev pub place_line : Option ℕ → List ℕ
 place_line None = []
 place_line (Some n) = codes "Ipam-Place: " ++ decimal n ++ codes "\r\n"

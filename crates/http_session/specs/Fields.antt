@@ -10,13 +10,15 @@ use Rattle.httparse.specs.Spans.{name_and_value}
 use Rattle.http_session.specs.declared.request.Fault.{Fault}
 use Rattle.http_session.specs.declared.request.Fault.TheVariants.{BadHead, LargeBody, Coding}
 
--- the names of the fields that are read
+-- the field that says how long the body is
 abbrev pub content_length : List ℕ
 content_length = codes "content-length"
 
+-- the field that says whether a request follows
 abbrev pub connection : List ℕ
 connection = codes "connection"
 
+-- the field that says how the body is coded
 abbrev pub transfer_encoding : List ℕ
 transfer_encoding = codes "transfer-encoding"
 
@@ -47,6 +49,7 @@ unfoldable pub length_by : List (List ℕ × List ℕ) → Result ℕ Fault
 length_by fields =
     if list_any (is_named transfer_encoding) fields then Err Coding else length_among (values_of content_length fields)
 
+-- what parts the tokens of a value
 abbrev pub is_comma : ℕ → Bool
 is_comma byte = byte == 44
 

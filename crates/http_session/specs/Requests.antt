@@ -59,10 +59,11 @@ pub record HasHead (bytes : List ℕ) (h : RequestHead) (rest : List ℕ) : Type
 abbrev pub HasLength : List ℕ → Result ℕ Fault → List ℕ → Type 0
 HasLength bytes said rest = (h : RequestHead) × HasHead bytes h rest × (length_of h ≡ said)
 
--- the bytes stop inside a head, or before the end of a body
+-- no head is whole in the bytes, which are fewer than 16,384, and one may come
 abbrev pub StopsInHead : List ℕ → Type 0
 StopsInHead bytes = (length bytes < 16384) × MayBecomeHead bytes
 
+-- a head is whole, and the body behind it is not
 abbrev pub StopsInBody : List ℕ → Type 0
 StopsInBody bytes = (n : ℕ) × (rest : List ℕ) × HasLength bytes (Ok n) rest × (length rest < n)
 

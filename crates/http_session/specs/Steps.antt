@@ -61,6 +61,7 @@ pub record IsHead (bytes : List ℕ) (kept : Head) : Type 0 where
   pub method : kept.method.items ≡ head.method
   pub target : kept.target.items ≡ head.target
 
+-- what the bytes are, as to their head
 abbrev pub IsHeadAnswer : List ℕ → HeadAnswer → Type 0
 IsHeadAnswer bytes (Whole kept) = IsHead bytes kept
 IsHeadAnswer bytes More = MayBecomeHead (front bytes)
@@ -82,6 +83,7 @@ IsBodyWait needed bytes left (Err short.End) = IsAtEnd left × (length bytes < n
 IsBodyWait needed bytes left (Err short.SourceFault) = length bytes < needed
 IsBodyWait needed bytes left (Err short.Memory) = Unit {0}
 
+-- the request as its lists of bytes
 abbrev pub framed : HttpRequest → Framed
 framed r = record { method = r.method.items; target = r.target.items; body = r.body.items; close = r.close }
 

@@ -8,6 +8,9 @@ use httparse::Status;
 use httparse::spans::{EMPTY_HEADER_SPAN, parse_request};
 use std::alloc::{AllocError, Global};
 
+/// The most bytes that are looked at for a head.
+pub const HEAD_LIMIT: usize = 16384;
+
 /// What is kept of a head.
 #[derive(Drop)]
 pub struct Head {
@@ -36,7 +39,7 @@ pub enum HeadAnswer {
 pub fn look(alloc: Global, bytes: &[u8]) -> HeadAnswer
     ensures { IsHeadAnswer bytes.now result }
 {
-    let front = &bytes[..bytes.len().min(16384)];
+    let front = &bytes[..bytes.len().min(HEAD_LIMIT)];
     let mut room = [EMPTY_HEADER_SPAN; 64];
     match parse_request(front, &mut room) {
         Ok(Status::Complete(spans)) => {

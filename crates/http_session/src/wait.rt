@@ -4,13 +4,10 @@ ghost use Rattle.http_session.specs.Requests.{StopsInHead};
 ghost use Rattle.http_session.specs.Steps.{Grown, HasCauseOf, IsPiece, IsReadWhile, IsShort, IsHeadWait, IsBodyWait};
 
 use crate::Fault;
-use crate::head::{Head, HeadAnswer, look};
+use crate::head::{HEAD_LIMIT, Head, HeadAnswer, look};
 use crate::request::Stop;
 use ipam_edge::{Failed, Source};
 use std::alloc::{AllocError, Global};
-
-/// The most bytes that are looked at for a head.
-const HEAD: usize = 16384;
 
 /// Why no more bytes came.
 #[derive(Clone, Copy, Debug, PartialEq, Eq)]
@@ -68,7 +65,7 @@ pub fn wait_for_head<S: Source>(
             HeadAnswer::NoMemory => return Err(Stop::Memory),
             HeadAnswer::More => {}
         }
-        if bytes.len() >= HEAD {
+        if bytes.len() >= HEAD_LIMIT {
             return Err(Stop::Bad(Fault::LargeHead));
         }
         match read_piece(source, bytes) {
