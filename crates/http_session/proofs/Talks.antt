@@ -2,7 +2,7 @@
 use Rattle.std.proofs.Common.{◌≡◌, ◌∙◌, ◌+◌, ◌≤◌, ◌⊎◌, ◌||◌, nat_le, None, ℕ, Bool, true, false, List, [], ◌∷◌, ◌++◌, length, Option, inl, inr, refl, sym, ap, subst, arith, append_assoc, append-nil, zero-add, length-append}
 use Rattle.std.proofs.lemmas.List.{append_cancel_left}
 use Rattle.std.specs.Io.KnownBytes.{Appends}
-use Rattle.std.proofs.KnownBytes.{Appends-nil, Appends-trans, Consumes-trans}
+use Rattle.std.proofs.KnownBytes.{Appends-trans, Consumes-trans}
 use Rattle.ipam_edge.specs.Writing.{AppendsFront}
 use Rattle.http_session.specs.Requests.{AreItems, Framed, IsItem, IsRequest, IsUnfinished, Item, Asks, Refuses, closes}
 use Rattle.http_session.specs.Fields.{asks_close}
@@ -14,7 +14,7 @@ use Rattle.std.proofs.lemmas.Bool.Decides.{nat_tests}
 use Rattle.http_session.specs.Steps.{Grown, IsReadWhile, next_number}
 use Rattle.http_session.proofs.ItemLemmas.{all_open_more, ends_closed, items_more, items_wait}
 use Rattle.http_session.specs.Talk.{Answer, Answered, May, Run, texts, refusal_answer, refusal_body, refusal_status, text_of}
-use Rattle.http_session.specs.Ends.{IsReadAsNeeded, IsBetween, IsLeft, IsClosed, IsCutShort, IsStarved, IsTalk, IsUnsaid}
+use Rattle.http_session.specs.Ends.{IsBetween, IsLeft, IsLost, IsReadAsNeeded, IsClosed, IsCutShort, IsStarved, IsTalk, IsUnsaid}
 
 run_more : {S : Type 0} (may : May S) (s : S) (items : List Item) (answers : List Answer) (t : S) (item : Item) (a : Answer) (u : S) → Run may s items answers t → Answered may t item a u → Run may s (items ++ item ∷ []) (answers ++ a ∷ []) u
 run_more may s [] [] t item a u run h = (u, subst (λ x. Answered may x item a u) run h, refl)
@@ -154,18 +154,16 @@ module _ {S : Type 0} (may : May S) (s t : S) (old now : Option (List ℕ)) (byt
   starved u e = record { items = so_far.items; rest = all; items_are = waiting ⊥; talk = subst (λ x. IsTalk may s x old now so_far.items) (sym e) so_far.talk }
 
   -- memory was wanting at a request
-  pub starved_at : (E : Type 0) (r : Framed) (kept : List ℕ) (u : S) → IsItem n all E (Asks r) kept → IsLeft may t r u → IsStarved may s u old now (bytes ++ got) ⊎ IsUnsaid may s u old now (bytes ++ got) E
+  pub starved_at : (E : Type 0) (r : Framed) (kept : List ℕ) (u : S) → IsItem n all E (Asks r) kept → IsLeft may t r u → IsStarved may s u old now (bytes ++ got) ⊎ IsLost may s u old now (bytes ++ got) E
   starved_at E r kept u q (inl e) = inl (starved u e)
   starved_at E r kept u q (inr (a, h)) =
       inr (record {
         items = so_far.items;
         last = Asks r;
         rest = kept;
-        mid = now;
         state = t;
         answer = a;
         items_are = next_items E (Asks r) kept q;
         talk = so_far.talk;
         answered = h;
-        front = ([], (text_of a r.close, refl), Appends-nil now);
       })

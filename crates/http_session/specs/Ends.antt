@@ -41,7 +41,18 @@ pub record IsUnsaid {S : Type 0} (may : May S) (s t : S) (old new : Option (List
   pub answered : Answered may state last answer t
   pub front : AppendsFront mid new (text_of answer (closes last))
 
--- some items were answered
+-- the answers but the last were written, and nothing of the last one, whose request was acted on
+pub record IsLost {S : Type 0} (may : May S) (s t : S) (old new : Option (List ℕ)) (bytes : List ℕ) (ended : Type 0) : Type 0 where
+  pub items : List Item
+  pub last : Item
+  pub rest : List ℕ
+  pub state : S
+  pub answer : Answer
+  pub items_are : AreItems 0 bytes ended (items ++ last ∷ []) rest
+  pub talk : IsTalk may s state old new items
+  pub answered : Answered may state last answer t
+
+-- some items were answered, and all their answers were written
 pub record IsStarved {S : Type 0} (may : May S) (s t : S) (old new : Option (List ℕ)) (bytes : List ℕ) : Type 0 where
   pub items : List Item
   pub rest : List ℕ
@@ -69,7 +80,7 @@ abbrev pub IsEnd : {S : Type 0} → May S → S → S → Option (List ℕ) → 
 IsEnd may s t old new bytes left (end.Closed n) = IsClosed may s t old new bytes (IsAtEnd left) n
 IsEnd may s t old new bytes left end.SourceFault = IsCutShort may s t old new bytes
 IsEnd may s t old new bytes left end.SinkFault = IsUnsaid may s t old new bytes (IsAtEnd left)
-IsEnd may s t old new bytes left end.Memory = IsStarved may s t old new bytes ⊎ IsUnsaid may s t old new bytes (IsAtEnd left)
+IsEnd may s t old new bytes left end.Memory = IsStarved may s t old new bytes ⊎ IsLost may s t old new bytes (IsAtEnd left)
 
 -- where memory is wanting, a request was not acted on, or it was and its answer is lost
 abbrev pub IsLeft : {S : Type 0} → May S → S → Framed → S → Type 0
