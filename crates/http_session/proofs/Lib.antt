@@ -5,6 +5,7 @@ pub mod ItemLemmas
 pub mod Items
 pub mod Lengths
 pub mod ListLemmas
+pub mod PenLemmas
 pub mod Talks
 pub mod Texts
 pub mod Unique

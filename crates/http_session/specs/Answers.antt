@@ -1,5 +1,5 @@
 -- The text of an answer: status line, fields, empty line, body (RFC 9112, sections 2.1 and 4).
-use Rattle.std.specs.Prelude.{◌++◌, ℕ, Bool, List, [], Option, Some, None, if◌then◌else◌, codes, decimal, length, nat_lt, ◌≤◌, unwrap_or}
+use Rattle.std.specs.Prelude.{◌≡◌, ◌++◌, ℕ, Bool, List, [], Option, Some, None, if◌then◌else◌, codes, decimal, length, nat_lt, ◌≤◌, unwrap_or}
 use Rattle.http.specs.StatusCode.{code_digits, reason_phrase}
 use Rattle.std.specs.Io.KnownBytes.{Appends}
 use Rattle.ipam_edge.specs.Writing.{AppendsFront}
@@ -39,6 +39,11 @@ answer_text status allow place close body =
 abbrev pub IsPutEnd : Option (List ℕ) → Option (List ℕ) → PutEnd → List ℕ → Type 0
 IsPutEnd old new Whole text = Appends old new text
 IsPutEnd old new SinkFault text = AppendsFront old new text
+
+-- a part of the text was written, and the rest of it is gathered; after a fault a front of it was written
+abbrev pub IsGathered : Option (List ℕ) → Option (List ℕ) → PutEnd → List ℕ → List ℕ → Type 0
+IsGathered start now Whole gathered text = (sent : List ℕ) × Appends start now sent × (text ≡ sent ++ gathered)
+IsGathered start now SinkFault gathered text = AppendsFront start now text
 
 -- a fault comes only where the sink's count rose, and the count never falls
 abbrev pub HasPutCause : ℕ → ℕ → PutEnd → Type 0

@@ -1,9 +1,10 @@
 //! The text of an answer, written to a sink. It takes no memory.
-ghost use Rattle.std.specs.Prelude.{◌≡◌, ◌<◌, Bool, [], if◌then◌else◌, length, codes, decimal, ℕ, List, Option, ◌≤◌, ◌++◌};
-ghost use Rattle.http_session.specs.Answers.{HasPutCause, IsPutEnd, answer_text, line_where, phrase_of};
+ghost use Rattle.std.specs.Prelude.{◌≡◌, Bool, [], if◌then◌else◌, length, codes, ℕ, List, Option, ◌≤◌, ◌++◌};
+ghost use Rattle.http_session.specs.Answers.{HasPutCause, IsPutEnd, answer_text, phrase_of};
 
+use crate::pen::Pen;
 use http::StatusCode;
-use ipam_edge::{Failed, Sink, write_all};
+use ipam_edge::Sink;
 use itoa::Buffer;
 
 /// How the writing of an answer ended.
@@ -24,33 +25,6 @@ fn phrase(status: StatusCode) -> &'static [u8]
     }
 }
 
-/// Writes on where nothing has failed yet.
-fn put<S: Sink>(sink: &mut S, end: PutEnd, bytes: &[u8]) -> PutEnd
-    ensures told { (start : Option (List ℕ)) (before : List ℕ) → IsPutEnd start (S.written sink.old) end before → IsPutEnd start (S.written sink.new) result (before ++ bytes.now) }
-    ensures cause { (start : ℕ) → HasPutCause start (S.faults sink.old) end → HasPutCause start (S.faults sink.new) result }
-{
-    match end {
-        PutEnd::SinkFault => PutEnd::SinkFault,
-        PutEnd::Whole => match write_all(sink, bytes) {
-            Ok(()) => PutEnd::Whole,
-            Err(Failed) => PutEnd::SinkFault,
-        },
-    }
-}
-
-/// Writes a line of a name and a text, where there is one.
-fn put_line<S: Sink>(sink: &mut S, end: PutEnd, there: bool, name: &[u8], text: &[u8]) -> PutEnd
-    ensures told { (start : Option (List ℕ)) (before : List ℕ) → IsPutEnd start (S.written sink.old) end before → IsPutEnd start (S.written sink.new) result (before ++ line_where there name.now text.now) }
-    ensures cause { (start : ℕ) → HasPutCause start (S.faults sink.old) end → HasPutCause start (S.faults sink.new) result }
-{
-    if !there {
-        return end;
-    }
-    let end = put(sink, end, name);
-    let end = put(sink, end, text);
-    put(sink, end, b"\r\n")
-}
-
 /// Writes an answer: the status line, then `Content-Type` and `Content-Length` where there is a
 /// body, `Allow` where there are methods, `Ipam-Place` where there is a place and `Connection:
 /// close` where the connection closes, and then the body. `SinkFault` comes where a write failed,
@@ -67,22 +41,19 @@ pub fn put_answer<S: Sink>(
     ensures cause { HasPutCause (S.faults sink.old) (S.faults sink.new) result }
 {
     let mut room = Buffer::new();
-    let end = put(sink, PutEnd::Whole, b"HTTP/1.1 ");
-    let end = put(sink, end, status.as_str().as_bytes());
-    let end = put_line(sink, end, true, b" ", phrase(status));
+    let mut pen = Pen::new();
+    pen.put(sink, b"HTTP/1.1 ");
+    pen.put(sink, status.as_str().as_bytes());
+    pen.put_line(sink, true, b" ", phrase(status));
     let there = !body.is_empty();
-    let end = put_line(sink, end, there, b"Content-Type: ", b"application/json");
-    let end = put_line(
-        sink,
-        end,
-        there,
-        b"Content-Length: ",
-        room.format(body.len()).as_bytes(),
-    );
-    let end = put_line(sink, end, !allow.is_empty(), b"Allow: ", allow);
+    pen.put_line(sink, there, b"Content-Type: ", b"application/json");
+    let length = room.format(body.len()).as_bytes();
+    pen.put_line(sink, there, b"Content-Length: ", length);
+    pen.put_line(sink, !allow.is_empty(), b"Allow: ", allow);
     let number = room.format(place.unwrap_or(0)).as_bytes();
-    let end = put_line(sink, end, place.is_some(), b"Ipam-Place: ", number);
-    let end = put_line(sink, end, close, b"Connection: ", b"close");
-    let end = put(sink, end, b"\r\n");
-    put(sink, end, body)
+    pen.put_line(sink, place.is_some(), b"Ipam-Place: ", number);
+    pen.put_line(sink, close, b"Connection: ", b"close");
+    pen.put(sink, b"\r\n");
+    pen.put(sink, body);
+    pen.finish(sink)
 }

@@ -7,6 +7,7 @@ mod answer;
 mod fields;
 mod head;
 mod laws;
+mod pen;
 mod reply;
 mod request;
 mod session;
