@@ -1,11 +1,11 @@
 -- The bytes have one list of items.
-use Rattle.std.proofs.Common.{◌≡◌, ◌∙◌, ◌+◌, ◌<◌, ◌≤◌, ◌⊎◌, IsTrue, ℕ, Bool, true, false, List, [], ◌∷◌, ◌++◌, length, Result, Ok, Err, inl, inr, refl, sym, ap, subst, arith, codes, length-append, take}
+use Rattle.std.proofs.Common.{◌≡◌, ◌∙◌, ◌+◌, ◌⊎◌, IsTrue, ℕ, Bool, true, false, List, [], ◌∷◌, ◌++◌, length, inl, inr, refl, sym, ap, subst, arith, length-append}
 use Rattle.std.proofs.lemmas.Str.{encode_ascii}
 use Rattle.std.proofs.lemmas.List.Elements.{All-cons, All-nil}
-use Rattle.httparse.specs.Grammar.{RequestHead, IsRequestHead, ReadsRequest, LineEnd, crlf, print_request, is_token_byte, is_uri_byte, AllPass, IsField}
+use Rattle.httparse.specs.Grammar.{RequestHead, IsRequestHead, crlf, print_request, is_token_byte, is_uri_byte, AllPass, IsField}
 use Rattle.http_session.specs.declared.request.Fault.{Fault}
 use Rattle.http_session.specs.declared.request.Fault.TheVariants.{BadHead, LargeHead, LargeBody, Coding}
-use Rattle.http_session.specs.Requests.{AreItems, AreAllItems, AllOpen, BeginsWithHead, EndsClosed, HasHead, IsItem, IsRefused, Item, Asks, Refuses, NeverHead, closes, front}
+use Rattle.http_session.specs.Requests.{AreItems, EndsClosed, HasHead, IsItem, IsRefused, Item, Asks, Refuses, NeverHead, closes}
 use Rattle.http_session.specs.Laws.{HasCorner, IsCorner}
 use Rattle.http_session.proofs.Unique.{one_reading}
 
