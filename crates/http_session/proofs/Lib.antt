@@ -1,0 +1,12 @@
+mod Examples
+pub mod FieldLemmas
+pub mod Growth
+pub mod Heads
+pub mod ItemLemmas
+pub mod Items
+pub mod Lengths
+pub mod ListLemmas
+pub mod PenLemmas
+pub mod Talks
+pub mod Texts
+pub mod Unique

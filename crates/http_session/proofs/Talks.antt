@@ -1,0 +1,169 @@
+-- How a talk goes on, and how it ends.
+use Rattle.std.proofs.Common.{◌≡◌, ◌∙◌, ◌+◌, ◌≤◌, ◌⊎◌, ◌||◌, nat_le, None, ℕ, Bool, true, false, List, [], ◌∷◌, ◌++◌, length, Option, inl, inr, refl, sym, ap, subst, arith, append_assoc, append-nil, zero-add, length-append}
+use Rattle.std.proofs.lemmas.List.{append_cancel_left}
+use Rattle.std.specs.Io.KnownBytes.{Appends}
+use Rattle.std.proofs.KnownBytes.{Appends-trans, Consumes-trans}
+use Rattle.ipam_edge.specs.Writing.{AppendsFront}
+use Rattle.http_session.specs.Requests.{AreItems, Framed, IsItem, IsRequest, IsUnfinished, Item, Asks, Refuses, closes}
+use Rattle.http_session.specs.Fields.{asks_close}
+use Rattle.http_session.specs.declared.request.Fault.{Fault}
+use Rattle.http_session.specs.Answers.{answer_text}
+use Rattle.http_session.specs.declared.reply.Reply.{Reply}
+use Rattle.http_session.specs.Replies.{answer_of, body_bytes}
+use Rattle.std.proofs.lemmas.Bool.Decides.{nat_tests}
+use Rattle.http_session.specs.Steps.{Grown, IsReadWhile, next_number}
+use Rattle.http_session.proofs.ItemLemmas.{all_open_more, ends_closed, items_more, items_wait}
+use Rattle.http_session.specs.Talk.{Answer, Answered, May, Run, texts, refusal_answer, refusal_body, refusal_status, text_of}
+use Rattle.http_session.specs.Ends.{IsBetween, IsLeft, IsLost, IsReadAsNeeded, IsClosed, IsCutShort, IsStarved, IsTalk, IsUnsaid}
+
+run_more : {S : Type 0} (may : May S) (s : S) (items : List Item) (answers : List Answer) (t : S) (item : Item) (a : Answer) (u : S) → Run may s items answers t → Answered may t item a u → Run may s (items ++ item ∷ []) (answers ++ a ∷ []) u
+run_more may s [] [] t item a u run h = (u, subst (λ x. Answered may x item a u) run h, refl)
+run_more may s [] (b ∷ bs) t item a u run h = absurd run
+run_more may s (i ∷ is) [] t item a u run h = absurd run
+run_more may s (i ∷ is) (b ∷ bs) t item a u run h = (run.0, run.1, run_more may run.0 is bs t item a u run.2 h)
+
+texts_more : {S : Type 0} (may : May S) (s : S) (items : List Item) (answers : List Answer) (t : S) (item : Item) (a : Answer) → Run may s items answers t → texts (items ++ item ∷ []) (answers ++ a ∷ []) ≡ texts items answers ++ text_of a (closes item)
+texts_more may s [] [] t item a run = append-nil (text_of a (closes item))
+texts_more may s [] (b ∷ bs) t item a run = absurd run
+texts_more may s (i ∷ is) [] t item a run = absurd run
+texts_more may s (i ∷ is) (b ∷ bs) t item a run = ap (λ l. text_of b (closes i) ++ l) (texts_more may run.0 is bs t item a run.2) ∙ sym (append_assoc (text_of b (closes i)) (texts is bs) (text_of a (closes item)))
+
+-- a request depends on no end
+open_any : (n : ℕ) (bytes : List ℕ) (E F : Type 0) (item : Item) (rest : List ℕ) → closes item ≡ false → IsItem n bytes E item rest → IsItem n bytes F item rest
+open_any n bytes E F (Asks r) rest o q = q
+open_any n bytes E F (Refuses fault) rest o q = cc o
+
+-- a reply in its frame
+pub reply_text : (reply : Reply) (body : List ℕ) (close : Bool) → body ≡ body_bytes reply.body → answer_text reply.status reply.allow.now reply.place close body ≡ text_of (answer_of reply) close
+reply_text reply body close e = rw e refl
+
+pub refused_text : (fault : Fault) (status : ℕ) (body : List ℕ) → status ≡ refusal_status fault → body ≡ refusal_body fault → answer_text status [] None true body ≡ text_of (refusal_answer fault) true
+refused_text fault status body hs hb = rw (hs, hb) refl
+
+-- an item that leaves the connection open is not the 1,000th
+by_or : (a b : Bool) → (a || b) ≡ false → b ≡ false
+by_or true b h = cc h
+by_or false b h = h
+
+few_yet : (asks close : Bool) (n : ℕ) → close ≡ (asks || nat_le 999 n) → close ≡ false → n + 1 ≤ 999
+few_yet asks close n e o = let late : nat_le 999 n ≡ false = by_or asks (nat_le 999 n) (sym e ∙ o) in grind (arith, nat_tests)
+
+pub few_after : (n : ℕ) (bytes : List ℕ) (r : Framed) (rest : List ℕ) → IsRequest n bytes r rest → r.close ≡ false → n + 1 ≤ 999
+few_after n bytes r rest q o = few_yet (asks_close q.head) r.close n q.close o
+
+-- the inbox has counted one more
+pub number_is : (n number : ℕ) → number ≡ next_number n → n ≤ 999 → number ≡ n + 1
+number_is n number e few = omega arith
+
+-- all that the source gave
+pub total : (a b c : Option (List ℕ)) (bytes rest all : List ℕ) → Grown a b [] bytes → (more : Grown b c rest all) → Grown a c [] (bytes ++ more.got)
+total a b c bytes rest all first more =
+    record { got = first.got ++ more.got; consumes = Consumes-trans a b c first.got more.got first.consumes more.consumes; grown = ap (λ l. l ++ more.got) first.grown }
+
+module _ {S : Type 0} (may : May S) (s t : S) (old now : Option (List ℕ)) (bytes rest : List ℕ) (n : ℕ) (so_far : IsBetween may s t old now bytes rest n) (got all : List ℕ) (is_all : all ≡ rest ++ got) where
+  next_items : (E : Type 0) (item : Item) (kept : List ℕ) → IsItem n all E item kept → AreItems 0 (bytes ++ got) E (so_far.items ++ item ∷ []) kept
+  next_items E item kept q =
+      let number : n ≡ 0 + length so_far.items = so_far.count ∙ sym (zero-add (length so_far.items)) in
+      items_more 0 bytes got rest ⊥ E so_far.items item kept so_far.open_ so_far.items_are
+      (subst (λ (k : ℕ). IsItem k (rest ++ got) E item kept) number (subst (λ (b : List ℕ). IsItem n b E item kept) is_all q))
+
+  waiting : (E : Type 0) → AreItems 0 (bytes ++ got) E so_far.items all
+  waiting E = subst (AreItems 0 (bytes ++ got) E so_far.items) (sym is_all) (items_wait 0 bytes got rest ⊥ E so_far.items so_far.open_ so_far.items_are)
+
+  counted : (item : Item) → n + 1 ≡ length (so_far.items ++ item ∷ [])
+  counted item = omega (arith, so_far.count, length-append so_far.items (item ∷ []))
+
+  talked : (item : Item) (a : Answer) (u : S) (new : Option (List ℕ)) (text : List ℕ) → Appends now new text → text ≡ text_of a (closes item) → Answered may t item a u → IsTalk may s u old new (so_far.items ++ item ∷ [])
+  talked item a u new text said e h =
+      record {
+        answers = so_far.talk.answers ++ a ∷ [];
+        run = run_more may s so_far.items so_far.talk.answers t item a u so_far.talk.run h;
+        told = subst (Appends old new) (sym (texts_more may s so_far.items so_far.talk.answers t item a so_far.talk.run)) (Appends-trans old now new _ _ so_far.talk.told (subst (Appends now new) e said));
+      }
+
+  -- no more was read than was needed
+  pub still_needed : IsReadAsNeeded bytes → IsReadWhile IsUnfinished rest all → IsReadAsNeeded (bytes ++ got)
+  still_needed read (inl none) =
+      let nothing : got ≡ [] = append_cancel_left rest got [] (sym is_all ∙ none ∙ sym (append-nil rest)) in
+      subst IsReadAsNeeded (sym (ap (λ l. bytes ++ l) nothing ∙ append-nil bytes)) read
+  still_needed read (inr h) =
+      let split : got ≡ h.more ++ h.last = append_cancel_left rest got (h.more ++ h.last) (sym is_all ∙ h.grown ∙ append_assoc rest h.more h.last) in
+      inr (record {
+        items = so_far.items;
+        before = bytes ++ h.more;
+        last = h.last;
+        rest = rest ++ h.more;
+        bytes_are = ap (λ l. bytes ++ l) split ∙ sym (append_assoc bytes h.more h.last);
+        short = h.short;
+        items_are = items_wait 0 bytes h.more rest ⊥ ⊥ so_far.items so_far.open_ so_far.items_are;
+        open_ = so_far.open_;
+        unfinished = h.before;
+      })
+
+  -- the next item was answered, and the connection stays open
+  pub goes_on : (E : Type 0) (item : Item) (kept : List ℕ) (a : Answer) (u : S) (new : Option (List ℕ)) (text : List ℕ) → IsItem n all E item kept → closes item ≡ false → n + 1 ≤ 999
+      → Appends now new text → text ≡ text_of a (closes item) → Answered may t item a u → IsBetween may s u old new (bytes ++ got) kept (n + 1)
+  goes_on E item kept a u new text q o few said e h =
+      record {
+        items = so_far.items ++ item ∷ [];
+        items_are = next_items ⊥ item kept (open_any n all E ⊥ item kept o q);
+        open_ = all_open_more so_far.items item so_far.open_ o;
+        count = counted item;
+        few = few;
+        talk = talked item a u new text said e h;
+      }
+
+  -- it closes the connection
+  pub closes_now : (E : Type 0) (item : Item) (kept : List ℕ) (a : Answer) (u : S) (new : Option (List ℕ)) (text : List ℕ) → IsItem n all E item kept → closes item ≡ true
+      → Appends now new text → text ≡ text_of a (closes item) → Answered may t item a u → IsClosed may s u old new (bytes ++ got) E (n + 1)
+  closes_now E item kept a u new text q c said e h =
+      record {
+        items = so_far.items ++ item ∷ [];
+        all = record { rest = kept; items_are = next_items E item kept q; stop = inl (ends_closed so_far.items item c) };
+        count = counted item;
+        talk = talked item a u new text said e h;
+      }
+
+  -- its answer could not be written
+  pub unsaid : (E : Type 0) (item : Item) (kept : List ℕ) (a : Answer) (u : S) (new : Option (List ℕ)) (text : List ℕ) → IsItem n all E item kept
+      → AppendsFront now new text → text ≡ text_of a (closes item) → Answered may t item a u → IsUnsaid may s u old new (bytes ++ got) E
+  unsaid E item kept a u new text q said e h =
+      record {
+        items = so_far.items;
+        last = item;
+        rest = kept;
+        mid = now;
+        state = t;
+        answer = a;
+        items_are = next_items E item kept q;
+        talk = so_far.talk;
+        answered = h;
+        front = subst (AppendsFront now new) e said;
+      }
+
+  -- the input ended
+  pub ends : (E : Type 0) → E → all ≡ [] → IsClosed may s t old now (bytes ++ got) E n
+  ends E e none = record { items = so_far.items; all = record { rest = all; items_are = waiting E; stop = inr (e, none) }; count = so_far.count; talk = so_far.talk }
+
+  -- the source failed
+  pub cut_short : IsUnfinished all → IsCutShort may s t old now (bytes ++ got)
+  cut_short u = record { items = so_far.items; rest = all; items_are = waiting ⊥; unfinished = u; talk = so_far.talk }
+
+  -- memory was wanting
+  pub starved : (u : S) → u ≡ t → IsStarved may s u old now (bytes ++ got)
+  starved u e = record { items = so_far.items; rest = all; items_are = waiting ⊥; talk = subst (λ x. IsTalk may s x old now so_far.items) (sym e) so_far.talk }
+
+  -- memory was wanting at a request
+  pub starved_at : (E : Type 0) (r : Framed) (kept : List ℕ) (u : S) → IsItem n all E (Asks r) kept → IsLeft may t r u → IsStarved may s u old now (bytes ++ got) ⊎ IsLost may s u old now (bytes ++ got) E
+  starved_at E r kept u q (inl e) = inl (starved u e)
+  starved_at E r kept u q (inr (a, h)) =
+      inr (record {
+        items = so_far.items;
+        last = Asks r;
+        rest = kept;
+        state = t;
+        answer = a;
+        items_are = next_items E (Asks r) kept q;
+        talk = so_far.talk;
+        answered = h;
+      })

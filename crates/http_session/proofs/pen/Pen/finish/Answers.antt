@@ -1,0 +1,10 @@
+use Rattle.http_session.proofs.PenLemmas.{all_written}
+use Rattle.http_session.proofs.pen.Pen.finish.Goals as goal
+
+pub returns-in-SinkFault-clause-told : goal.returns-in-SinkFault-clause-told
+returns-in-SinkFault-clause-told g c = λ start text h. rw c.in-SinkFault.is at h
+
+pub returns-in-Whole-clause-told : goal.returns-in-Whole-clause-told
+returns-in-Whole-clause-told g c = λ start text h.
+    let p = rw c.in-Whole.is at h in
+    all_written start _ _ _ text p.0 c.args.self.gathered.items p.1 p.2 (rw c.as_slice.ensures.value at c.write_both.ensures.told)

@@ -1,0 +1,51 @@
+-- The text of an answer: status line, fields, empty line, body (RFC 9112, sections 2.1 and 4).
+use Rattle.std.specs.Prelude.{◌≡◌, ◌++◌, ℕ, Bool, List, [], Option, Some, None, if◌then◌else◌, codes, decimal, length, nat_lt, ◌≤◌, unwrap_or}
+use Rattle.http.specs.StatusCode.{code_digits, reason_phrase}
+use Rattle.std.specs.Io.KnownBytes.{Appends}
+use Rattle.ipam_edge.specs.Writing.{AppendsFront}
+use Rattle.ipam_edge.specs.Faults.{Rose}
+use Rattle.http_session.specs.declared.answer.PutEnd.{PutEnd}
+use Rattle.http_session.specs.declared.answer.PutEnd.TheVariants.{Whole, SinkFault}
+
+-- the standard phrase of a status, and no bytes for one that has none (RFC 9110, section 15)
+unfoldable pub phrase_of : ℕ → List ℕ
+phrase_of status = unwrap_or (reason_phrase status) []
+
+-- a line, where it is there
+abbrev pub line_where : Bool → List ℕ → List ℕ → List ℕ
+line_where there name text = if there then name ++ text ++ codes "\r\n" else []
+
+-- there are some bytes
+abbrev pub is_there : List ℕ → Bool
+is_there text = nat_lt 0 (length text)
+
+-- the line of the answer's place, where it has one
+abbrev pub place_line : Option ℕ → List ℕ
+place_line None = []
+place_line (Some n) = codes "Ipam-Place: " ++ decimal n ++ codes "\r\n"
+
+-- an answer: status line, fields, empty line, body
+unfoldable pub answer_text : ℕ → List ℕ → Option ℕ → Bool → List ℕ → List ℕ
+answer_text status allow place close body =
+    codes "HTTP/1.1 " ++ code_digits status ++ codes " " ++ phrase_of status ++ codes "\r\n"
+    ++ line_where (is_there body) (codes "Content-Type: ") (codes "application/json")
+    ++ line_where (is_there body) (codes "Content-Length: ") (decimal (length body))
+    ++ line_where (is_there allow) (codes "Allow: ") allow
+    ++ place_line place
+    ++ line_where close (codes "Connection: ") (codes "close")
+    ++ codes "\r\n" ++ body
+
+-- a whole answer was written, or a front of it
+abbrev pub IsPutEnd : Option (List ℕ) → Option (List ℕ) → PutEnd → List ℕ → Type 0
+IsPutEnd old new Whole text = Appends old new text
+IsPutEnd old new SinkFault text = AppendsFront old new text
+
+-- a part of the text was written, and the rest of it is gathered; after a fault a front of it was written
+abbrev pub IsGathered : Option (List ℕ) → Option (List ℕ) → PutEnd → List ℕ → List ℕ → Type 0
+IsGathered start now Whole gathered text = (sent : List ℕ) × Appends start now sent × (text ≡ sent ++ gathered)
+IsGathered start now SinkFault gathered text = AppendsFront start now text
+
+-- a fault comes only where the sink's count rose, and the count never falls
+abbrev pub HasPutCause : ℕ → ℕ → PutEnd → Type 0
+HasPutCause old new Whole = old ≤ new
+HasPutCause old new SinkFault = (old ≤ new) × Rose old new

@@ -1,0 +1,96 @@
+-- How a session ends, with what was answered and written by then.
+use Rattle.std.specs.Prelude.{◌≡◌, ℕ, ◌≤◌, ◌⊎◌, List, [], ◌∷◌, ◌++◌, length, Option}
+use Rattle.std.specs.Io.KnownBytes.{Appends, IsAtEnd}
+use Rattle.ipam_edge.specs.Writing.{AppendsFront}
+use Rattle.http_session.specs.Requests.{AllOpen, AreItems, AreAllItems, Framed, IsUnfinished, Item, closes}
+use Rattle.http_session.specs.Talk.{Answer, Answered, May, Run, texts, text_of}
+use Rattle.http_session.specs.declared.session.SessionEnd.{SessionEnd}
+use Rattle.http_session.specs.declared.session.SessionEnd.TheVariants as end
+
+-- the items were answered, and the sink gained the texts of the answers
+pub record IsTalk {S : Type 0} (may : May S) (s t : S) (old new : Option (List ℕ)) (items : List Item) : Type 0 where
+  pub answers : List Answer
+  pub run : Run may s items answers t
+  pub told : Appends old new (texts items answers)
+
+-- all items of the bytes were answered, and there were n
+pub record IsClosed {S : Type 0} (may : May S) (s t : S) (old new : Option (List ℕ)) (bytes : List ℕ) (ended : Type 0) (n : ℕ) : Type 0 where
+  pub items : List Item
+  pub all : AreAllItems bytes ended items
+  pub count : n ≡ length items
+  pub talk : IsTalk may s t old new items
+
+-- the items that lie whole in the bytes were answered
+pub record IsCutShort {S : Type 0} (may : May S) (s t : S) (old new : Option (List ℕ)) (bytes : List ℕ) : Type 0 where
+  pub items : List Item
+  pub rest : List ℕ
+  pub items_are : AreItems 0 bytes ⊥ items rest
+  pub unfinished : IsUnfinished rest
+  pub talk : IsTalk may s t old new items
+
+-- the answers but the last were written, and then a front of the last one
+pub record IsUnsaid {S : Type 0} (may : May S) (s t : S) (old new : Option (List ℕ)) (bytes : List ℕ) (ended : Type 0) : Type 0 where
+  pub items : List Item
+  pub last : Item
+  pub rest : List ℕ
+  pub mid : Option (List ℕ)
+  pub state : S
+  pub answer : Answer
+  pub items_are : AreItems 0 bytes ended (items ++ last ∷ []) rest
+  pub talk : IsTalk may s state old mid items
+  pub answered : Answered may state last answer t
+  pub front : AppendsFront mid new (text_of answer (closes last))
+
+-- the answers but the last were written, and nothing of the last one, whose request was acted on
+pub record IsLost {S : Type 0} (may : May S) (s t : S) (old new : Option (List ℕ)) (bytes : List ℕ) (ended : Type 0) : Type 0 where
+  pub items : List Item
+  pub last : Item
+  pub rest : List ℕ
+  pub state : S
+  pub answer : Answer
+  pub items_are : AreItems 0 bytes ended (items ++ last ∷ []) rest
+  pub talk : IsTalk may s state old new items
+  pub answered : Answered may state last answer t
+
+-- some items were answered, and all their answers were written
+pub record IsStarved {S : Type 0} (may : May S) (s t : S) (old new : Option (List ℕ)) (bytes : List ℕ) : Type 0 where
+  pub items : List Item
+  pub rest : List ℕ
+  pub items_are : AreItems 0 bytes ⊥ items rest
+  pub talk : IsTalk may s t old new items
+
+-- before the last piece was read, of at most 4,096 bytes, the bytes held some items that leave the connection open, and then an unfinished one
+pub record HadToRead (bytes : List ℕ) : Type 0 where
+  pub items : List Item
+  pub before : List ℕ
+  pub last : List ℕ
+  pub rest : List ℕ
+  pub bytes_are : bytes ≡ before ++ last
+  pub short : length last ≤ 4096
+  pub items_are : AreItems 0 before ⊥ items rest
+  pub open_ : AllOpen items
+  pub unfinished : IsUnfinished rest
+
+-- no more was read than was needed: nothing is read behind an item that closes
+abbrev pub IsReadAsNeeded : List ℕ → Type 0
+IsReadAsNeeded bytes = (bytes ≡ []) ⊎ HadToRead bytes
+
+-- how the session ended, from the view s of the seat to the view t
+abbrev pub IsEnd : {S : Type 0} → May S → S → S → Option (List ℕ) → Option (List ℕ) → List ℕ → Option (List ℕ) → SessionEnd → Type 0
+IsEnd may s t old new bytes left (end.Closed n) = IsClosed may s t old new bytes (IsAtEnd left) n
+IsEnd may s t old new bytes left end.SourceFault = IsCutShort may s t old new bytes
+IsEnd may s t old new bytes left end.SinkFault = IsUnsaid may s t old new bytes (IsAtEnd left)
+IsEnd may s t old new bytes left end.Memory = IsStarved may s t old new bytes ⊎ IsLost may s t old new bytes (IsAtEnd left)
+
+-- where memory is wanting, a request was not acted on, or it was and its answer is lost
+abbrev pub IsLeft : {S : Type 0} → May S → S → Framed → S → Type 0
+IsLeft may s r t = (t ≡ s) ⊎ ((a : Answer) × may s r a t)
+
+-- what holds between two items
+pub record IsBetween {S : Type 0} (may : May S) (s t : S) (old new : Option (List ℕ)) (bytes rest : List ℕ) (number : ℕ) : Type 0 where
+  pub items : List Item
+  pub items_are : AreItems 0 bytes ⊥ items rest
+  pub open_ : AllOpen items
+  pub count : number ≡ length items
+  pub few : number ≤ 999
+  pub talk : IsTalk may s t old new items

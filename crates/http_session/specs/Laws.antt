@@ -1,0 +1,29 @@
+-- Laws of the items of a connection: more bytes change none, the cuts do not matter, and there is
+-- one list.
+use Rattle.std.specs.Prelude.{◌≡◌, ◌≤◌, ◌⊎◌, List, ◌++◌, ℕ, [], length}
+use Rattle.http_session.specs.Requests.{AreAllItems, AreItems, IsItem, Item, MayBecomeHead, NeverHead, front}
+
+-- an item that was given stays as more bytes come, and what follows it grows
+abbrev pub MoreBytes : Type 0
+MoreBytes = (n : ℕ) (bytes more : List ℕ) (items : List Item) (rest : List ℕ) → AreItems n bytes ⊥ items rest → AreItems n (bytes ++ more) ⊥ items (rest ++ more)
+
+-- what was found in the bytes that were taken are all the items of the whole input, if the end was told only where nothing is left
+abbrev pub CutAnywhere : Type 0
+CutAnywhere = (taken left : List ℕ) (items : List Item) → AreAllItems taken (left ≡ []) items → AreAllItems (taken ++ left) (Unit {0}) items
+
+-- the front is full, never becomes a head of at most 64 fields, and the parser still waits: it ends in a target, or the head that comes has more fields
+abbrev pub IsCorner : List ℕ → Type 0
+IsCorner bytes = (16384 ≤ length bytes) × NeverHead (front bytes) × MayBecomeHead (front bytes)
+
+-- the bytes have one next item, and one rest, but for the corner, where both refusals of a head are right
+abbrev pub OneReading : Type 0 → Type 0
+OneReading ended = (n : ℕ) (bytes : List ℕ) (item other : Item) (rest rest_too : List ℕ) → IsItem n bytes ended item rest → IsItem n bytes ended other rest_too
+    → ((item ≡ other) × (rest ≡ rest_too)) ⊎ IsCorner bytes
+
+-- some items stand there, one after another, and then the corner
+abbrev pub HasCorner : ℕ → List ℕ → Type 0 → Type 0
+HasCorner n bytes ended = (items : List Item) × (rest : List ℕ) × AreItems n bytes ended items rest × IsCorner rest
+
+-- the bytes have one list of all their items, unless it comes to the corner
+abbrev pub OneList : Type 0 → Type 0
+OneList ended = (bytes : List ℕ) (items others : List Item) → AreAllItems bytes ended items → AreAllItems bytes ended others → (items ≡ others) ⊎ HasCorner 0 bytes ended

@@ -1,0 +1,8 @@
+pub mod Answers
+pub mod Ends
+pub mod Fields
+pub mod Laws
+pub mod Replies
+pub mod Requests
+pub mod Steps
+pub mod Talk

@@ -1,0 +1,59 @@
+//! The text of an answer, written to a sink. It takes no memory.
+ghost use Rattle.std.specs.Prelude.{◌≡◌, Bool, [], if◌then◌else◌, length, codes, ℕ, List, Option, ◌≤◌, ◌++◌};
+ghost use Rattle.http_session.specs.Answers.{HasPutCause, IsPutEnd, answer_text, phrase_of};
+
+use crate::pen::Pen;
+use http::StatusCode;
+use ipam_edge::Sink;
+use itoa::Buffer;
+
+/// How the writing of an answer ended.
+#[derive(Clone, Copy, Debug, PartialEq, Eq)]
+pub enum PutEnd {
+    Whole,
+    SinkFault,
+}
+
+/// The phrase of a status, which may be empty.
+#[tactic(auto, unfolding(crate::specs::Answers::phrase_of))]
+fn phrase(status: StatusCode) -> &'static [u8]
+    ensures { result.now ≡ phrase_of status }
+{
+    match status.canonical_reason() {
+        Some(phrase) => phrase.as_bytes(),
+        None => b"",
+    }
+}
+
+/// Writes an answer: the status line, then `Content-Type` and `Content-Length` where there is a
+/// body, `Allow` where there are methods, `Ipam-Place` where there is a place and `Connection:
+/// close` where the connection closes, and then the body. `SinkFault` comes where a write failed,
+/// and then a front of the answer was written.
+pub fn put_answer<S: Sink>(
+    sink: &mut S,
+    status: StatusCode,
+    allow: &[u8],
+    place: Option<u64>,
+    close: bool,
+    body: &[u8],
+) -> PutEnd
+    ensures told { IsPutEnd (S.written sink.old) (S.written sink.new) result (answer_text status allow.now place close body.now) }
+    ensures cause { HasPutCause (S.faults sink.old) (S.faults sink.new) result }
+{
+    let mut room = Buffer::new();
+    let mut pen = Pen::new();
+    pen.put(sink, b"HTTP/1.1 ");
+    pen.put(sink, status.as_str().as_bytes());
+    pen.put_line(sink, true, b" ", phrase(status));
+    let there = !body.is_empty();
+    pen.put_line(sink, there, b"Content-Type: ", b"application/json");
+    let length = room.format(body.len()).as_bytes();
+    pen.put_line(sink, there, b"Content-Length: ", length);
+    pen.put_line(sink, !allow.is_empty(), b"Allow: ", allow);
+    let number = room.format(place.unwrap_or(0)).as_bytes();
+    pen.put_line(sink, place.is_some(), b"Ipam-Place: ", number);
+    pen.put_line(sink, close, b"Connection: ", b"close");
+    pen.put(sink, b"\r\n");
+    pen.put(sink, body);
+    pen.finish(sink)
+}

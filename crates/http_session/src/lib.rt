@@ -1,0 +1,22 @@
+//! HTTP/1.x over a connection that gives and takes bytes (RFC 9112): the requests that stand in the
+//! bytes, the answers as bytes, and the loop that serves one connection to its end. It knows
+//! nothing of what is asked.
+#![tactic(auto)]
+
+mod answer;
+mod fields;
+mod head;
+mod laws;
+mod pen;
+mod reply;
+mod request;
+mod session;
+#[cfg(test)]
+mod tests;
+mod wait;
+
+pub use answer::{PutEnd, put_answer};
+pub use laws::{cut_anywhere, more_bytes, one_list, one_reading};
+pub use reply::{Body, Reply};
+pub use request::{Asked, Fault, HttpRequest, Inbox, next_request};
+pub use session::{Desk, SessionEnd, serve};

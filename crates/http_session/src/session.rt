@@ -1,0 +1,130 @@
+//! One connection, from its first byte to its end.
+ghost use Rattle.std.specs.Prelude.{◌≡◌, ◌≤◌, ◌<◌, ℕ, List, [], Option, IfOk, OnErr};
+ghost use Rattle.ipam_edge.specs.Faults.{Rose};
+ghost use Rattle.http_session.specs.Requests.{Framed};
+ghost use Rattle.http_session.specs.Steps.{Grown, framed};
+ghost use Rattle.http_session.specs.Talk.{Answer, refusal_status, refusal_body};
+ghost use Rattle.http_session.specs.Ends.{IsEnd, IsLeft, IsReadAsNeeded};
+ghost use Rattle.http_session.specs.Replies.{answer_of};
+
+use crate::{Asked, Fault, HttpRequest, Inbox, PutEnd, Reply, next_request, put_answer};
+use http::StatusCode;
+use ipam_edge::{Sink, Source};
+use std::alloc::{AllocError, Global};
+
+/// What answers the requests of one connection, each with a seat that is taken and given back.
+pub trait Desk {
+    /// What the desk works on for this connection.
+    type Seat;
+
+    /// What is seen of a seat.
+    ghost View: { Type 0 };
+
+    ghost view: { Self.Seat → View };
+
+    /// From one view of a seat the request may be answered so, and the seat is then seen so.
+    ghost may: { View → Framed → Answer → View → Type 0 };
+
+    /// Answers a request. After `AllocError` the seat is seen as before, or the request was acted
+    /// on and its answer is lost.
+    fn answer(
+        &self,
+        alloc: Global,
+        seat: Self::Seat,
+        request: &HttpRequest,
+    ) -> (Self::Seat, Result<Reply, AllocError>)
+        ensures answer { IfOk result.1 (λ r. may (view seat) (framed request.now) (answer_of r) (view result.0)) }
+        ensures err { OnErr result.1 (IsLeft may (view seat) (framed request.now) (view result.0)) };
+}
+
+/// How a session ended.
+#[derive(Clone, Copy, Debug, PartialEq, Eq)]
+pub enum SessionEnd {
+    /// So many answers were written, and the last one closed the connection, or the input ended.
+    Closed(u32),
+    SourceFault,
+    SinkFault,
+    Memory,
+}
+
+/// The status of a refusal.
+fn status_of(fault: Fault) -> StatusCode
+    ensures { result ≡ refusal_status fault }
+{
+    match fault {
+        Fault::BadHead => StatusCode::BAD_REQUEST,
+        Fault::LargeHead => StatusCode::PAYLOAD_TOO_LARGE,
+        Fault::LargeBody => StatusCode::PAYLOAD_TOO_LARGE,
+        Fault::Coding => StatusCode::NOT_IMPLEMENTED,
+    }
+}
+
+/// The body of a refusal: a code and a detail, in JSON.
+fn body_of(fault: Fault) -> &'static [u8]
+    ensures { result.now ≡ refusal_body fault }
+{
+    match fault {
+        Fault::BadHead => b"{\"code\":\"bad_head\",\"detail\":\"the request could not be read\"}",
+        Fault::LargeHead => b"{\"code\":\"too_large\",\"detail\":\"the head exceeds 16384 bytes\"}",
+        Fault::LargeBody =>
+            b"{\"code\":\"too_large\",\"detail\":\"the body exceeds 4194304 bytes\"}",
+        Fault::Coding => b"{\"code\":\"coding\",\"detail\":\"transfer codings are not served\"}",
+    }
+}
+
+/// Serves one connection to its end: answers its requests in order, until one closes, or the bytes
+/// are refused, or the input ends. `SourceFault` comes where a read failed, with all requests that
+/// lay whole in the bytes read answered; `SinkFault` where a write failed, with a front of the last
+/// answer written; `Memory` where memory was wanting.
+pub fn serve<D: Desk, R: Source, W: Sink>(
+    alloc: Global,
+    desk: &D,
+    seat: D::Seat,
+    source: &mut R,
+    sink: &mut W,
+) -> (D::Seat, SessionEnd)
+    ensures talk { (bytes : List ℕ) × Grown (R.left source.old) (R.left source.new) [] bytes
+        × IsEnd D.may (D.view seat) (D.view result.0) (W.written sink.old) (W.written sink.new) bytes (R.left source.new) result.1
+        × IsReadAsNeeded bytes }
+    ensures source_later { R.faults source.old ≤ R.faults source.new }
+    ensures source { result.1 ≡ SessionEnd.SourceFault → Rose (R.faults source.old) (R.faults source.new) }
+    ensures sink_later { W.faults sink.old ≤ W.faults sink.new }
+    ensures sink { result.1 ≡ SessionEnd.SinkFault → Rose (W.faults sink.old) (W.faults sink.new) }
+{
+    let mut inbox = Inbox::new(alloc);
+    let mut seat = seat;
+    loop {
+        match next_request(alloc, source, &mut inbox) {
+            Asked::Request(request) => {
+                let (next, reply) = desk.answer(alloc, seat, &request);
+                seat = next;
+                let Ok(reply) = reply else {
+                    return (seat, SessionEnd::Memory);
+                };
+                match put_answer(
+                    sink,
+                    reply.status,
+                    reply.allow,
+                    reply.place,
+                    request.close,
+                    reply.body.bytes(),
+                ) {
+                    PutEnd::SinkFault => return (seat, SessionEnd::SinkFault),
+                    PutEnd::Whole => {}
+                }
+                if request.close {
+                    return (seat, SessionEnd::Closed(inbox.number()));
+                }
+            }
+            Asked::Bad(fault) => {
+                match put_answer(sink, status_of(fault), b"", None, true, body_of(fault)) {
+                    PutEnd::SinkFault => return (seat, SessionEnd::SinkFault),
+                    PutEnd::Whole => return (seat, SessionEnd::Closed(inbox.number())),
+                }
+            }
+            Asked::End => return (seat, SessionEnd::Closed(inbox.number())),
+            Asked::SourceFault => return (seat, SessionEnd::SourceFault),
+            Asked::Memory => return (seat, SessionEnd::Memory),
+        }
+    }
+}
