@@ -33,3 +33,6 @@ fn main(rt: HostRuntime) -> ExitCode {
     let status = run(alloc, &words, &mut input, &mut output, &mut errors);
     ExitCode::from(status)
 }
+
+#[cfg(test)]
+mod tests;
