@@ -1,0 +1,156 @@
+//! The steps of a call.
+ghost use Rattle.std.specs.Prelude.{◌≡◌, ℕ, ◌%◌, ◌^◌, ◌<◌, ◌≤◌, ◌+◌, [], ◌∷◌, length, true, None};
+ghost use Rattle.history_lock.specs.Turns.{waiting, leading, Taken, rested, told, offering, kept_part, new_part, joined, Knows};
+ghost use Rattle.history_lock.specs.Machines.{ways, Reaches, replay, grown, rise, failed};
+ghost use Rattle.history_lock.specs.declared.views.Stage.TheVariants.{Idle, Turns};
+
+use crate::machine::Machine;
+use crate::plays::{Cut, Deed, Draw, Glue, Learn, Look, Offer, Pass, Place, Publish, Ring, Top};
+use crossbeam_utils::Backoff;
+use std::marker::Brand;
+use std::snapshot::Snapshot;
+use std::sync::Wait;
+
+const TICKET: usize = 0;
+
+const TURN: usize = 1;
+
+const COUNT: usize = 2;
+
+/// The first word of those that waiting seats sleep on.
+const BELLS: usize = 3;
+
+const BELL_COUNT: u64 = 16;
+
+/// The word on which the seat with this ticket sleeps.
+fn bell_of(ticket: u64) -> usize
+    ensures { (i : ℕ) × (result ≡ 3 + i) × (result < 19) }
+{
+    BELLS + (ticket % BELL_COUNT) as usize
+}
+
+fn draw<M: Machine>(top: &Top<M>, place: &mut Place<M>) -> u64
+    requires table { (place.old.table_id ≡ top.now.table_id) × (top.now.table_id.words ≡ 19) }
+    requires idle { (place.old.me.0.stage ≡ Idle) × (0 < place.old.me.0.weight) × (place.old.me.1 ≡ []) }
+    ensures table { (place.new.table_id ≡ place.old.table_id) × (place.new.id ≡ place.old.id) }
+    ensures drawn { (t : ℕ) × (result ≡ t % 2 ^ 64) × (place.new.me ≡ (waiting t place.old.me.0, [])) }
+{
+    top.fetch_add::<Draw>(place, TICKET, 1)
+}
+
+/// Waits for its turn, and takes the machine out.
+pub(crate) fn take_turn<M: Machine, R: Wait>(rt: &R, top: &Top<M>, place: &mut Place<M>) -> M
+    requires table { (place.old.table_id ≡ top.now.table_id) × (top.now.table_id.words ≡ 19) }
+    requires idle { (place.old.me.0.stage ≡ Idle) × (0 < place.old.me.0.weight) × (place.old.me.1 ≡ []) }
+    ensures table { (place.new.table_id ≡ place.old.table_id) × (place.new.id ≡ place.old.id) }
+    ensures machine { Taken (ways M.opening M.state M.log M.faults M.step) place.old.me.0 result }
+    ensures view { (t : ℕ) × (place.new.me ≡ (leading (ways M.opening M.state M.log M.faults M.step) t result place.old.me.0, (0, None) ∷ [])) }
+{
+    let ticket = draw(top, place);
+    let backoff = Backoff::new();
+    let bell = bell_of(ticket);
+    let mut told = false;
+    for _ in rt.forever() {
+        let turn = top.load::<Look>(place, TURN);
+        if turn == ticket {
+            match top.exchange(place, 0, None) {
+                Some(machine) => return machine,
+                None => unreachable!(),
+            }
+        }
+        if !backoff.is_completed() {
+            backoff.snooze();
+        } else if told {
+            top.park(rt, bell, 1);
+            told = false;
+        } else {
+            // Who passes the turn on sees this, or the next look sees the turn.
+            top.swap::<Ring>(place, bell, 1);
+            told = true;
+        }
+    }
+    unreachable!()
+}
+
+/// Wakes the seat with this ticket, if it sleeps.
+fn wake<M: Machine>(top: &Top<M>, place: &mut Place<M>, ticket: u64)
+    requires table { (place.old.table_id ≡ top.now.table_id) × (top.now.table_id.words ≡ 19) }
+    ensures table { (place.new.table_id ≡ place.old.table_id) × (place.new.id ≡ place.old.id) }
+    ensures view { place.new.me ≡ place.old.me }
+{
+    let bell = bell_of(ticket);
+    if top.swap::<Ring>(place, bell, 0) != 0 {
+        top.wake_all(bell);
+    }
+}
+
+/// Tells the history what was done.
+fn publish<M: Machine, B: Deed<M::Said>>(
+    top: &Top<M>,
+    place: &mut Place<M>,
+    call: &Snapshot<M::Call>,
+    reply: &M::Reply,
+    rose: u64,
+)
+    requires done { B.done ≡ (M.kind reply.now, M.said call.now.value) ∷ [] }
+    requires table { (place.old.table_id ≡ top.now.table_id) × (top.now.table_id.words ≡ 19) }
+    requires turn { (t : ℕ) × (place.old.me.0.stage ≡ Turns t) }
+    requires rose { (rose ≡ rise (M.kind reply.now)) × (length place.old.me.0.seen + rose < 2 ^ 64) }
+    ensures table { (place.new.table_id ≡ place.old.table_id) × (place.new.id ≡ place.old.id) }
+    ensures view { place.new.me ≡ (told (M.kind reply.now) (M.said call.now.value) place.old.me.0, place.old.me.1) }
+{
+    top.fetch_add::<Publish<B>>(place, COUNT, rose);
+}
+
+/// Tells the history what was done, puts the machine back and passes the turn.
+pub(crate) fn finish<M: Machine>(
+    top: &Top<M>,
+    place: &mut Place<M>,
+    call: &Snapshot<M::Call>,
+    reply: &M::Reply,
+    rose: u64,
+    machine: M,
+)
+    requires table { (place.old.table_id ≡ top.now.table_id) × (top.now.table_id.words ≡ 19) }
+    requires turn { (t : ℕ) × (place.old.me.0.stage ≡ Turns t) }
+    requires empty { place.old.me.1 ≡ (0, None) ∷ [] }
+    requires rose { (rose ≡ rise (M.kind reply.now)) × (length place.old.me.0.seen + rose < 2 ^ 64) }
+    requires same { M.opening machine ≡ place.old.me.0.opening.value }
+    requires list { M.log machine ≡ grown (M.kind reply.now) (place.old.me.0.number, M.said call.now.value) place.old.me.0.seen }
+    requires replayed { M.state machine ≡ replay M.step (M.opening machine) (M.log machine) }
+    requires count { Reaches (place.old.me.0.total + failed (M.kind reply.now)) (M.faults machine) }
+    ensures table { (place.new.table_id ≡ place.old.table_id) × (place.new.id ≡ place.old.id) }
+    ensures view { place.new.me ≡ (rested (told (M.kind reply.now) (M.said call.now.value) place.old.me.0), []) }
+{
+    publish::<M, Brand>(top, place, call, reply, rose);
+    let held = top.exchange(place, 0, Some(machine));
+    let None = held else { unreachable!() };
+    let turn = top.fetch_add::<Pass>(place, TURN, 1);
+    wake(top, place, turn.wrapping_add(1));
+}
+
+/// Gives a part of the seat's numbers and of its weight to a new one.
+pub(crate) fn split<M: Machine>(top: &Top<M>, place: &mut Place<M>, share: u32) -> Place<M>
+    requires table { (place.old.table_id ≡ top.now.table_id) × (top.now.table_id.words ≡ 19) }
+    requires idle { (place.old.me.0.live ≡ true) × (place.old.me.0.stage ≡ Idle) × (place.old.me.1 ≡ []) }
+    requires share { (1 ≤ share) × (share < place.old.me.0.spare) }
+    ensures table { (place.new.table_id ≡ place.old.table_id) × (place.new.id ≡ place.old.id) × (result.table_id ≡ place.old.table_id) }
+    ensures views { (place.new.me ≡ (kept_part (offering share place.old.me.0), [])) × (result.me ≡ (new_part (offering share place.old.me.0), [])) × Knows result.me.0 }
+{
+    top.compare_exchange::<Offer>(place, TICKET, share as u64, share as u64);
+    let mut other = top.split_seat::<Cut>(place);
+    top.load::<Learn>(&mut other, TICKET);
+    other
+}
+
+/// Takes in what another seat has.
+pub(crate) fn join<M: Machine>(top: &Top<M>, place: &mut Place<M>, other: Place<M>)
+    requires table { (place.old.table_id ≡ top.now.table_id) × (other.table_id ≡ top.now.table_id) × (top.now.table_id.words ≡ 19) }
+    requires idle { (place.old.me.0.live ≡ true) × (place.old.me.0.stage ≡ Idle) × (place.old.me.1 ≡ []) }
+    requires idle_too { (other.me.0.live ≡ true) × (other.me.0.stage ≡ Idle) × (other.me.1 ≡ []) }
+    ensures table { (place.new.table_id ≡ place.old.table_id) × (place.new.id ≡ place.old.id) }
+    ensures views { (place.new.me ≡ (joined place.old.me.0 other.me.0, [])) × Knows place.new.me.0 }
+{
+    top.join_seat::<Glue<M>>(place, other);
+    top.load::<Learn>(place, TICKET);
+}
