@@ -9,15 +9,20 @@ use lib.Seq.{set-get_or, map-set}
 use prog.Atomic.{either}
 use Rattle.atomic_table.specs.Table.{step, keeps, Allows, Splits, Joins, Final, Seen}
 use Rattle.atomic_table.proofs.Lists.{set_here, set_else, set_again, at_map, at_longer, exchanged}
-use Rattle.history_lock.specs.Machines.{Kind, Ways, replay, grown}
+use Rattle.history_lock.specs.Replies.{ReplyKind, grown}
+use Rattle.history_lock.specs.Machines.{Meaning}
+use Rattle.history_lock.specs.Replay.{replay}
 use Rattle.history_lock.specs.declared.views.View.{View}
 use Rattle.history_lock.specs.declared.views.Stage.{Stage}
 use Rattle.history_lock.specs.declared.views.Stage.TheVariants.{Idle, Waits, Turns}
-use Rattle.history_lock.specs.Turns.{total, out, Has, IsTurn, tickets_of, weight_of, faults_of, Fits, AtHome, Locked, Board, Sat, Knows, offering, kept_part, new_part, longer, shorter, joined, spent_view, Taken, rested, told, leading, offered, learned}
-use Rattle.history_lock.specs.Numbers.{own, Hold, hold, Bears, Numbers}
-use Rattle.history_lock.specs.Known.{known_of, IsClosed, IsJoined}
+use Rattle.history_lock.specs.LockRule.{total, FitsRule, IsAtHome, KeepsOneHistory, Board}
+use Rattle.history_lock.specs.Views.{tickets_held, HasTicket, HasTurn, tickets_of, weight_of, faults_of, IsSoundView, offering, kept_part, new_part, longer, shorter, joined, spent_view, rested, told, leading}
+use Rattle.history_lock.specs.Moves.{Token, IsTaken, HasOffered, HasLearned}
+use Rattle.history_lock.specs.Replay.{own_entries}
+use Rattle.history_lock.specs.Numbers.{Holding, holding_of, BearsNumber, KeepsNumbers}
+use Rattle.history_lock.specs.Seats.{seat_view_of, IsClosed, IsJoined}
 use Rattle.atomic_table.specs.Seated.{TableId}
-use Rattle.history_lock.proofs.Holds.{holds_same, own_prefix, own_between, own_grown_same}
+use Rattle.history_lock.proofs.Holds.{holds_same, own_prefix, own_between, own_grown_same, number_has_entries}
 use Rattle.history_lock.proofs.Totals.{total_set, total_at, total_two, total_append}
 use Rattle.history_lock.proofs.Lists.{prefix_same, prefix_trans, prefix_shorter, prefix_whole, each_set}
 use Rattle.history_lock.proofs.Shares.{in_list, at_end, one_at, numbers_split, numbers_join}
@@ -54,7 +59,7 @@ module _ {C : Type 0} where
       (λ t. (subst (λ z. IsPrefix z (longer xs ys)) t.1 p, prefix_same ys (longer xs ys) (sym t.0)))
       (λ t. (prefix_same xs (longer xs ys) (sym t.0), subst (λ z. IsPrefix z (longer xs ys)) t.1 p)) (longer_cases xs ys)
 
-module _ {M S C A : Type 0} (W : Ways M S C A) (key : M) where
+module _ {M S C A : Type 0} (W : Meaning M S C A) (key : M) where
   abbrev V : Type 0
   V = View S C
 
@@ -62,32 +67,32 @@ module _ {M S C A : Type 0} (W : Ways M S C A) (key : M) where
   St = Board M S C
 
   abbrev Me' : Type 0
-  Me' = Sat M S C
+  Me' = Token M S C
 
   abbrev Rule : St → Type 0
-  Rule = Locked W key
+  Rule = KeepsOneHistory W key
 
   abbrev K : List (ℕ × C) → ℕ → ℕ → ℕ → (ℕ → ℕ) → ℕ → V → Type 0
-  K = λ h drawn turned faults owner j v. Fits h (W.opening key) (W.faults key) drawn turned faults owner j v
+  K = λ h drawn turned faults owner j v. FitsRule h (W.opening key) (W.faults key) drawn turned faults owner j v
 
-  turn_out : (g : Stage) → IsTurn g → out g ≡ 1
+  turn_out : (g : Stage) → HasTurn g → tickets_held g ≡ 1
   turn_out Idle on = absurd on
   turn_out (Waits t) on = absurd on
   turn_out (Turns t) on = refl
 
-  total_hold : (vs : List V) → total (λ (h : Hold C). h.weight) (map hold vs) ≡ total weight_of vs
+  total_hold : (vs : List V) → total (λ (h : Holding C). h.weight) (map holding_of vs) ≡ total weight_of vs
   total_hold [] = refl
   total_hold (v ∷ vs) = ap (λ n. v.weight + n) (total_hold vs)
 
-  only_hold : (s : St) (r : Rule s) (id : ℕ) (v : V) → get_elem? s.views id ≡ some v → v.weight ≡ 65536 → total weight_of s.views ≡ 65536 → (i : ℕ) (y : Hold C) → get_elem? (map hold s.views) i ≡ some y → y.live ≡ true → i ≡ id
+  only_hold : (s : St) (r : Rule s) (id : ℕ) (v : V) → get_elem? s.views id ≡ some v → v.weight ≡ 65536 → total weight_of s.views ≡ 65536 → (i : ℕ) (y : Holding C) → get_elem? (map holding_of s.views) i ≡ some y → y.live ≡ true → i ≡ id
   only_hold s r id v at all weights i y e on = dite (ℕ_discrete i id) (λ is. is) (λ other.
-      let t = total_two (λ (h : Hold C). h.weight) (map hold s.views) i id y (hold v) other e (at_map hold s.views id v at) in
+      let t = total_two (λ (h : Holding C). h.weight) (map holding_of s.views) i id y (holding_of v) other e (at_map holding_of s.views id v at) in
       let q = total_hold s.views in
       let z = r.numbers.sized i y e on in let a = z.0 in let b = z.1 in absurd (omega arith))
 
   -- what a live view knows by itself
-  pub knows : (s : St) (r : Rule s) (id : ℕ) (v : V) → get_elem? s.views id ≡ some v → v.live ≡ true → Knows v
-  knows s r id v at live = let f = r.each id v at in let z = r.numbers.sized id (hold v) (at_map hold s.views id v at) live in record {
+  pub knows : (s : St) (r : Rule s) (id : ℕ) (v : V) → get_elem? s.views id ≡ some v → v.live ≡ true → IsSoundView v
+  knows s r id v at live = let f = r.each id v at in let z = r.numbers.sized id (holding_of v) (at_map holding_of s.views id v at) live in record {
     weight = (let a = total_at weight_of s.views id v at in let b = r.weights in omega arith);
     spare = (z.0, z.1);
     numbers = z.2;
@@ -95,7 +100,7 @@ module _ {M S C A : Type 0} (W : Ways M S C A) (key : M) where
     mine = (f.mine live).1;
   }
 
-  pub learns : (slots id : ℕ) (me : Me') → me.0.live ≡ true → Allows Rule slots id me 0 (λ n. n) (learned (step slots 0 0 0 none) me)
+  pub learns : (slots id : ℕ) (me : Me') → me.0.live ≡ true → Allows Rule slots id me 0 (λ n. n) (HasLearned (step slots 0 0 0 none) me)
   learns slots id me live s r _ at _ = (
     me.0,
     keeps,
@@ -105,7 +110,7 @@ module _ {M S C A : Type 0} (W : Ways M S C A) (key : M) where
   )
 
   -- a view that differs from the rule's in what the rule does not read
-  pub offers : (slots id k : ℕ) (me : Me') → Allows Rule slots id me 0 (λ n. either (eqb n k) k n) (offered (step slots 0 k k none) me)
+  pub offers : (slots id k : ℕ) (me : Me') → Allows Rule slots id me 0 (λ n. either (eqb n k) k n) (HasOffered (step slots 0 k k none) me)
   offers slots id k me s r _ at _ =
       let w : V = offering k me.0 in
       let tickets = total_set tickets_of s.views id me.0 w at in
@@ -116,7 +121,7 @@ module _ {M S C A : Type 0} (W : Ways M S C A) (key : M) where
       let sum : total faults_of s.views ≡ total faults_of (set s.views id w) = omega arith in
       let here : get_elem? (set s.views id w) id ≡ some w = set_here s.views id w (in_list s.views id me.0 at) in
       let still : get_or s.words 0 0 ≡ either (eqb (get_or s.words 0 0) k) k (get_or s.words 0 0) = exchanged (get_or s.words 0 0) k k (λ x. get_or s.words 0 0 ≡ x) (λ e. e) (λ _. refl) in
-      let F : Fits r.history (W.opening key) (W.faults key) r.drawn r.turned (total faults_of s.views) r.owner id me.0 = r.each id me.0 at in (
+      let F : FitsRule r.history (W.opening key) (W.faults key) r.drawn r.turned (total faults_of s.views) r.owner id me.0 = r.each id me.0 at in (
         w,
         keeps,
         tt,
@@ -130,18 +135,18 @@ module _ {M S C A : Type 0} (W : Ways M S C A) (key : M) where
           few = omega arith;
           weights = omega arith;
           stands = λ t lo hi. let o = r.stands t lo hi in dite (ℕ_discrete (r.owner t) id)
-              (λ mine. (w, ap (get_elem? (set s.views id w)) mine ∙ here, subst (Has t) (ap (λ (z : V). z.stage) (one_at s.views (r.owner t) id o.0 me.0 o.1 at mine)) o.2))
+              (λ mine. (w, ap (get_elem? (set s.views id w)) mine ∙ here, subst (HasTicket t) (ap (λ (z : V). z.stage) (one_at s.views (r.owner t) id o.0 me.0 o.1 at mine)) o.2))
               (λ other. (o.0, set_else s.views id (r.owner t) w other ∙ o.1, o.2));
           each = subst (λ (f : ℕ). (j : ℕ) (v : V) → get_elem? (set s.views id w) j ≡ some v → K r.history r.drawn r.turned f r.owner j v) sum (each_set (K r.history r.drawn r.turned (total faults_of s.views) r.owner) s.views id w
               record { ticket = F.ticket; heavy = F.heavy; turn = λ on. let l = F.turn on in record { mine = l.mine; all = l.all; total = l.total }; start = F.start; seen = F.seen; mine = F.mine; heard = F.heard } (λ j v other e. r.each j v e));
           whole = dite (ℕ_discrete r.whole.0 id)
               (λ is. let same : r.whole.1 ≡ me.0 = one_at s.views r.whole.0 id r.whole.1 me.0 r.whole.2 at is in (id, w, here, ap (λ (z : V). z.live) (sym same) ∙ r.whole.3, ap (λ (z : V). z.seen) (sym same) ∙ r.whole.4))
               (λ other. (r.whole.0, r.whole.1, set_else s.views id r.whole.0 w other ∙ r.whole.2, r.whole.3, r.whole.4));
-          numbers = subst (Numbers r.history) (sym (holds_same s.views id me.0 w at refl)) r.numbers;
+          numbers = subst (KeepsNumbers r.history) (sym (holds_same s.views id me.0 w at refl)) r.numbers;
           place = ⊎_elim
-              (λ h. inl (h.0, h.1, (let a = h.2 in record { same = a.same; state = a.state; log = a.log; count = reaches_same _ _ _ (omega arith) a.count }), each_set (λ j v. ¬ IsTurn v.stage) s.views id w (h.3 id me.0 at) (λ j v _ e. h.3 j v e)))
+              (λ h. inl (h.0, h.1, (let a = h.2 in record { same = a.same; state = a.state; log = a.log; count = reaches_same _ _ _ (omega arith) a.count }), each_set (λ j v. ¬ HasTurn v.stage) s.views id w (h.3 id me.0 at) (λ j v _ e. h.3 j v e)))
               (λ h. dite (ℕ_discrete h.1 id)
-              (λ is. inr (h.0, id, w, here, subst IsTurn (ap (λ (z : V). z.stage) (one_at s.views h.1 id h.2 me.0 h.3 at is)) h.4))
+              (λ is. inr (h.0, id, w, here, subst HasTurn (ap (λ (z : V). z.stage) (one_at s.views h.1 id h.2 me.0 h.3 at is)) h.4))
               (λ other. inr (h.0, h.1, h.2, set_else s.views id h.1 w other ∙ h.3, h.4)))
               r.place;
         }),
@@ -153,9 +158,9 @@ module _ {M S C A : Type 0} (W : Ways M S C A) (key : M) where
       let l : V = kept_part v in
       let n : V = new_part v in
       let vs : List V = set s.views id l in
-      let z = r.numbers.sized id (hold v) (at_map hold s.views id v at) live in
+      let z = r.numbers.sized id (holding_of v) (at_map holding_of s.views id v at) live in
       let fits = z.1 in
-      let none_yet : out v.stage ≡ 0 = ap out idle in
+      let none_yet : tickets_held v.stage ≡ 0 = ap tickets_held idle in
       let tickets = total_set tickets_of s.views id v l at in
       let weight = total_set weight_of s.views id v l at in
       let faults = total_set faults_of s.views id v l at in
@@ -167,9 +172,9 @@ module _ {M S C A : Type 0} (W : Ways M S C A) (key : M) where
       let sum : total faults_of s.views ≡ total faults_of (vs ++ n ∷ []) = omega arith in
       let here : get_elem? vs id ≡ some l = set_here s.views id l (in_list s.views id v at) in
       let f = r.each id v at in
-      let fresh : own n.number r.history ≡ [] = r.numbers.idle id (hold v) n.number (at_map hold s.views id v at) (live, omega arith, omega arith) (λ is. omega arith) in
-      let apart : (j : ℕ) (u : V) (t : ℕ) → get_elem? s.views j ≡ some u → Has t u.stage → j ≢ id = λ j u t e h is. subst (Has t) (ap (λ (z : V). z.stage) (one_at s.views j id u v e at is) ∙ idle) h in
-      let resting : ¬ IsTurn v.stage = λ on. subst IsTurn idle on in
+      let fresh : own_entries n.number r.history ≡ [] = r.numbers.idle id (holding_of v) n.number (at_map holding_of s.views id v at) (live, omega arith, omega arith) (λ is. omega arith) in
+      let apart : (j : ℕ) (u : V) (t : ℕ) → get_elem? s.views j ≡ some u → HasTicket t u.stage → j ≢ id = λ j u t e h is. subst (HasTicket t) (ap (λ (z : V). z.stage) (one_at s.views j id u v e at is) ∙ idle) h in
+      let resting : ¬ HasTurn v.stage = λ on. subst HasTurn idle on in
       let each : (P : ℕ → V → Type 0) → P id l → ((j : ℕ) → P j n) → ((j : ℕ) (u : V) → j ≢ id → get_elem? s.views j ≡ some u → P j u) → (j : ℕ) (u : V) → get_elem? (vs ++ n ∷ []) j ≡ some u → P j u = λ P on_l on_n others j u e.
       ⊎_elim (λ (t : get_elem? vs j ≡ some u). each_set P s.views id l on_l others j u t) (λ (t : (j ≡ length vs) × (n ≡ u)). subst (P j) t.1 (on_n j)) (at_end vs n u j e) in record {
         history = r.history;
@@ -188,11 +193,11 @@ module _ {M S C A : Type 0} (W : Ways M S C A) (key : M) where
         whole = dite (ℕ_discrete r.whole.0 id)
             (λ is. let same : r.whole.1 ≡ v = one_at s.views r.whole.0 id r.whole.1 v r.whole.2 at is in (id, l, at_longer vs (n ∷ []) id l here, live, ap (λ (z : V). z.seen) (sym same) ∙ r.whole.4))
             (λ other. (r.whole.0, r.whole.1, at_longer vs (n ∷ []) r.whole.0 r.whole.1 (set_else s.views id r.whole.0 l other ∙ r.whole.2), r.whole.3, r.whole.4));
-        numbers = subst (Numbers r.history) (sym (map-append hold vs (n ∷ []) ∙ ap (λ hs. hs ++ hold n ∷ []) (map-set hold s.views id l)))
-            (numbers_split r.history (map hold s.views) id v.offer (hold v) (hold l) (hold n) r.numbers (at_map hold s.views id v at) live some_part less refl refl);
+        numbers = subst (KeepsNumbers r.history) (sym (map-append holding_of vs (n ∷ []) ∙ ap (λ hs. hs ++ holding_of n ∷ []) (map-set holding_of s.views id l)))
+            (numbers_split r.history (map holding_of s.views) id v.offer (holding_of v) (holding_of l) (holding_of n) r.numbers (at_map holding_of s.views id v at) live some_part less refl refl);
         place = ⊎_elim
-            (λ h. inl (h.0, h.1, (let a = h.2 in record { same = a.same; state = a.state; log = a.log; count = reaches_same _ _ _ (omega arith) a.count }), each (λ j u. ¬ IsTurn u.stage) resting (λ j on. on) (λ j u _ e. h.3 j u e)))
-            (λ h. inr (h.0, h.1, h.2, at_longer vs (n ∷ []) h.1 h.2 (set_else s.views id h.1 l (λ is. subst IsTurn (ap (λ (z : V). z.stage) (one_at s.views h.1 id h.2 v h.3 at is) ∙ idle) h.4) ∙ h.3), h.4))
+            (λ h. inl (h.0, h.1, (let a = h.2 in record { same = a.same; state = a.state; log = a.log; count = reaches_same _ _ _ (omega arith) a.count }), each (λ j u. ¬ HasTurn u.stage) resting (λ j on. on) (λ j u _ e. h.3 j u e)))
+            (λ h. inr (h.0, h.1, h.2, at_longer vs (n ∷ []) h.1 h.2 (set_else s.views id h.1 l (λ is. subst HasTurn (ap (λ (z : V). z.stage) (one_at s.views h.1 id h.2 v h.3 at is) ∙ idle) h.4) ∙ h.3), h.4))
             r.place;
       }
 
@@ -204,8 +209,8 @@ module _ {M S C A : Type 0} (W : Ways M S C A) (key : M) where
       let at' : get_elem? s.views other ≡ some w = sym (set_else s.views id other b apart) ∙ there in
       let f = r.each id v at in
       let g = r.each other w at' in
-      let none_yet : out v.stage ≡ 0 = ap out idle in
-      let none_yet' : out w.stage ≡ 0 = ap out idle' in
+      let none_yet : tickets_held v.stage ≡ 0 = ap tickets_held idle in
+      let none_yet' : tickets_held w.stage ≡ 0 = ap tickets_held idle' in
       let tickets = total_set tickets_of s.views id v b at in
       let weight = total_set weight_of s.views id v b at in
       let faults = total_set faults_of s.views id v b at in
@@ -221,9 +226,9 @@ module _ {M S C A : Type 0} (W : Ways M S C A) (key : M) where
       let each : (P : ℕ → V → Type 0) → P id b → P other d → ((i : ℕ) (u : V) → i ≢ id → i ≢ other → get_elem? s.views i ≡ some u → P i u) → (i : ℕ) (u : V) → get_elem? (set vs other d) i ≡ some u → P i u = λ P on_b on_d others.
       each_set P vs other d on_d (λ i u not_other e. each_set (λ i u. i ≢ other → P i u) s.views id b (λ _. on_b) (λ i u not_id e not_other. others i u not_id not_other e) i u e not_other) in
       let full : (xs : List (ℕ × C)) → length xs ≤ length b.seen → xs ≡ r.history → b.seen ≡ r.history = λ xs le is. prefix_whole b.seen r.history (longer_keeps (λ z. IsPrefix z r.history) v.seen w.seen f.seen g.seen) (let e = ap length is in omega arith) in
-      let mine' : own v.number b.seen ≡ v.mine = ⊎_elim
-      (λ t. ap (own v.number) t.0 ∙ own_between v.number v.seen w.seen r.history v.mine (prefix_shorter v.seen w.seen r.history f.seen g.seen t.2) g.seen (f.mine live).1 (f.mine live).0)
-      (λ t. ap (own v.number) t.0 ∙ (f.mine live).1) (longer_cases v.seen w.seen) in record {
+      let mine' : own_entries v.number b.seen ≡ v.mine = ⊎_elim
+      (λ t. ap (own_entries v.number) t.0 ∙ own_between v.number v.seen w.seen r.history v.mine (prefix_shorter v.seen w.seen r.history f.seen g.seen t.2) g.seen (f.mine live).1 (f.mine live).0)
+      (λ t. ap (own_entries v.number) t.0 ∙ (f.mine live).1) (longer_cases v.seen w.seen) in record {
         history = r.history;
         drawn = r.drawn;
         turned = r.turned;
@@ -232,9 +237,9 @@ module _ {M S C A : Type 0} (W : Ways M S C A) (key : M) where
         words = r.words;
         few = omega arith;
         weights = omega arith;
-        stands = λ t lo hi. let o = r.stands t lo hi in (o.0, still (r.owner t) o.0 o.1 (λ is. subst (Has t) (resting (r.owner t) o.0 o.1 (inl is)) o.2) (λ is. subst (Has t) (resting (r.owner t) o.0 o.1 (inr is)) o.2), o.2);
+        stands = λ t lo hi. let o = r.stands t lo hi in (o.0, still (r.owner t) o.0 o.1 (λ is. subst (HasTicket t) (resting (r.owner t) o.0 o.1 (inl is)) o.2) (λ is. subst (HasTicket t) (resting (r.owner t) o.0 o.1 (inr is)) o.2), o.2);
         each = subst (λ (q : ℕ). (j : ℕ) (u : V) → get_elem? (set vs other d) j ≡ some u → K r.history r.drawn r.turned q r.owner j u) sum (each (K r.history r.drawn r.turned (total faults_of s.views) r.owner)
-            record { ticket = f.ticket; heavy = omega arith; turn = λ on. absurd (subst IsTurn idle on); start = f.start; seen = longer_keeps (λ z. IsPrefix z r.history) v.seen w.seen f.seen g.seen; mine = λ _. ((f.mine live).0, mine'); heard = shorter_begins v.seen w.seen r.history f.seen g.seen }
+            record { ticket = f.ticket; heavy = omega arith; turn = λ on. absurd (subst HasTurn idle on); start = f.start; seen = longer_keeps (λ z. IsPrefix z r.history) v.seen w.seen f.seen g.seen; mine = λ _. ((f.mine live).0, mine'); heard = shorter_begins v.seen w.seen r.history f.seen g.seen }
             record { ticket = λ t h. absurd h; heavy = omega arith; turn = λ on. absurd on; start = λ on. absurd (true≢false (sym on)); seen = (r.history, refl); mine = λ on. absurd (true≢false (sym on)); heard = ([], refl) }
             (λ j u _ _ e. r.each j u e));
         whole = dite (ℕ_discrete r.whole.0 id)
@@ -242,27 +247,27 @@ module _ {M S C A : Type 0} (W : Ways M S C A) (key : M) where
             (λ not_id. dite (ℕ_discrete r.whole.0 other)
             (λ is. (id, b, here, live, full w.seen (longer_right v.seen w.seen) (ap (λ (z : V). z.seen) (sym (one_at s.views r.whole.0 other r.whole.1 w r.whole.2 at' is)) ∙ r.whole.4)))
             (λ not_other. (r.whole.0, r.whole.1, still r.whole.0 r.whole.1 r.whole.2 not_id not_other, r.whole.3, r.whole.4)));
-        numbers = subst (Numbers r.history) (sym (map-set hold vs other d ∙ ap (λ hs. set hs other (hold d)) (map-set hold s.views id b)))
-            (numbers_join r.history (map hold s.views) id other (hold v) (hold w) (hold b) (hold d) w.mine r.numbers (at_map hold s.views id v at) (at_map hold s.views other w at') apart live live' (g.mine live').0 refl refl);
+        numbers = subst (KeepsNumbers r.history) (sym (map-set holding_of vs other d ∙ ap (λ hs. set hs other (holding_of d)) (map-set holding_of s.views id b)))
+            (numbers_join r.history (map holding_of s.views) id other (holding_of v) (holding_of w) (holding_of b) (holding_of d) w.mine r.numbers (at_map holding_of s.views id v at) (at_map holding_of s.views other w at') apart live live' (g.mine live').0 refl refl);
         place = ⊎_elim
-            (λ h. inl (h.0, h.1, (let a = h.2 in record { same = a.same; state = a.state; log = a.log; count = reaches_same _ _ _ (omega arith) a.count }), each (λ j u. ¬ IsTurn u.stage) (h.3 id v at) (λ on. on) (λ j u _ _ e. h.3 j u e)))
-            (λ h. inr (h.0, h.1, h.2, still h.1 h.2 h.3 (λ is. subst IsTurn (resting h.1 h.2 h.3 (inl is)) h.4) (λ is. subst IsTurn (resting h.1 h.2 h.3 (inr is)) h.4), h.4))
+            (λ h. inl (h.0, h.1, (let a = h.2 in record { same = a.same; state = a.state; log = a.log; count = reaches_same _ _ _ (omega arith) a.count }), each (λ j u. ¬ HasTurn u.stage) (h.3 id v at) (λ on. on) (λ j u _ _ e. h.3 j u e)))
+            (λ h. inr (h.0, h.1, h.2, still h.1 h.2 h.3 (λ is. subst HasTurn (resting h.1 h.2 h.3 (inl is)) h.4) (λ is. subst HasTurn (resting h.1 h.2 h.3 (inr is)) h.4), h.4))
             r.place;
       }
 
   pub closes : (z : TableId) (id : ℕ) (v : V) (ws : List ℕ) (xs : List (Option M)) → Final (Seen Rule id v) ws xs → v.live ≡ true → v.stage ≡ Idle → v.weight ≡ 65536
-      → (x : M) × (get_elem? xs 0 ≡ some (Some x)) × IsClosed W (known_of z v) x
+      → (x : M) × (get_elem? xs 0 ≡ some (Some x)) × IsClosed W (seat_view_of z v) x
   closes z id v ws xs last live idle all =
       let s = last.0 in
       let r = last.1.0 in
       let at = last.1.1 in
       let f = r.each id v at in
-      let none_yet : out v.stage ≡ 0 = ap out idle in
+      let none_yet : tickets_held v.stage ≡ 0 = ap tickets_held idle in
       let weights = r.weights in
       let whole : v.seen ≡ r.history = alone_whole W key s r id v at all in
       let only : (j : ℕ) (u : V) → get_elem? s.views j ≡ some u → 1 ≤ u.weight → j ≡ id = λ j u e heavy. dite (ℕ_discrete j id) (λ is. is) (λ other. let t = total_two weight_of s.views j id u v other e at in absurd (omega arith)) in
       ⊎_elim
-      (λ (h : (x : M) × (s.homes ≡ some (Some x) ∷ []) × AtHome W r.history (W.opening key) (W.faults key) (total faults_of s.views) x × ((j : ℕ) (u : V) → get_elem? s.views j ≡ some u → ¬ IsTurn u.stage)).
+      (λ (h : (x : M) × (s.homes ≡ some (Some x) ∷ []) × IsAtHome W r.history (W.opening key) (W.faults key) (total faults_of s.views) x × ((j : ℕ) (u : V) → get_elem? s.views j ≡ some u → ¬ HasTurn u.stage)).
       let a = h.2 in
       let start = f.start live in
       let mine = total_at faults_of s.views id v at in
@@ -270,27 +275,27 @@ module _ {M S C A : Type 0} (W : Ways M S C A) (key : M) where
         h.0,
         last.4 0 (Some h.0) (ap (λ hs. get_elem? hs 0) h.1),
         record {
-          log = a.log ∙ sym whole;
-          same = a.same ∙ sym start.0;
-          state = a.state ∙ (λ i. replay W.step (sym start.0 i) (sym whole i));
-          faults = reaches_same _ _ _ (omega arith) a.count;
-          known = λ n. ⊎_elim (λ none. inl (ap (own n) whole ∙ none))
-              (λ (t : (i : ℕ) × (y : Hold C) × (get_elem? (map hold s.views) i ≡ some y) × (y.live ≡ true) × Bears y n). inr (
+          log_is_seen = a.log ∙ sym whole;
+          opening_stays = a.same ∙ sym start.0;
+          state_is_replay = a.state ∙ (λ i. replay W.step (sym start.0 i) (sym whole i));
+          faults_are_counted = reaches_same _ _ _ (omega arith) a.count;
+          entries_have_seats = λ e c. let n : ℕ = e.0 in ⊎_elim (λ none. absurd (number_has_entries v.seen e c (ap (own_entries n) whole ∙ none)))
+              (λ (t : (i : ℕ) × (y : Holding C) × (get_elem? (map holding_of s.views) i ≡ some y) × (y.live ≡ true) × BearsNumber y n). (
               let is : t.0 ≡ id = only_hold s r id v at all weights t.0 t.1 t.2 t.3 in
-              subst (λ (y : Hold C). Bears y n) (one_at (map hold s.views) t.0 id t.1 (hold v) t.2 (at_map hold s.views id v at) is) t.4)) (r.numbers.known n);
-          kept = λ e c. ap (own e.0) whole ∙ (r.numbers.gone id (hold v) e (at_map hold s.views id v at) live c).1;
+              subst (λ (y : Holding C). BearsNumber y n) (one_at (map holding_of s.views) t.0 id t.1 (holding_of v) t.2 (at_map holding_of s.views id v at) is) t.4)) (r.numbers.known n);
+          ended_entries_are_kept = λ e c. ap (own_entries e.0) whole ∙ (r.numbers.gone id (holding_of v) e (at_map holding_of s.views id v at) live c).1;
         },
       ))
-      (λ (h : (s.homes ≡ none ∷ []) × (j : ℕ) × (u : V) × (get_elem? s.views j ≡ some u) × IsTurn u.stage).
+      (λ (h : (s.homes ≡ none ∷ []) × (j : ℕ) × (u : V) × (get_elem? s.views j ≡ some u) × HasTurn u.stage).
       let g = r.each h.1 h.2 h.3 in
       let has = (g.turn h.4).mine in
       let one = turn_out h.2.stage h.4 in
       let heavy = g.heavy in
-      absurd (subst IsTurn (ap (λ (z : V). z.stage) (one_at s.views h.1 id h.2 v h.3 at (only h.1 h.2 h.3 (omega arith))) ∙ idle) h.4))
+      absurd (subst HasTurn (ap (λ (z : V). z.stage) (one_at s.views h.1 id h.2 v h.3 at (only h.1 h.2 h.3 (omega arith))) ∙ idle) h.4))
       r.place
 
-module _ {M S C A : Type 0} (W : Ways M S C A) where
-  pub knows_called : (v : View S C) (t : ℕ) (x : M) (kind : Kind) (call : C) → Knows v → v.live ≡ true → Taken W v x → Knows (rested (told kind call (leading W t x v)))
+module _ {M S C A : Type 0} (W : Meaning M S C A) where
+  pub knows_called : (v : View S C) (t : ℕ) (x : M) (kind : ReplyKind) (call : C) → IsSoundView v → v.live ≡ true → IsTaken W v x → IsSoundView (rested (told kind call (leading W t x v)))
   knows_called v t x kind call k live u = record {
     weight = k.weight;
     spare = k.spare;
@@ -299,20 +304,20 @@ module _ {M S C A : Type 0} (W : Ways M S C A) where
     mine = own_grown_same kind v.number call (W.log x) ∙ ap (grown kind (v.number, call)) (u.mine live ∙ k.mine);
   }
 
-pub knows_kept : {S C : Type 0} (v : View S C) (share : ℕ) → Knows v → 1 ≤ share → share < v.spare → Knows (kept_part (offering share v))
+pub knows_kept : {S C : Type 0} (v : View S C) (share : ℕ) → IsSoundView v → 1 ≤ share → share < v.spare → IsSoundView (kept_part (offering share v))
 knows_kept v share k some_part less = let w = k.weight in let s = k.spare.1 in let n = k.numbers in record { weight = omega arith; spare = (omega arith, omega arith); numbers = omega arith; heard = k.heard; mine = k.mine }
 
-pub knows_first : {S C : Type 0} (v : View S C) → v.weight ≡ 65536 → v.spare ≡ 65536 → v.number ≡ 0 → v.heard ≡ [] → v.seen ≡ [] → v.mine ≡ [] → Knows v
-knows_first v a b c d e f = record { weight = omega arith; spare = (omega arith, omega arith); numbers = omega arith; heard = (v.seen, ap (λ l. l ++ v.seen) d); mine = ap (own v.number) e ∙ sym f }
+pub knows_first : {S C : Type 0} (v : View S C) → v.weight ≡ 65536 → v.spare ≡ 65536 → v.number ≡ 0 → v.heard ≡ [] → v.seen ≡ [] → v.mine ≡ [] → IsSoundView v
+knows_first v a b c d e f = record { weight = omega arith; spare = (omega arith, omega arith); numbers = omega arith; heard = (v.seen, ap (λ l. l ++ v.seen) d); mine = ap (own_entries v.number) e ∙ sym f }
 
-pub joined_known : {S C : Type 0} (z z' : TableId) (v w : View S C) → Knows v → Knows w → Knows (joined v w) → IsJoined (known_of z v) (known_of z' w) (known_of z (joined v w))
+pub joined_known : {S C : Type 0} (z z' : TableId) (v w : View S C) → IsSoundView v → IsSoundView w → IsSoundView (joined v w) → IsJoined (seat_view_of z v) (seat_view_of z' w) (seat_view_of z (joined v w))
 joined_known z z' v w k l m = record {
-  stays = (refl, refl, refl, refl, refl);
+  left_stays = (refl, refl, refl, refl, refl);
   sums = (refl, refl);
-  either = ⊎_elim (λ t. inr t.0) (λ t. inl t.0) (longer_cases v.seen w.seen);
-  begins = both_begin v.seen w.seen m.heard;
-  owned = m.mine ∙ sym k.mine;
-  ended = ap (λ es. (v.ended ++ w.ended) ++ (w.number, es) ∷ []) (sym l.mine);
+  seen_is_one_of_both = ⊎_elim (λ t. inr t.0) (λ t. inl t.0) (longer_cases v.seen w.seen);
+  both_begin_seen = both_begin v.seen w.seen m.heard;
+  left_entries_stay = m.mine ∙ sym k.mine;
+  ended_are_kept = ap (λ es. (v.ended ++ w.ended) ++ (w.number, es) ∷ []) (sym l.mine);
 }
 
 pub machine_is : {M : Type 0} (x y : M) (s : Option M) → s ≡ Some x → s ≡ Some y → x ≡ y

@@ -1,7 +1,7 @@
 //! The lock and its seats.
 ghost use Rattle.std.specs.Prelude.{◌≡◌, ℕ, ◌+◌, ◌^◌, ◌<◌, ◌≤◌, [], ◌∷◌, length, IfOk, IfErr, Some};
-ghost use Rattle.history_lock.specs.Known.{Known, known, IsResting, opened, Called, IsSplit, IsJoined, IsClosed};
-ghost use Rattle.history_lock.specs.Machines.{ways};
+ghost use Rattle.history_lock.specs.Seats.{SeatView, seat_view, IsResting, first_seat, IsCall, IsSplit, IsJoined, IsClosed};
+ghost use Rattle.history_lock.specs.Machines.{meaning};
 ghost use Rattle.atomic_table.specs.Seated.{TableId};
 
 use crate::machine::Machine;
@@ -38,9 +38,9 @@ pub struct Seat<M: Machine> {
 }
 
 impl<M: Machine> Model for Seat<M> {
-    ghost Value = { Known M.State M.Said };
+    ghost Value = { SeatView M.State M.Said };
 
-    ghost view = { λ s. known s.place };
+    ghost view = { λ s. seat_view s.place };
 
     ghost invariant = { λ s. IsResting s.place × (s.who ≡ s.place.me.0.number) × (s.spare ≡ s.place.me.0.spare) × (s.weight ≡ s.place.me.0.weight) };
 }
@@ -49,7 +49,7 @@ impl<M: Machine> Shared<M> {
     /// Without memory the machine comes back.
     pub fn new(alloc: Global, machine: M) -> Result<(Shared<M>, Seat<M>), M>
         requires { M.log machine ≡ [] }
-        ensures ok { IfOk result (λ r. r.1 ≡ opened r.0 (M.opening machine) (M.faults machine)) }
+        ensures ok { IfOk result (λ r. r.1 ≡ first_seat r.0 (M.opening machine) (M.faults machine)) }
         ensures err { IfErr result (λ m. m ≡ machine) }
     {
         let _ = machine.entries();
@@ -90,7 +90,7 @@ impl<M: Machine> Shared<M> {
     pub fn call<R: Wait>(&self, rt: &R, seat: Seat<M>, call: M::Call) -> (Seat<M>, M::Reply, u64)
         requires lock { seat.lock ≡ self.now }
         requires call { M.takes call }
-        ensures { Called M.step seat result.0 (M.said call) (M.answer result.1) (M.kind result.1) result.2 }
+        ensures { IsCall M.step seat result.0 (M.said call) (M.answer result.1) (M.kind result.1) result.2 }
     {
         let Seat {
             who,
@@ -182,7 +182,7 @@ impl<M: Machine> Shared<M> {
     pub fn close(self, seat: Seat<M>) -> M
         requires lock { seat.lock ≡ self }
         requires whole { seat.weight ≡ 65536 }
-        ensures { IsClosed (ways M.opening M.state M.log M.faults M.step) seat result }
+        ensures { IsClosed (meaning M.opening M.state M.log M.faults M.step) seat result }
     {
         let Shared { table } = self;
         let Seat {

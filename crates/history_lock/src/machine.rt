@@ -1,6 +1,8 @@
 //! What a lock keeps.
 ghost use Rattle.std.specs.Prelude.{◌≡◌, ◌+◌, ◌^◌, ◌<◌, ◌≤◌, ℕ, List, length};
-ghost use Rattle.history_lock.specs.Machines.{Kind, Ways, ways, replay, Acted};
+ghost use Rattle.history_lock.specs.Replies.{ReplyKind};
+ghost use Rattle.history_lock.specs.Machines.{Meaning, meaning, IsAct};
+ghost use Rattle.history_lock.specs.Replay.{replay};
 
 pub trait Machine {
     type Call;
@@ -17,7 +19,7 @@ pub trait Machine {
 
     ghost answer: { Self.Reply → Self.Answer };
 
-    ghost kind: { Self.Reply → Kind };
+    ghost kind: { Self.Reply → ReplyKind };
 
     ghost takes: { Self.Call → Type 0 };
 
@@ -36,7 +38,7 @@ pub trait Machine {
 
     fn act(&mut self, who: u32, call: Self::Call) -> Self::Reply
         requires { takes call }
-        ensures { Acted (ways opening state log faults step) self.old self.new who (said call) (answer result) (kind result) };
+        ensures { IsAct (meaning opening state log faults step) self.old self.new who (said call) (answer result) (kind result) };
 
     fn entries(&self) -> u64
         ensures count { (result ≡ length (log self.now)) × (result < 2 ^ 63) }

@@ -1,6 +1,8 @@
 //! The rule of the table, and what each step on it tells.
-ghost use Rattle.history_lock.specs.Machines.{ways};
-ghost use Rattle.history_lock.specs.Turns.{Locked, first_view, drew, looked, published, passed, rang, offered, learned, kept_part, new_part, joined, spent_view};
+ghost use Rattle.history_lock.specs.Machines.{meaning};
+ghost use Rattle.history_lock.specs.LockRule.{KeepsOneHistory};
+ghost use Rattle.history_lock.specs.Views.{first_view, kept_part, new_part, joined, spent_view};
+ghost use Rattle.history_lock.specs.Moves.{HasDrawn, HasLooked, HasPublished, HasPassed, HasRung, HasOffered, HasLearned};
 
 use crate::machine::Machine;
 use crate::views::View;
@@ -11,9 +13,9 @@ use std::snapshot::Snapshot;
 pub struct Rule;
 
 impl<M: Machine> TableRule<Option<M>, View<M::State, M::Said>, Snapshot<M>> for Rule {
-    ghost holds = { λ key. Locked (ways M.opening M.state M.log M.faults M.step) key.value };
+    ghost holds = { λ key. KeepsOneHistory (meaning M.opening M.state M.log M.faults M.step) key.value };
 
-    ghost first = { λ key. first_view (ways M.opening M.state M.log M.faults M.step) key.value };
+    ghost first = { λ key. first_view (meaning M.opening M.state M.log M.faults M.step) key.value };
 }
 
 pub(crate) type Top<M> = Shared<
@@ -28,21 +30,21 @@ pub(crate) type Place<M> = Seat<Option<M>, View<<M as Machine>::State, <M as Mac
 pub(crate) struct Draw;
 
 impl<M: Machine> Play<Option<M>, View<M::State, M::Said>> for Draw {
-    ghost then = { drew };
+    ghost then = { HasDrawn };
 }
 
 pub(crate) struct Look;
 
 impl<M: Machine> Play<Option<M>, View<M::State, M::Said>> for Look {
-    ghost then = { looked (ways M.opening M.state M.log M.faults M.step) };
+    ghost then = { HasLooked (meaning M.opening M.state M.log M.faults M.step) };
 }
 
 /// What a step is told: at most one call, and of which kind its reply was.
 pub(crate) trait Deed<C> {
     ghost use Rattle.std.specs.Prelude.{List};
-    ghost use Rattle.history_lock.specs.Machines.{Kind};
+    ghost use Rattle.history_lock.specs.Replies.{ReplyKind};
 
-    ghost done: { List (Kind × C) };
+    ghost done: { List (ReplyKind × C) };
 }
 
 impl<C> Deed<C> for Brand {
@@ -56,31 +58,31 @@ pub(crate) struct Publish<B> {
 }
 
 impl<M: Machine, B: Deed<M::Said>> Play<Option<M>, View<M::State, M::Said>> for Publish<B> {
-    ghost then = { published B.done };
+    ghost then = { HasPublished B.done };
 }
 
 pub(crate) struct Pass;
 
 impl<M: Machine> Play<Option<M>, View<M::State, M::Said>> for Pass {
-    ghost then = { passed };
+    ghost then = { HasPassed };
 }
 
 pub(crate) struct Ring;
 
 impl<M: Machine> Play<Option<M>, View<M::State, M::Said>> for Ring {
-    ghost then = { rang };
+    ghost then = { HasRung };
 }
 
 pub(crate) struct Offer;
 
 impl<M: Machine> Play<Option<M>, View<M::State, M::Said>> for Offer {
-    ghost then = { offered };
+    ghost then = { HasOffered };
 }
 
 pub(crate) struct Learn;
 
 impl<M: Machine> Play<Option<M>, View<M::State, M::Said>> for Learn {
-    ghost then = { learned };
+    ghost then = { HasLearned };
 }
 
 pub(crate) struct Cut;

@@ -1,7 +1,10 @@
 //! The steps of a call.
 ghost use Rattle.std.specs.Prelude.{◌≡◌, ℕ, ◌%◌, ◌^◌, ◌<◌, ◌≤◌, ◌+◌, [], ◌∷◌, length, true, None};
-ghost use Rattle.history_lock.specs.Turns.{waiting, leading, Taken, rested, told, offering, kept_part, new_part, joined, Knows};
-ghost use Rattle.history_lock.specs.Machines.{ways, Reaches, replay, grown, rise, failed};
+ghost use Rattle.history_lock.specs.Views.{waiting, leading, rested, told, offering, kept_part, new_part, joined, IsSoundView};
+ghost use Rattle.history_lock.specs.Moves.{IsTaken};
+ghost use Rattle.history_lock.specs.Machines.{meaning, Reaches};
+ghost use Rattle.history_lock.specs.Replay.{replay};
+ghost use Rattle.history_lock.specs.Replies.{grown, rise_of, failures_of};
 ghost use Rattle.history_lock.specs.declared.views.Stage.TheVariants.{Idle, Turns};
 
 use crate::machine::Machine;
@@ -43,8 +46,8 @@ pub(crate) fn take_turn<M: Machine, R: Wait>(rt: &R, top: &Top<M>, place: &mut P
     requires table { (place.old.table_id ≡ top.now.table_id) × (top.now.table_id.words ≡ 19) }
     requires idle { (place.old.me.0.stage ≡ Idle) × (0 < place.old.me.0.weight) × (place.old.me.1 ≡ []) }
     ensures table { (place.new.table_id ≡ place.old.table_id) × (place.new.id ≡ place.old.id) }
-    ensures machine { Taken (ways M.opening M.state M.log M.faults M.step) place.old.me.0 result }
-    ensures view { (t : ℕ) × (place.new.me ≡ (leading (ways M.opening M.state M.log M.faults M.step) t result place.old.me.0, (0, None) ∷ [])) }
+    ensures machine { IsTaken (meaning M.opening M.state M.log M.faults M.step) place.old.me.0 result }
+    ensures view { (t : ℕ) × (place.new.me ≡ (leading (meaning M.opening M.state M.log M.faults M.step) t result place.old.me.0, (0, None) ∷ [])) }
 {
     let ticket = draw(top, place);
     let backoff = Backoff::new();
@@ -95,7 +98,7 @@ fn publish<M: Machine, B: Deed<M::Said>>(
     requires done { B.done ≡ (M.kind reply.now, M.said call.now.value) ∷ [] }
     requires table { (place.old.table_id ≡ top.now.table_id) × (top.now.table_id.words ≡ 19) }
     requires turn { (t : ℕ) × (place.old.me.0.stage ≡ Turns t) }
-    requires rose { (rose ≡ rise (M.kind reply.now)) × (length place.old.me.0.seen + rose < 2 ^ 64) }
+    requires rose { (rose ≡ rise_of (M.kind reply.now)) × (length place.old.me.0.seen + rose < 2 ^ 64) }
     ensures table { (place.new.table_id ≡ place.old.table_id) × (place.new.id ≡ place.old.id) }
     ensures view { place.new.me ≡ (told (M.kind reply.now) (M.said call.now.value) place.old.me.0, place.old.me.1) }
 {
@@ -114,11 +117,11 @@ pub(crate) fn finish<M: Machine>(
     requires table { (place.old.table_id ≡ top.now.table_id) × (top.now.table_id.words ≡ 19) }
     requires turn { (t : ℕ) × (place.old.me.0.stage ≡ Turns t) }
     requires empty { place.old.me.1 ≡ (0, None) ∷ [] }
-    requires rose { (rose ≡ rise (M.kind reply.now)) × (length place.old.me.0.seen + rose < 2 ^ 64) }
+    requires rose { (rose ≡ rise_of (M.kind reply.now)) × (length place.old.me.0.seen + rose < 2 ^ 64) }
     requires same { M.opening machine ≡ place.old.me.0.opening.value }
     requires list { M.log machine ≡ grown (M.kind reply.now) (place.old.me.0.number, M.said call.now.value) place.old.me.0.seen }
     requires replayed { M.state machine ≡ replay M.step (M.opening machine) (M.log machine) }
-    requires count { Reaches (place.old.me.0.total + failed (M.kind reply.now)) (M.faults machine) }
+    requires count { Reaches (place.old.me.0.total + failures_of (M.kind reply.now)) (M.faults machine) }
     ensures table { (place.new.table_id ≡ place.old.table_id) × (place.new.id ≡ place.old.id) }
     ensures view { place.new.me ≡ (rested (told (M.kind reply.now) (M.said call.now.value) place.old.me.0), []) }
 {
@@ -135,7 +138,7 @@ pub(crate) fn split<M: Machine>(top: &Top<M>, place: &mut Place<M>, share: u32) 
     requires idle { (place.old.me.0.live ≡ true) × (place.old.me.0.stage ≡ Idle) × (place.old.me.1 ≡ []) }
     requires share { (1 ≤ share) × (share < place.old.me.0.spare) }
     ensures table { (place.new.table_id ≡ place.old.table_id) × (place.new.id ≡ place.old.id) × (result.table_id ≡ place.old.table_id) }
-    ensures views { (place.new.me ≡ (kept_part (offering share place.old.me.0), [])) × (result.me ≡ (new_part (offering share place.old.me.0), [])) × Knows result.me.0 }
+    ensures views { (place.new.me ≡ (kept_part (offering share place.old.me.0), [])) × (result.me ≡ (new_part (offering share place.old.me.0), [])) × IsSoundView result.me.0 }
 {
     top.compare_exchange::<Offer>(place, TICKET, share as u64, share as u64);
     let mut other = top.split_seat::<Cut>(place);
@@ -149,7 +152,7 @@ pub(crate) fn join<M: Machine>(top: &Top<M>, place: &mut Place<M>, other: Place<
     requires idle { (place.old.me.0.live ≡ true) × (place.old.me.0.stage ≡ Idle) × (place.old.me.1 ≡ []) }
     requires idle_too { (other.me.0.live ≡ true) × (other.me.0.stage ≡ Idle) × (other.me.1 ≡ []) }
     ensures table { (place.new.table_id ≡ place.old.table_id) × (place.new.id ≡ place.old.id) }
-    ensures views { (place.new.me ≡ (joined place.old.me.0 other.me.0, [])) × Knows place.new.me.0 }
+    ensures views { (place.new.me ≡ (joined place.old.me.0 other.me.0, [])) × IsSoundView place.new.me.0 }
 {
     top.join_seat::<Glue<M>>(place, other);
     top.load::<Learn>(place, TICKET);

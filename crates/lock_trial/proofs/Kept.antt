@@ -1,6 +1,6 @@
 -- The replay of a longer list.
 use Rattle.std.proofs.Common.{◌≡◌, ℕ, List, [], ◌∷◌, ◌++◌, refl}
-use Rattle.history_lock.specs.Machines.{replay}
+use Rattle.history_lock.specs.Replay.{replay}
 
 pub replay_push : {S C A : Type 0} (step : S → C → S × A) (s : S) (xs : List (ℕ × C)) (e : ℕ × C) → replay step s (xs ++ e ∷ []) ≡ (step (replay step s xs) e.1).0
 replay_push step s [] e = refl

@@ -1,6 +1,6 @@
 //! A machine that adds.
 ghost use Rattle.std.specs.Prelude.{◌≡◌, ◌^◌, ◌<◌, [], length, ℕ, List};
-ghost use Rattle.history_lock.specs.Machines.{replay};
+ghost use Rattle.history_lock.specs.Replay.{replay};
 ghost use Rattle.lock_trial.specs.Adds.{add_step, kind_of};
 
 use crate::line::{Call, Reply};

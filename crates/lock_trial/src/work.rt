@@ -1,8 +1,8 @@
 //! Threads that call one tally.
 ghost use Rattle.std.specs.Prelude.{◌≡◌, ◌≤◌, ◌<◌, ◌+◌, ℕ, All, length, vec_len, vec_capacity, IfSome, Some, Contains, []};
-ghost use Rattle.history_lock.specs.Known.{Known};
-ghost use Rattle.history_lock.specs.Machines.{replay};
-ghost use Rattle.history_lock.specs.Numbers.{own};
+ghost use Rattle.history_lock.specs.Seats.{SeatView};
+ghost use Rattle.history_lock.specs.Replay.{replay};
+ghost use Rattle.history_lock.specs.Replay.{own_entries};
 ghost use Rattle.lock_trial.specs.Adds.{add_step};
 ghost use Rattle.lock_trial.specs.Work.{IsAt, IsReady};
 
@@ -166,7 +166,7 @@ pub fn run<R: Threads + Wait + Sync>(
 ) -> Option<(Tally, Vec<Worker>)>
     requires empty { tally.log.items ≡ [] }
     requires few { vec_len lists ≤ 1000 }
-    ensures each { IfSome result (λ r. All (λ w. own w.number r.0.log.items ≡ w.accepted.items) r.1.items) }
+    ensures each { IfSome result (λ r. All (λ w. own_entries w.number r.0.log.items ≡ w.accepted.items) r.1.items) }
     ensures all { IfSome result (λ r. vec_len r.1 ≡ vec_len lists) }
 {
     let mut workers = Vec::with_capacity(alloc, lists.len()).ok()?;

@@ -1,8 +1,9 @@
 use Rattle.std.proofs.Common.{rules, ◌≡◌, [], ◌∷◌, ap, sym, subst, ◌∙◌, Option, Some, None}
 use Rattle.atomic_table.specs.Table.{rest}
 use Rattle.history_lock.specs.declared.views.View.{View}
-use Rattle.history_lock.specs.Turns.{told, rested}
-use Rattle.history_lock.specs.Machines.{ways, Reaches, replay}
+use Rattle.history_lock.specs.Views.{told, rested}
+use Rattle.history_lock.specs.Machines.{meaning, Reaches}
+use Rattle.history_lock.specs.Replay.{replay}
 use Rattle.history_lock.proofs.Keeps.{passes, slot_of}
 use Rattle.history_lock.proofs.steps.finish.Goals as goal
 
@@ -23,7 +24,7 @@ unreachable-requires g c =
 
 pub fetch_add-turn-requires : goal.fetch_add-turn-requires
 fetch_add-turn-requires g c =
-    let W = ways g.M.Machine.opening g.M.Machine.state g.M.Machine.log g.M.Machine.faults g.M.Machine.step in
+    let W = meaning g.M.Machine.opening g.M.Machine.state g.M.Machine.log g.M.Machine.faults g.M.Machine.step in
     let v : View g.row.M-State.Denot g.row.M-Said.Denot = c.args.place.now.me.0 in
     let w : View g.row.M-State.Denot g.row.M-Said.Denot = told (g.M.Machine.kind c.args.reply.now) (g.M.Machine.said c.args.call.now.value) v in
     let two : c.publish.new.place.me ≡ (w, (0, None) ∷ []) = c.publish.ensures.view ∙ ap (λ cs. (w, cs)) c.requires.empty in

@@ -1,6 +1,6 @@
 use Rattle.std.proofs.Common.{rules, ◌≡◌, ◌<◌, ◌≤◌, ap, sym, subst, ◌∙◌}
 use Rattle.history_lock.specs.declared.views.View.{View}
-use Rattle.history_lock.specs.Turns.{offering}
+use Rattle.history_lock.specs.Views.{offering}
 use Rattle.history_lock.proofs.Parts.{offers, splits, learns}
 use Rattle.history_lock.proofs.steps.split.Goals as goal
 

@@ -1,5 +1,5 @@
 use Rattle.std.proofs.Common.{◌≡◌, ℕ, ◌+◌, ◌%◌, ◌∷◌, ◌++◌, [], ap, sym, ◌∙◌, List}
-use Rattle.history_lock.specs.Machines.{replay}
+use Rattle.history_lock.specs.Replay.{replay}
 use Rattle.lock_trial.specs.declared.line.Call.{Call}
 use Rattle.lock_trial.specs.declared.line.Call.TheVariants.{Add}
 use Rattle.lock_trial.specs.Adds.{add_step}
