@@ -30,7 +30,7 @@ pub joined_keeps : (z : TableId) (n : ℕ) (es : List (ℕ × Call)) (v w r : Se
     → ((e : ℕ × List (ℕ × Call)) → Contains v.ended e → Contains r.ended e) × Contains r.ended (n, es)
 joined_keeps z n es v w r j a =
     let same : (w.number, own_entries w.number w.seen) ≡ (n, es) = λ i. (a.number i, (ap (λ m. own_entries m w.seen) a.number ∙ a.entries) i) in
-    let ended : r.ended ≡ (v.ended ++ w.ended) ++ (n, es) ∷ [] = j.ended ∙ ap (λ e. (v.ended ++ w.ended) ++ e ∷ []) same in (
+    let ended : r.ended ≡ (v.ended ++ w.ended) ++ (n, es) ∷ [] = j.ended_are_kept ∙ ap (λ e. (v.ended ++ w.ended) ++ e ∷ []) same in (
       (λ e c. subst (λ es. Contains es e) (sym ended) (Contains-append_left (v.ended ++ w.ended) ((n, es) ∷ []) e (Contains-append_left v.ended w.ended e c))),
       subst (λ l. Contains l (n, es)) (sym ended) (Contains-push (v.ended ++ w.ended) (n, es)),
     )

@@ -25,7 +25,7 @@ loop-worker-preserved c =
     let capacity = c.push_reserved.ensures.capacity in
     let less : length c.loop-worker.left.items ≡ length c.pop.new.self.items + 1 = ap length (c.pop.ensures.items ∙ ap (λ r. c.pop.new.self.items ++ option_to_list r) c.in-Some.is) ∙ length-append c.pop.new.self.items (w ∷ []) in
     let more : length c.push_reserved.new.self.items ≡ length c.loop-worker.done.items + 1 = ap length c.push_reserved.ensures.items ∙ length-append c.loop-worker.done.items (w' ∷ []) in (
-      c.join-seat.ensures.stays.0 ∙ i.0,
+      c.join-seat.ensures.left_stays.0 ∙ i.0,
       omega arith,
       p.0,
       subst (All (λ (x : Worker). Contains c.join-seat.result.ended (x.number, x.accepted.items))) (sym c.push_reserved.ensures.items) all,

@@ -19,23 +19,23 @@ loop-calls-preserved c =
       seat = r;
       has = refl;
       at = record {
-        lock = ap (λ (k : SeatView ℕ Call). k.lock) s.new ∙ i.0;
+        lock = ap (λ (k : SeatView ℕ Call). k.lock) s.new_has_share ∙ i.0;
         number = sym c.who-number.ensures;
-        weight = ap (λ (k : SeatView ℕ Call). k.weight) s.new;
-        entries = ap (λ n. own_entries n r.seen) c.who-number.ensures ∙ (s.none_yet ∙ sym c.new.ensures.items);
+        weight = ap (λ (k : SeatView ℕ Call). k.weight) s.new_has_share;
+        entries = ap (λ n. own_entries n r.seen) c.who-number.ensures ∙ (s.new_number_is_fresh ∙ sym c.new.ensures.items);
       };
     } in
     let less : length c.loop-calls.left.items ≡ length c.pop.new.self.items + 1 = ap length (c.pop.ensures.items ∙ ap (λ o. c.pop.new.self.items ++ option_to_list o) c.in-Some.is) ∙ length-append c.pop.new.self.items (c.in-Some.calls ∷ []) in
     let more : length c.push_reserved.new.self.items ≡ length c.loop-calls.workers.items + 1 = ap length c.push_reserved.ensures.items ∙ length-append c.loop-calls.workers.items (w ∷ []) in
-    let weight : c.split-rest.result.0.weight ≡ c.loop-calls.seat.weight - 1 = ap (λ (k : SeatView ℕ Call). k.weight) s.kept in
-    let spare : c.split-rest.result.0.spare ≡ c.loop-calls.seat.spare - 1 = ap (λ (k : SeatView ℕ Call). k.spare) s.kept in
+    let weight : c.split-rest.result.0.weight ≡ c.loop-calls.seat.weight - 1 = ap (λ (k : SeatView ℕ Call). k.weight) s.old_loses_share in
+    let spare : c.split-rest.result.0.spare ≡ c.loop-calls.seat.spare - 1 = ap (λ (k : SeatView ℕ Call). k.spare) s.old_loses_share in
     let one = i.1 in
     let two = i.2 in
     let four = i.4 in
     let room = i.5 in
     let capacity = c.push_reserved.ensures.capacity in
     let few : length c.args.lists.items ≤ 1000 = search rules in (
-      ap (λ (k : SeatView ℕ Call). k.lock) s.kept ∙ i.0,
+      ap (λ (k : SeatView ℕ Call). k.lock) s.old_loses_share ∙ i.0,
       omega arith,
       omega arith,
       subst (All (IsReady z)) (sym c.push_reserved.ensures.items) (All-push (IsReady z) c.loop-calls.workers.items w i.3 ready),

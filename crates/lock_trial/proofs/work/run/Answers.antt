@@ -6,4 +6,4 @@ use Rattle.lock_trial.proofs.work.run.Goals as goal
 pub returns-clause-each : goal.returns-clause-each
 returns-clause-each g c = λ k d lt.
     let w : Worker = get_or c.gather-seat.new.done.items k d in
-    ap (own_entries w.number) c.close-tally.ensures.log ∙ c.close-tally.ensures.kept (w.number, w.accepted.items) (c.gather-seat.ensures.each k d lt)
+    ap (own_entries w.number) c.close-tally.ensures.log_is_seen ∙ c.close-tally.ensures.ended_entries_are_kept (w.number, w.accepted.items) (c.gather-seat.ensures.each k d lt)
