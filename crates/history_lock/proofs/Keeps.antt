@@ -24,7 +24,8 @@ use Rattle.history_lock.specs.Replay.{own_entries}
 use Rattle.history_lock.specs.Numbers.{Holding, holding_of, OwnsNumber, KeepsNumbers}
 use Rattle.history_lock.specs.Seats.{seat_view_of, IsCall}
 use Rattle.atomic_table.specs.Seated.{TableId}
-use Rattle.history_lock.proofs.Holds.{holds_same, own_grown_else, own_grown_same, numbers_grow, alive}
+use Rattle.history_lock.proofs.Entries.{own_grown_else, own_grown_same}
+use Rattle.history_lock.proofs.Holds.{holds_same, numbers_grow, alive}
 use Rattle.history_lock.proofs.Totals.{total_set, total_le, total_two}
 use Rattle.history_lock.proofs.Lists.{put, put_here, put_else, prefix_same, prefix_more, prefix_length, prefix_trans, each_set, single}
 

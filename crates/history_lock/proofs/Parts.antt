@@ -22,7 +22,8 @@ use Rattle.history_lock.specs.Replay.{own_entries}
 use Rattle.history_lock.specs.Numbers.{Holding, holding_of, BearsNumber, KeepsNumbers}
 use Rattle.history_lock.specs.Seats.{seat_view_of, IsClosed, IsJoined}
 use Rattle.atomic_table.specs.Seated.{TableId}
-use Rattle.history_lock.proofs.Holds.{holds_same, own_prefix, own_between, own_grown_same, number_has_entries}
+use Rattle.history_lock.proofs.Entries.{own_prefix, own_between, own_grown_same, number_has_entries}
+use Rattle.history_lock.proofs.Holds.{holds_same}
 use Rattle.history_lock.proofs.Totals.{total_set, total_at, total_two, total_append}
 use Rattle.history_lock.proofs.Lists.{prefix_same, prefix_trans, prefix_shorter, prefix_whole, each_set}
 use Rattle.history_lock.proofs.Shares.{in_list, at_end, one_at, numbers_split, numbers_join}

@@ -1,51 +1,51 @@
-//! A machine that adds.
+//! A machine that adds, and fails at a number of one's choice.
 ghost use Rattle.std.specs.Prelude.{◌≡◌, ◌^◌, ◌<◌, [], length, ℕ, List};
 ghost use Rattle.history_lock.specs.Replay.{replay};
 ghost use Rattle.lock_trial.specs.Adds.{add_step, kind_of};
 
-use crate::line::{Call, Reply};
+use crate::calls::{Call, Reply};
 use history_lock::Machine;
 use std::alloc::Global;
-use std::hint;
 
-/// It fails at one number, to have faults.
-const UNLUCKY: u64 = 13;
-
+/// A sum that begins at 0, with the list of what was added, and a count of the calls that failed.
 #[derive(Drop)]
 pub struct Tally {
     value: u64,
     log: Vec<(u32, Call)>,
     faults: u64,
-    /// How long a call takes.
-    rounds: u64,
+    unlucky: u64,
     ghost kept: { value ≡ replay add_step 0 log.items },
     ghost few: { length log.items < 2 ^ 63 },
 }
 
 impl Tally {
-    pub fn new(alloc: Global, rounds: u64) -> Tally
+    /// A tally at 0 that fails wherever it is to add `unlucky`.
+    pub fn new(alloc: Global, unlucky: u64) -> Tally
         ensures { (result.log.items ≡ []) × (result.faults ≡ 0) }
     {
         Tally {
             value: 0,
             log: Vec::new(alloc),
             faults: 0,
-            rounds,
+            unlucky,
         }
     }
 
+    /// The sum.
     pub fn value(&self) -> u64
         ensures { result ≡ replay add_step 0 self.now.log.items }
     {
         self.value
     }
 
+    /// How many calls failed. It stays at the last value of a u64.
     pub fn faults(&self) -> u64
         ensures { result ≡ self.now.faults }
     {
         self.faults
     }
 
+    /// The calls that were accepted, each with its caller's number, from the first.
     pub fn log(&self) -> &[(u32, Call)]
         ensures { result.now ≡ self.now.log.items }
     {
@@ -85,14 +85,11 @@ impl Machine for Tally {
     ghost step = { add_step };
 
     fn act(&mut self, who: u32, call: Call) -> Reply {
-        for _ in 0..self.rounds {
-            hint::spin_loop();
-        }
         let more = match call {
             Call::Add(more) => more,
             Call::Read => return Reply::Value(self.value),
         };
-        if more == UNLUCKY {
+        if more == self.unlucky {
             self.faults = self.faults.saturating_add(1);
             return Reply::Fault;
         }

@@ -1,7 +1,7 @@
 use Rattle.std.proofs.Common.{◌≡◌, ℕ, ◌+◌, ◌%◌, ◌∷◌, ◌++◌, [], ap, sym, ◌∙◌, List}
 use Rattle.history_lock.specs.Replay.{replay}
-use Rattle.lock_trial.specs.declared.line.Call.{Call}
-use Rattle.lock_trial.specs.declared.line.Call.TheVariants.{Add}
+use Rattle.lock_trial.specs.declared.calls.Call.{Call}
+use Rattle.lock_trial.specs.declared.calls.Call.TheVariants.{Add}
 use Rattle.lock_trial.specs.Adds.{add_step}
 use Rattle.lock_trial.proofs.Kept.{replay_push}
 use Rattle.lock_trial.proofs.tally.TallyMachine.act.Goals as goal

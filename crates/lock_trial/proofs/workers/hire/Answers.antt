@@ -3,10 +3,10 @@ use Rattle.std.specs.Option.{option_to_list}
 use Rattle.std.proofs.lemmas.List.Elements.{All-push}
 use Rattle.history_lock.specs.Seats.{SeatView}
 use Rattle.history_lock.specs.Replay.{own_entries}
-use Rattle.lock_trial.specs.declared.line.Call.{Call}
-use Rattle.lock_trial.specs.declared.work.Worker.{Worker}
-use Rattle.lock_trial.specs.Work.{IsReady}
-use Rattle.lock_trial.proofs.work.hire.Goals as goal
+use Rattle.lock_trial.specs.declared.calls.Call.{Call}
+use Rattle.lock_trial.specs.declared.workers.Worker.{Worker}
+use Rattle.lock_trial.specs.Notes.{IsHired}
+use Rattle.lock_trial.proofs.workers.hire.Goals as goal
 
 pub loop-calls-preserved : goal.loop-calls-preserved
 loop-calls-preserved c =
@@ -14,16 +14,21 @@ loop-calls-preserved c =
     let i = c.loop-calls.invariant in
     let s = c.split-rest.ensures in
     let r : SeatView ℕ Call = c.split-rest.result.1 in
-    let w : Worker = record { seat = Some r; number = c.who-number.result; calls = c.in-Some.calls; accepted = c.new.result } in
-    let ready : IsReady z w = record {
+    let w : Worker = record { seat = Some r; number = c.who-number.result; calls = c.in-Some.calls; notes = c.new.result } in
+    let seen : r.seen ≡ [] = ap (λ (k : SeatView ℕ Call). k.seen) s.new_has_share ∙ i.6.2 in
+    let ready : IsHired z w = record {
       seat = r;
       has = refl;
       at = record {
         lock = ap (λ (k : SeatView ℕ Call). k.lock) s.new_has_share ∙ i.0;
         number = sym c.who-number.ensures;
         weight = ap (λ (k : SeatView ℕ Call). k.weight) s.new_has_share;
-        entries = ap (λ n. own_entries n r.seen) c.who-number.ensures ∙ (s.new_number_is_fresh ∙ sym c.new.ensures.items);
+        opening = ap (λ (k : SeatView ℕ Call). k.opening) s.new_has_share ∙ i.6.0;
+        ended = ap (λ (k : SeatView ℕ Call). k.ended) s.new_has_share;
+        entries = ap (own_entries c.who-number.result) seen;
+        legal = λ k d lt. absurd (omega arith);
       };
+      none_yet = c.new.ensures.items;
     } in
     let less : length c.loop-calls.left.items ≡ length c.pop.new.self.items + 1 = ap length (c.pop.ensures.items ∙ ap (λ o. c.pop.new.self.items ++ option_to_list o) c.in-Some.is) ∙ length-append c.pop.new.self.items (c.in-Some.calls ∷ []) in
     let more : length c.push_reserved.new.self.items ≡ length c.loop-calls.workers.items + 1 = ap length c.push_reserved.ensures.items ∙ length-append c.loop-calls.workers.items (w ∷ []) in
@@ -38,7 +43,8 @@ loop-calls-preserved c =
       ap (λ (k : SeatView ℕ Call). k.lock) s.old_loses_share ∙ i.0,
       omega arith,
       omega arith,
-      subst (All (IsReady z)) (sym c.push_reserved.ensures.items) (All-push (IsReady z) c.loop-calls.workers.items w i.3 ready),
+      subst (All (IsHired z)) (sym c.push_reserved.ensures.items) (All-push (IsHired z) c.loop-calls.workers.items w i.3 ready),
       omega arith,
       omega arith,
+      (ap (λ (k : SeatView ℕ Call). k.opening) s.old_loses_share ∙ i.6.0, ap (λ (k : SeatView ℕ Call). k.ended) s.old_loses_share ∙ i.6.1, ap (λ (k : SeatView ℕ Call). k.seen) s.old_loses_share ∙ i.6.2),
     )
