@@ -1,4 +1,4 @@
-//! The lock and its seats.
+//! The lock, and the seats through which its callers call.
 ghost use Rattle.std.specs.Prelude.{◌≡◌, ℕ, ◌+◌, ◌^◌, ◌<◌, ◌≤◌, [], ◌∷◌, length, IfOk, IfErr, Some};
 ghost use Rattle.history_lock.specs.Seats.{SeatView, seat_view, IsResting, first_seat, IsCall, IsSplit, IsJoined, IsClosed};
 ghost use Rattle.history_lock.specs.Machines.{meaning};
@@ -15,6 +15,8 @@ use std::snapshot::Snapshot;
 use std::sync::Wait;
 
 /// A machine that callers take turns with, and the one history of the changes that it accepted.
+///
+/// A contract sees it as the identity that its seats tell as their `lock`.
 #[derive(Drop)]
 pub struct Shared<M: Machine> {
     table: Table<Option<M>, View<M::State, M::Said>, Snapshot<M>, Rule, Global>,
@@ -28,7 +30,9 @@ impl<M: Machine> Model for Shared<M> {
     ghost invariant = { λ s. (s.table.shared.table_id.words ≡ 19) × (s.table.shared.table_id.slots ≡ 1) };
 }
 
-/// The right to call under a number. It knows a beginning of the history.
+/// The right to call under a number of its own.
+///
+/// A contract sees it as a `SeatView`: the lock, the number, the spare and the weight, the machine's opening state and count of faults when the lock was made, the beginning of the history that it has seen, how many faults its calls met, and the ended numbers that it keeps. A seat that is dropped leaves its entries in the history, but then the lock cannot be closed, as the seat's weight is gone.
 #[derive(Drop)]
 pub struct Seat<M: Machine> {
     who: u32,
@@ -46,7 +50,9 @@ impl<M: Machine> Model for Seat<M> {
 }
 
 impl<M: Machine> Shared<M> {
-    /// Without memory the machine comes back.
+    /// A lock over this machine, which has accepted no change yet, and the first seat, with the number 0, a spare of 65,536 and a weight of 65,536.
+    ///
+    /// For want of memory, and for nothing else, the machine comes back as it was.
     pub fn new(alloc: Global, machine: M) -> Result<(Shared<M>, Seat<M>), M>
         requires { M.log machine ≡ [] }
         ensures ok { IfOk result (λ r. r.1 ≡ first_seat r.0 (M.opening machine) (M.faults machine)) }
@@ -86,7 +92,9 @@ impl<M: Machine> Shared<M> {
         }
     }
 
-    /// Waits for the seat's turn, and lets the machine act. The place of the reply is the number of entries before it.
+    /// Waits for the seat's turn, and lets the machine answer the call. Gives the seat back, with the reply and its place, the number of accepted changes before it.
+    ///
+    /// It takes no memory beside what the machine takes, and has no answer of its own.
     pub fn call<R: Wait>(&self, rt: &R, seat: Seat<M>, call: M::Call) -> (Seat<M>, M::Reply, u64)
         requires lock { seat.lock ≡ self.now }
         requires call { M.takes call }
@@ -123,7 +131,7 @@ impl<M: Machine> Shared<M> {
         )
     }
 
-    /// The new seat gets a fresh number, the spare `share` and that weight.
+    /// Gives `share` of the seat's numbers and of its weight to a new seat, whose number nobody has called under. Gives the old seat back first. It takes no memory.
     pub fn split(&self, seat: Seat<M>, share: u32) -> (Seat<M>, Seat<M>)
         requires lock { seat.lock ≡ self.now }
         requires share { (1 ≤ share) × (share < seat.spare) }
@@ -152,7 +160,7 @@ impl<M: Machine> Shared<M> {
         )
     }
 
-    /// Takes in what `right` knows and its weight.
+    /// Ends the right seat. The left one keeps its number and spare, gets the weight of both, and has seen what both had seen. It takes no memory.
     pub fn join(&self, left: Seat<M>, right: Seat<M>) -> Seat<M>
         requires lock { (left.lock ≡ self.now) × (right.lock ≡ self.now) }
         ensures { IsJoined left right result }
@@ -178,7 +186,7 @@ impl<M: Machine> Shared<M> {
         }
     }
 
-    /// The machine, with the one history.
+    /// Ends the lock with its last seat, and gives the machine back, whose accepted changes are the history. It takes no memory.
     pub fn close(self, seat: Seat<M>) -> M
         requires lock { seat.lock ≡ self }
         requires whole { seat.weight ≡ 65536 }
@@ -198,6 +206,7 @@ impl<M: Machine> Shared<M> {
     }
 }
 
+/// The machine in a full slot.
 fn machine_of<M>(slot: Option<M>) -> M
     requires { (x : M) × (slot ≡ Some x) }
     ensures { slot ≡ Some result }
@@ -209,18 +218,21 @@ fn machine_of<M>(slot: Option<M>) -> M
 }
 
 impl<M: Machine> Seat<M> {
+    /// The number under which its accepted changes stand in the history.
     pub fn who(&self) -> u32
         ensures { result ≡ self.now.number }
     {
         self.who
     }
 
+    /// How many numbers it owns, its own with those that it can give to new seats: a split needs a share of at least 1 that is smaller.
     pub fn spare(&self) -> u32
         ensures { result ≡ self.now.spare }
     {
         self.spare
     }
 
+    /// Its part of the 65,536 that all live seats weigh together: with the whole of it no other seat is live.
     pub fn weight(&self) -> u32
         ensures { result ≡ self.now.weight }
     {

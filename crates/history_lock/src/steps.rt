@@ -1,4 +1,6 @@
-//! The steps of a call.
+//! The steps of a call, of a split and of a join.
+//!
+//! A call draws a ticket, waits until the turn is that ticket, takes the machine out of the slot, publishes what the machine did, puts it back, and passes the turn to the next ticket. Tickets and turns are words that wrap: no more than 65,536 tickets are ever out, so two of them are never mistaken for one.
 ghost use Rattle.std.specs.Prelude.{◌≡◌, ℕ, ◌%◌, ◌^◌, ◌<◌, ◌≤◌, ◌+◌, [], ◌∷◌, length, true, None};
 ghost use Rattle.history_lock.specs.Views.{waiting, leading, rested, told, offering, kept_part, new_part, joined, IsSoundView};
 ghost use Rattle.history_lock.specs.Moves.{IsTaken};
@@ -14,13 +16,16 @@ use std::marker::Brand;
 use std::snapshot::Snapshot;
 use std::sync::Wait;
 
+/// The word from which tickets are drawn.
 const TICKET: usize = 0;
 
+/// The word with the ticket whose turn it is.
 const TURN: usize = 1;
 
+/// The word with the number of accepted changes.
 const COUNT: usize = 2;
 
-/// The first word of those that waiting seats sleep on.
+/// The first of the words that waiting seats sleep on.
 const BELLS: usize = 3;
 
 const BELL_COUNT: u64 = 16;
@@ -32,6 +37,7 @@ fn bell_of(ticket: u64) -> usize
     BELLS + (ticket % BELL_COUNT) as usize
 }
 
+/// Draws a ticket.
 fn draw<M: Machine>(top: &Top<M>, place: &mut Place<M>) -> u64
     requires table { (place.old.table_id ≡ top.now.table_id) × (top.now.table_id.words ≡ 19) }
     requires idle { (place.old.me.0.stage ≡ Idle) × (0 < place.old.me.0.weight) × (place.old.me.1 ≡ []) }
@@ -41,7 +47,9 @@ fn draw<M: Machine>(top: &Top<M>, place: &mut Place<M>) -> u64
     top.fetch_add::<Draw>(place, TICKET, 1)
 }
 
-/// Waits for its turn, and takes the machine out.
+/// Waits for the seat's turn, and takes the machine out of the slot.
+///
+/// It spins, then yields, then sleeps on the bell of its ticket, so that a waiting thread costs no processor while the machine is slow.
 pub(crate) fn take_turn<M: Machine, R: Wait>(rt: &R, top: &Top<M>, place: &mut Place<M>) -> M
     requires table { (place.old.table_id ≡ top.now.table_id) × (top.now.table_id.words ≡ 19) }
     requires idle { (place.old.me.0.stage ≡ Idle) × (0 < place.old.me.0.weight) × (place.old.me.1 ≡ []) }
@@ -67,7 +75,7 @@ pub(crate) fn take_turn<M: Machine, R: Wait>(rt: &R, top: &Top<M>, place: &mut P
             top.park(rt, bell, 1);
             told = false;
         } else {
-            // Who passes the turn on sees this, or the next look sees the turn.
+            // Whoever passes the turn on sees the bell, or the next look sees the turn.
             top.swap::<Ring>(place, bell, 1);
             told = true;
         }
@@ -75,7 +83,7 @@ pub(crate) fn take_turn<M: Machine, R: Wait>(rt: &R, top: &Top<M>, place: &mut P
     unreachable!()
 }
 
-/// Wakes the seat with this ticket, if it sleeps.
+/// Wakes the seat with this ticket where it sleeps. Costs no system call where nobody sleeps on its bell.
 fn wake<M: Machine>(top: &Top<M>, place: &mut Place<M>, ticket: u64)
     requires table { (place.old.table_id ≡ top.now.table_id) × (top.now.table_id.words ≡ 19) }
     ensures table { (place.new.table_id ≡ place.old.table_id) × (place.new.id ≡ place.old.id) }
@@ -87,7 +95,7 @@ fn wake<M: Machine>(top: &Top<M>, place: &mut Place<M>, ticket: u64)
     }
 }
 
-/// Tells the history what was done.
+/// Raises the count by what the machine accepted, which makes the call part of the history.
 fn publish<M: Machine, B: Deed<M::Said>>(
     top: &Top<M>,
     place: &mut Place<M>,
@@ -105,7 +113,7 @@ fn publish<M: Machine, B: Deed<M::Said>>(
     top.fetch_add::<Publish<B>>(place, COUNT, rose);
 }
 
-/// Tells the history what was done, puts the machine back and passes the turn.
+/// Publishes what the machine did, puts the machine back and passes the turn.
 pub(crate) fn finish<M: Machine>(
     top: &Top<M>,
     place: &mut Place<M>,
@@ -132,7 +140,7 @@ pub(crate) fn finish<M: Machine>(
     wake(top, place, turn.wrapping_add(1));
 }
 
-/// Gives a part of the seat's numbers and of its weight to a new one.
+/// Gives a share of the seat's numbers and of its weight to a new seat.
 pub(crate) fn split<M: Machine>(top: &Top<M>, place: &mut Place<M>, share: u32) -> Place<M>
     requires table { (place.old.table_id ≡ top.now.table_id) × (top.now.table_id.words ≡ 19) }
     requires idle { (place.old.me.0.live ≡ true) × (place.old.me.0.stage ≡ Idle) × (place.old.me.1 ≡ []) }
@@ -146,7 +154,7 @@ pub(crate) fn split<M: Machine>(top: &Top<M>, place: &mut Place<M>, share: u32) 
     other
 }
 
-/// Takes in what another seat has.
+/// Takes in what another seat has, which is spent.
 pub(crate) fn join<M: Machine>(top: &Top<M>, place: &mut Place<M>, other: Place<M>)
     requires table { (place.old.table_id ≡ top.now.table_id) × (other.table_id ≡ top.now.table_id) × (top.now.table_id.words ≡ 19) }
     requires idle { (place.old.me.0.live ≡ true) × (place.old.me.0.stage ≡ Idle) × (place.old.me.1 ≡ []) }

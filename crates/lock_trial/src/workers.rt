@@ -70,13 +70,7 @@ fn serve<R: Wait>(rt: &R, lock: &Shared<Tally>, worker: &mut Worker)
     let Some(seat) = worker.seat.take() else {
         unreachable!()
     };
-    worker.seat = Some(talk(
-        rt,
-        lock,
-        seat,
-        worker.calls.as_slice(),
-        &mut worker.notes,
-    ));
+    worker.seat = Some(talk(rt, lock, seat, worker.calls.as_slice(), &mut worker.notes));
 }
 
 /// All workers at once, each in a thread of its own.
