@@ -1,19 +1,14 @@
 -- What a step does to the numbers.
-use Rattle.std.specs.Prelude.{Contains}
-use Rattle.std.proofs.Common.{◌≡◌, ◌≢◌, ℕ, zero, suc, ◌<◌, ◌≤◌, get_or, eqb, Bool, true, false, cond, List, [], ◌∷◌, ◌++◌, map, length, set, refl, sym, ap, ◌∙◌, subst, inl, inr, ⊎_elim, arith, append-nil, length-append, ne_eqb, eq-eqb}
-use Rattle.std.proofs.lemmas.List.{nil_from_length}
-use Rattle.std.proofs.lemmas.List.Elements.{filter-append}
+use Rattle.std.proofs.Common.{◌≡◌, ℕ, ◌≤◌, Bool, true, false, List, map, set, refl, sym, ap, ◌∙◌, subst, inl, inr, ⊎_elim, arith}
 use mathlib.Core.Logic.{dite}
 use mathlib.Core.Option.{some, some-injective}
-use mathlib.Core.List.{IsPrefix}
 use native.Mathlib.Decide.{ℕ_discrete}
 use lib.ListN.{get_elem?}
 use lib.Seq.{map-set}
 use Rattle.atomic_table.proofs.Lists.{set_again, at_map}
 use Rattle.history_lock.specs.declared.views.View.{View}
-use Rattle.history_lock.specs.Replies.{ReplyKind, accepted, fault, memory, plain, grown}
+use Rattle.history_lock.specs.Replies.{ReplyKind, grown}
 use Rattle.history_lock.proofs.Entries.{own_grown_else}
-use Rattle.history_lock.specs.Replay.{own_entries}
 use Rattle.history_lock.specs.Numbers.{Holding, holding_of, OwnsNumber, KeepsNumbers}
 
 module _ {S C : Type 0} where

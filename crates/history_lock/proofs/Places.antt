@@ -1,6 +1,6 @@
 -- A legal place stays legal as the history grows.
 use Rattle.std.proofs.Common.{◌≡◌, ℕ, zero, suc, ◌≤◌, List, [], ◌∷◌, ◌++◌, length, refl, sym, ap, ◌∙◌, subst, arith}
-use Rattle.std.specs.Prelude.{take, slice_get, Option, Some, None}
+use Rattle.std.specs.Prelude.{take, slice_get, Some}
 use mathlib.Core.List.{IsPrefix}
 use Rattle.history_lock.specs.Replies.{ReplyKind, AnswersAs}
 use Rattle.history_lock.specs.Replay.{replay}

@@ -1,10 +1,11 @@
 -- What a worker's notes say, from one call to the next and as histories grow.
-use Rattle.std.proofs.Common.{◌≡◌, ℕ, zero, suc, ◌<◌, All, List, [], ◌∷◌, ◌++◌, map, length, get_or, refl, sym, ap, subst, ◌∙◌, arith}
+use Rattle.std.proofs.Common.{◌≡◌, ℕ, zero, suc, ◌+◌, ◌<◌, All, List, [], ◌∷◌, ◌++◌, map, length, get_or, refl, sym, ap, subst, ◌∙◌, arith}
 use Rattle.std.specs.Prelude.{filter, Contains}
 use Rattle.std.proofs.lemmas.List.Elements.{All-push, filter-append}
+use Rattle.std.proofs.lemmas.List.Sums.{sum_by_push}
 use mathlib.Core.List.{IsPrefix, map-append}
 use Rattle.atomic_table.specs.Seated.{TableId}
-use Rattle.history_lock.specs.Replies.{grown}
+use Rattle.history_lock.specs.Replies.{grown, failures_of}
 use Rattle.history_lock.specs.Replay.{own_entries}
 use Rattle.history_lock.specs.Places.{IsLegalAt}
 use Rattle.history_lock.specs.Seats.{SeatView, IsCall, IsJoined}
@@ -15,7 +16,7 @@ use Rattle.lock_trial.specs.declared.calls.Reply.{Reply}
 use Rattle.lock_trial.specs.declared.calls.Reply.TheVariants.{Added, Value, Fault, NoMemory}
 use Rattle.lock_trial.specs.declared.workers.Worker.{Worker}
 use Rattle.lock_trial.specs.Adds.{add_step, kind_of, is_accepted}
-use Rattle.lock_trial.specs.Notes.{accepted_of, calls_of, IsLegalNote, IsAt, IsServed, ended_of}
+use Rattle.lock_trial.specs.Notes.{accepted_of, IsLegalNote, IsAt, IsServed, ended_of}
 
 -- one more note
 accepted-push : (number : ℕ) (notes : List Note) (call : Call) (reply : Reply) (place : ℕ)
@@ -45,6 +46,7 @@ asked z number notes v w call reply place a c = record {
   ended = c.seat_stays.6 ∙ a.ended;
   entries = ap (λ n. own_entries n w.seen) (sym a.number) ∙ (c.own_entries_grow ∙ ((λ i. grown (kind_of reply) (a.number i, call) (own_entries (a.number i) v.seen))
       ∙ (ap (grown (kind_of reply) (number, call)) a.entries ∙ sym (accepted-push number notes call reply place))));
+  faults = c.faults_rise ∙ (ap (λ n. n + failures_of (kind_of reply)) a.faults ∙ sym (sum_by_push (λ (n : Note). failures_of (kind_of n.reply)) notes record { call = call; reply = reply; place = place }));
   legal = All-push (IsLegalNote w.seen number) notes record { call = call; reply = reply; place = place } (legal_longer v.seen w.seen number notes c.seen_only_grows a.legal)
       (subst (λ (s : ℕ × ℕ). IsLegalAt add_step s.0 w.seen s.1 call reply (kind_of reply) place) (λ i. (a.opening i, a.number i)) c.reply_is_legal);
 }

@@ -1,7 +1,8 @@
 -- What a worker notes of its calls, and what these notes are to its seat and to a history.
-use Rattle.std.specs.Prelude.{◌≡◌, ℕ, List, [], Some, map, filter, All}
+use Rattle.std.specs.Prelude.{◌≡◌, ℕ, List, [], Some, map, filter, All, sum_by}
 use mathlib.Core.List.{IsPrefix}
 use Rattle.atomic_table.specs.Seated.{TableId}
+use Rattle.history_lock.specs.Replies.{failures_of}
 use Rattle.history_lock.specs.Replay.{own_entries}
 use Rattle.history_lock.specs.Places.{IsLegalAt}
 use Rattle.history_lock.specs.Seats.{SeatView}
@@ -18,6 +19,10 @@ accepted_of number notes = map (λ note. (number, note.call)) (filter (λ note. 
 abbrev pub calls_of : List Note → List Call
 calls_of notes = map (λ note. note.call) notes
 
+-- how many of these notes are of calls that failed
+abbrev pub faults_of : List Note → ℕ
+faults_of notes = sum_by (λ note. failures_of (kind_of note.reply)) notes
+
 -- the noted reply is legal at the noted place of this history of a tally that began at 0
 abbrev pub IsLegalNote : List (ℕ × Call) → ℕ → Note → Type 0
 IsLegalNote history number note = IsLegalAt add_step 0 history number note.call note.reply (kind_of note.reply) note.place
@@ -32,6 +37,7 @@ pub record IsAt (z : TableId) (who : ℕ) (notes : List Note) (s : SeatView ℕ 
   pub ended : s.ended ≡ []
   pub entries : own_entries who s.seen ≡ accepted_of who notes
   pub legal : All (IsLegalNote s.seen who) notes
+  pub faults : s.faults ≡ faults_of notes
 
 -- a worker of the lock z that has its seat and has made no call
 pub record IsHired (z : TableId) (w : Worker) : Type 0 where
@@ -58,3 +64,7 @@ pub record IsServed (history : List (ℕ × Call)) (w : Worker) : Type 0 where
   pub legal : All (IsLegalNote history w.number) w.notes.items
   -- it made its calls in their order, from the first
   pub calls : IsPrefix (calls_of w.notes.items) w.calls.items
+
+-- how many calls of these workers failed
+abbrev pub all_faults_of : List Worker → ℕ
+all_faults_of workers = sum_by (λ w. faults_of w.notes.items) workers

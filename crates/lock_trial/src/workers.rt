@@ -1,9 +1,10 @@
 //! Threads that call one tally, each by a seat of its own.
 ghost use Rattle.std.specs.Prelude.{◌≡◌, ◌≤◌, ◌<◌, ◌+◌, ℕ, All, length, vec_len, vec_capacity, IfSome, Some, Contains, [], ◌∷◌, ◌++◌, map, take};
 ghost use mathlib.Core.List.{IsPrefix};
+ghost use Rattle.history_lock.specs.Machines.{Reaches};
 ghost use Rattle.history_lock.specs.Replay.{replay, own_entries};
 ghost use Rattle.history_lock.specs.Seats.{SeatView};
-ghost use Rattle.lock_trial.specs.Notes.{IsAt, IsHired, IsReady, IsServed, accepted_of, calls_of, ended_of};
+ghost use Rattle.lock_trial.specs.Notes.{IsAt, IsHired, IsReady, IsServed, accepted_of, all_faults_of, calls_of, ended_of};
 
 use crate::calls::{Call, Note};
 use crate::tally::Tally;
@@ -101,12 +102,13 @@ fn gather(
     done: &mut Vec<Worker>,
 ) -> Seat<Tally>
     requires seat { (seat.lock ≡ lock.now) × (seat.weight + vec_len workers ≡ 65536) }
-    requires first { (seat.opening ≡ 0) × (seat.ended ≡ []) × (own_entries seat.number seat.seen ≡ []) }
+    requires first { (seat.opening ≡ 0) × (seat.ended ≡ []) × (own_entries seat.number seat.seen ≡ []) × (seat.faults ≡ 0) }
     requires none_yet { done.old.items ≡ [] }
     requires ready { All (IsReady lock.now) workers.items }
     requires room { vec_len workers ≤ vec_capacity done.old }
     ensures seat { (result.lock ≡ lock.now) × (result.weight ≡ 65536) × (result.opening ≡ 0) × (result.number ≡ seat.number) }
     ensures no_calls { own_entries result.number result.seen ≡ [] }
+    ensures faults { (result.faults ≡ all_faults_of done.new.items) × (result.base ≡ seat.base) }
     ensures ended { result.ended ≡ map ended_of done.new.items }
     ensures served { All (IsServed result.seen) done.new.items }
     ensures all { vec_len done.new ≡ vec_len workers }
@@ -133,12 +135,12 @@ fn hire(
     workers: &mut Vec<Worker>,
 ) -> Seat<Tally>
     requires seat { (seat.lock ≡ lock.now) × (seat.weight ≡ 65536) × (seat.spare ≡ 65536) }
-    requires first { (seat.opening ≡ 0) × (seat.ended ≡ []) × (seat.seen ≡ []) }
+    requires first { (seat.opening ≡ 0) × (seat.ended ≡ []) × (seat.seen ≡ []) × (seat.faults ≡ 0) }
     requires none_yet { workers.old.items ≡ [] }
     requires few { vec_len lists ≤ 1000 }
     requires room { vec_len lists ≤ vec_capacity workers.old }
     ensures seat { (result.lock ≡ lock.now) × (result.weight + vec_len workers.new ≡ 65536) }
-    ensures first { (result.opening ≡ 0) × (result.ended ≡ []) × (result.seen ≡ []) }
+    ensures first { (result.opening ≡ 0) × (result.ended ≡ []) × (result.seen ≡ []) × (result.faults ≡ 0) × (result.base ≡ seat.base) }
     ensures hired { All (IsHired lock.now) workers.new.items }
     ensures all { vec_len workers.new ≡ vec_len lists }
 {
@@ -173,6 +175,8 @@ pub fn run<R: Threads + Wait + Sync>(
     ensures legal { IfSome result (λ r. All (IsServed r.0.log.items) r.1.items) }
     // Each entry of the history is some worker's.
     ensures nobody_else { IfSome result (λ r. All (λ e. Contains (map (λ w. w.number) r.1.items) e.0) r.0.log.items) }
+    // As many faults as the workers were told of are counted by the tally, until its count stands at the last value of a u64.
+    ensures faults { IfSome result (λ r. Reaches (tally.faults + all_faults_of r.1.items) r.0.faults) }
     ensures all { IfSome result (λ r. vec_len r.1 ≡ vec_len lists) }
 {
     let mut workers = Vec::with_capacity(alloc, lists.len()).ok()?;

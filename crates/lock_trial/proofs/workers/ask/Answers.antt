@@ -1,4 +1,4 @@
-use Rattle.std.proofs.Common.{◌≡◌, sym, subst, ◌∙◌}
+use Rattle.std.proofs.Common.{sym, subst}
 use Rattle.lock_trial.specs.Notes.{IsAt}
 use Rattle.lock_trial.proofs.Notes.{asked}
 use Rattle.lock_trial.proofs.workers.ask.Goals as goal

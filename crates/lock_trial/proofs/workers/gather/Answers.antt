@@ -1,10 +1,11 @@
 use Rattle.std.proofs.Common.{◌≡◌, ◌+◌, All, length, map, [], ◌∷◌, ◌++◌, ap, sym, subst, ◌∙◌, arith, length-append}
 use Rattle.std.proofs.lemmas.List.Elements.{All-push}
+use Rattle.std.proofs.lemmas.List.Sums.{sum_by_push}
 use Rattle.std.specs.Option.{option_to_list}
 use mathlib.Core.List.{map-append}
 use Rattle.history_lock.specs.Replay.{own_entries}
 use Rattle.lock_trial.specs.declared.workers.Worker.{Worker}
-use Rattle.lock_trial.specs.Notes.{IsAt, IsReady, IsServed, ended_of}
+use Rattle.lock_trial.specs.Notes.{IsAt, IsReady, IsServed, all_faults_of, ended_of, faults_of}
 use Rattle.lock_trial.proofs.Notes.{joined_ended, legal_longer, served_longer}
 use Rattle.lock_trial.proofs.Popped.{popped, some_same}
 use Rattle.lock_trial.proofs.workers.gather.Goals as goal
@@ -40,4 +41,6 @@ loop-worker-preserved c =
       subst (All (IsServed r.seen)) (sym c.push_reserved.ensures.items) all,
       omega arith,
       omega arith,
+      j.sums.1 ∙ ((λ k. i.8 k + at.faults k) ∙ (sym (sum_by_push (λ (x : Worker). faults_of x.notes.items) c.loop-worker.done.items w') ∙ ap all_faults_of (sym c.push_reserved.ensures.items))),
+      j.left_stays.4 ∙ i.9,
     )

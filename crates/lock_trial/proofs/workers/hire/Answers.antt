@@ -27,6 +27,7 @@ loop-calls-preserved c =
         ended = ap (λ (k : SeatView ℕ Call). k.ended) s.new_has_share;
         entries = ap (own_entries c.who-number.result) seen;
         legal = λ k d lt. absurd (omega arith);
+        faults = ap (λ (k : SeatView ℕ Call). k.faults) s.new_has_share;
       };
       none_yet = c.new.ensures.items;
     } in
@@ -46,5 +47,5 @@ loop-calls-preserved c =
       subst (All (IsHired z)) (sym c.push_reserved.ensures.items) (All-push (IsHired z) c.loop-calls.workers.items w i.3 ready),
       omega arith,
       omega arith,
-      (ap (λ (k : SeatView ℕ Call). k.opening) s.old_loses_share ∙ i.6.0, ap (λ (k : SeatView ℕ Call). k.ended) s.old_loses_share ∙ i.6.1, ap (λ (k : SeatView ℕ Call). k.seen) s.old_loses_share ∙ i.6.2),
+      (ap (λ (k : SeatView ℕ Call). k.opening) s.old_loses_share ∙ i.6.0, ap (λ (k : SeatView ℕ Call). k.ended) s.old_loses_share ∙ i.6.1, ap (λ (k : SeatView ℕ Call). k.seen) s.old_loses_share ∙ i.6.2, ap (λ (k : SeatView ℕ Call). k.faults) s.old_loses_share ∙ i.6.3, ap (λ (k : SeatView ℕ Call). k.base) s.old_loses_share ∙ i.6.4),
     )

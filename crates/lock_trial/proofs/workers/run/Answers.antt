@@ -1,4 +1,4 @@
-use Rattle.std.proofs.Common.{rules, ◌≡◌, ℕ, All, Contains, map, List, subst, ap, sym, ◌∙◌, get_or, ⊎_elim}
+use Rattle.std.proofs.Common.{rules, ℕ, All, Contains, List, subst, ap, sym, ◌∙◌, get_or, ⊎_elim}
 use Rattle.std.proofs.lemmas.List.Elements.{Contains-get_or}
 use Rattle.history_lock.specs.Replay.{own_entries}
 use Rattle.history_lock.proofs.Entries.{number_has_entries}
