@@ -1,47 +1,126 @@
-//! A machine that cannot be dropped.
-ghost use Rattle.std.specs.Prelude.{◌≡◌, ◌^◌, ◌<◌, [], length, ℕ, List};
+//! A machine over a keeper of one's choice, which cannot be dropped, and which contracts see as one value.
+ghost use Rattle.std.specs.Prelude.{◌≡◌, ◌⊎◌, ◌^◌, ◌<◌, ◌≤◌, [], length, ℕ, List, true, false};
+ghost use Rattle.history_lock.specs.Machines.{last_count};
 ghost use Rattle.history_lock.specs.Replay.{replay};
-ghost use Rattle.lock_trial.specs.Marks.{mark_step, mark_kind_of};
+ghost use Rattle.lock_trial.specs.Marks.{MarkerView, IsMarked, mark_step, marking_kind_of};
 
 use history_lock::Machine;
 use std::alloc::Global;
+use std::marker::Model;
 
-/// The last mark that was made, with the list of all. It has no `Drop`: whoever has one ends it by `into_marks`.
-pub struct Marker {
-    last: u64,
-    marks: Vec<(u32, u64)>,
-    ghost kept: { last ≡ replay mark_step 0 marks.items },
-    ghost few: { length marks.items < 2 ^ 63 },
+/// What a marker hands each mark to first. It may fail.
+pub trait Keeper {
+    /// How many of its calls failed.
+    ghost faults: { Self → ℕ };
+
+    /// Whether the mark was kept.
+    fn keep(&mut self, mark: u64) -> bool
+        ensures never_falls { faults self.old ≤ faults self.new }
+        ensures counted { result ≡ false → (faults self.old < faults self.new) ⊎ (last_count ≤ faults self.new) };
 }
 
-impl Marker {
+/// A keeper that fails in one call of one's choice.
+#[derive(Drop)]
+pub struct FailsOnce {
+    left: u64,
+    faults: u64,
+}
+
+impl FailsOnce {
+    /// A keeper that keeps `before` marks and then fails once.
+    pub fn new(before: u64) -> FailsOnce
+        ensures { result.faults ≡ 0 }
+    {
+        FailsOnce {
+            left: before,
+            faults: 0,
+        }
+    }
+
+    /// How many calls failed. It stays at the last value of a u64.
+    pub fn faults(&self) -> u64
+        ensures { result ≡ self.now.faults }
+    {
+        self.faults
+    }
+}
+
+impl Keeper for FailsOnce {
+    ghost faults = { λ k. k.faults };
+
+    fn keep(&mut self, mark: u64) -> bool {
+        let _ = mark;
+        if self.left == 0 {
+            self.left = u64::MAX;
+            self.faults = self.faults.saturating_add(1);
+            return false;
+        }
+        self.left -= 1;
+        true
+    }
+}
+
+/// A marker's reply.
+#[derive(Clone, Copy)]
+pub enum Marking {
+    /// The mark was made.
+    Marked,
+    /// The keeper failed. No mark was made.
+    Failed,
+    /// There was no memory for one more mark. None was made.
+    NoMemory,
+}
+
+/// The last mark that was made, with the list of all. It has no `Drop`: whoever has one ends it by `into_marks`.
+pub struct Marker<K: Keeper> {
+    keeper: K,
+    last: u64,
+    marks: Vec<(u32, u64)>,
+}
+
+impl<K: Keeper> Model for Marker<K> {
+    ghost use Rattle.lock_trial.specs.Marks.{MarkerView, IsMarked};
+
+    ghost Value = { MarkerView };
+
+    ghost view = { λ m. record { last = m.last; marks = m.marks.items; faults = K.faults m.keeper } };
+
+    ghost invariant = { λ m. IsMarked m.last m.marks.items };
+}
+
+impl<K: Keeper> Marker<K> {
     /// A marker without marks.
-    pub fn new(alloc: Global) -> Marker
-        ensures { result.marks.items ≡ [] }
+    pub fn new(alloc: Global, keeper: K) -> Marker<K>
+        ensures { result ≡ record { last = 0; marks = []; faults = K.faults keeper } }
     {
         Marker {
+            keeper,
             last: 0,
             marks: Vec::new(alloc),
         }
     }
 
-    /// All marks, each with its caller's number, from the first.
-    pub fn into_marks(self) -> Vec<(u32, u64)>
-        ensures { result.items ≡ self.marks.items }
+    /// The keeper, and all marks, each with its caller's number, from the first.
+    pub fn into_marks(self) -> (K, Vec<(u32, u64)>)
+        ensures { (result.1.items ≡ self.marks) × (K.faults result.0 ≡ self.faults) }
     {
-        let Marker { last: _, marks } = self;
-        marks
+        let Marker {
+            keeper,
+            last: _,
+            marks,
+        } = self;
+        (keeper, marks)
     }
 }
 
-impl Machine for Marker {
+impl<K: Keeper> Machine for Marker<K> {
     type Call = u64;
 
-    type Reply = bool;
+    type Reply = Marking;
 
     type Said = u64;
 
-    type Answer = bool;
+    type Answer = Marking;
 
     type State = u64;
 
@@ -49,7 +128,7 @@ impl Machine for Marker {
 
     ghost answer = { λ r. r };
 
-    ghost kind = { mark_kind_of };
+    ghost kind = { marking_kind_of };
 
     ghost takes = { λ c. Unit {0} };
 
@@ -59,20 +138,22 @@ impl Machine for Marker {
 
     ghost state = { λ m. m.last };
 
-    ghost log = { λ m. m.marks.items };
+    ghost log = { λ m. m.marks };
 
-    ghost faults = { λ m. 0 };
+    ghost faults = { λ m. m.faults };
 
     ghost step = { mark_step };
 
-    fn act(&mut self, who: u32, mark: u64) -> bool {
+    fn act(&mut self, who: u32, mark: u64) -> Marking {
         if self.marks.len() >= 1 << 62 || self.marks.reserve(1).is_err() {
-            return false;
+            return Marking::NoMemory;
         }
-        let Marker { last, marks, .. } = self;
-        marks.push_reserved((who, mark));
-        *last = mark;
-        true
+        if !self.keeper.keep(mark) {
+            return Marking::Failed;
+        }
+        self.marks.push_reserved((who, mark));
+        self.last = mark;
+        Marking::Marked
     }
 
     fn entries(&self) -> u64 {
