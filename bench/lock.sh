@@ -1,6 +1,7 @@
 #!/usr/bin/env bash
 # Calls a second from 1, 2, 4 and 16 threads, under the lock of history_lock and under std's mutex, with an act that does
-# about nothing and with one of about a millisecond; beside it the processors that the run kept busy.
+# about nothing and with one of about a millisecond; beside it the processors that the run kept busy, and what a call
+# cost them, which tells the cost of waiting also where other work shares the machine.
 # It writes a program into a scratch copy outside the repository, proves and builds it there, and runs it.
 # usage: bench/lock.sh [pauses of the slow act]; with SCRATCH=DIR the program stays there
 set -euo pipefail
@@ -251,16 +252,21 @@ program=$bench/out/lock_bench
 TIMEFORMAT='%U %S'
 row() {
     local threads=$1 calls=$2 rounds=$3 kind=$4 nanos busy
-    { read -r nanos; read -r busy; } < <({ time "$program" "$threads" "$calls" "$rounds" "$kind"; } 2>&1)
+    { read -r nanos; read -r busy; } < <({ time ${on:-} "$program" "$threads" "$calls" "$rounds" "$kind"; } 2>&1)
     awk -v t="$threads" -v c="$calls" -v k="$kind" -v n="$nanos" -v b="$busy" 'BEGIN {
         split(b, s, " "); wall = n / 1e9; cpu = s[1] + s[2];
-        printf "| %s | %d | %.0f | %.2f |\n", k, t, t * c / wall, cpu / wall }'
+        printf "| %s | %d | %.0f | %.2f | %.2f |\n", k, t, t * c / wall, cpu / wall, cpu / t / c * 1e6 }'
 }
 for act in nothing slow; do
-    echo; echo "| $act | threads | calls a second | processors busy |"; echo '|---|---|---|---|'
+    echo; echo "| $act | threads | calls a second | processors busy | processor microseconds a call |"; echo '|---|---|---|---|---|'
     for threads in 1 2 4 16; do
         for kind in lock mutex; do
             if [ $act = nothing ]; then row "$threads" $((1000000 / threads)) 0 $kind; else row "$threads" $((1600 / threads)) "$pauses" $kind; fi
         done
     done
 done
+if command -v taskset >/dev/null; then
+    echo; echo '| slow, on two processors | threads | calls a second | processors busy | processor microseconds a call |'; echo '|---|---|---|---|---|'
+    on='taskset -c 0,1'
+    for kind in lock mutex; do row 32 50 "$pauses" $kind; done
+fi
