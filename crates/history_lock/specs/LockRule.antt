@@ -32,6 +32,7 @@ pub record FitsRule {S C : Type 0} (history : List (ℕ × C)) (opening : S) (ba
   pub ticket : (t : ℕ) → HasTicket t v.stage → (turned ≤ t) × (t < drawn) × (owner t ≡ j)
   -- a seat with a ticket has a weight, so tickets are never more than weights
   pub heavy : tickets_held v.stage ≤ v.weight
+  -- what is said of the seat that has the turn
   pub turn : HasTurn v.stage → LeadsHistory history turned faults v
   -- a live seat tells the opening state and the count of faults of the machine that the lock was made with
   pub start : v.live ≡ true → (v.opening.value ≡ opening) × (v.base ≡ base)
@@ -65,12 +66,14 @@ IsPlaced {S = S} {C = C} W key s history =
 
 -- the rule, for a lock that was made with the machine key
 pub record KeepsOneHistory {M S C A : Type 0} (W : Meaning M S C A) (key : M) (s : Board M S C) : Type 0 where
+  -- the accepted changes since the lock was made
   pub history : List (ℕ × C)
   -- how many tickets were drawn, and how many turns were passed, since the lock was made
   pub drawn : ℕ
   pub turned : ℕ
   -- the index of the seat that drew a ticket
   pub owner : ℕ → ℕ
+  -- the words on which waiting seats sleep, whatever stands in them
   pub bells : List ℕ
   -- the words are the ticket and the turn modulo 2^64, and the length of the history
   pub words : s.words ≡ drawn % 2 ^ 64 ∷ turned % 2 ^ 64 ∷ length history ∷ bells
@@ -80,8 +83,11 @@ pub record KeepsOneHistory {M S C A : Type 0} (W : Meaning M S C A) (key : M) (s
   pub weights : total weight_of s.views ≡ 65536
   -- each ticket from the turn up to the last that was drawn is held by the seat that drew it
   pub stands : (t : ℕ) → turned ≤ t → t < drawn → (v : View S C) × (get_elem? s.views (owner t) ≡ some v) × HasTicket t v.stage
+  -- what is said of each seat
   pub each : (j : ℕ) (v : View S C) → get_elem? s.views j ≡ some v → FitsRule history (W.opening key) (W.faults key) drawn turned (total faults_of s.views) owner j v
+  -- where the machine is
   pub place : IsPlaced W key s history
   -- some live seat has seen the whole history
   pub whole : (j : ℕ) × (v : View S C) × (get_elem? s.views j ≡ some v) × (v.live ≡ true) × (v.seen ≡ history)
+  -- under which numbers the seats call
   pub numbers : KeepsNumbers history (map holding_of s.views)

@@ -54,6 +54,7 @@ IsSameSeat v w = (w.lock ≡ v.lock) × (w.number ≡ v.number) × (w.spare ≡ 
 
 -- one call: the seat was v and is w
 pub record IsCall {S C A : Type 0} (step : S → C → S × A) (v w : SeatView S C) (call : C) (answer : A) (kind : ReplyKind) (place : ℕ) : Type 0 where
+  -- nothing else of the seat changes
   pub seat_stays : IsSameSeat v w
   -- what the seat had seen begins what it has seen now
   pub seen_only_grows : IsPrefix v.seen w.seen

@@ -58,6 +58,7 @@ impl<M: Machine> Shared<M> {
         ensures ok { IfOk result (λ r. r.1 ≡ first_seat r.0 (M.opening machine) (M.faults machine)) }
         ensures err { IfErr result (λ m. m ≡ machine) }
     {
+        // Its clauses say that the machine's state is the replay of its accepted changes.
         let _ = machine.entries();
         let about = Snapshot::of(&machine);
         let mut slots = Vec::new(alloc);
@@ -110,6 +111,7 @@ impl<M: Machine> Shared<M> {
         let mut machine = steps::take_turn(rt, &self.table.shared, &mut place);
         let before = machine.entries();
         let reply = machine.act(who, call);
+        // Says that the state is the replay of what is accepted now, which the next caller rests on.
         let after = machine.entries();
         steps::finish(
             &self.table.shared,
