@@ -99,9 +99,9 @@ same_fault within n line TooManyLines TooManyLines h k = refl
 
 same_number : (within : Cidr) (input : List ℕ) (m n : ℕ) (f g : LineFault) → IsRefusedLine within input m f → IsRefusedLine within input n g → m ≡ n
 same_number within input m n f g h k = elim (cases_lt m n) [
-    inl less ↦ absurd (not_before within input m n f g h k less)
+  | inl less ↦ absurd (not_before within input m n f g h k less)
   | inr le ↦ elim (cases_lt n m) [ inl less ↦ absurd (not_before within input n m g f k h less) | inr ge ↦ omega arith ]
-  ]
+]
 
 refusals : (within : Cidr) (input : List ℕ) (m n : ℕ) (f g : LineFault) → IsRefusedLine within input m f → IsRefusedLine within input n g → (m ≡ n) × (f ≡ g)
 refusals within input m n f g h k =

@@ -25,9 +25,6 @@ use Rattle.std.specs.Io.KnownBytes.{Consumes, IsAtEnd}
 use Rattle.std.specs.declared.alloc.Global.{Global}
 use Rattle.std.specs.Option.{option_to_list}
 
-
-
-
 -- a part, and then the parts of the rest: a line that loses its carriage return, and then the lines of the rest
 parts-cons : (x : List ℕ) (ys : List ℕ) → lines_of_parts (x ∷ slice_split (λ b. b == 10) ys) ≡ strip_carriage_return x ∷ lines_of_parts (slice_split (λ b. b == 10) ys)
 parts-cons x ys = go (slice_split (λ b. b == 10) ys) (length-slice_split (λ b. b == 10) ys) where
@@ -119,8 +116,15 @@ pub refused_behind : (within : Cidr) (bytes : List ℕ) (ended : List (List ℕ)
 refused_behind within bytes ended line after children n number fault split named count few number_is refused =
     let len = length-map ended strip_carriage_return in
     record {
-      before = map strip_carriage_return ended; line = line; after = after; children = children;
-      split = split; number_is = omega arith; few = omega arith; named = named; refused = refused;
+      before = map strip_carriage_return ended;
+      line = line;
+      after = after;
+      children = children;
+      split = split;
+      number_is = omega arith;
+      few = omega arith;
+      named = named;
+      refused = refused;
     }
 
 -- the number of the next line, which no u32 misses
@@ -134,7 +138,7 @@ lines_then_feed : (within : Cidr) (bytes : List ℕ) (old : Lines) (h : IsReadin
     → lines ((bytes ++ 10 ∷ []) ++ more) ≡ map strip_carriage_return h.ended ++ strip_carriage_return h.next ∷ lines more
 lines_then_feed within bytes old h more =
     let regroup : (bytes ++ 10 ∷ []) ++ more ≡ flat_map fed h.ended ++ (h.next ++ 10 ∷ more) =
-        append_assoc bytes (10 ∷ []) more ∙ ap (λ (xs : List ℕ). xs ++ 10 ∷ more) h.bytes_are ∙ append_assoc (flat_map fed h.ended) h.next (10 ∷ more) in
+    append_assoc bytes (10 ∷ []) more ∙ ap (λ (xs : List ℕ). xs ++ 10 ∷ more) h.bytes_are ∙ append_assoc (flat_map fed h.ended) h.next (10 ∷ more) in
     ap lines regroup ∙ lines-ended h.ended (h.next ++ 10 ∷ more) h.ended_free
     ∙ ap (λ (ls : List (List ℕ)). map strip_carriage_return h.ended ++ ls) (lines-fed h.next more h.next_free)
 
@@ -146,14 +150,14 @@ feed_refused within bytes old h number fault is refused more =
     let count = h.count in
     let few = h.few in
     refused_behind within _ h.ended (strip_carriage_return h.next) (lines more) old.children.items old.ended number fault
-        (lines_then_feed within bytes old h more) h.named count (omega arith) (omega arith) refused
+    (lines_then_feed within bytes old h more) h.named count (omega arith) (omega arith) refused
 
 -- one more line, which names what was found
 named_more : (within : Cidr) (before : List (List ℕ)) (children : List Cidr) (line : List ℕ) (found : Option Cidr) → AreChildren within before children → Names within line found
     → AreChildren within (before ++ line ∷ []) (children ++ option_to_list found)
 named_more within before children line None h none =
     subst (λ (l : List ℕ). AreChildren within (before ++ l ∷ []) (children ++ [])) (sym none)
-        (subst (λ (cs : List Cidr). AreChildren within (before ++ [] ∷ []) cs) (sym (append-nil children)) (children_same within before children h))
+    (subst (λ (cs : List Cidr). AreChildren within (before ++ [] ∷ []) cs) (sym (append-nil children)) (children_same within before children h))
 named_more within before children line (Some b) h one = children_more within before children line b h one.0 one.1
 
 -- a line that a line feed ends and that is not refused
@@ -165,7 +169,8 @@ feed_read within bytes old new h number found is few names children ended line l
     let count = h.count in
     let one : length (h.ended ++ h.next ∷ []) ≡ length h.ended + 1 = length-append h.ended (h.next ∷ []) in
     record {
-      ended = h.ended ++ h.next ∷ []; next = [];
+      ended = h.ended ++ h.next ∷ [];
+      next = [];
       bytes_are = bytes_fed h.ended h.next bytes h.bytes_are;
       ended_free = free_more h.ended h.next h.ended_free h.next_free;
       next_free = no_feed_none;
@@ -181,12 +186,15 @@ pub byte_read : (within : Cidr) (bytes : List ℕ) (old new : Lines) (h : IsRead
     → new.children.items ≡ old.children.items → new.ended ≡ old.ended → IsKept (h.next ++ b ∷ []) new.line.items new.long
     → IsReading within (bytes ++ b ∷ []) new
 byte_read within bytes old new h b other children ended kept = record {
-  ended = h.ended; next = h.next ++ b ∷ [];
+  ended = h.ended;
+  next = h.next ++ b ∷ [];
   bytes_are = bytes_more h.ended h.next bytes b h.bytes_are;
   ended_free = h.ended_free;
   next_free = no_feed_more h.next b h.next_free other;
   named = subst (λ (cs : List Cidr). AreChildren within (map strip_carriage_return h.ended) cs) (sym children) h.named;
-  count = ended ∙ h.count; few = h.few; kept = kept;
+  count = ended ∙ h.count;
+  few = h.few;
+  kept = kept;
 }
 
 -- what is kept grows by the byte
@@ -239,7 +247,7 @@ last_read within bytes old h number found children is few some names children_is
 pub none_left : (within : Cidr) (bytes : List ℕ) (old : Lines) (h : IsReading within bytes old) → h.next ≡ [] → HasRead within bytes old.children.items
 none_left within bytes old h none =
     let all : lines bytes ≡ map strip_carriage_return h.ended =
-        ap lines (h.bytes_are ∙ ap (λ (xs : List ℕ). flat_map fed h.ended ++ xs) none) ∙ lines-ended h.ended [] h.ended_free ∙ append-nil (map strip_carriage_return h.ended) in
+    ap lines (h.bytes_are ∙ ap (λ (xs : List ℕ). flat_map fed h.ended ++ xs) none) ∙ lines-ended h.ended [] h.ended_free ∙ append-nil (map strip_carriage_return h.ended) in
     let len = length-map h.ended strip_carriage_return in
     let few = h.few in
     record {
@@ -253,8 +261,8 @@ none_left within bytes old h none =
 pub stops_within : (within : Cidr) (bytes front rest : List ℕ) (s : Stop) → StopsWhatever within (bytes ++ front) s → StopsWhatever within (bytes ++ (front ++ rest)) s
 stops_within within bytes front rest (stop.Line number fault) h = λ more.
     subst (λ (xs : List ℕ). IsRefusedLine within xs number fault)
-        (append_assoc bytes front (rest ++ more) ∙ ap (λ (xs : List ℕ). bytes ++ xs) (sym (append_assoc front rest more)) ∙ sym (append_assoc bytes (front ++ rest) more))
-        (h (rest ++ more))
+    (append_assoc bytes front (rest ++ more) ∙ ap (λ (xs : List ℕ). bytes ++ xs) (sym (append_assoc front rest more)) ∙ sym (append_assoc bytes (front ++ rest) more))
+    (h (rest ++ more))
 stops_within within bytes front rest stop.Failed h = h
 stops_within within bytes front rest stop.Memory h = tt
 

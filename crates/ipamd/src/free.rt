@@ -157,5 +157,4 @@ pub fn refusal_text(
 /// An input has one answer: one output, or one first refused line.
 pub fn free_has_one_answer()
     ensures { FreeHasOneAnswer }
-{
-}
+{}

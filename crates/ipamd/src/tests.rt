@@ -20,9 +20,8 @@ fn run_on(
     input: &[u8],
     piece: usize,
     fails: [&[u32]; 3],
-) -> Result<Left, AllocError>
-    requires { 0 < piece }
-{
+) -> Result<Left, AllocError> {
+    let piece = piece.max(1);
     let bytes = Vec::from_slice(alloc, input)?;
     let [source, sink, messages] = fails;
     let mut input = BytesSource::new(bytes, Vec::from_slice(alloc, source)?, piece);
@@ -36,45 +35,160 @@ fn run_on(
     })
 }
 
-const SEVEN: &str = "10.0.1.0/24\n10.0.2.0/23\n10.0.8.0/21\n10.0.16.0/20\n10.0.32.0/19\n10.0.64.0/18\n10.0.128.0/17\n";
+const SEVEN: &str =
+    "10.0.1.0/24\n10.0.2.0/23\n10.0.8.0/21\n10.0.16.0/20\n10.0.32.0/19\n10.0.64.0/18\n10.0.128.0/17\n";
 
 /// Rows of a prefix, an input, and what has to come: the status, the output, the messages.
 const ROWS: [(&str, &str, u8, &str, &str); 25] = [
     ("10.0.0.0/16", "10.0.0.0/24\n10.0.4.0/22\n", 0, SEVEN, ""),
     ("10.0.0.0/16", "10.0.4.0/22\r\n\n10.0.0.0/24", 0, SEVEN, ""),
-    ("10.0.0.0/16", "10.0.4.0/22\n10.0.0.0/24\n10.0.0.0/24\n10.0.5.0/24\n10.0.0.0/25\n\r\n", 0, SEVEN, ""),
+    (
+        "10.0.0.0/16",
+        "10.0.4.0/22\n10.0.0.0/24\n10.0.0.0/24\n10.0.5.0/24\n10.0.0.0/25\n\r\n",
+        0,
+        SEVEN,
+        "",
+    ),
     ("10.0.0.0/16", "", 0, "10.0.0.0/16\n", ""),
     ("10.0.0.0/16", "\n\n", 0, "10.0.0.0/16\n", ""),
     ("10.0.0.0/31", "10.0.0.1/32\n10.0.0.0/32\n", 0, "", ""),
     ("0.0.0.0/1", "0.0.0.0/2\n", 0, "64.0.0.0/2\n", ""),
-    ("255.255.255.254/31", "255.255.255.255/32\n", 0, "255.255.255.254/32\n", ""),
-    ("2001:db8::/126", "2001:DB8::/128\n", 0, "2001:db8::1/128\n2001:db8::2/127\n", ""),
+    (
+        "255.255.255.254/31",
+        "255.255.255.255/32\n",
+        0,
+        "255.255.255.254/32\n",
+        "",
+    ),
+    (
+        "2001:db8::/126",
+        "2001:DB8::/128\n",
+        0,
+        "2001:db8::1/128\n2001:db8::2/127\n",
+        "",
+    ),
     ("8000::/1", "c000::/2\n", 0, "8000::/2\n", ""),
-    ("ffff:ffff:ffff:ffff:ffff:ffff:ffff:fffe/127", "ffff:ffff:ffff:ffff:ffff:ffff:ffff:ffff/128", 0, "ffff:ffff:ffff:ffff:ffff:ffff:ffff:fffe/128\n", ""),
-    ("10.0.0.0/16", "10.0.0.0/24\n10.1.0.0/24\n", 1, "", "line 2: not strictly inside 10.0.0.0/16\n"),
-    ("10.0.0.0/16", "10.0.0.0/16\n", 1, "", "line 1: not strictly inside 10.0.0.0/16\n"),
-    ("10.0.0.0/16", "\n0.0.0.0/0\nx\n", 1, "", "line 2: not strictly inside 10.0.0.0/16\n"),
-    ("10.0.0.0/16", "2001:db8::/32\n", 1, "", "line 1: not strictly inside 10.0.0.0/16\n"),
-    ("2001:DB8::/32", "10.0.0.0/24\n", 1, "", "line 1: not strictly inside 2001:db8::/32\n"),
-    ("10.0.0.0/16", "10.0.0.1/24\n", 1, "", "line 1: host bits set, the prefix is 10.0.0.0/24\n"),
-    ("10.0.0.0/16", "10.0.0.0/24\n11.0.0.1/24", 1, "", "line 2: host bits set, the prefix is 11.0.0.0/24\n"),
-    ("10.0.0.0/16", "2001:DB8::1/32\n", 1, "", "line 1: host bits set, the prefix is 2001:db8::/32\n"),
-    ("10.0.0.0/16", "10.0.0.0/24\nx\n10.1.0.0/24\n", 1, "", "line 2: not a prefix\n"),
+    (
+        "ffff:ffff:ffff:ffff:ffff:ffff:ffff:fffe/127",
+        "ffff:ffff:ffff:ffff:ffff:ffff:ffff:ffff/128",
+        0,
+        "ffff:ffff:ffff:ffff:ffff:ffff:ffff:fffe/128\n",
+        "",
+    ),
+    (
+        "10.0.0.0/16",
+        "10.0.0.0/24\n10.1.0.0/24\n",
+        1,
+        "",
+        "line 2: not strictly inside 10.0.0.0/16\n",
+    ),
+    (
+        "10.0.0.0/16",
+        "10.0.0.0/16\n",
+        1,
+        "",
+        "line 1: not strictly inside 10.0.0.0/16\n",
+    ),
+    (
+        "10.0.0.0/16",
+        "\n0.0.0.0/0\nx\n",
+        1,
+        "",
+        "line 2: not strictly inside 10.0.0.0/16\n",
+    ),
+    (
+        "10.0.0.0/16",
+        "2001:db8::/32\n",
+        1,
+        "",
+        "line 1: not strictly inside 10.0.0.0/16\n",
+    ),
+    (
+        "2001:DB8::/32",
+        "10.0.0.0/24\n",
+        1,
+        "",
+        "line 1: not strictly inside 2001:db8::/32\n",
+    ),
+    (
+        "10.0.0.0/16",
+        "10.0.0.1/24\n",
+        1,
+        "",
+        "line 1: host bits set, the prefix is 10.0.0.0/24\n",
+    ),
+    (
+        "10.0.0.0/16",
+        "10.0.0.0/24\n11.0.0.1/24",
+        1,
+        "",
+        "line 2: host bits set, the prefix is 11.0.0.0/24\n",
+    ),
+    (
+        "10.0.0.0/16",
+        "2001:DB8::1/32\n",
+        1,
+        "",
+        "line 1: host bits set, the prefix is 2001:db8::/32\n",
+    ),
+    (
+        "10.0.0.0/16",
+        "10.0.0.0/24\nx\n10.1.0.0/24\n",
+        1,
+        "",
+        "line 2: not a prefix\n",
+    ),
     ("10.0.0.0/16", "10.0.0.0\n", 1, "", "line 1: not a prefix\n"),
-    ("10.0.0.0/16", "10.0.0.0/24\r", 1, "", "line 1: not a prefix\n"),
-    ("10.0.0.0/16", "10.0.0.0/24\r\r\n", 1, "", "line 1: not a prefix\n"),
-    ("10.0.0.0/16", "0000000000000000000000000000000000000000000000000000000000000000\n", 1, "", "line 1: not a prefix\n"),
-    ("10.0.0.0/16", "00000000000000000000000000000000000000000000000000000000000000000000\n", 1, "", "line 1: not a prefix\n"),
+    (
+        "10.0.0.0/16",
+        "10.0.0.0/24\r",
+        1,
+        "",
+        "line 1: not a prefix\n",
+    ),
+    (
+        "10.0.0.0/16",
+        "10.0.0.0/24\r\r\n",
+        1,
+        "",
+        "line 1: not a prefix\n",
+    ),
+    (
+        "10.0.0.0/16",
+        "0000000000000000000000000000000000000000000000000000000000000000\n",
+        1,
+        "",
+        "line 1: not a prefix\n",
+    ),
+    (
+        "10.0.0.0/16",
+        "00000000000000000000000000000000000000000000000000000000000000000000\n",
+        1,
+        "",
+        "line 1: not a prefix\n",
+    ),
 ];
 
 #[test]
 fn free_however_the_bytes_are_cut(rt: HostRuntime) -> Result<(), Fail> {
     for (prefix, input, status, output, errors) in ROWS {
         for piece in [1, 7, 4_096] {
-            let left = run_on(rt.alloc(), &["free", prefix], input.as_bytes(), piece, [&[], &[], &[]])?;
+            let left = run_on(
+                rt.alloc(),
+                &["free", prefix],
+                input.as_bytes(),
+                piece,
+                [&[], &[], &[]],
+            )?;
             assert!(rt; left.status == status, "{prefix} {input}");
-            assert!(rt; left.output.as_slice() == output.as_bytes(), "{prefix} {input}");
-            assert!(rt; left.errors.as_slice() == errors.as_bytes(), "{prefix} {input}");
+            assert!(rt;
+                left.output.as_slice() == output.as_bytes(),
+                "{prefix} {input}"
+            );
+            assert!(rt;
+                left.errors.as_slice() == errors.as_bytes(),
+                "{prefix} {input}"
+            );
         }
     }
     Ok(())
@@ -126,18 +240,38 @@ fn count_lines(text: &[u8]) -> usize {
 
 #[test]
 fn many_lines_and_many_blocks(rt: HostRuntime) -> Result<(), Fail> {
-    let left = run_on(rt.alloc(), &["free", "::/1"], b"::/128\n", 4_096, [&[], &[], &[]])?;
+    let left = run_on(
+        rt.alloc(),
+        &["free", "::/1"],
+        b"::/128\n",
+        4_096,
+        [&[], &[], &[]],
+    )?;
     assert!(rt; left.status == 0 && count_lines(&left.output) == 127);
-    assert!(rt; left.output.starts_with(b"::1/128\n::2/127\n") && left.output.ends_with(b"\n4000::/2\n"));
+    assert!(rt;
+        left.output.starts_with(b"::1/128\n::2/127\n") && left.output.ends_with(b"\n4000::/2\n")
+    );
 
     let mut input = Vec::new(rt.alloc());
     for _ in 0..200_000 {
         input.extend_from_slice(b"10.0.0.0/17\n")?;
     }
-    let most = run_on(rt.alloc(), &["free", "10.0.0.0/16"], &input, 65_536, [&[], &[], &[]])?;
+    let most = run_on(
+        rt.alloc(),
+        &["free", "10.0.0.0/16"],
+        &input,
+        65_536,
+        [&[], &[], &[]],
+    )?;
     assert!(rt; most.status == 0 && most.output.as_slice() == b"10.0.128.0/17\n".as_slice());
     input.push(b'\r')?;
-    let more = run_on(rt.alloc(), &["free", "10.0.0.0/16"], &input, 65_536, [&[], &[], &[]])?;
+    let more = run_on(
+        rt.alloc(),
+        &["free", "10.0.0.0/16"],
+        &input,
+        65_536,
+        [&[], &[], &[]],
+    )?;
     assert!(rt; more.status == 1 && more.output.is_empty());
     assert!(rt; more.errors.as_slice() == b"line 200001: too many lines\n".as_slice());
     Ok(())

@@ -33,11 +33,11 @@ returns-in_default-read_block-clause-none c = λ within asks.
     let block : IsBlockText c.as_bytes.result.now within = subst (λ (t : List ℕ). IsBlockText t within) text asks.block in
     let long = asks.long in
     elim c.in_default-read_block.branch [
-      in_default-read_block-via-in-Ok+else-len-gt0 w ↦
-        let same : w.in-Ok.block ≡ within = reading_is_one.blocks c.as_bytes.result.now w.in-Ok.block within w.in-Ok.ensures.ok block in
-        let len : w.in-Ok.block.len ≡ within.len = ap (λ (b : Cidr). b.len) same in
-        let zero = w.if-len-gt0.false in
-        let is = w.len.ensures.len in
-        absurd (omega arith)
-    | in_default-read_block-via-in_default-read_block w ↦ absurd (reading_is_one.apart c.as_bytes.result.now within w.in_default-read_block.field-0 block w.in_default-read_block.ensures.fault)
+      | in_default-read_block-via-in-Ok+else-len-gt0 w ↦
+          let same : w.in-Ok.block ≡ within = reading_is_one.blocks c.as_bytes.result.now w.in-Ok.block within w.in-Ok.ensures.ok block in
+          let len : w.in-Ok.block.len ≡ within.len = ap (λ (b : Cidr). b.len) same in
+          let zero = w.if-len-gt0.false in
+          let is = w.len.ensures.len in
+          absurd (omega arith)
+      | in_default-read_block-via-in_default-read_block w ↦ absurd (reading_is_one.apart c.as_bytes.result.now within w.in_default-read_block.field-0 block w.in_default-read_block.ensures.fault)
     ]

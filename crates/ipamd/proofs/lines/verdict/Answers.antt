@@ -14,4 +14,4 @@ returns-in-Err c = λ whole h.
     let some : line ≢ [] = λ none. (let z : length line ≡ 0 = ap length none in let t : (length line == 0) ≡ true = grind (arith, nat_tests) in let wrong : true ≡ false = sym (c.is_empty.ensures ∙ t) ∙ c.if-is_empty.false in cc) in
     let refused = text_refused c.args.within.now c.args.number line c.in-Err.fault c.if-number-gt-MOST_LINES.false some c.if-line-gt64.false c.in-Err.ensures.fault in
     subst (λ (f : LineFault). IsLineFault c.args.within.now c.args.number whole f) (sym c.line_fault.ensures)
-        (subst (λ (l : List ℕ). IsLineFault c.args.within.now c.args.number l (line_fault_of c.in-Err.fault)) is refused)
+    (subst (λ (l : List ℕ). IsLineFault c.args.within.now c.args.number l (line_fault_of c.in-Err.fault)) is refused)
