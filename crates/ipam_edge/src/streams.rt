@@ -1,5 +1,6 @@
-//! The standard streams. They count their faults, and tell nothing of their content.
-ghost use Rattle.std.specs.Prelude.{◌≡◌, ◌<◌, ◌≤◌, None, IfOk, length};
+//! Streams, as the standard ones. They count their faults, and tell what the stream itself tells:
+//! the standard streams tell nothing.
+ghost use Rattle.std.specs.Prelude.{◌≡◌, ◌<◌, ◌≤◌, IfOk, length};
 
 use crate::{Failed, Sink, Source};
 use std::io;
@@ -13,14 +14,19 @@ pub struct StdSource<R> {
 }
 
 impl<R: Read + Drop> StdSource<R> {
+    ghost use Rattle.ipam_edge.specs.Streams.{source_stream, source_stream_faults};
+
     /// A source over a stream.
-    pub fn new(stream: R) -> StdSource<R> {
+    pub fn new(stream: R) -> StdSource<R>
+        ensures stream { source_stream result ≡ stream }
+        ensures faults { source_stream_faults result ≡ 0 }
+    {
         StdSource { stream, faults: 0 }
     }
 }
 
 impl<R: Read> Source for StdSource<R> {
-    ghost left = { λ _. None };
+    ghost left = { λ s. R.remaining s.stream };
 
     ghost faults = { λ s. s.faults };
 
@@ -44,14 +50,19 @@ pub struct StdSink<W> {
 }
 
 impl<W: Write + Drop> StdSink<W> {
+    ghost use Rattle.ipam_edge.specs.Streams.{sink_stream, sink_stream_faults};
+
     /// A sink over a stream.
-    pub fn new(stream: W) -> StdSink<W> {
+    pub fn new(stream: W) -> StdSink<W>
+        ensures stream { sink_stream result ≡ stream }
+        ensures faults { sink_stream_faults result ≡ 0 }
+    {
         StdSink { stream, faults: 0 }
     }
 }
 
 impl<W: Write> Sink for StdSink<W> {
-    ghost written = { λ _. None };
+    ghost written = { λ s. W.contents s.stream };
 
     ghost faults = { λ s. s.faults };
 
