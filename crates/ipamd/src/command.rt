@@ -87,6 +87,9 @@ pub fn run<So: Source, Si: Sink, Se: Sink>(
     // 5: want of memory, with nothing on the output.
     ensures memory { result ≡ 5 → Keeps (Si.written output.old) (Si.written output.new) }
 
+    // Nothing is on the output unless the status is 0 or a write of it failed.
+    ensures nothing_else { (result ≡ 0) ⊎ Keeps (Si.written output.old) (Si.written output.new) ⊎ Rose (Si.faults output.old) (Si.faults output.new) }
+
     // Where a line of a told input is refused, the status is 1, or 3 or 5 for their causes.
     ensures refuses { (within : Cidr) (number : ℕ) (fault : LineFault) → AsksFree (map (λ w. w.now) words.now) within
         → IfSome (So.left input.old) (λ bytes. IsRefusedLine within bytes number fault → (result ≡ 1) ⊎ (result ≡ 3) ⊎ (result ≡ 5)) }
