@@ -1,0 +1,48 @@
+//! VRFs (virtual routing and forwarding instances, RFC 4364), each of which has a table of blocks of its own.
+
+ghost use Rattle.std.specs.Prelude.{◌≡◌, ℕ, IfOk};
+
+use crate::kinds::Row;
+use crate::text::{Description, Distinguisher, Name};
+use std::alloc::AllocError;
+
+/// A VRF. Its name need not be unique; its route distinguisher, where it has one, is. Where `enforce_unique` is true, its
+/// table may have each block once.
+#[derive(Debug, Drop)]
+pub struct Vrf {
+    pub id: u32,
+    pub name: Name,
+    pub rd: Option<Distinguisher>,
+    pub enforce_unique: bool,
+    pub description: Description,
+}
+
+/// The same optional distinguisher again. `Err` is want of memory.
+pub fn copy_distinguisher(rd: &Option<Distinguisher>) -> Result<Option<Distinguisher>, AllocError>
+    ensures { IfOk result (λ t. t ≡ rd.now) }
+{
+    match rd {
+        Some(rd) => Ok(Some(rd.copy()?)),
+        None => Ok(None),
+    }
+}
+
+impl Vrf {
+    /// The same row again. `Err` is want of memory.
+    pub fn copy(&self) -> Result<Vrf, AllocError>
+        ensures { IfOk result (λ row. row ≡ self.now) }
+    {
+        let name = self.name.copy()?;
+        let rd = copy_distinguisher(&self.rd)?;
+        let description = self.description.copy()?;
+        Ok(Vrf { id: self.id, name, rd, enforce_unique: self.enforce_unique, description })
+    }
+}
+
+impl Row for Vrf {
+    ghost id_of = { λ r. r.id };
+
+    fn id(&self) -> u32 {
+        self.id
+    }
+}
