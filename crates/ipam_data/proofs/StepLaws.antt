@@ -10,6 +10,9 @@ use Rattle.ipam_data.specs.declared.calls.Call.TheVariants.{List as ListOf, Get,
 use Rattle.ipam_data.specs.declared.calls.Draft.{Draft}
 use Rattle.ipam_data.specs.declared.calls.Draft.TheVariants.{Vrf as VrfDraft, Prefix as PrefixDraft}
 use Rattle.ipam_data.specs.declared.replies.Refusal.{Refusal}
+use Rattle.ipam_data.specs.declared.replies.Refusal.TheVariants.{Limit}
+use Rattle.ipam_data.specs.declared.replies.Rule.{Rule}
+use Rattle.ipam_data.specs.declared.replies.Which.TheVariants.{Kind as OfKind}
 use Rattle.ipam_data.specs.declared.replies.Reply.TheVariants.{Refused}
 use Rattle.ipam_data.specs.Tables.{table_of}
 use Rattle.ipam_data.specs.Checks.{first, no_such, no_room, breaks}
@@ -20,7 +23,7 @@ use Rattle.ipam_data.specs.Vrfs.{is_enforcing}
 use Rattle.ipam_data.specs.Prefixes.{prefix_id, most_prefixes, HasPrefixBounds, prefix_fault, create_prefix, role_at, one_prefix}
 use Rattle.ipam_data.specs.Steps.{plan_of, get_plan, list_plan, create_plan, plain_step, HasDraftBounds, HasCallBounds}
 use Rattle.ipam_data.specs.Replays.{Entry, replay, OneMoreEntryIsOneMoreStep}
-use Rattle.ipam_data.specs.Lawful.{AreVrfs, ArePrefixes, IsLawful, StepsKeepLawful, RefusedStepsLeave, FoundIsLeast}
+use Rattle.ipam_data.specs.Lawful.{AreVrfs, ArePrefixes, IsLawful, StepsKeepLawful, RefusedStepsLeave, FoundIsLeast, FullKindsRefuse}
 use Rattle.ipam_data.proofs.Shelves.{found_least}
 use Rattle.ipam_data.proofs.VrfLaws.{vrfs-appended, prefixes-vrf_appended}
 use Rattle.ipam_data.proofs.PrefixLaws.{prefixes-appended}
@@ -119,3 +122,27 @@ one_more s (e ∷ entries) entry = one_more (plain_step s e.call).0 entries entr
 
 pub found_is_least : FoundIsLeast
 found_is_least = (λ low test rows x y r f c q. found_least vrf_id low test rows x y r f c q, λ low test rows x y r f c q. found_least prefix_id low test rows x y r f c q)
+
+-- the limit of a kind is the first that refuses where it is full
+full_room : (kind : Kind) (most count next : ℕ) → most ≤ count → first (no_room kind most count next 1) ≡ Some (Limit (OfKind kind) most)
+full_room kind most count next n = let e : nat_le (count + 1) most ≡ false = grind (arith, nat_tests) in rw e refl
+
+-- a check that does not refuse leaves the answer to the others
+past_rule : (r : Option Rule) (xs : List (Option Refusal)) → r ≡ None → first (breaks r ∷ xs) ≡ first xs
+past_rule None xs e = refl
+past_rule (Some x) xs e = cc
+
+unnamed : {T : Type 0} (kind : Kind) (at : ℕ → Option T) (named : Option ℕ) → named ≡ None → no_such kind at named ≡ None
+unnamed kind at None e = refl
+unnamed kind at (Some n) e = cc
+
+pub full_kinds : FullKindsRefuse
+full_kinds = record {
+    vrfs = λ s row f n. past_rule (vrf_fault s.vrfs.rows row) _ f ∙ full_room Vrfs most_vrfs (length s.vrfs.rows) s.vrfs.next n;
+    prefixes = λ s row v r f n.
+        past_rule (no_such Vrfs (row_at vrf_id s.vrfs.rows) row.vrf) _ (unnamed Vrfs (row_at vrf_id s.vrfs.rows) row.vrf v)
+        ∙ past_rule (no_such Roles role_at row.role) _ (unnamed Roles role_at row.role r)
+        ∙ past_rule (prefix_fault s.prefixes.rows row (is_enforcing s.global_unique s.vrfs.rows (table_of row.vrf))) _
+            (ap (λ (t : Option ℕ). prefix_fault s.prefixes.rows row (is_enforcing s.global_unique s.vrfs.rows (table_of t))) v ∙ f)
+        ∙ full_room Prefixes most_prefixes (length s.prefixes.rows) s.prefixes.next n;
+}

@@ -1,6 +1,8 @@
 //! VRFs (virtual routing and forwarding instances, RFC 4364), each of which has a table of blocks of its own.
 
-ghost use Rattle.std.specs.Prelude.{◌≡◌, ℕ, IfOk};
+ghost use Rattle.std.specs.Prelude.{◌≡◌, ℕ, IfOk, List, Some};
+ghost use Rattle.ipam_data.specs.Texts.{IsDistinguisher};
+ghost use Rattle.ipam_data.specs.Vrfs.{HasVrfBounds};
 
 use crate::kinds::Row;
 use crate::text::{Description, Distinguisher, Name};
@@ -27,7 +29,28 @@ pub fn copy_distinguisher(rd: &Option<Distinguisher>) -> Result<Option<Distingui
     }
 }
 
+/// A distinguisher that is there is in its bounds.
+fn distinguisher_bounds(rd: &Option<Distinguisher>)
+    ensures { (text : List ℕ) → rd.now ≡ Some text → IsDistinguisher text }
+{
+    match rd {
+        Some(rd) => {
+            let _text = rd.as_str();
+        }
+        None => {}
+    }
+}
+
 impl Vrf {
+    /// The texts of a row are in their bounds, by their types: a law, for callers that make states of rows.
+    pub fn bounds(&self)
+        ensures { HasVrfBounds self.now }
+    {
+        let _name = self.name.as_str();
+        distinguisher_bounds(&self.rd);
+        let _description = self.description.as_str();
+    }
+
     /// The same row again. `Err` is want of memory.
     pub fn copy(&self) -> Result<Vrf, AllocError>
         ensures { IfOk result (λ row. row ≡ self.now) }
