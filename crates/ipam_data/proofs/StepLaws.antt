@@ -1,11 +1,10 @@
 -- Each call leaves a lawful state, a refused one the state itself; and the laws of histories, of finding and of blocks inside.
-use Rattle.std.proofs.Common.{subst, ◌≡◌, ℕ, ◌+◌, ◌≤◌, ◌<◌, ◌-◌, ◌^◌, ◌&&◌, ◌↔◌, ◌++◌, Bool, true, false, nat_lt, nat_le, List, [], ◌∷◌, Option, Some, None, refl, ap, sym, ◌∙◌, arith, IsSome, length, Contains}
+use Rattle.std.proofs.Common.{subst, ◌≡◌, ℕ, ◌+◌, ◌≤◌, false, nat_le, List, [], ◌∷◌, Option, Some, None, refl, ap, sym, ◌∙◌, arith, length}
 use Rattle.std.proofs.lemmas.Bool.Decides.{nat_tests}
 use Rattle.ipam_data.specs.declared.vrf.Vrf.{Vrf}
 use Rattle.ipam_data.specs.declared.prefix.Prefix.{Prefix}
 use Rattle.ipam_data.specs.declared.kinds.Kind.{Kind}
 use Rattle.ipam_data.specs.declared.kinds.Kind.TheVariants.{Vrfs, Roles, Prefixes}
-use Rattle.ipam_data.specs.declared.calls.Call.{Call}
 use Rattle.ipam_data.specs.declared.calls.Call.TheVariants.{List as ListOf, Get, Create}
 use Rattle.ipam_data.specs.declared.calls.Draft.{Draft}
 use Rattle.ipam_data.specs.declared.calls.Draft.TheVariants.{Vrf as VrfDraft, Prefix as PrefixDraft}
@@ -21,9 +20,9 @@ use Rattle.ipam_data.specs.State.{State, Plan, verdict_of, outcome}
 use Rattle.ipam_data.specs.Vrfs.{vrf_id, most_vrfs, HasVrfBounds, vrf_fault, create_vrf, one_vrf}
 use Rattle.ipam_data.specs.Vrfs.{is_enforcing}
 use Rattle.ipam_data.specs.Prefixes.{prefix_id, most_prefixes, HasPrefixBounds, prefix_fault, create_prefix, role_at, one_prefix}
-use Rattle.ipam_data.specs.Steps.{plan_of, get_plan, list_plan, create_plan, plain_step, HasDraftBounds, HasCallBounds}
-use Rattle.ipam_data.specs.Replays.{Entry, replay, OneMoreEntryIsOneMoreStep}
-use Rattle.ipam_data.specs.Lawful.{AreVrfs, ArePrefixes, IsLawful, StepsKeepLawful, RefusedStepsLeave, FoundIsLeast, FullKindsRefuse}
+use Rattle.ipam_data.specs.Steps.{plan_of, get_plan, list_plan, create_plan, plain_step, HasDraftBounds}
+use Rattle.ipam_data.specs.Replays.{OneMoreEntryIsOneMoreStep}
+use Rattle.ipam_data.specs.Lawful.{IsLawful, StepsKeepLawful, RefusedStepsLeave, FoundIsLeast, FullKindsRefuse}
 use Rattle.ipam_data.proofs.Shelves.{found_least}
 use Rattle.ipam_data.proofs.VrfLaws.{vrfs-appended, prefixes-vrf_appended}
 use Rattle.ipam_data.proofs.PrefixLaws.{prefixes-appended}
@@ -138,11 +137,11 @@ unnamed kind at (Some n) e = cc
 
 pub full_kinds : FullKindsRefuse
 full_kinds = record {
-    vrfs = λ s row f n. past_rule (vrf_fault s.vrfs.rows row) _ f ∙ full_room Vrfs most_vrfs (length s.vrfs.rows) s.vrfs.next n;
-    prefixes = λ s row v r f n.
-        past_rule (no_such Vrfs (row_at vrf_id s.vrfs.rows) row.vrf) _ (unnamed Vrfs (row_at vrf_id s.vrfs.rows) row.vrf v)
-        ∙ past_rule (no_such Roles role_at row.role) _ (unnamed Roles role_at row.role r)
-        ∙ past_rule (prefix_fault s.prefixes.rows row (is_enforcing s.global_unique s.vrfs.rows (table_of row.vrf))) _
-            (ap (λ (t : Option ℕ). prefix_fault s.prefixes.rows row (is_enforcing s.global_unique s.vrfs.rows (table_of t))) v ∙ f)
-        ∙ full_room Prefixes most_prefixes (length s.prefixes.rows) s.prefixes.next n;
+  vrfs = λ s row f n. past_rule (vrf_fault s.vrfs.rows row) _ f ∙ full_room Vrfs most_vrfs (length s.vrfs.rows) s.vrfs.next n;
+  prefixes = λ s row v r f n.
+      past_rule (no_such Vrfs (row_at vrf_id s.vrfs.rows) row.vrf) _ (unnamed Vrfs (row_at vrf_id s.vrfs.rows) row.vrf v)
+      ∙ past_rule (no_such Roles role_at row.role) _ (unnamed Roles role_at row.role r)
+      ∙ past_rule (prefix_fault s.prefixes.rows row (is_enforcing s.global_unique s.vrfs.rows (table_of row.vrf))) _
+      (ap (λ (t : Option ℕ). prefix_fault s.prefixes.rows row (is_enforcing s.global_unique s.vrfs.rows (table_of t))) v ∙ f)
+      ∙ full_room Prefixes most_prefixes (length s.prefixes.rows) s.prefixes.next n;
 }
