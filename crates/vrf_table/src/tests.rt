@@ -30,3 +30,21 @@ fn rival_of(fault: Option<Rule>) -> u32 {
         _ => 0,
     }
 }
+
+fn filled(alloc: Global) -> Result<VrfBook, AllocError> {
+    let mut book = VrfBook::new(alloc);
+    let rows = [
+        vrf(alloc, 1, "red", "65000:1", true)?,
+        vrf(alloc, 2, "blue", "", false)?,
+        vrf(alloc, 5, "red", "65000:5", false)?,
+    ];
+    for row in rows {
+        if let Some(row) = row {
+            book.reserve(1)?;
+            if book.after(row.id).is_none() && book.get(row.id).is_none() {
+                book.put(row);
+            }
+        }
+    }
+    Ok(book)
+}
