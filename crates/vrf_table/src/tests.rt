@@ -1,4 +1,6 @@
-//! A book of three VRFs, two of one name.
+//! A book with one VRF, and what is asked of it.
+
+ghost use Rattle.std.specs.Prelude.{◌≡◌, ◌≤◌};
 
 use crate::VrfBook;
 use ipam_data::kinds::Table;
@@ -6,21 +8,27 @@ use ipam_data::replies::Rule;
 use ipam_data::text::{Description, Distinguisher, Name};
 use ipam_data::vrf::Vrf;
 use std::alloc::{AllocError, Global};
+use std::process::Abort;
 use std::test::Fail;
 
-fn vrf(alloc: Global, id: u32, name: &str, rd: &str, enforce_unique: bool) -> Result<Option<Vrf>, AllocError> {
+fn texts(alloc: Global, name: &str) -> Result<Option<(Name, Description)>, AllocError> {
     let name = Name::of(String::from_str(alloc, name)?);
-    let rd = Distinguisher::of(String::from_str(alloc, rd)?);
     let description = Description::of(String::new(alloc));
     match (name, description) {
-        (Some(name), Some(description)) => Ok(Some(Vrf {
-            id,
-            name,
-            rd,
-            enforce_unique,
-            description,
-        })),
+        (Some(name), Some(description)) => Ok(Some((name, description))),
         _ => Ok(None),
+    }
+}
+
+fn vrf(id: u32, texts: (Name, Description), rd: Option<Distinguisher>) -> Vrf
+    ensures { result.id ≡ id }
+{
+    Vrf {
+        id,
+        name: texts.0,
+        rd,
+        enforce_unique: true,
+        description: texts.1,
     }
 }
 
@@ -31,20 +39,56 @@ fn rival_of(fault: Option<Rule>) -> u32 {
     }
 }
 
-fn filled(alloc: Global) -> Result<VrfBook, AllocError> {
+fn check_book(rt: &impl Abort, alloc: Global, row: Vrf, other: &Vrf) -> Result<(), Fail>
+    requires { 1 ≤ row.id }
+{
     let mut book = VrfBook::new(alloc);
-    let rows = [
-        vrf(alloc, 1, "red", "65000:1", true)?,
-        vrf(alloc, 2, "blue", "", false)?,
-        vrf(alloc, 5, "red", "65000:5", false)?,
-    ];
-    for row in rows {
-        if let Some(row) = row {
-            book.reserve(1)?;
-            if book.after(row.id).is_none() && book.get(row.id).is_none() {
-                book.put(row);
-            }
+    book.reserve(1)?;
+    assert!(rt; rival_of(book.fault(&row)) == 0, "no other is there");
+    book.put(row);
+    assert!(rt;
+        rival_of(book.fault(other)) == 1,
+        "it has the distinguisher"
+    );
+    assert!(rt;
+        book.enforcing(Table::Of(1), false) && !book.enforcing(Table::Of(2), true),
+        "its table"
+    );
+    assert!(rt;
+        book.enforcing(Table::Global, true) && !book.enforcing(Table::Global, false),
+        "global"
+    );
+    assert!(rt;
+        book.named(&other.name) == (Some(1), None),
+        "one has the name"
+    );
+    assert!(rt;
+        book.get(1).is_some() && book.after(0).is_some() && book.after(1).is_none(),
+        "found"
+    );
+    assert!(rt;
+        book.cut(1).is_some() && book.len() == 0 && book.rows().is_empty(),
+        "cut"
+    );
+    Ok(())
+}
+
+#[test]
+fn one_vrf_in_a_book(rt: HostRuntime) -> Result<(), Fail> {
+    let rd = Distinguisher::of(String::from_str(rt.alloc(), "65000:1")?);
+    let same_rd = Distinguisher::of(String::from_str(rt.alloc(), "65000:1")?);
+    let first = texts(rt.alloc(), "red")?;
+    let second = texts(rt.alloc(), "red")?;
+    match (first, second) {
+        (Some(first), Some(second)) => check_book(
+            &rt,
+            rt.alloc(),
+            vrf(1, first, rd),
+            &vrf(2, second, same_rd),
+        ),
+        _ => {
+            assert!(rt; false, "both have texts");
+            Ok(())
         }
     }
-    Ok(book)
 }
