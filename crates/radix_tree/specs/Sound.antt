@@ -1,0 +1,56 @@
+use Rattle.std.specs.Prelude.{◌≡◌, ◌≢◌, ℕ, ◌+◌, ◌≤◌, Bool, true, false, not, List, ◌∷◌, Option, Some, None, IsPermutation, count_by, nat_eq, ◌&&◌}
+use Rattle.inet_num.specs.Net.{Cidr}
+use Rattle.node_pool.specs.Pooled.{Pooled, node_at}
+use Rattle.radix_tree.specs.declared.Node.{Node}
+use Rattle.radix_tree.specs.declared.Place.{Place}
+use Rattle.radix_tree.specs.declared.Place.TheVariants.{Root, Under}
+use Rattle.radix_tree.specs.declared.Linked.{Linked}
+use Rattle.radix_tree.specs.Shape.{child, IsTree}
+use Rattle.radix_tree.specs.Listed.{blocks_of, IsTallied, IsFull}
+
+-- a tree with no needless node
+pub record IsSound (t : Linked) : Type 0 where
+  pub tree : IsTree t
+  pub tallied : IsTallied t
+  pub full : IsFull t None
+
+-- the node stands over one other
+pub record IsOver (n : Node) (block : Cidr) (count : ℕ) (high : Bool) (id : ℕ) : Type 0 where
+  pub block_is : n.block ≡ block
+  pub count_is : n.count ≡ count
+  pub there : child high n ≡ Some id
+  pub other : child (not high) n ≡ None
+
+-- the block was put in once
+pub record IsInserted (old new : Linked) (block : Cidr) : Type 0 where
+  pub sound : IsSound new
+  pub family : new.family ≡ old.family
+  pub blocks : IsPermutation (block ∷ blocks_of old.pool) (blocks_of new.pool)
+  pub spare : old.pool.spare ≤ new.pool.spare + 2
+
+-- a node that had no count and fewer than two children is gone, or there was no such one at the place
+pub record IsTrimmed (old new : Linked) (place : Place) (id : ℕ) : Type 0 where
+  pub tree : IsTree new
+  pub tallied : IsTallied new
+  pub family : new.family ≡ old.family
+  pub blocks : IsPermutation (blocks_of old.pool) (blocks_of new.pool)
+  pub spare : old.pool.spare ≤ new.pool.spare
+  pub full_but : IsFull old (Some id) → (but : Option ℕ) → ((k : ℕ) (side : Bool) → place ≡ Under k side → but ≡ Some k) → IsFull new but
+  pub full : IsFull old (Some id) → (side : Bool) → ((n : Node) → node_at old.pool id ≡ Some n → n.count ≡ 0 → child side n ≢ None) → IsFull new None
+  pub kept : (j : ℕ) (m : Node) → j ≢ id → node_at old.pool j ≡ Some m
+      → (q : Node) × (node_at new.pool j ≡ Some q) × (q.block ≡ m.block) × (q.count ≡ m.count) × ((side : Bool) → place ≢ Under j side → child side q ≡ child side m)
+
+-- how often the block stands there
+abbrev pub is_same_block : Cidr → Cidr → Bool
+is_same_block a b = nat_eq a.first b.first && nat_eq a.len b.len
+
+abbrev pub times_of : List Cidr → Cidr → ℕ
+times_of blocks block = count_by (is_same_block block) blocks
+
+-- one copy of the block was taken away, or there was none
+pub record IsRemoved (old new : Linked) (block : Cidr) (done : Bool) : Type 0 where
+  pub sound : IsSound new
+  pub family : new.family ≡ old.family
+  pub spare : old.pool.spare ≤ new.pool.spare
+  pub taken : done ≡ true → IsPermutation (blocks_of old.pool) (block ∷ blocks_of new.pool)
+  pub absent : done ≡ false → (times_of (blocks_of old.pool) block ≡ 0) × (blocks_of new.pool ≡ blocks_of old.pool)
