@@ -8,11 +8,11 @@ use Rattle.inet_num.specs.Net.{Cidr, width_of, IsBlock, IsInside}
 use Rattle.inet_num.proofs.Nested.{inside_trans}
 use Rattle.node_pool.specs.Pooled.{Pooled, node_at}
 use Rattle.radix_tree.specs.declared.Node.{Node}
-use Rattle.radix_tree.specs.declared.Place.{Place}
-use Rattle.radix_tree.specs.declared.Linked.{Linked}
+use Rattle.radix_tree.specs.declared.links.Place.{Place}
+use Rattle.radix_tree.specs.declared.links.Linked.{Linked}
 use Rattle.radix_tree.specs.Shape.{half, child, whole, HasRoom, HasLink, IsTree}
 use Rattle.radix_tree.specs.Listed.{copies_at, blocks_of}
-use Rattle.radix_tree.specs.Covering.{InLen, ListsCovering, once}
+use Rattle.radix_tree.specs.Covering.{ByLength, ListsCovering, if_counted}
 use Rattle.radix_tree.proofs.Sides.{has_first, longer, in_side, len_of_inside, whole_in}
 use Rattle.radix_tree.proofs.Order.{some_same, not_both, one_node}
 use Rattle.radix_tree.proofs.Slots.{at, cleared, flat_without}
@@ -48,22 +48,22 @@ pub record IsCoveringUpTo (t : Linked) (block land : Cidr) (xs : List Cidr) : Ty
   pub each : (b : Cidr) → Contains xs b → Contains (blocks_of t.pool) b × IsInside block b
   pub all : (j : ℕ) (m : Node) → node_at t.pool j ≡ Some m → m.count ≢ 0 → IsInside block m.block → Contains xs m.block ⊎ IsInside m.block land
   pub short : (b : Cidr) → Contains xs b → b.len < land.len
-  pub ordered : InLen 0 xs
+  pub ordered : ByLength 0 xs
 
-len_snoc : (from : ℕ) (xs : List Cidr) (b : Cidr) → InLen from xs → ((c : Cidr) → Contains xs c → c.len < b.len) → from ≤ b.len → InLen from (xs ++ b ∷ [])
+len_snoc : (from : ℕ) (xs : List Cidr) (b : Cidr) → ByLength from xs → ((c : Cidr) → Contains xs c → c.len < b.len) → from ≤ b.len → ByLength from (xs ++ b ∷ [])
 len_snoc from [] b h short le = (le, tt)
 len_snoc from (x ∷ xs) b h short le = (h.0, len_snoc (x.len + 1) xs b h.1 (λ c k. short c (suc k.0, omega (arith, k.1), k.2)) (let less = short x (0, omega arith, refl) in omega arith))
 
-len_once : (count : ℕ) (xs : List Cidr) (b : Cidr) → InLen 0 xs → ((c : Cidr) → Contains xs c → c.len < b.len) → InLen 0 (xs ++ once count b)
-len_once zero xs b h short = subst (InLen 0) (sym (append-nil xs)) h
+len_once : (count : ℕ) (xs : List Cidr) (b : Cidr) → ByLength 0 xs → ((c : Cidr) → Contains xs c → c.len < b.len) → ByLength 0 (xs ++ if_counted count b)
+len_once zero xs b h short = subst (ByLength 0) (sym (append-nil xs)) h
 len_once (suc n) xs b h short = len_snoc 0 xs b h short (omega arith)
 
-in_once : (count : ℕ) (b c : Cidr) → Contains (once count b) c → (b ≡ c) × (count ≢ 0)
+in_once : (count : ℕ) (b c : Cidr) → Contains (if_counted count b) c → (b ≡ c) × (count ≢ 0)
 in_once zero b c h = absurd (let less : h.0 < 0 = h.1 in omega arith)
 in_once (suc n) b c (zero, less, is) = (is, λ e. omega arith)
 in_once (suc n) b c (suc k, less, is) = absurd (omega arith)
 
-has_once : (count : ℕ) (b : Cidr) → count ≢ 0 → Contains (once count b) b
+has_once : (count : ℕ) (b : Cidr) → count ≢ 0 → Contains (if_counted count b) b
 has_once zero b some = absurd (some refl)
 has_once (suc n) b some = (0, omega arith, refl)
 
@@ -79,27 +79,27 @@ module _ (t : Linked) (w : IsTree t) (block : Cidr) (hb : IsBlock block) (place 
   all_short b k = let less = h.short b k in let le = len_of_inside n.block land own.short hl.short in_land in omega arith
 
   -- what lies in the land is the node or lies in it
-  pushed : (j : ℕ) (m : Node) → node_at t.pool j ≡ Some m → m.count ≢ 0 → IsInside block m.block → Contains (xs ++ once n.count n.block) m.block ⊎ (IsInside m.block n.block × (n.block.len < m.block.len))
+  pushed : (j : ℕ) (m : Node) → node_at t.pool j ≡ Some m → m.count ≢ 0 → IsInside block m.block → Contains (xs ++ if_counted n.count n.block) m.block ⊎ (IsInside m.block n.block × (n.block.len < m.block.len))
   pushed j m f some around = elim (h.all j m f some around) [
-    | inl there ↦ inl (Contains-append_left xs (once n.count n.block) m.block there)
+    | inl there ↦ inl (Contains-append_left xs (if_counted n.count n.block) m.block there)
     | inr deep ↦
         let lead = (w.links place (Some id) land here).leads j m f deep in
         let in_n : IsInside m.block n.block = subst (λ (x : Node). IsInside m.block x.block) (one_node t.pool lead.0 id lead.1 n (sym (some_same id lead.0 lead.2)) lead.3 e) lead.4 in
         elim (cases_eq j id) [
           | inl same ↦
               let is : n ≡ m = one_node t.pool id j n m (sym same) e f in
-              inl (subst (λ (x : Node). Contains (xs ++ once n.count n.block) x.block) is (Contains-append_right xs (once n.count n.block) n.block (has_once n.count n.block (λ z. some (ap (λ (x : Node). x.count) (sym is) ∙ z)))))
+              inl (subst (λ (x : Node). Contains (xs ++ if_counted n.count n.block) x.block) is (Contains-append_right xs (if_counted n.count n.block) n.block (has_once n.count n.block (λ z. some (ap (λ (x : Node). x.count) (sym is) ∙ z)))))
           | inr other ↦ inr (in_n, longer m.block n.block (w.each j m f).lawful own in_n (λ same. other (w.one j id m n f e same)))
         ]
   ]
 
-  each_pushed : (b : Cidr) → Contains (xs ++ once n.count n.block) b → Contains (blocks_of t.pool) b × IsInside block b
-  each_pushed b k = elim (Contains-append_cases xs (once n.count n.block) b k) [
+  each_pushed : (b : Cidr) → Contains (xs ++ if_counted n.count n.block) b → Contains (blocks_of t.pool) b × IsInside block b
+  each_pushed b k = elim (Contains-append_cases xs (if_counted n.count n.block) b k) [
     | inl old ↦ h.each b old
     | inr new ↦ (let o = in_once n.count n.block b new in subst (λ (c : Cidr). Contains (blocks_of t.pool) c × IsInside block c) o.0 (node_held t.pool id n e o.1, inside))
   ]
 
-  pub covering_next : (s : Bool) → HasRoom n.block → IsInside block (half s n.block) → (half s n.block).len ≡ n.block.len + 1 → IsCoveringUpTo t block (half s n.block) (xs ++ once n.count n.block)
+  pub covering_next : (s : Bool) → HasRoom n.block → IsInside block (half s n.block) → (half s n.block).len ≡ n.block.len + 1 → IsCoveringUpTo t block (half s n.block) (xs ++ if_counted n.count n.block)
   covering_next s room side longer_half = record {
     each = each_pushed;
     all = λ j m f some around. elim (pushed j m f some around) [
@@ -108,7 +108,7 @@ module _ (t : Linked) (w : IsTree t) (block : Cidr) (hb : IsBlock block) (place 
           let first = has_first block in
           inr (in_side n.block m.block s block.first own (w.each j m f).lawful deep.0 deep.1 (around.each block.first first) (side.each block.first first))
     ];
-    short = λ b k. elim (Contains-append_cases xs (once n.count n.block) b k) [
+    short = λ b k. elim (Contains-append_cases xs (if_counted n.count n.block) b k) [
       | inl old ↦ (let less = all_short b old in omega arith)
       | inr new ↦ (let same = ap (λ (c : Cidr). c.len) (in_once n.count n.block b new).0 in omega arith)
     ];
@@ -116,13 +116,13 @@ module _ (t : Linked) (w : IsTree t) (block : Cidr) (hb : IsBlock block) (place 
   }
 
   -- the node of the block is the last
-  pub covering_last : n.block ≡ block → ListsCovering (blocks_of t.pool) block (xs ++ once n.count n.block)
+  pub covering_last : n.block ≡ block → ListsCovering (blocks_of t.pool) block (xs ++ if_counted n.count n.block)
   covering_last same = record {
     each = each_pushed;
     all = λ b held around.
         let m = node_of t.pool.slots b held in
         elim (pushed m.0 m.1 m.2 m.4 (subst (IsInside block) (sym m.3) around)) [
-          | inl there ↦ subst (Contains (xs ++ once n.count n.block)) m.3 there
+          | inl there ↦ subst (Contains (xs ++ if_counted n.count n.block)) m.3 there
           | inr deep ↦
               let own_m = (w.each m.0 m.1 m.2).lawful in
               let le = len_of_inside block m.1.block hb.short own_m.short (subst (IsInside block) (sym m.3) around) in

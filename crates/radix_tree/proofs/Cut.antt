@@ -4,11 +4,11 @@ use Rattle.inet_num.specs.Net.{Cidr, width_of, size_of, HasAddress, IsBlock, IsI
 use Rattle.inet_num.proofs.Nested.{inside_trans}
 use Rattle.node_pool.specs.Pooled.{Pooled, node_at}
 use Rattle.radix_tree.specs.declared.Node.{Node}
-use Rattle.radix_tree.specs.declared.Place.{Place}
-use Rattle.radix_tree.specs.declared.Place.TheVariants.{Root, Under}
-use Rattle.radix_tree.specs.declared.Linked.{Linked}
+use Rattle.radix_tree.specs.declared.links.Place.{Place}
+use Rattle.radix_tree.specs.declared.links.Place.TheVariants.{Root, Under}
+use Rattle.radix_tree.specs.declared.links.Linked.{Linked}
 use Rattle.radix_tree.specs.Shape.{half, child, HasRoom, whole, LeadsTo, IsLink, HasLink, IsNode, IsTree, IsSet}
-use Rattle.radix_tree.specs.Steps.{IsCut}
+use Rattle.radix_tree.specs.Edits.{IsCut}
 use Rattle.radix_tree.proofs.Sides.{self_in, has_first, not_in_half, half_in, same_side, longer, room_above, side_of}
 use Rattle.radix_tree.proofs.Order.{some_same, not_both, one_node, leads_weaker, move_link, order, one_land, IsAbove}
 use Rattle.radix_tree.proofs.Put.{set_node}

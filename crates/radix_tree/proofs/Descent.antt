@@ -6,9 +6,9 @@ use Rattle.inet_num.proofs.Numbers.{strictly_by_len, len_of_strictly}
 use Rattle.inet_num.proofs.Nested.{same_by_len}
 use Rattle.node_pool.specs.Pooled.{Pooled, node_at}
 use Rattle.radix_tree.specs.declared.Node.{Node}
-use Rattle.radix_tree.specs.declared.Place.{Place}
-use Rattle.radix_tree.specs.declared.Place.TheVariants.{Root, Under}
-use Rattle.radix_tree.specs.declared.Linked.{Linked}
+use Rattle.radix_tree.specs.declared.links.Place.{Place}
+use Rattle.radix_tree.specs.declared.links.Place.TheVariants.{Root, Under}
+use Rattle.radix_tree.specs.declared.links.Linked.{Linked}
 use Rattle.radix_tree.specs.Shape.{half, child, HasRoom, whole, HasLink, IsLink, IsTree, rank, rank_of}
 use Rattle.radix_tree.proofs.Sides.{whole_in, len_of_inside, longer}
 use Rattle.radix_tree.proofs.Order.{some_same, one_node}

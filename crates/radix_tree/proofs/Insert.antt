@@ -6,14 +6,14 @@ use Rattle.inet_num.specs.Net.{Cidr, HasAddress, IsBlock, IsInside, IsStrictlyIn
 use Rattle.inet_num.proofs.Nested.{inside_trans}
 use Rattle.node_pool.specs.Pooled.{Pooled, node_at, Changes}
 use Rattle.radix_tree.specs.declared.Node.{Node}
-use Rattle.radix_tree.specs.declared.Place.{Place}
-use Rattle.radix_tree.specs.declared.Place.TheVariants.{Root, Under}
-use Rattle.radix_tree.specs.declared.Linked.{Linked}
-use Rattle.radix_tree.specs.declared.Found.{Found}
-use Rattle.radix_tree.specs.declared.Joint.{Joint}
+use Rattle.radix_tree.specs.declared.links.Place.{Place}
+use Rattle.radix_tree.specs.declared.links.Place.TheVariants.{Root, Under}
+use Rattle.radix_tree.specs.declared.links.Linked.{Linked}
+use Rattle.radix_tree.specs.declared.links.Found.{Found}
+use Rattle.radix_tree.specs.declared.halves.Joint.{Joint}
 use Rattle.radix_tree.specs.Shape.{half, child, HasRoom, LeadsTo, HasLink, IsLink, IsTree, IsPlace, IsSet}
-use Rattle.radix_tree.specs.Steps.{CanPut, IsPut}
-use Rattle.radix_tree.specs.Listed.{copies, blocks_of, kid, kids, links_of, IsTallied, IsFull}
+use Rattle.radix_tree.specs.Edits.{CanPut, IsPut}
+use Rattle.radix_tree.specs.Listed.{copies, blocks_of, link_count, child_count, links_of, IsTallied, IsFull}
 use Rattle.radix_tree.specs.Find.{IsFound, IsJoint}
 use Rattle.radix_tree.specs.Sound.{IsSound, IsOver, IsInserted}
 use Rattle.radix_tree.proofs.Sides.{self_in, has_first, half_in, not_in_half, same_side, sides_apart}
@@ -75,7 +75,7 @@ module _ (t : Linked) (w : IsTree t) (place : Place) (at : Option ℕ) (land : C
         let lead = (w.links place at land here).leads id m e i in
         clear lead.0 lead.1 lead.2 lead.3 (inside_trans n.block m.block lead.1.block in_m lead.4);
     below = λ id m e i. (let half_of = in_side_half id m e i in inside_trans m.block (half s n.block) n.block half_of.1 (half_in s n.block half_of.0));
-    kids = own_links;
+    children = own_links;
   }
 
 -- a node with a count is put where none lacks a child
@@ -109,9 +109,9 @@ put_fills old new k side i n p h here one full counted = λ id q e not_but zero 
 ]
 
 -- a node over one other has one link
-pub over_kids : (n : Node) (block : Cidr) (count : ℕ) (s : Bool) (id : ℕ) → IsOver n block count s id → kids n ≡ 1
-over_kids n block count false id h = let a = ap kid h.there in let b = ap kid h.other in omega arith
-over_kids n block count true id h = let a = ap kid h.there in let b = ap kid h.other in omega arith
+pub over_children : (n : Node) (block : Cidr) (count : ℕ) (s : Bool) (id : ℕ) → IsOver n block count s id → child_count n ≡ 1
+over_children n block count false id h = let a = ap link_count h.there in let b = ap link_count h.other in omega arith
+over_children n block count true id h = let a = ap link_count h.there in let b = ap link_count h.other in omega arith
 
 abbrev pub leaf : Cidr → Node
 leaf block = record { block = block; count = 1; low = None; high = None }
@@ -119,13 +119,13 @@ leaf block = record { block = block; count = 1; low = None; high = None }
 -- the leaf
 pub inserted_leaf : (old new : Linked) (block : Cidr) (f : Found) → IsSound old → IsBlock block → block.family ≡ old.family → IsFound old block f → f.at ≡ None → (i : ℕ) → IsPut old new f.place i (leaf block)
     → IsPermutation (copies (leaf block) ++ blocks_of old.pool) (blocks_of new.pool)
-    → ((at : Option ℕ) (land : Cidr) → HasLink old f.place at land → kids (leaf block) ≡ kid at → IsTallied old → IsTallied new)
+    → ((at : Option ℕ) (land : Cidr) → HasLink old f.place at land → child_count (leaf block) ≡ link_count at → IsTallied old → IsTallied new)
     → new.pool.spare + 1 ≡ old.pool.spare → IsInserted old new block
 inserted_leaf old new block f w lawful family found none i put perm tally spare = record {
   sound = record {
     tree = put_tree old new f.place f.at f.land i (leaf block) w.tree found.here
         (can_put old w.tree f.place f.at f.land found.here (leaf block) lawful family found.inside (λ id m e. absurd (not_both f.at id none e)) false (sym none) refl (λ id m e. absurd (not_both f.at id none e))) put;
-    tallied = tally f.at f.land found.here (ap kid (sym none)) w.tallied;
+    tallied = tally f.at f.land found.here (ap link_count (sym none)) w.tallied;
     full = put_full old new f.place i (leaf block) put w.full None (λ other zero. (let g : 1 ≡ 0 = zero in omega arith));
   };
   family = put.family;
@@ -137,7 +137,7 @@ inserted_leaf old new block f w lawful family found none i put perm tally spare 
 pub inserted_over : (old new : Linked) (block : Cidr) (f : Found) → IsSound old → IsBlock block → block.family ≡ old.family → IsFound old block f → (id : ℕ) (m n : Node) (s : Bool)
     → f.at ≡ Some id → node_at old.pool id ≡ Some m → m.block ≢ block → HasRoom block → IsInside m.block (half s block) → IsOver n block 1 s id → (i : ℕ) → IsPut old new f.place i n
     → IsPermutation (copies n ++ blocks_of old.pool) (blocks_of new.pool)
-    → ((at : Option ℕ) (land : Cidr) → HasLink old f.place at land → kids n ≡ kid at → IsTallied old → IsTallied new)
+    → ((at : Option ℕ) (land : Cidr) → HasLink old f.place at land → child_count n ≡ link_count at → IsTallied old → IsTallied new)
     → new.pool.spare + 1 ≡ old.pool.spare → IsInserted old new block
 inserted_over old new block f w lawful family found id m n s there e other room below over i put perm tally spare = record {
   sound = record {
@@ -148,7 +148,7 @@ inserted_over old new block f w lawful family found id m n s there e other room 
         s (over.there ∙ sym there) over.other
         (λ j q js f'. (let same : m ≡ q = one_node old.pool id j m q (some_same id j (sym there ∙ js)) e f' in
         (subst HasRoom (sym over.block_is) room, subst (λ (b : Cidr). IsInside q.block (half s b)) (sym over.block_is) (subst (λ (x : Node). IsInside x.block (half s block)) same below))))) put;
-    tallied = tally f.at f.land found.here (over_kids n block 1 s id over ∙ ap kid (sym there)) w.tallied;
+    tallied = tally f.at f.land found.here (over_children n block 1 s id over ∙ ap link_count (sym there)) w.tallied;
     full = put_full old new f.place i n put w.full None (λ other zero. (let g : 1 ≡ 0 = sym over.count_is ∙ zero in omega arith));
   };
   family = put.family;
@@ -190,10 +190,10 @@ module _ (old mid : Linked) (block : Cidr) (f : Found) (w : IsSound old) (lawful
 
   pub inserted_join : (new : Linked) → IsPut mid new (Under i j.high) k (leaf block)
       → IsPermutation (copies n ++ blocks_of old.pool) (blocks_of mid.pool)
-      → ((at : Option ℕ) (land : Cidr) → HasLink old f.place at land → kids n ≡ kid at → IsTallied old → IsTallied mid)
+      → ((at : Option ℕ) (land : Cidr) → HasLink old f.place at land → child_count n ≡ link_count at → IsTallied old → IsTallied mid)
       → mid.pool.spare + 1 ≡ old.pool.spare
       → IsPermutation (copies (leaf block) ++ blocks_of mid.pool) (blocks_of new.pool)
-      → ((at : Option ℕ) (land : Cidr) → HasLink mid (Under i j.high) at land → kids (leaf block) ≡ kid at → IsTallied mid → IsTallied new)
+      → ((at : Option ℕ) (land : Cidr) → HasLink mid (Under i j.high) at land → child_count (leaf block) ≡ link_count at → IsTallied mid → IsTallied new)
       → new.pool.spare + 1 ≡ mid.pool.spare → IsInserted old new block
   inserted_join new again perm tally spare perm2 tally2 spare2 =
       let first : IsPermutation (blocks_of old.pool) (blocks_of mid.pool) = subst (λ (x : ℕ). IsPermutation (replicate x n.block ++ blocks_of old.pool) (blocks_of mid.pool)) over.count_is perm in
@@ -202,7 +202,7 @@ module _ (old mid : Linked) (block : Cidr) (f : Found) (w : IsSound old) (lawful
           tree = put_tree mid new (Under i j.high) None (half j.high j.block) k (leaf block) mid_tree open_link
               (can_put mid mid_tree (Under i j.high) None (half j.high j.block) open_link (leaf block) lawful (family ∙ sym put.family) joint.first
               (λ x q is. (let g : ⊥ = cc in absurd g)) false refl refl (λ x q is. (let g : ⊥ = cc in absurd g))) again;
-          tallied = tally2 None (half j.high j.block) open_link refl (tally f.at f.land found.here (over_kids n j.block 0 (not j.high) id over ∙ ap kid (sym there)) w.tallied);
+          tallied = tally2 None (half j.high j.block) open_link refl (tally f.at f.land found.here (over_children n j.block 0 (not j.high) id over ∙ ap link_count (sym there)) w.tallied);
           full = put_fills mid new i j.high k (leaf block) n again put.put (λ none. not_both (child (not j.high) n) id none over.there)
               (put_full old mid f.place i n put w.full (Some i) (λ other. absurd (other refl))) (λ zero. (let g : 1 ≡ 0 = zero in omega arith));
         };

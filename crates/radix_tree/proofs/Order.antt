@@ -5,9 +5,9 @@ use Rattle.inet_num.proofs.Nested.{inside_trans}
 use Rattle.inet_num.proofs.Aligned.{nested}
 use Rattle.node_pool.specs.Pooled.{Pooled, node_at}
 use Rattle.radix_tree.specs.declared.Node.{Node}
-use Rattle.radix_tree.specs.declared.Place.{Place}
-use Rattle.radix_tree.specs.declared.Place.TheVariants.{Root, Under}
-use Rattle.radix_tree.specs.declared.Linked.{Linked}
+use Rattle.radix_tree.specs.declared.links.Place.{Place}
+use Rattle.radix_tree.specs.declared.links.Place.TheVariants.{Root, Under}
+use Rattle.radix_tree.specs.declared.links.Linked.{Linked}
 use Rattle.radix_tree.specs.Shape.{half, child, HasRoom, whole, LeadsTo, IsLink, HasLink, IsNode, IsTree}
 use Rattle.radix_tree.proofs.Sides.{self_in, has_first, half_in, not_in_half, sides_apart, same_side, in_side, longer, whole_in}
 

@@ -4,11 +4,11 @@ use Rattle.inet_num.specs.Net.{Cidr, width_of, size_of, HasAddress, IsBlock, IsI
 use Rattle.inet_num.proofs.Nested.{inside_trans}
 use Rattle.node_pool.specs.Pooled.{Pooled, node_at}
 use Rattle.radix_tree.specs.declared.Node.{Node}
-use Rattle.radix_tree.specs.declared.Place.{Place}
-use Rattle.radix_tree.specs.declared.Place.TheVariants.{Root, Under}
-use Rattle.radix_tree.specs.declared.Linked.{Linked}
+use Rattle.radix_tree.specs.declared.links.Place.{Place}
+use Rattle.radix_tree.specs.declared.links.Place.TheVariants.{Root, Under}
+use Rattle.radix_tree.specs.declared.links.Linked.{Linked}
 use Rattle.radix_tree.specs.Shape.{half, child, HasRoom, whole, LeadsTo, IsLink, HasLink, IsNode, IsTree, IsSet}
-use Rattle.radix_tree.specs.Steps.{CanPut, IsPut}
+use Rattle.radix_tree.specs.Edits.{CanPut, IsPut}
 use Rattle.radix_tree.proofs.Sides.{self_in, has_first, not_in_half}
 use Rattle.radix_tree.proofs.Order.{some_same, not_both, one_node, leads_weaker, move_link, order, one_land}
 
@@ -95,8 +95,8 @@ module _ (old new : Linked) (place : Place) (before : Option ℕ) (land : Cidr) 
   put_links q at field k = elim (h.links q at field k) [
     | inl own ↦ put_here q at field own.0 own.1 own.2.0 own.2.1
     | inr more ↦ elim more [
-      | inl kid ↦ move_link new.pool (child kid.0 n) at (half kid.0 n.block) field kid.2 kid.3
-          (keeps_link (child kid.0 n) (half kid.0 n.block) (c.kids kid.0 kid.1) (λ inside. absurd (not_in_half kid.0 n.block kid.1 inside)))
+      | inl half_link ↦ move_link new.pool (child half_link.0 n) at (half half_link.0 n.block) field half_link.2 half_link.3
+          (keeps_link (child half_link.0 n) (half half_link.0 n.block) (c.children half_link.0 half_link.1) (λ inside. absurd (not_in_half half_link.0 n.block half_link.1 inside)))
       | inr was ↦ keeps_link at field (w.links q at field was.1) (other_leads q at field was.1 was.0)
     ]
   ]

@@ -10,8 +10,8 @@ use Rattle.inet_num.specs.Net.{Cidr, IsBlock, IsInside}
 use Rattle.inet_num.proofs.Numbers.{same_block}
 use Rattle.node_pool.specs.Pooled.{Pooled, node_at}
 use Rattle.radix_tree.specs.declared.Node.{Node}
-use Rattle.radix_tree.specs.declared.Linked.{Linked}
-use Rattle.radix_tree.specs.declared.Found.{Found}
+use Rattle.radix_tree.specs.declared.links.Linked.{Linked}
+use Rattle.radix_tree.specs.declared.links.Found.{Found}
 use Rattle.radix_tree.specs.Shape.{IsTree}
 use Rattle.radix_tree.specs.Find.{IsFound}
 use Rattle.radix_tree.specs.Listed.{copies_at, blocks_of}

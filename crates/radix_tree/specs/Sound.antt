@@ -1,20 +1,21 @@
+-- When a tree is sound, and what insertion and removal make of one.
 use Rattle.std.specs.Prelude.{◌≡◌, ◌≢◌, ℕ, ◌+◌, ◌≤◌, Bool, true, false, not, List, ◌∷◌, Option, Some, None, IsPermutation, count_by, nat_eq, ◌&&◌}
 use Rattle.inet_num.specs.Net.{Cidr}
 use Rattle.node_pool.specs.Pooled.{Pooled, node_at}
 use Rattle.radix_tree.specs.declared.Node.{Node}
-use Rattle.radix_tree.specs.declared.Place.{Place}
-use Rattle.radix_tree.specs.declared.Place.TheVariants.{Root, Under}
-use Rattle.radix_tree.specs.declared.Linked.{Linked}
+use Rattle.radix_tree.specs.declared.links.Place.{Place}
+use Rattle.radix_tree.specs.declared.links.Place.TheVariants.{Root, Under}
+use Rattle.radix_tree.specs.declared.links.Linked.{Linked}
 use Rattle.radix_tree.specs.Shape.{child, IsTree}
 use Rattle.radix_tree.specs.Listed.{blocks_of, IsTallied, IsFull}
 
--- a tree with no needless node
+-- a tree with a link for each node, in which each node without a count has two children
 pub record IsSound (t : Linked) : Type 0 where
   pub tree : IsTree t
   pub tallied : IsTallied t
   pub full : IsFull t None
 
--- the node stands over one other
+-- the node has this block and count, and one child, on this side
 pub record IsOver (n : Node) (block : Cidr) (count : ℕ) (high : Bool) (id : ℕ) : Type 0 where
   pub block_is : n.block ≡ block
   pub count_is : n.count ≡ count
@@ -28,7 +29,7 @@ pub record IsInserted (old new : Linked) (block : Cidr) : Type 0 where
   pub blocks : IsPermutation (block ∷ blocks_of old.pool) (blocks_of new.pool)
   pub spare : old.pool.spare ≤ new.pool.spare + 2
 
--- a node that had no count and fewer than two children is gone, or there was no such one at the place
+-- the node at the place is gone if it had no count and fewer than two children, and else all is as it was
 pub record IsTrimmed (old new : Linked) (place : Place) (id : ℕ) : Type 0 where
   pub tree : IsTree new
   pub tallied : IsTallied new
@@ -40,14 +41,15 @@ pub record IsTrimmed (old new : Linked) (place : Place) (id : ℕ) : Type 0 wher
   pub kept : (j : ℕ) (m : Node) → j ≢ id → node_at old.pool j ≡ Some m
       → (q : Node) × (node_at new.pool j ≡ Some q) × (q.block ≡ m.block) × (q.count ≡ m.count) × ((side : Bool) → place ≢ Under j side → child side q ≡ child side m)
 
--- how often the block stands there
+-- the two blocks of one family are one, as a test
 abbrev pub is_same_block : Cidr → Cidr → Bool
 is_same_block a b = nat_eq a.first b.first && nat_eq a.len b.len
 
+-- how often the list has the block
 abbrev pub times_of : List Cidr → Cidr → ℕ
 times_of blocks block = count_by (is_same_block block) blocks
 
--- one copy of the block was taken away, or there was none
+-- one copy of the block was taken away, or there was none and the list is as it was
 pub record IsRemoved (old new : Linked) (block : Cidr) (done : Bool) : Type 0 where
   pub sound : IsSound new
   pub family : new.family ≡ old.family

@@ -1,16 +1,15 @@
-use Rattle.std.proofs.Common.{◌≡◌, ◌≢◌, ℕ, ◌+◌, ◌-◌, ◌*◌, ◌^◌, ◌<◌, ◌≤◌, Bool}
+use Rattle.std.proofs.Common.{◌≡◌, ℕ, ◌+◌, ◌<◌, ◌≤◌}
 use Rattle.inet_num.specs.Net.{Cidr, width_of, IsBlock, IsInside}
-use Rattle.radix_tree.specs.declared.Place.TheVariants.{Root, Under}
 use Rattle.radix_tree.specs.Shape.{HasLink, rank}
-use Rattle.std.specs.Prelude.{Some}
-use Rattle.radix_tree.proofs.Linked.find.Given as goal
+use Rattle.radix_tree.proofs.Covers.{IsCoveringUpTo}
+use Rattle.radix_tree.proofs.links.Linked.covering.Given as goal
 
 abbrev pub invariant-loop-found : goal.invariant-loop-found
 invariant-loop-found g l = record {
   here : HasLink l.self l.found.place l.found.at l.found.land;
   inside : IsInside l.block l.found.land;
   lawful : IsBlock l.found.land;
-  cost : l.steps + rank l.self.pool l.found.at ≤ l.initial.steps + (width_of l.fn.self.family + 1);
+  listed : IsCoveringUpTo l.self l.block l.found.land l.out.items;
 }
 
 abbrev pub decreases-loop-found : goal.decreases-loop-found

@@ -1,15 +1,16 @@
-use Rattle.std.proofs.Common.{◌≡◌, ℕ, ◌+◌, ◌<◌, ◌≤◌}
+use Rattle.std.proofs.Common.{◌≡◌, ◌≢◌, ℕ, ◌+◌, ◌-◌, ◌*◌, ◌^◌, ◌<◌, ◌≤◌, Bool}
 use Rattle.inet_num.specs.Net.{Cidr, width_of, IsBlock, IsInside}
+use Rattle.radix_tree.specs.declared.links.Place.TheVariants.{Root, Under}
 use Rattle.radix_tree.specs.Shape.{HasLink, rank}
-use Rattle.radix_tree.proofs.Covers.{IsCoveringUpTo}
-use Rattle.radix_tree.proofs.Linked.covering.Given as goal
+use Rattle.std.specs.Prelude.{Some}
+use Rattle.radix_tree.proofs.links.Linked.find.Given as goal
 
 abbrev pub invariant-loop-found : goal.invariant-loop-found
 invariant-loop-found g l = record {
   here : HasLink l.self l.found.place l.found.at l.found.land;
   inside : IsInside l.block l.found.land;
   lawful : IsBlock l.found.land;
-  listed : IsCoveringUpTo l.self l.block l.found.land l.out.items;
+  cost : l.steps + rank l.self.pool l.found.at ≤ l.initial.steps + (width_of l.fn.self.family + 1);
 }
 
 abbrev pub decreases-loop-found : goal.decreases-loop-found

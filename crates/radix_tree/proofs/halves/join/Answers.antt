@@ -2,7 +2,7 @@ use Rattle.std.proofs.Common.{rules, ◌≡◌, ◌≢◌, ℕ, refl, sym, ap, s
 use Rattle.inet_num.specs.Net.{Cidr, width_of, IsBlock, IsInside, low_half_of, high_half_of}
 use Rattle.radix_tree.specs.Shape.{half, HasRoom}
 use Rattle.radix_tree.proofs.Joints.{half_lawful, in_other, not_around, joint_is, next_lawful, no_room}
-use Rattle.radix_tree.proofs.join.Goals as goal
+use Rattle.radix_tree.proofs.halves.join.Goals as goal
 
 pub returns-then-not-contains : goal.returns-then-not-contains
 returns-then-not-contains c =

@@ -1,21 +1,23 @@
+-- The two changes of a tree's shape: a node is put at a place and takes over all that stood there, or the node of a place is
+-- cut out and its one child takes the place.
 use Rattle.std.specs.Prelude.{◌≡◌, ◌≢◌, ◌⊎◌, ℕ, ◌+◌, ◌-◌, ◌*◌, ◌<◌, ◌≤◌, Bool, true, false, not, Option, Some, None}
 use Rattle.inet_num.specs.Net.{Cidr, width_of, IsBlock, IsInside}
 use Rattle.node_pool.specs.Pooled.{Pooled, node_at}
 use Rattle.radix_tree.specs.declared.Node.{Node}
-use Rattle.radix_tree.specs.declared.Place.{Place}
-use Rattle.radix_tree.specs.declared.Place.TheVariants.{Root, Under}
-use Rattle.radix_tree.specs.declared.Linked.{Linked}
+use Rattle.radix_tree.specs.declared.links.Place.{Place}
+use Rattle.radix_tree.specs.declared.links.Place.TheVariants.{Root, Under}
+use Rattle.radix_tree.specs.declared.links.Linked.{Linked}
 use Rattle.radix_tree.specs.Shape.{half, child, HasRoom, LeadsTo, IsLink, HasLink, IsSet}
 
 -- a node that may be put at a place for the land: all that lies there lies in it, and its links are right
 pub record CanPut (old : Linked) (land : Cidr) (n : Node) : Type 0 where
   pub lawful : IsBlock n.block
   pub family_is : n.block.family ≡ old.family
-  pub shut : (HasRoom n.block → ⊥) → (side : Bool) → child side n ≡ None
+  pub shut : (¬ HasRoom n.block) → (side : Bool) → child side n ≡ None
   pub inside : IsInside n.block land
   pub clear : (id : ℕ) (m : Node) → node_at old.pool id ≡ Some m → IsInside m.block land → IsInside n.block m.block → ⊥
   pub below : (id : ℕ) (m : Node) → node_at old.pool id ≡ Some m → IsInside m.block land → IsInside m.block n.block
-  pub kids : (side : Bool) → HasRoom n.block → IsLink old.pool (child side n) (half side n.block)
+  pub children : (side : Bool) → HasRoom n.block → IsLink old.pool (child side n) (half side n.block)
 
 -- the new node stands at the place, and the rest is as it was
 pub record IsPut (old new : Linked) (place : Place) (i : ℕ) (n : Node) : Type 0 where

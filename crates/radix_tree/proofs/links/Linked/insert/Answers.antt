@@ -5,7 +5,7 @@ use Rattle.radix_tree.proofs.Sides.{longer, room_above}
 use Rattle.radix_tree.proofs.Joints.{right_side}
 use Rattle.radix_tree.proofs.Recount.{count_few, inserted_more}
 use Rattle.radix_tree.proofs.Insert.{inserted_leaf, inserted_over, open_link, inserted_join}
-use Rattle.radix_tree.proofs.Linked.insert.Goals as goal
+use Rattle.radix_tree.proofs.links.Linked.insert.Goals as goal
 
 pub returns-in_default : goal.returns-in_default
 returns-in_default g c = inserted_leaf c.args.self.now c.put_at.new.self c.args.block c.find-found.result c.requires.sound c.requires.lawful c.requires.family c.find-found.ensures.found c.in_default.is

@@ -1,6 +1,6 @@
 use Rattle.std.proofs.Common.{◌≡◌, ◌≢◌, ℕ, ◌+◌, ◌-◌, ◌*◌, ◌^◌, ◌<◌, ◌≤◌}
 use Rattle.inet_num.specs.Net.{Cidr, width_of, IsBlock, IsInside}
-use Rattle.radix_tree.proofs.join.Given as goal
+use Rattle.radix_tree.proofs.halves.join.Given as goal
 
 abbrev pub invariant-loop-low : goal.invariant-loop-low
 invariant-loop-low l = record {

@@ -8,7 +8,7 @@ use Rattle.radix_tree.proofs.Sides.{whole_in, whole_lawful}
 use Rattle.radix_tree.proofs.Joints.{half_lawful}
 use Rattle.radix_tree.proofs.Descent.{rank_child, right_half, strict_room}
 use Rattle.radix_tree.proofs.Covers.{IsCoveringUpTo, covering_init, covering_next, covering_last, covering_done, covering_end, covering_out, half_len}
-use Rattle.radix_tree.proofs.Linked.covering.Goals as goal
+use Rattle.radix_tree.proofs.links.Linked.covering.Goals as goal
 
 pub loop-found-init : goal.loop-found-init
 loop-found-init g c = record {
