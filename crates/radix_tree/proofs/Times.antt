@@ -15,14 +15,12 @@ use Rattle.radix_tree.specs.declared.links.Found.{Found}
 use Rattle.radix_tree.specs.Shape.{IsTree}
 use Rattle.radix_tree.specs.Find.{IsFound}
 use Rattle.radix_tree.specs.Listed.{copies_at, blocks_of}
-use Rattle.radix_tree.specs.Sound.{is_same_block, times_of}
+use Rattle.radix_tree.specs.Sound.{is_same, times_of}
 use Rattle.radix_tree.proofs.Order.{some_same, not_both, one_node}
 use Rattle.radix_tree.proofs.Slots.{at, cleared, at_cleared, sum_same, sum_without}
 use Rattle.radix_tree.proofs.Trim.{found_is}
+use Rattle.radix_tree.proofs.Copies.{one_if, same_true}
 use Rattle.std.proofs.lemmas.List.{get_or-set_other}
-
-abbrev one_if : Cidr → Cidr → ℕ
-one_if block b = cond (is_same_block block b) 1 0
 
 abbrev times_at : Cidr → Option Node → ℕ
 times_at block x = sum_by (one_if block) (copies_at x)
@@ -36,12 +34,9 @@ times_sum block (x ∷ xs) =
     let step = sum_by-cons (times_at block) x xs in
     omega arith
 
-same_true : (a b : Cidr) → a ≡ b → is_same_block a b ≡ true
-same_true a b e = let f : a.first ≡ b.first = ap (λ (x : Cidr). x.first) e in let l : a.len ≡ b.len = ap (λ (x : Cidr). x.len) e in grind (arith, nat_tests)
-
-same_false : (a b : Cidr) → a.family ≡ b.family → a ≢ b → is_same_block a b ≡ false
-same_false a b fam other = go (is_same_block a b) refl where
-  go : (t : Bool) → is_same_block a b ≡ t → is_same_block a b ≡ false
+same_false : (a b : Cidr) → a.family ≡ b.family → a ≢ b → is_same a b ≡ false
+same_false a b fam other = go (is_same a b) refl where
+  go : (t : Bool) → is_same a b ≡ t → is_same a b ≡ false
   go false e = e
   go true e =
       let first : a.first ≡ b.first = grind (arith, nat_tests) in

@@ -1,5 +1,5 @@
 -- When a tree is sound, and what insertion and removal make of one.
-use Rattle.std.specs.Prelude.{◌≡◌, ◌≢◌, ℕ, ◌+◌, ◌≤◌, Bool, true, false, not, List, ◌∷◌, Option, Some, None, IsPermutation, count_by, nat_eq, ◌&&◌}
+use Rattle.std.specs.Prelude.{◌≡◌, ◌≢◌, ℕ, ◌+◌, ◌<◌, ◌≤◌, Bool, MatchBool, true, false, not, List, ◌∷◌, Option, Some, None, IsPermutation, count_by, nat_eq, ◌&&◌}
 use Rattle.inet_num.specs.Net.{Cidr}
 use Rattle.node_pool.specs.Pooled.{Pooled, node_at}
 use Rattle.radix_tree.specs.declared.Node.{Node}
@@ -42,17 +42,17 @@ pub record IsTrimmed (old new : Linked) (place : Place) (id : ℕ) : Type 0 wher
       → (q : Node) × (node_at new.pool j ≡ Some q) × (q.block ≡ m.block) × (q.count ≡ m.count) × ((side : Bool) → place ≢ Under j side → child side q ≡ child side m)
 
 -- the two blocks of one family are one, as a test
-abbrev pub is_same_block : Cidr → Cidr → Bool
-is_same_block a b = nat_eq a.first b.first && nat_eq a.len b.len
+abbrev pub is_same : Cidr → Cidr → Bool
+is_same a b = nat_eq a.first b.first && nat_eq a.len b.len
 
 -- how often the list has the block
 abbrev pub times_of : List Cidr → Cidr → ℕ
-times_of blocks block = count_by (is_same_block block) blocks
+times_of blocks block = count_by (is_same block) blocks
 
 -- one copy of the block was taken away, or there was none and the list is as it was
 pub record IsRemoved (old new : Linked) (block : Cidr) (done : Bool) : Type 0 where
   pub sound : IsSound new
   pub family : new.family ≡ old.family
   pub spare : old.pool.spare ≤ new.pool.spare
-  pub taken : done ≡ true → IsPermutation (blocks_of old.pool) (block ∷ blocks_of new.pool)
-  pub absent : done ≡ false → (times_of (blocks_of old.pool) block ≡ 0) × (blocks_of new.pool ≡ blocks_of old.pool)
+  pub taken : MatchBool done (IsPermutation (blocks_of old.pool) (block ∷ blocks_of new.pool)) (blocks_of new.pool ≡ blocks_of old.pool)
+  pub cause : MatchBool done (0 < times_of (blocks_of old.pool) block) (times_of (blocks_of old.pool) block ≡ 0)

@@ -2,7 +2,7 @@
 //! taken out within as many visits of nodes as an address has bits and a few, however many blocks there are.
 #![tactic(auto)]
 
-ghost use Rattle.std.specs.Prelude.{◌≡◌, ℕ, ◌+◌, ◌^◌, ◌<◌, ◌≤◌, [], ◌∷◌, IsPermutation, length, OnOk, OnErr, IfOk, true, false};
+ghost use Rattle.std.specs.Prelude.{◌≡◌, ℕ, ◌+◌, ◌^◌, ◌<◌, ◌≤◌, [], ◌∷◌, IsPermutation, length, OnOk, OnErr, IfOk, MatchBool};
 ghost use Rattle.radix_tree.specs.Shape.{child, HasOneEach};
 ghost use Rattle.radix_tree.specs.Listed.{blocks_of};
 ghost use Rattle.radix_tree.specs.Sound.{times_of};
@@ -133,9 +133,8 @@ impl Tree {
     /// memory, and leaves as much room as before at least.
     pub fn remove(&mut self, block: Block) -> bool
         requires family { block.family ≡ self.old.family }
-        ensures taken { result ≡ true → IsPermutation self.old.blocks (block ∷ self.new.blocks) }
-        ensures none { result ≡ false → times_of self.old.blocks block ≡ 0 }
-        ensures same { result ≡ false → self.new.blocks ≡ self.old.blocks }
+        ensures taken { MatchBool result (IsPermutation self.old.blocks (block ∷ self.new.blocks)) (self.new.blocks ≡ self.old.blocks) }
+        ensures cause { MatchBool result (0 < times_of self.old.blocks block) (times_of self.old.blocks block ≡ 0) }
         ensures family { self.new.family ≡ self.old.family }
         ensures spare { self.old.spare ≤ self.new.spare }
     {
