@@ -161,3 +161,6 @@ impl Tree {
         covering_counted::<Brand>(&self.linked, self.alloc, &block, Blank::new(1))
     }
 }
+
+#[cfg(test)]
+mod tests;
