@@ -5,6 +5,7 @@ ghost use Rattle.node_pool.specs.Pooled.{node_at, IsLive};
 
 use super::*;
 use std::marker::Brand;
+use std::sync::ledger::Blank;
 
 /// The number of an id, on a counter that is made for it.
 fn shown<L: Ledger>(pool: &Pool<u32>, id: NodeId, blank: Blank) -> u32

@@ -4,7 +4,7 @@ use Rattle.std.specs.Prelude.{cond, IsPermutation}
 use Rattle.std.proofs.lemmas.Bool.Decides.{nat_tests}
 use Rattle.std.proofs.lemmas.List.Sorted.{sum_by_popped}
 use Rattle.inet_num.specs.Net.{Cidr}
-use Rattle.radix_tree.specs.Sound.{is_same, times_of}
+use Rattle.block_space.specs.Listed.{is_same, times_of}
 
 -- 1 for the block, and 0 for another
 abbrev pub one_if : Cidr → Cidr → ℕ

@@ -15,7 +15,7 @@ use Rattle.radix_tree.specs.declared.links.Found.{Found}
 use Rattle.radix_tree.specs.Shape.{IsTree}
 use Rattle.radix_tree.specs.Find.{IsFound}
 use Rattle.radix_tree.specs.Listed.{copies_at, blocks_of}
-use Rattle.radix_tree.specs.Sound.{is_same, times_of}
+use Rattle.block_space.specs.Listed.{is_same, times_of}
 use Rattle.radix_tree.proofs.Order.{some_same, not_both, one_node}
 use Rattle.radix_tree.proofs.Slots.{at, cleared, at_cleared, sum_same, sum_without}
 use Rattle.radix_tree.proofs.Trim.{found_is}

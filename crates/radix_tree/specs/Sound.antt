@@ -1,6 +1,7 @@
 -- When a tree is sound, and what insertion and removal make of one.
 use Rattle.std.specs.Prelude.{◌≡◌, ◌≢◌, ℕ, ◌+◌, ◌<◌, ◌≤◌, Bool, MatchBool, true, false, not, List, ◌∷◌, Option, Some, None, IsPermutation, count_by, nat_eq, ◌&&◌}
 use Rattle.inet_num.specs.Net.{Cidr}
+use Rattle.block_space.specs.Listed.{times_of}
 use Rattle.node_pool.specs.Pooled.{Pooled, node_at}
 use Rattle.radix_tree.specs.declared.Node.{Node}
 use Rattle.radix_tree.specs.declared.links.Place.{Place}
@@ -40,14 +41,6 @@ pub record IsTrimmed (old new : Linked) (place : Place) (id : ℕ) : Type 0 wher
   pub full : IsFull old (Some id) → (side : Bool) → ((n : Node) → node_at old.pool id ≡ Some n → n.count ≡ 0 → child side n ≢ None) → IsFull new None
   pub kept : (j : ℕ) (m : Node) → j ≢ id → node_at old.pool j ≡ Some m
       → (q : Node) × (node_at new.pool j ≡ Some q) × (q.block ≡ m.block) × (q.count ≡ m.count) × ((side : Bool) → place ≢ Under j side → child side q ≡ child side m)
-
--- the two blocks of one family are one, as a test
-abbrev pub is_same : Cidr → Cidr → Bool
-is_same a b = nat_eq a.first b.first && nat_eq a.len b.len
-
--- how often the list has the block
-abbrev pub times_of : List Cidr → Cidr → ℕ
-times_of blocks block = count_by (is_same block) blocks
 
 -- one copy of the block was taken away, or there was none and the list is as it was
 pub record IsRemoved (old new : Linked) (block : Cidr) (done : Bool) : Type 0 where

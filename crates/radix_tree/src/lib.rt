@@ -5,7 +5,7 @@
 ghost use Rattle.std.specs.Prelude.{◌≡◌, ℕ, ◌+◌, ◌^◌, ◌<◌, ◌≤◌, [], ◌∷◌, IsPermutation, length, OnOk, OnErr, IfOk, MatchBool};
 ghost use Rattle.radix_tree.specs.Shape.{child, HasOneEach};
 ghost use Rattle.radix_tree.specs.Listed.{blocks_of};
-ghost use Rattle.radix_tree.specs.Sound.{times_of};
+ghost use Rattle.block_space.specs.Listed.{times_of};
 ghost use Rattle.radix_tree.specs.Lent.{HasLiveChildren, HasTwoChildren};
 ghost use Rattle.radix_tree.specs.Covering.{ListsCovering};
 

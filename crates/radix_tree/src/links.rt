@@ -7,7 +7,8 @@ ghost use Rattle.node_pool.specs.Pooled.{Pooled, node_at, live_nodes, Changes, I
 ghost use Rattle.radix_tree.specs.Shape.{half, child, owner, whole, HasRoom, HasLink, IsTree, IsPlace, Relinks};
 ghost use Rattle.radix_tree.specs.Edits.{IsPut, IsCut};
 ghost use Rattle.radix_tree.specs.Listed.{copies, blocks_of, link_count, child_count, links_of, IsTallied, Recounts};
-ghost use Rattle.radix_tree.specs.Sound.{IsSound, IsOver, IsInserted, IsTrimmed, IsRemoved, times_of};
+ghost use Rattle.radix_tree.specs.Sound.{IsSound, IsOver, IsInserted, IsTrimmed, IsRemoved};
+ghost use Rattle.block_space.specs.Listed.{times_of};
 ghost use Rattle.radix_tree.specs.Covering.{ListsCovering, if_counted};
 ghost use Rattle.radix_tree.specs.Find.{IsFound};
 ghost use Rattle.radix_tree.specs.declared.links.Place.TheVariants.{Root, Under};
@@ -15,8 +16,9 @@ ghost use Rattle.radix_tree.specs.declared.Node.{Node};
 
 use crate::Node;
 use crate::halves::{half_of, join, whole_of};
+use block_space::Steps;
 use inet_num::{Block, Family};
-use node_pool::{NodeId, Pool, Steps};
+use node_pool::{NodeId, Pool};
 use std::alloc::{AllocError, Global};
 use std::sync::ledger::{Blank, Ledger};
 
