@@ -1,6 +1,6 @@
 //! Trees compared with values by hand.
 
-ghost use Rattle.std.specs.Prelude.{◌≡◌, ◌≤◌, ◌<◌, IfOk, IfSome, length};
+ghost use Rattle.std.specs.Prelude.{◌≡◌, ◌+◌, ◌≤◌, ◌<◌, IfOk, IfSome, length};
 
 use super::*;
 use inet_num::Addr;
@@ -21,32 +21,43 @@ fn block(family: Family, first: u128, len: u8) -> Option<Block>
     Block::of(Addr::of(family, first)?, len)
 }
 
-/// The empty tree with these changes, of which at most 1000 put a block in.
+/// Puts a block in or takes it out, if it is one of the family.
+fn apply(tree: &mut Tree, change: Change) -> Result<(), AllocError>
+    requires { length tree.old.blocks < 1000 }
+    ensures family { tree.new.family ≡ tree.old.family }
+    ensures few { length tree.new.blocks ≤ length tree.old.blocks + 1 }
+{
+    match change {
+        Insert(first, len) => {
+            let Some(block) = block(tree.family(), first, len) else {
+                return Ok(());
+            };
+            tree.reserve(1)?;
+            tree.insert(block);
+            Ok(())
+        }
+        Remove(first, len) => {
+            let Some(block) = block(tree.family(), first, len) else {
+                return Ok(());
+            };
+            tree.remove(block);
+            Ok(())
+        }
+    }
+}
+
+/// The empty tree with these changes, or with the first 1000 of them.
 fn changed(alloc: Global, family: Family, changes: &[Change]) -> Result<Tree, AllocError>
     ensures { IfOk result (λ tree. tree.family ≡ family) }
 {
     let mut tree = Tree::new(alloc, family);
-    let mut put = 0u32;
+    let mut done = 0u32;
     'changes: for change in changes {
-        match *change {
-            Insert(first, len) => {
-                let Some(block) = block(family, first, len) else {
-                    continue;
-                };
-                if put == 1000 {
-                    return Ok(tree);
-                }
-                tree.reserve(1)?;
-                tree.insert(block);
-                put += 1;
-            }
-            Remove(first, len) => {
-                let Some(block) = block(family, first, len) else {
-                    continue;
-                };
-                tree.remove(block);
-            }
+        if done == 1000 {
+            return Ok(tree);
         }
+        apply(&mut tree, *change)?;
+        done += 1;
     }
     Ok(tree)
 }

@@ -3,7 +3,7 @@ use Rattle.radix_tree.proofs.tests.changed.Given as goal
 
 abbrev pub invariant-changes : goal.invariant-changes
 invariant-changes l = record {
-  family : l.tree.family ≡ l.family;
-  few : length l.tree.blocks ≤ l.put;
-  put : l.put ≤ 1000;
+  family : l.tree.family ≡ l.fn.family;
+  few : length l.tree.blocks ≤ l.done;
+  done : l.done ≤ 1000;
 }
