@@ -1,5 +1,5 @@
 -- How often a list has a block that was put in front of another.
-use Rattle.std.proofs.Common.{◌≡◌, ℕ, ◌+◌, ◌<◌, ◌≤◌, Bool, true, false, length, nat_eq, ◌&&◌, refl, ap, arith, List, ◌∷◌}
+use Rattle.std.proofs.Common.{◌≡◌, ℕ, ◌+◌, ◌<◌, ◌≤◌, Bool, true, false, length, refl, ap, arith, List, ◌∷◌}
 use Rattle.std.specs.Prelude.{cond, IsPermutation, MatchBool}
 use Rattle.std.proofs.lemmas.Bool.Decides.{nat_tests}
 use Rattle.std.proofs.lemmas.List.Sorted.{sum_by_popped, length_permutation}

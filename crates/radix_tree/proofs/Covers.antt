@@ -1,16 +1,16 @@
-use Rattle.std.proofs.Common.{◌≡◌, ◌≢◌, ◌⊎◌, ℕ, zero, suc, ◌+◌, ◌-◌, ◌*◌, ◌<◌, ◌≤◌, Bool, true, false, not, refl, sym, ◌∙◌, ap, subst, arith, rules, inl, inr, Option, Some, None, List, [], ◌∷◌, ◌++◌, replicate, length, append-nil}
-use Rattle.std.specs.Prelude.{Contains, IsPermutation}
+use Rattle.std.proofs.Common.{◌≡◌, ◌≢◌, ◌⊎◌, ℕ, zero, suc, ◌+◌, ◌<◌, ◌≤◌, Bool, true, false, refl, sym, ◌∙◌, ap, subst, arith, inl, inr, Option, Some, None, List, [], ◌∷◌, ◌++◌, replicate, append-nil}
+use Rattle.std.specs.Prelude.{Contains}
 use Rattle.std.specs.List.{flat_map}
-use Rattle.std.proofs.lemmas.Bool.{cases_lt, cases_eq}
+use Rattle.std.proofs.lemmas.Bool.{cases_eq}
 use Rattle.std.proofs.lemmas.List.Elements.{Contains-append_left, Contains-append_right, Contains-append_cases}
 use Rattle.std.proofs.lemmas.List.Sorted.{IsPermutation-sym, Contains-permutation}
-use Rattle.inet_num.specs.Net.{Cidr, width_of, IsBlock, IsInside}
+use Rattle.inet_num.specs.Net.{Cidr, IsBlock, IsInside}
 use Rattle.inet_num.proofs.Nested.{inside_trans}
 use Rattle.node_pool.specs.Pooled.{Pooled, node_at}
 use Rattle.radix_tree.specs.declared.Node.{Node}
 use Rattle.radix_tree.specs.declared.links.Place.{Place}
 use Rattle.radix_tree.specs.declared.links.Linked.{Linked}
-use Rattle.radix_tree.specs.Shape.{half, child, whole, HasRoom, HasLink, IsTree}
+use Rattle.radix_tree.specs.Shape.{half, whole, HasRoom, HasLink, IsTree}
 use Rattle.radix_tree.specs.Listed.{copies_at, blocks_of}
 use Rattle.radix_tree.specs.Covering.{ByLength, ListsCovering, if_counted}
 use Rattle.radix_tree.proofs.Sides.{has_first, longer, in_side, len_of_inside, whole_in}

@@ -1,16 +1,16 @@
-use Rattle.std.proofs.Common.{◌≡◌, ◌≢◌, ◌⊎◌, ℕ, zero, suc, ◌+◌, ◌-◌, ◌*◌, ◌^◌, ◌<◌, ◌≤◌, Bool, true, false, refl, sym, ◌∙◌, ap, subst, arith, rules, inl, inr, Option, Some, None}
-use Rattle.std.proofs.lemmas.Bool.{cases_lt, cases_eq}
-use Rattle.inet_num.specs.Net.{Cidr, width_of, size_of, HasAddress, IsBlock, IsInside}
+use Rattle.std.proofs.Common.{◌≡◌, ◌≢◌, ℕ, Bool, refl, sym, ◌∙◌, ap, subst, arith, inl, inr, Option, Some, None}
+use Rattle.std.proofs.lemmas.Bool.{cases_lt}
+use Rattle.inet_num.specs.Net.{Cidr, width_of, IsInside}
 use Rattle.inet_num.proofs.Nested.{inside_trans}
-use Rattle.node_pool.specs.Pooled.{Pooled, node_at}
+use Rattle.node_pool.specs.Pooled.{node_at}
 use Rattle.radix_tree.specs.declared.Node.{Node}
 use Rattle.radix_tree.specs.declared.links.Place.{Place}
-use Rattle.radix_tree.specs.declared.links.Place.TheVariants.{Root, Under}
+use Rattle.radix_tree.specs.declared.links.Place.TheVariants.{Under}
 use Rattle.radix_tree.specs.declared.links.Linked.{Linked}
-use Rattle.radix_tree.specs.Shape.{half, child, HasRoom, whole, LeadsTo, IsLink, HasLink, IsNode, IsTree, IsSet}
+use Rattle.radix_tree.specs.Shape.{half, child, HasRoom, LeadsTo, IsLink, HasLink, IsNode, IsTree}
 use Rattle.radix_tree.specs.Edits.{IsCut}
-use Rattle.radix_tree.proofs.Sides.{self_in, has_first, not_in_half, half_in, same_side, longer, room_above, side_of}
-use Rattle.radix_tree.proofs.Order.{some_same, not_both, one_node, leads_weaker, move_link, order, one_land, IsAbove}
+use Rattle.radix_tree.proofs.Sides.{has_first, not_in_half, half_in, same_side, longer, room_above, side_of}
+use Rattle.radix_tree.proofs.Order.{some_same, not_both, one_node, move_link, order, one_land, IsAbove}
 use Rattle.radix_tree.proofs.Put.{set_node}
 
 module _ (old new : Linked) (place : Place) (land : Cidr) (i : ℕ) (n : Node) (side : Bool) (w : IsTree old) (here : HasLink old place (Some i) land)

@@ -1,16 +1,15 @@
-use Rattle.std.proofs.Common.{◌≡◌, ◌≢◌, ◌⊎◌, ℕ, zero, suc, ◌+◌, ◌-◌, ◌*◌, ◌<◌, ◌≤◌, Bool, true, false, not, IsTrue, refl, sym, ◌∙◌, ap, subst, arith, rules, inl, inr, Option, Some, None}
+use Rattle.std.proofs.Common.{◌≡◌, ℕ, ◌+◌, ◌≤◌, Bool, true, false, not, IsTrue, refl, sym, ◌∙◌, ap, subst, arith, inl, inr, Option, Some, None}
 use Rattle.std.proofs.lemmas.Bool.{cases_lt}
-use Rattle.inet_num.specs.declared.Family.{Family}
 use Rattle.inet_num.specs.Net.{Cidr, width_of, IsBlock, IsInside, IsStrictlyInside}
 use Rattle.inet_num.proofs.Numbers.{strictly_by_len, len_of_strictly}
 use Rattle.inet_num.proofs.Nested.{same_by_len}
-use Rattle.node_pool.specs.Pooled.{Pooled, node_at}
+use Rattle.node_pool.specs.Pooled.{node_at}
 use Rattle.radix_tree.specs.declared.Node.{Node}
 use Rattle.radix_tree.specs.declared.links.Place.{Place}
 use Rattle.radix_tree.specs.declared.links.Place.TheVariants.{Root, Under}
 use Rattle.radix_tree.specs.declared.links.Linked.{Linked}
-use Rattle.radix_tree.specs.Shape.{half, child, HasRoom, whole, HasLink, IsLink, IsTree, rank, rank_of}
-use Rattle.radix_tree.proofs.Sides.{whole_in, len_of_inside, longer}
+use Rattle.radix_tree.specs.Shape.{half, child, HasRoom, whole, HasLink, IsTree, rank}
+use Rattle.radix_tree.proofs.Sides.{len_of_inside}
 use Rattle.radix_tree.proofs.Order.{some_same, one_node}
 use Rattle.radix_tree.proofs.Joints.{in_other}
 

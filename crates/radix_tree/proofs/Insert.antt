@@ -1,22 +1,22 @@
-use Rattle.std.proofs.Common.{◌≡◌, ◌≢◌, ◌⊎◌, ℕ, zero, suc, ◌+◌, ◌-◌, ◌*◌, ◌<◌, ◌≤◌, Bool, true, false, not, refl, sym, ◌∙◌, ap, subst, arith, rules, inl, inr, Option, Some, None, List, [], ◌∷◌, ◌++◌, replicate, length}
+use Rattle.std.proofs.Common.{◌≡◌, ◌≢◌, ℕ, ◌+◌, Bool, true, false, not, refl, sym, ◌∙◌, ap, subst, arith, inl, inr, Option, Some, None, List, ◌∷◌, ◌++◌, replicate}
 use Rattle.std.specs.Prelude.{IsPermutation}
-use Rattle.std.proofs.lemmas.Bool.{cases_eq, cases_lt}
-use Rattle.std.proofs.lemmas.List.Sorted.{IsPermutation-refl, IsPermutation-sym, IsPermutation-trans, IsPermutation-cons}
-use Rattle.inet_num.specs.Net.{Cidr, HasAddress, IsBlock, IsInside, IsStrictlyInside}
+use Rattle.std.proofs.lemmas.Bool.{cases_eq}
+use Rattle.std.proofs.lemmas.List.Sorted.{IsPermutation-trans, IsPermutation-cons}
+use Rattle.inet_num.specs.Net.{Cidr, IsBlock, IsInside}
 use Rattle.inet_num.proofs.Nested.{inside_trans}
-use Rattle.node_pool.specs.Pooled.{Pooled, node_at, Changes}
+use Rattle.node_pool.specs.Pooled.{node_at}
 use Rattle.radix_tree.specs.declared.Node.{Node}
 use Rattle.radix_tree.specs.declared.links.Place.{Place}
-use Rattle.radix_tree.specs.declared.links.Place.TheVariants.{Root, Under}
+use Rattle.radix_tree.specs.declared.links.Place.TheVariants.{Under}
 use Rattle.radix_tree.specs.declared.links.Linked.{Linked}
 use Rattle.radix_tree.specs.declared.links.Found.{Found}
 use Rattle.radix_tree.specs.declared.halves.Joint.{Joint}
-use Rattle.radix_tree.specs.Shape.{half, child, HasRoom, LeadsTo, HasLink, IsLink, IsTree, IsPlace, IsSet}
+use Rattle.radix_tree.specs.Shape.{half, child, HasRoom, HasLink, IsLink, IsTree}
 use Rattle.radix_tree.specs.Edits.{CanPut, IsPut}
-use Rattle.radix_tree.specs.Listed.{copies, blocks_of, link_count, child_count, links_of, IsTallied, IsFull}
+use Rattle.radix_tree.specs.Listed.{copies, blocks_of, link_count, child_count, IsTallied, IsFull}
 use Rattle.radix_tree.specs.Find.{IsFound, IsJoint}
 use Rattle.radix_tree.specs.Sound.{IsSound, IsOver, IsInserted}
-use Rattle.radix_tree.proofs.Sides.{self_in, has_first, half_in, not_in_half, same_side, sides_apart}
+use Rattle.radix_tree.proofs.Sides.{has_first, half_in, not_in_half, same_side, sides_apart}
 use Rattle.radix_tree.proofs.Order.{some_same, not_both, one_node}
 use Rattle.radix_tree.proofs.Put.{put_tree}
 use Rattle.radix_tree.proofs.Joints.{other_side}

@@ -1,12 +1,10 @@
 -- What the nodes that a tree lends have, from the tree's law.
-use Rattle.std.proofs.Common.{◌≡◌, ◌≢◌, ℕ, ◌<◌, Bool, refl, sym, ap, subst, arith, inl, inr, Option, Some, None, IsSome}
+use Rattle.std.proofs.Common.{refl, sym, subst, arith, inl, inr, IsSome}
 use Rattle.std.proofs.lemmas.Bool.{cases_lt}
 use Rattle.inet_num.specs.Net.{width_of}
-use Rattle.node_pool.specs.Pooled.{Pooled, node_at, IsLive}
-use Rattle.radix_tree.specs.declared.Node.{Node}
 use Rattle.radix_tree.specs.declared.links.Place.TheVariants.{Under}
 use Rattle.radix_tree.specs.declared.links.Linked.{Linked}
-use Rattle.radix_tree.specs.Shape.{half, child, HasRoom, IsTree}
+use Rattle.radix_tree.specs.Shape.{half, child, IsTree}
 use Rattle.radix_tree.specs.Sound.{IsSound}
 use Rattle.radix_tree.specs.Lent.{HasLiveChildren, HasTwoChildren}
 use Rattle.radix_tree.proofs.Order.{not_both}

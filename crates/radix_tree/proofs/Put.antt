@@ -1,16 +1,14 @@
-use Rattle.std.proofs.Common.{◌≡◌, ◌≢◌, ◌⊎◌, ℕ, zero, suc, ◌+◌, ◌-◌, ◌*◌, ◌^◌, ◌<◌, ◌≤◌, Bool, true, false, refl, sym, ◌∙◌, ap, subst, arith, rules, inl, inr, Option, Some, None}
-use Rattle.std.proofs.lemmas.Bool.{cases_lt, cases_eq}
-use Rattle.inet_num.specs.Net.{Cidr, width_of, size_of, HasAddress, IsBlock, IsInside}
+use Rattle.std.proofs.Common.{◌≡◌, ◌≢◌, ◌⊎◌, ℕ, refl, sym, ◌∙◌, ap, subst, inl, inr, Option, Some}
+use Rattle.inet_num.specs.Net.{Cidr, IsBlock, IsInside}
 use Rattle.inet_num.proofs.Nested.{inside_trans}
-use Rattle.node_pool.specs.Pooled.{Pooled, node_at}
+use Rattle.node_pool.specs.Pooled.{node_at}
 use Rattle.radix_tree.specs.declared.Node.{Node}
 use Rattle.radix_tree.specs.declared.links.Place.{Place}
-use Rattle.radix_tree.specs.declared.links.Place.TheVariants.{Root, Under}
 use Rattle.radix_tree.specs.declared.links.Linked.{Linked}
-use Rattle.radix_tree.specs.Shape.{half, child, HasRoom, whole, LeadsTo, IsLink, HasLink, IsNode, IsTree, IsSet}
+use Rattle.radix_tree.specs.Shape.{half, child, HasRoom, LeadsTo, IsLink, HasLink, IsNode, IsTree, IsSet}
 use Rattle.radix_tree.specs.Edits.{CanPut, IsPut}
 use Rattle.radix_tree.proofs.Sides.{self_in, has_first, not_in_half}
-use Rattle.radix_tree.proofs.Order.{some_same, not_both, one_node, leads_weaker, move_link, order, one_land}
+use Rattle.radix_tree.proofs.Order.{some_same, one_node, leads_weaker, move_link, order, one_land}
 
 block_in : (land : Cidr) → Cidr → Type 0
 block_in land b = IsInside b land

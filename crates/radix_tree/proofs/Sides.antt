@@ -1,12 +1,12 @@
-use Rattle.std.proofs.Common.{◌≡◌, ◌≢◌, ◌⊎◌, ℕ, zero, suc, ◌+◌, ◌-◌, ◌*◌, ◌^◌, ◌<◌, ◌≤◌, Bool, true, false, refl, sym, ◌∙◌, ap, subst, arith, rules, inl, inr, Option, Some, None}
-use Rattle.std.proofs.lemmas.Bool.{cases_lt, cases_eq}
+use Rattle.std.proofs.Common.{◌≡◌, ◌≢◌, ◌⊎◌, ℕ, ◌+◌, ◌-◌, ◌^◌, ◌<◌, ◌≤◌, Bool, true, false, refl, ap, subst, arith, inl, inr}
+use Rattle.std.proofs.lemmas.Bool.{cases_lt}
 use Rattle.std.proofs.lemmas.Nat.{pow_pos, pow_below}
 use Rattle.std.proofs.Math.Nat.{zero-mod}
 use Rattle.inet_num.specs.declared.Family.{Family}
 use Rattle.inet_num.specs.Net.{Cidr, width_of, size_of, HasAddress, IsBlock, IsInside, low_half_of, high_half_of}
 use Rattle.inet_num.proofs.Numbers.{ends_of_inside, inside_by_ends, pow_double, block_fits}
-use Rattle.inet_num.proofs.Nested.{same_by_len, inside_trans}
-use Rattle.inet_num.proofs.Aligned.{inside_half, nested}
+use Rattle.inet_num.proofs.Nested.{same_by_len}
+use Rattle.inet_num.proofs.Aligned.{inside_half}
 use Rattle.radix_tree.specs.Shape.{half, HasRoom, whole}
 
 pub self_in : (b : Cidr) → IsInside b b

@@ -1,12 +1,11 @@
-use Rattle.std.proofs.Common.{◌≡◌, ◌≢◌, ◌⊎◌, ℕ, zero, suc, ◌+◌, ◌-◌, ◌*◌, ◌<◌, ◌≤◌, Bool, true, false, not, nat_eq, ◌&&◌, refl, sym, ◌∙◌, ap, subst, arith, rules, inl, inr, Option, Some, None, List, [], ◌∷◌, ◌++◌, replicate}
-use Rattle.std.specs.Prelude.{cond, count_by}
+use Rattle.std.proofs.Common.{◌≡◌, ◌≢◌, ℕ, ◌+◌, ◌*◌, Bool, true, false, refl, sym, ◌∙◌, ap, arith, inl, inr, Option, Some, None, List, [], ◌∷◌}
+use Rattle.std.specs.Prelude.{cond}
 use Rattle.std.specs.List.{flat_map, sum_by}
 use Rattle.std.proofs.lemmas.Bool.{cases_eq}
 use Rattle.std.proofs.lemmas.Bool.Decides.{nat_tests}
 use Rattle.std.proofs.lemmas.List.Sums.{sum_by-cons, sum_by-append}
 use Rattle.std.proofs.lemmas.List.Folds.{sum_by-replicate}
-use Rattle.inet_num.specs.declared.Family.{Family}
-use Rattle.inet_num.specs.Net.{Cidr, IsBlock, IsInside}
+use Rattle.inet_num.specs.Net.{Cidr}
 use Rattle.inet_num.proofs.Numbers.{same_block}
 use Rattle.node_pool.specs.Pooled.{Pooled, node_at}
 use Rattle.radix_tree.specs.declared.Node.{Node}
@@ -16,7 +15,7 @@ use Rattle.radix_tree.specs.Shape.{IsTree}
 use Rattle.radix_tree.specs.Find.{IsFound}
 use Rattle.radix_tree.specs.Listed.{copies_at, blocks_of}
 use Rattle.block_space.specs.Listed.{is_same, times_of}
-use Rattle.radix_tree.proofs.Order.{some_same, not_both, one_node}
+use Rattle.radix_tree.proofs.Order.{some_same, one_node}
 use Rattle.radix_tree.proofs.Slots.{at, cleared, at_cleared, sum_same, sum_without}
 use Rattle.radix_tree.proofs.Trim.{found_is}
 use Rattle.radix_tree.proofs.Copies.{one_if, same_true}

@@ -1,13 +1,12 @@
 -- The two changes of a tree's shape: a node is put at a place and takes over all that stood there, or the node of a place is
 -- cut out and its one child takes the place.
-use Rattle.std.specs.Prelude.{◌≡◌, ◌≢◌, ◌⊎◌, ℕ, ◌+◌, ◌-◌, ◌*◌, ◌<◌, ◌≤◌, Bool, true, false, not, Option, Some, None}
-use Rattle.inet_num.specs.Net.{Cidr, width_of, IsBlock, IsInside}
-use Rattle.node_pool.specs.Pooled.{Pooled, node_at}
+use Rattle.std.specs.Prelude.{◌≡◌, ◌≢◌, ◌⊎◌, ℕ, Bool, Option, Some, None}
+use Rattle.inet_num.specs.Net.{Cidr, IsBlock, IsInside}
+use Rattle.node_pool.specs.Pooled.{node_at}
 use Rattle.radix_tree.specs.declared.Node.{Node}
 use Rattle.radix_tree.specs.declared.links.Place.{Place}
-use Rattle.radix_tree.specs.declared.links.Place.TheVariants.{Root, Under}
 use Rattle.radix_tree.specs.declared.links.Linked.{Linked}
-use Rattle.radix_tree.specs.Shape.{half, child, HasRoom, LeadsTo, IsLink, HasLink, IsSet}
+use Rattle.radix_tree.specs.Shape.{half, child, HasRoom, IsLink, HasLink, IsSet}
 
 -- a node that may be put at a place for the land: all that lies there lies in it, and its links are right
 pub record CanPut (old : Linked) (land : Cidr) (n : Node) : Type 0 where

@@ -1,8 +1,7 @@
 -- The shape of a path-compressed binary tree of blocks: where links stand, which block each is for, and when they are
 -- right. Each link has a land: the block that it is for, the whole family for the link to the topmost node, and a half of
 -- its node's block elsewhere.
-use Rattle.std.specs.Prelude.{◌≡◌, ◌≢◌, ◌⊎◌, ℕ, ◌+◌, ◌-◌, ◌*◌, ◌<◌, ◌≤◌, Bool, true, false, List, [], ◌∷◌, ◌++◌, Option, Some, None, replicate}
-use Rattle.std.specs.List.{flat_map}
+use Rattle.std.specs.Prelude.{◌≡◌, ◌≢◌, ◌⊎◌, ℕ, ◌+◌, ◌-◌, ◌<◌, Bool, true, false, Option, Some, None}
 use Rattle.inet_num.specs.declared.Family.{Family}
 use Rattle.inet_num.specs.Net.{Cidr, width_of, IsBlock, IsInside, low_half_of, high_half_of}
 use Rattle.node_pool.specs.Pooled.{Pooled, node_at}

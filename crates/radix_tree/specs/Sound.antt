@@ -1,11 +1,11 @@
 -- When a tree is sound, and what insertion and removal make of one.
-use Rattle.std.specs.Prelude.{◌≡◌, ◌≢◌, ℕ, ◌+◌, ◌<◌, ◌≤◌, Bool, MatchBool, true, false, not, List, ◌∷◌, Option, Some, None, IsPermutation, count_by, nat_eq, ◌&&◌}
+use Rattle.std.specs.Prelude.{◌≡◌, ◌≢◌, ℕ, ◌+◌, ◌<◌, ◌≤◌, Bool, MatchBool, not, ◌∷◌, Option, Some, None, IsPermutation}
 use Rattle.inet_num.specs.Net.{Cidr}
 use Rattle.block_space.specs.Listed.{times_of}
-use Rattle.node_pool.specs.Pooled.{Pooled, node_at}
+use Rattle.node_pool.specs.Pooled.{node_at}
 use Rattle.radix_tree.specs.declared.Node.{Node}
 use Rattle.radix_tree.specs.declared.links.Place.{Place}
-use Rattle.radix_tree.specs.declared.links.Place.TheVariants.{Root, Under}
+use Rattle.radix_tree.specs.declared.links.Place.TheVariants.{Under}
 use Rattle.radix_tree.specs.declared.links.Linked.{Linked}
 use Rattle.radix_tree.specs.Shape.{child, IsTree}
 use Rattle.radix_tree.specs.Listed.{blocks_of, IsTallied, IsFull}

@@ -1,4 +1,3 @@
-use Rattle.std.proofs.Common.{rules, ◌≡◌}
 use Rattle.radix_tree.proofs.Lent.{live_children}
 use Rattle.radix_tree.proofs.Tree.nodes.Goals as goal
 

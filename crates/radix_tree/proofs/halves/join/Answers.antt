@@ -1,5 +1,5 @@
-use Rattle.std.proofs.Common.{rules, ◌≡◌, ◌≢◌, ℕ, refl, sym, ap, subst, IsTrue, true, false, Bool, not, Some, None}
-use Rattle.inet_num.specs.Net.{Cidr, width_of, IsBlock, IsInside, low_half_of, high_half_of}
+use Rattle.std.proofs.Common.{refl, sym, ap, subst, IsTrue, true, false}
+use Rattle.inet_num.specs.Net.{Cidr, IsBlock, IsInside}
 use Rattle.radix_tree.specs.Shape.{half, HasRoom}
 use Rattle.radix_tree.proofs.Joints.{half_lawful, in_other, not_around, joint_is, next_lawful, no_room}
 use Rattle.radix_tree.proofs.halves.join.Goals as goal

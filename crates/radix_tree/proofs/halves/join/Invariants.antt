@@ -1,5 +1,5 @@
-use Rattle.std.proofs.Common.{◌≡◌, ◌≢◌, ℕ, ◌+◌, ◌-◌, ◌*◌, ◌^◌, ◌<◌, ◌≤◌}
-use Rattle.inet_num.specs.Net.{Cidr, width_of, IsBlock, IsInside}
+use Rattle.std.proofs.Common.{◌-◌}
+use Rattle.inet_num.specs.Net.{width_of, IsBlock, IsInside}
 use Rattle.radix_tree.proofs.halves.join.Given as goal
 
 abbrev pub invariant-loop-low : goal.invariant-loop-low

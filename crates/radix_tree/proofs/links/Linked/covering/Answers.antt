@@ -1,13 +1,12 @@
-use Rattle.std.proofs.Common.{rules, ◌≡◌, ◌≢◌, ℕ, ◌+◌, ◌<◌, ◌≤◌, ◌++◌, Bool, true, false, not, IsTrue, Some, None, Option, List, refl, sym, ◌∙◌, ap, subst, arith}
-use Rattle.inet_num.specs.Net.{Cidr, width_of, IsBlock, IsInside, IsStrictlyInside}
-use Rattle.radix_tree.specs.declared.Node.{Node}
-use Rattle.radix_tree.specs.Shape.{half, child, HasRoom, HasLink, IsTree, whole, rank}
+use Rattle.std.proofs.Common.{ℕ, Bool, false, not, IsTrue, Option, refl, sym, ap, subst, arith}
+use Rattle.inet_num.specs.Net.{Cidr, IsBlock, IsInside, IsStrictlyInside}
+use Rattle.radix_tree.specs.Shape.{half, HasLink, rank}
 use Rattle.radix_tree.specs.Listed.{blocks_of}
 use Rattle.radix_tree.specs.Covering.{ListsCovering}
 use Rattle.radix_tree.proofs.Sides.{whole_in, whole_lawful}
 use Rattle.radix_tree.proofs.Joints.{half_lawful}
 use Rattle.radix_tree.proofs.Descent.{rank_child, right_half, strict_room}
-use Rattle.radix_tree.proofs.Covers.{IsCoveringUpTo, covering_init, covering_next, covering_last, covering_done, covering_end, covering_out, half_len}
+use Rattle.radix_tree.proofs.Covers.{IsCoveringUpTo, covering_init, covering_next, covering_last, covering_end, covering_out, half_len}
 use Rattle.radix_tree.proofs.links.Linked.covering.Goals as goal
 
 pub loop-found-init : goal.loop-found-init

@@ -1,5 +1,4 @@
-use Rattle.std.proofs.Common.{◌≡◌, ℕ, ◌+◌, ◌<◌, ◌≤◌}
-use Rattle.inet_num.specs.Net.{Cidr, width_of, IsBlock, IsInside}
+use Rattle.inet_num.specs.Net.{IsBlock, IsInside}
 use Rattle.radix_tree.specs.Shape.{HasLink, rank}
 use Rattle.radix_tree.proofs.Covers.{IsCoveringUpTo}
 use Rattle.radix_tree.proofs.links.Linked.covering.Given as goal

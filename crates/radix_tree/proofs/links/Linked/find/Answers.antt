@@ -1,7 +1,6 @@
-use Rattle.std.proofs.Common.{rules, ◌≡◌, ◌≢◌, ℕ, ◌+◌, ◌<◌, ◌≤◌, Bool, true, false, not, IsTrue, Some, None, Option, refl, sym, ◌∙◌, ap, subst, arith}
-use Rattle.inet_num.specs.Net.{Cidr, width_of, IsBlock, IsInside, IsStrictlyInside}
-use Rattle.radix_tree.specs.declared.links.Place.TheVariants.{Root, Under}
-use Rattle.radix_tree.specs.Shape.{half, child, HasRoom, HasLink, IsTree, whole, rank}
+use Rattle.std.proofs.Common.{not, refl, sym, ap, subst, arith}
+use Rattle.inet_num.specs.Net.{IsBlock, IsInside, IsStrictlyInside}
+use Rattle.radix_tree.specs.Shape.{rank}
 use Rattle.radix_tree.proofs.Sides.{whole_in, whole_lawful}
 use Rattle.radix_tree.proofs.Joints.{half_lawful}
 use Rattle.radix_tree.proofs.Descent.{rank_root, rank_child, right_half, strict_room}

@@ -1,8 +1,6 @@
-use Rattle.std.proofs.Common.{◌≡◌, ◌≢◌, ℕ, ◌+◌, ◌-◌, ◌*◌, ◌^◌, ◌<◌, ◌≤◌, Bool}
-use Rattle.inet_num.specs.Net.{Cidr, width_of, IsBlock, IsInside}
-use Rattle.radix_tree.specs.declared.links.Place.TheVariants.{Root, Under}
+use Rattle.std.proofs.Common.{◌+◌, ◌≤◌}
+use Rattle.inet_num.specs.Net.{width_of, IsBlock, IsInside}
 use Rattle.radix_tree.specs.Shape.{HasLink, rank}
-use Rattle.std.specs.Prelude.{Some}
 use Rattle.radix_tree.proofs.links.Linked.find.Given as goal
 
 abbrev pub invariant-loop-found : goal.invariant-loop-found

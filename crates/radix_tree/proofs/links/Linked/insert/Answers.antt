@@ -1,6 +1,6 @@
-use Rattle.std.proofs.Common.{rules, ◌≡◌, ◌≢◌, ℕ, ◌+◌, ◌<◌, ◌≤◌, Bool, true, false, not, IsTrue, Some, None, Option, refl, sym, ◌∙◌, ap, subst, arith}
-use Rattle.inet_num.specs.Net.{Cidr, width_of, IsBlock, IsInside}
-use Rattle.radix_tree.specs.Shape.{half, child, HasRoom}
+use Rattle.std.proofs.Common.{◌≢◌, false, not, IsTrue, None, arith}
+use Rattle.inet_num.specs.Net.{IsInside}
+use Rattle.radix_tree.specs.Shape.{half}
 use Rattle.radix_tree.proofs.Sides.{longer, room_above}
 use Rattle.radix_tree.proofs.Joints.{right_side}
 use Rattle.radix_tree.proofs.Recount.{count_few, inserted_more}
