@@ -33,7 +33,7 @@ times_sum block (x ∷ xs) =
     let step = sum_by-cons (times_at block) x xs in
     omega arith
 
-same_false : (a b : Cidr) → a.family ≡ b.family → a ≢ b → is_same a b ≡ false
+pub same_false : (a b : Cidr) → a.family ≡ b.family → a ≢ b → is_same a b ≡ false
 same_false a b fam other = go (is_same a b) refl where
   go : (t : Bool) → is_same a b ≡ t → is_same a b ≡ false
   go false e = e

@@ -5,7 +5,7 @@
 ghost use Rattle.std.specs.Prelude.{◌≡◌, ℕ, ◌+◌, ◌^◌, ◌<◌, ◌≤◌, [], ◌∷◌, IsPermutation, length, OnOk, OnErr, IfOk, MatchBool};
 ghost use Rattle.radix_tree.specs.Shape.{child, HasOneEach};
 ghost use Rattle.radix_tree.specs.Listed.{blocks_of};
-ghost use Rattle.block_space.specs.Listed.{times_of};
+ghost use Rattle.block_space.specs.Listed.{times_of, counting_of, covered_of};
 ghost use Rattle.radix_tree.specs.Lent.{HasLiveChildren, HasTwoChildren};
 ghost use Rattle.radix_tree.specs.Covering.{ListsCovering};
 
@@ -13,7 +13,9 @@ mod halves;
 mod links;
 
 use inet_num::{Block, Family};
-use links::{Linked, covering_counted, insert_counted, remove_counted, times_counted};
+use links::{
+    Linked, covered_counted, covering_counted, insert_counted, remove_counted, times_counted,
+};
 use node_pool::{NodeId, Pool};
 use std::alloc::{AllocError, Global};
 use std::marker::{Brand, Model};
@@ -149,6 +151,17 @@ impl Tree {
     {
         let _lawful = block.len();
         times_counted::<Brand>(&self.linked, &block, Blank::new(1))
+    }
+
+    /// How many addresses of a block of the tree's family its blocks inside that block have, each once; with `strict`, one that
+    /// equals it does not count. The block has a length of at least 1, since no integer counts all addresses of IPv6.
+    pub fn covered(&self, within: Block, strict: bool) -> u128
+        requires family { within.family ≡ self.now.family }
+        requires long { 1 ≤ within.len }
+        ensures { result ≡ covered_of (counting_of self.now.blocks within strict) within }
+    {
+        let _lawful = within.len();
+        covered_counted::<Brand>(&self.linked, &within, strict, Blank::new(1))
     }
 
     /// The blocks of the tree that contain a block of its family, each once, the largest first: their lengths rise. A block

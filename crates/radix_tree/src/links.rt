@@ -1,14 +1,14 @@
 //! The nodes of a tree and the links between them: a block is found by its bits, and nodes are put, cut and recounted in place.
 //! Every node that a descent looks at costs a step.
 
-ghost use Rattle.std.specs.Prelude.{◌≡◌, ◌≢◌, ℕ, ◌+◌, ◌-◌, ◌*◌, ◌^◌, ◌<◌, ◌≤◌, ◌++◌, Some, None, [], ◌∷◌, Option, Bool, IsPermutation, length, OnOk, OnErr, IfOk, true, false};
+ghost use Rattle.std.specs.Prelude.{◌≡◌, ◌≢◌, ℕ, ◌+◌, ◌-◌, ◌*◌, ◌^◌, ◌<◌, ◌≤◌, ◌++◌, ◌↔◌, IsTrue, Some, None, [], ◌∷◌, Option, Bool, IsPermutation, length, OnOk, OnErr, IfOk, true, false};
 ghost use Rattle.inet_num.specs.Net.{Cidr, width_of, IsBlock, IsInside};
 ghost use Rattle.node_pool.specs.Pooled.{Pooled, node_at, live_nodes, Changes, IsLive};
 ghost use Rattle.radix_tree.specs.Shape.{half, child, owner, whole, HasRoom, HasLink, IsTree, IsPlace, Relinks};
 ghost use Rattle.radix_tree.specs.Edits.{IsPut, IsCut};
 ghost use Rattle.radix_tree.specs.Listed.{copies, blocks_of, link_count, child_count, links_of, IsTallied, Recounts};
 ghost use Rattle.radix_tree.specs.Sound.{IsSound, IsOver, IsInserted, IsTrimmed, IsRemoved};
-ghost use Rattle.block_space.specs.Listed.{times_of};
+ghost use Rattle.block_space.specs.Listed.{times_of, counting_of, covered_of};
 ghost use Rattle.radix_tree.specs.Covering.{ListsCovering, if_counted};
 ghost use Rattle.radix_tree.specs.Find.{IsFound};
 ghost use Rattle.radix_tree.specs.declared.links.Place.TheVariants.{Root, Under};
@@ -78,6 +78,16 @@ fn push_once(out: &mut Vec<Block>, node: &Node) -> Result<(), AllocError>
         out.push(node.block)?;
     }
     Ok(())
+}
+
+/// Whether a block does not count for itself.
+fn is_left_out(strict: bool, block: &Block, within: &Block) -> bool
+    ensures { IsTrue result ↔ (strict ≡ true) × (block.now ≡ within.now) }
+{
+    if !strict {
+        return false;
+    }
+    block.is(within)
 }
 
 /// Nodes of one family, and the link to the topmost one.
@@ -314,6 +324,53 @@ impl Linked {
         Ok(out)
     }
 
+    /// How many addresses the blocks of the nodes below a link have, each once. A node with a count has all those of the nodes
+    /// below it; of another one the two halves share nothing.
+    fn covered_below<L: Ledger>(&self, at: Option<NodeId>, steps: &mut Steps<L>) -> u128
+        requires sound { IsSound self.now }
+        requires place { (place : Place) × (land : Cidr) × HasLink self.now place at land }
+        requires long { (id : ℕ) (node : Node) → at ≡ Some id → node_at self.now.pool id ≡ Some node → 1 ≤ node.block.len }
+        ensures { (place : Place) (land within : Cidr) → HasLink self.now place at land → ((id : ℕ) (node : Node) → at ≡ Some id → node_at self.now.pool id ≡ Some node → IsInside node.block within) → result ≡ covered_of (counting_of (blocks_of self.now.pool) land false) within }
+    {
+        let Some(id) = at else {
+            return 0;
+        };
+        let node = self.pool.visit(id, steps);
+        if node.count > 0 {
+            return node.block.size();
+        }
+        let low = self.covered_below(node.low, steps);
+        let high = self.covered_below(node.high, steps);
+        low + high
+    }
+
+    /// How many addresses of a block the blocks that count for it have, each once.
+    fn covered<L: Ledger>(&self, within: &Block, strict: bool, steps: &mut Steps<L>) -> u128
+        requires sound { IsSound self.now }
+        requires lawful { IsBlock within.now }
+        requires family { within.now.family ≡ self.now.family }
+        requires long { 1 ≤ within.now.len }
+        ensures { result ≡ covered_of (counting_of (blocks_of self.now.pool) within.now strict) within.now }
+    {
+        let found = self.find(within, steps);
+        let Some(id) = found.at else {
+            return 0;
+        };
+        let node = self.pool.visit(id, steps);
+        if !within.contains(&node.block) {
+            return 0;
+        }
+        if !is_left_out(strict, &node.block, within) {
+            return self.covered_below(found.at, steps);
+        }
+        if within.len() == self.family.width() {
+            return 0;
+        }
+        let low = self.covered_below(node.low, steps);
+        let high = self.covered_below(node.high, steps);
+        low + high
+    }
+
     /// How often a block was put in. It costs at most a step for each bit of an address, and two.
     fn times<L: Ledger>(&self, block: &Block, steps: &mut Steps<L>) -> u32
         requires tree { IsTree self.now }
@@ -395,4 +452,24 @@ pub fn covering_counted<L: Ledger>(
 {
     let mut steps = Steps::<L>::new(blank);
     linked.covering(alloc, block, &mut steps)
+}
+
+/// How many addresses of a block the blocks that count for it have, on a counter that is made for it.
+pub fn covered_counted<L: Ledger>(
+    linked: &Linked,
+    within: &Block,
+    strict: bool,
+    blank: Blank,
+) -> u128
+    requires name { blank.name ≡ L.name }
+    requires parts { blank.parts ≡ L.parts }
+    requires some { 0 < blank.parts }
+    requires sound { IsSound linked.now }
+    requires lawful { IsBlock within.now }
+    requires family { within.now.family ≡ linked.now.family }
+    requires long { 1 ≤ within.now.len }
+    ensures { result ≡ covered_of (counting_of (blocks_of linked.now.pool) within.now strict) within.now }
+{
+    let mut steps = Steps::<L>::new(blank);
+    linked.covered(within, strict, &mut steps)
 }

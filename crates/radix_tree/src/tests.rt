@@ -174,3 +174,48 @@ fn blocks_are_kept(rt: HostRuntime) -> Result<(), AllocError> {
     }
     Ok(())
 }
+
+/// What is put in, a block, and how many of its addresses are covered, with the block itself and without it.
+type CoveredRow<'a> = (Family, &'a [Change], (u128, u8), u128, u128);
+
+#[test]
+fn addresses_are_covered(rt: HostRuntime) -> Result<(), AllocError> {
+    let alloc = rt.alloc();
+    let table: [CoveredRow<'_>; 6] = [
+        (Family::V4, &[], (TEN, 24), 0, 0),
+        (
+            Family::V4,
+            &[Insert(TEN, 24), Insert(TEN, 26), Insert(TEN + 255, 32)],
+            (TEN, 24),
+            256,
+            65,
+        ),
+        (
+            Family::V4,
+            &[Insert(TEN, 25), Insert(TEN, 8), Insert(TEN, 26)],
+            (TEN, 24),
+            128,
+            128,
+        ),
+        (Family::V4, &[Insert(TEN, 8)], (TEN, 24), 0, 0),
+        (Family::V4, &[Insert(TEN, 32)], (TEN, 32), 1, 0),
+        (
+            Family::V6,
+            &[Insert(HIGH, 2), Insert(HIGH, 1), Insert(u128::MAX, 128)],
+            (HIGH, 1),
+            HIGH,
+            (1 << 126) + 1,
+        ),
+    ];
+    for (family, changes, asked, all, strict) in table {
+        let tree = changed(alloc, family, changes)?;
+        let Some(block) = block(family, asked.0, asked.1) else {
+            continue;
+        };
+        if block.len() > 0 {
+            assert!(rt; tree.covered(block, false) == all, "{changes:?}");
+            assert!(rt; tree.covered(block, true) == strict, "{changes:?}");
+        }
+    }
+    Ok(())
+}
