@@ -1,9 +1,9 @@
 -- How many addresses the blocks of the nodes below a link have: a node with a count gives its size, another one the sum of its halves.
-use Rattle.std.proofs.Common.{◌≡◌, ◌≢◌, ◌⊎◌, ℕ, zero, suc, ◌+◌, ◌-◌, ◌^◌, ◌<◌, ◌≤◌, Bool, true, false, not, ◌&&◌, ◌||◌, refl, sym, ◌∙◌, ap, subst, arith, rules, inl, inr, Option, Some, None, List, [], ◌∷◌, length}
+use Rattle.std.proofs.Common.{◌≡◌, ◌≢◌, ℕ, zero, suc, ◌+◌, ◌^◌, ◌<◌, ◌≤◌, Bool, true, false, not, ◌&&◌, ◌||◌, refl, sym, ◌∙◌, ap, subst, arith, inl, inr, Option, Some, None, List, [], ◌∷◌, length}
 use Rattle.std.specs.List.{count_by}
 use Rattle.std.proofs.lemmas.Bool.{cases_lt}
 use Rattle.std.proofs.lemmas.List.Sums.{count_by-le-length}
-use Rattle.inet_num.specs.Net.{Cidr, width_of, size_of, HasAddress, IsBlock, IsInside}
+use Rattle.inet_num.specs.Net.{Cidr, width_of, size_of, IsBlock, IsInside}
 use Rattle.inet_num.specs.Count.{numbers_from, addresses_of}
 use Rattle.inet_num.specs.Free.{has_address, is_taken}
 use Rattle.inet_num.proofs.Numbers.{ends_of_inside, pow_double, size_fits}
@@ -21,7 +21,7 @@ use Rattle.radix_tree.specs.declared.links.Linked.{Linked}
 use Rattle.radix_tree.specs.Shape.{half, child, HasRoom, HasLink, IsTree}
 use Rattle.radix_tree.specs.Listed.{blocks_of}
 use Rattle.radix_tree.specs.Sound.{IsSound}
-use Rattle.radix_tree.proofs.Sides.{self_in, has_first, half_in, not_in_half, sides_apart, side_of, longer, len_of_inside}
+use Rattle.radix_tree.proofs.Sides.{self_in, half_in, not_in_half, sides_apart, side_of, longer, len_of_inside}
 use Rattle.radix_tree.proofs.Order.{some_same, not_both, one_node}
 use Rattle.radix_tree.proofs.Covers.{half_len}
 use Rattle.radix_tree.proofs.Copies.{same_true}

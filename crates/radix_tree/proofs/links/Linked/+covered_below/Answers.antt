@@ -1,10 +1,8 @@
-use Rattle.std.proofs.Common.{rules, ◌≡◌, ◌≢◌, ℕ, ◌+◌, ◌<◌, ◌≤◌, Bool, true, false, Some, None, Option, refl, sym, ◌∙◌, ap, subst, arith}
-use Rattle.inet_num.specs.Net.{Cidr, IsBlock, IsInside}
+use Rattle.std.proofs.Common.{◌≡◌, ℕ, true, false, Option, refl, sym, ◌∙◌, ap, subst, arith}
 use Rattle.inet_num.proofs.Nested.{inside_trans}
-use Rattle.block_space.specs.Listed.{counting_of, covered_of}
-use Rattle.radix_tree.specs.declared.Node.{Node}
-use Rattle.radix_tree.specs.declared.links.Place.TheVariants.{Root, Under}
-use Rattle.radix_tree.specs.Shape.{half, child, HasRoom, HasLink, rank}
+use Rattle.block_space.specs.Listed.{counting_of}
+use Rattle.radix_tree.specs.declared.links.Place.TheVariants.{Under}
+use Rattle.radix_tree.specs.Shape.{half, HasLink, rank}
 use Rattle.radix_tree.specs.Listed.{blocks_of}
 use Rattle.radix_tree.proofs.Sides.{half_in}
 use Rattle.radix_tree.proofs.Descent.{rank_child}

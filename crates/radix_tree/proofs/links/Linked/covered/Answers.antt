@@ -1,10 +1,10 @@
-use Rattle.std.proofs.Common.{rules, ◌≡◌, ◌≢◌, ℕ, ◌+◌, ◌<◌, ◌≤◌, Bool, true, false, IsTrue, Some, None, Option, refl, sym, ◌∙◌, ap, subst, arith}
-use Rattle.inet_num.specs.Net.{Cidr, width_of, IsBlock, IsInside}
+use Rattle.std.proofs.Common.{◌≡◌, ℕ, ◌+◌, ◌<◌, ◌≤◌, Bool, true, false, IsTrue, Option, refl, sym, ◌∙◌, ap, subst, arith}
+use Rattle.inet_num.specs.Net.{width_of, IsInside}
 use Rattle.inet_num.proofs.Nested.{inside_trans}
 use Rattle.block_space.specs.Listed.{counting_of, covered_of}
 use Rattle.radix_tree.specs.declared.Node.{Node}
-use Rattle.radix_tree.specs.declared.links.Place.TheVariants.{Root, Under}
-use Rattle.radix_tree.specs.Shape.{half, child, HasRoom, HasLink, rank}
+use Rattle.radix_tree.specs.declared.links.Place.TheVariants.{Under}
+use Rattle.radix_tree.specs.Shape.{half, HasRoom, HasLink}
 use Rattle.radix_tree.specs.Listed.{blocks_of}
 use Rattle.radix_tree.proofs.Sides.{half_in}
 use Rattle.radix_tree.proofs.Order.{one_node, some_same}
