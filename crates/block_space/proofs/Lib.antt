@@ -1,0 +1,4 @@
+pub mod FirstFits
+pub mod Alike
+pub mod InAvailable
+pub mod Examples

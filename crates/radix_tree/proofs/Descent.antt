@@ -1,0 +1,61 @@
+use Rattle.std.proofs.Common.{◌≡◌, ℕ, ◌+◌, ◌≤◌, Bool, true, false, not, IsTrue, refl, sym, ◌∙◌, ap, subst, arith, inl, inr, Option, Some, None}
+use Rattle.std.proofs.lemmas.Bool.{cases_lt}
+use Rattle.inet_num.specs.Net.{Cidr, width_of, IsBlock, IsInside, IsStrictlyInside}
+use Rattle.inet_num.proofs.Numbers.{strictly_by_len, len_of_strictly}
+use Rattle.inet_num.proofs.Nested.{same_by_len}
+use Rattle.node_pool.specs.Pooled.{node_at}
+use Rattle.radix_tree.specs.declared.Node.{Node}
+use Rattle.radix_tree.specs.declared.links.Place.{Place}
+use Rattle.radix_tree.specs.declared.links.Place.TheVariants.{Root, Under}
+use Rattle.radix_tree.specs.declared.links.Linked.{Linked}
+use Rattle.radix_tree.specs.Shape.{half, child, HasRoom, whole, HasLink, IsTree, rank}
+use Rattle.radix_tree.proofs.Sides.{len_of_inside}
+use Rattle.radix_tree.proofs.Order.{some_same, one_node}
+use Rattle.radix_tree.proofs.Joints.{in_other}
+
+-- what stands for a land is at least as far down
+pub rank_land : (t : Linked) → IsTree t → (place : Place) (at : Option ℕ) (land : Cidr) → HasLink t place at land → land.len ≤ width_of land.family → rank t.pool at + land.len ≤ width_of land.family + 1
+rank_land t w place None land h short = omega arith
+rank_land t w place (Some id) land h short =
+    let top = (w.links place (Some id) land h).top id refl in
+    let own = (w.each id top.0 top.1).lawful in
+    let le = len_of_inside top.0.block land own.short short top.2 in
+    let same : width_of top.0.block.family ≡ width_of land.family = ap width_of top.2.family in
+    rw top.1 (omega arith)
+
+pub rank_root : (t : Linked) → IsTree t → rank t.pool t.root ≤ width_of t.family + 1
+rank_root t w = let all = rank_land t w Root t.root (whole t.family) (refl, refl) (omega arith) in omega arith
+
+-- and strictly so below a node
+pub rank_child : (t : Linked) → IsTree t → (id : ℕ) (n : Node) (s : Bool) → node_at t.pool id ≡ Some n → HasRoom n.block → rank t.pool (child s n) + 1 ≤ rank t.pool (Some id)
+rank_child t w id n false e room = let below = rank_land t w (Under id false) (child false n) (half false n.block) (n, e, room, refl, refl) (omega arith) in rw e (omega arith)
+rank_child t w id n true e room = let below = rank_land t w (Under id true) (child true n) (half true n.block) (n, e, room, refl, refl) (omega arith) in rw e (omega arith)
+
+-- the half of a node on the side of a block strictly inside it
+pub right_half : (t : Linked) → IsTree t → (block : Cidr) → IsBlock block → (id : ℕ) (n : Node) → node_at t.pool id ≡ Some n → IsStrictlyInside block n.block → (in_low : Bool) (low : Cidr) → low ≡ half false n.block
+    → (IsTrue in_low → IsInside block low) → (IsInside block low → IsTrue in_low) → IsInside block (half (not in_low) n.block)
+right_half t w block hb id n e strict true low is hit from = subst (IsInside block) is (hit refl)
+right_half t w block hb id n e strict false low is hit from =
+    let own = (w.each id n e).lawful in
+    in_other n.block block false own hb strict.inside strict.other (λ i. (let f : IsTrue false = from (subst (IsInside block) (sym is) i) in cc))
+
+pub strict_room : (t : Linked) → IsTree t → (block : Cidr) → IsBlock block → (id : ℕ) (n : Node) → node_at t.pool id ≡ Some n → IsStrictlyInside block n.block → HasRoom n.block
+strict_room t w block hb id n e strict =
+    let own = (w.each id n e).lawful in
+    let less = len_of_strictly block n.block own.short hb.short strict in
+    let short = hb.short in
+    let same : width_of block.family ≡ width_of n.block.family = ap width_of strict.inside.family in
+    omega arith
+
+-- where the descent stops
+pub stops : (t : Linked) → IsTree t → (block : Cidr) → IsBlock block → (at : Option ℕ) (id : ℕ) (n : Node) → at ≡ Some id → node_at t.pool id ≡ Some n → (IsStrictlyInside block n.block → ⊥)
+    → (j : ℕ) (m : Node) → at ≡ Some j → node_at t.pool j ≡ Some m → IsInside block m.block → m.block ≡ block
+stops t w block hb at id n is e out j m js f inside =
+    let ids : j ≡ id = some_same j id (sym js ∙ is) in
+    let same : m ≡ n = one_node t.pool j id m n ids f e in
+    let in_n : IsInside block n.block = subst (λ (x : Node). IsInside block x.block) same inside in
+    let own = (w.each id n e).lawful in
+    elim (cases_lt n.block.len block.len) [
+      | inl less ↦ absurd (out (strictly_by_len block n.block less in_n))
+      | inr le ↦ ap (λ (x : Node). x.block) same ∙ sym (same_by_len block n.block in_n le hb.short own.short)
+    ]

@@ -1,0 +1,49 @@
+use Rattle.std.proofs.Common.{not, refl, sym, ap, subst, arith}
+use Rattle.inet_num.specs.Net.{IsBlock, IsInside, IsStrictlyInside}
+use Rattle.radix_tree.specs.Shape.{rank}
+use Rattle.radix_tree.proofs.Sides.{whole_in, whole_lawful}
+use Rattle.radix_tree.proofs.Joints.{half_lawful}
+use Rattle.radix_tree.proofs.Descent.{rank_root, rank_child, right_half, strict_room}
+use Rattle.radix_tree.proofs.links.Linked.find.Goals as goal
+
+pub loop-found-init : goal.loop-found-init
+loop-found-init g c = record {
+  here = (refl, c.whole_of.ensures);
+  inside = subst (IsInside c.args.block.now) (sym c.whole_of.ensures) (whole_in c.args.self.now.family c.args.block.now c.requires.lawful c.requires.family);
+  lawful = subst IsBlock (sym c.whole_of.ensures) (whole_lawful c.args.self.now.family);
+  cost = omega (arith, rank_root c.args.self.now c.requires.tree);
+}
+
+pub half_of-requires : goal.half_of-requires
+half_of-requires g c =
+    strict_room c.args.self.now c.requires.tree c.args.block.now c.requires.lawful c.in-Some.id c.visit-node.result.now c.visit-node.ensures.node (c.strictly_inside.ensures.0 c.if-not-strictly_inside.false)
+
+pub loop-found-smaller : goal.loop-found-smaller
+loop-found-smaller g c =
+    let n = c.visit-node.result.now in
+    let strict : IsStrictlyInside c.args.block.now n.block = c.strictly_inside.ensures.0 c.if-not-strictly_inside.false in
+    let room = strict_room c.args.self.now c.requires.tree c.args.block.now c.requires.lawful c.in-Some.id n c.visit-node.ensures.node strict in
+    let less = rank_child c.args.self.now c.requires.tree c.in-Some.id n (not c.contains-right.result) c.visit-node.ensures.node room in
+    let at_is = ap (rank c.args.self.now.pool) c.in-Some.is in
+    let to_is = ap (rank c.args.self.now.pool) c.link.ensures in
+    omega arith
+
+pub loop-found-preserved : goal.loop-found-preserved
+loop-found-preserved g c =
+    let t = c.args.self.now in
+    let block = c.args.block.now in
+    let n = c.visit-node.result.now in
+    let e = c.visit-node.ensures.node in
+    let strict : IsStrictlyInside block n.block = c.strictly_inside.ensures.0 c.if-not-strictly_inside.false in
+    let room = strict_room t c.requires.tree block c.requires.lawful c.in-Some.id n e strict in
+    let less = rank_child t c.requires.tree c.in-Some.id n (not c.contains-right.result) e room in
+    let at_is = ap (rank t.pool) c.in-Some.is in
+    let to_is = ap (rank t.pool) c.link.ensures in
+    let half_is = c.half_of-in-Some.ensures in
+    let own = (c.requires.tree.each c.in-Some.id n e).lawful in
+    record {
+      here = (n, e, room, c.link.ensures, half_is);
+      inside = subst (IsInside block) (sym half_is) (right_half t c.requires.tree block c.requires.lawful c.in-Some.id n e strict c.contains-right.result c.half_of.result c.half_of.ensures c.contains-right.ensures.0 c.contains-right.ensures.1);
+      lawful = subst IsBlock (sym half_is) (half_lawful (not c.contains-right.result) n.block own room);
+      cost = omega (arith, c.loop-found.invariant.cost, c.visit-node.ensures.cost);
+    }

@@ -1,0 +1,179 @@
+//! Blocks of one family in a path-compressed binary tree of their bits, over a pool of nodes. A block is found, put in and
+//! taken out within as many visits of nodes as an address has bits and a few, however many blocks there are.
+#![tactic(auto)]
+
+ghost use Rattle.std.specs.Prelude.{◌≡◌, ℕ, ◌+◌, ◌^◌, ◌<◌, ◌≤◌, [], ◌∷◌, IsPermutation, length, OnOk, OnErr, IfOk, MatchBool};
+ghost use Rattle.radix_tree.specs.Shape.{child, HasOneEach};
+ghost use Rattle.radix_tree.specs.Listed.{blocks_of};
+ghost use Rattle.block_space.specs.Listed.{times_of, counting_of, covered_of};
+ghost use Rattle.radix_tree.specs.Lent.{HasLiveChildren, HasTwoChildren};
+ghost use Rattle.radix_tree.specs.Covering.{ListsCovering};
+
+mod halves;
+mod links;
+
+use inet_num::{Block, Family};
+use links::{
+    Linked, covered_counted, covering_counted, insert_counted, remove_counted, times_counted,
+};
+use node_pool::{NodeId, Pool};
+use std::alloc::{AllocError, Global};
+use std::marker::{Brand, Model};
+use std::sync::ledger::Blank;
+
+/// A node of a tree: a block, how often the tree has it, and the nodes below it.
+#[derive(Drop)]
+pub struct Node {
+    /// The block. All nodes below this one have blocks strictly inside it.
+    pub block: Block,
+    /// How often the tree has the block; 0 for a node that is only there because the tree parts at its block.
+    pub count: u32,
+    /// The topmost node with a block inside the low half of this one's, if there is any.
+    pub low: Option<NodeId>,
+    /// The topmost node with a block inside the high half of this one's, if there is any.
+    pub high: Option<NodeId>,
+}
+
+impl Node {
+    /// The link for the high half or for the low one.
+    fn link(&self, high: bool) -> Option<NodeId>
+        ensures { result ≡ child high self.now }
+    {
+        if high { self.high } else { self.low }
+    }
+}
+
+/// Blocks of one family, a block as often as it was put in. No two nodes have one block, and a node without a count has two
+/// children, so n blocks take fewer than 2n nodes.
+#[derive(Drop)]
+pub struct Tree {
+    alloc: Global,
+    linked: Linked,
+}
+
+impl Model for Tree {
+    ghost use Rattle.std.specs.Prelude.{◌/◌};
+    ghost use Rattle.radix_tree.specs.Held.{Held};
+    ghost use Rattle.radix_tree.specs.Listed.{blocks_of};
+    ghost use Rattle.radix_tree.specs.Sound.{IsSound};
+
+    ghost Value = { Held };
+
+    ghost view = { λ t. record { family = t.linked.family; blocks = blocks_of t.linked.pool; spare = t.linked.pool.spare / 2 } };
+
+    ghost invariant = { λ t. IsSound t.linked };
+}
+
+impl Tree {
+    /// The empty tree of this family's blocks. It takes no memory; the tree keeps the allocator for what is put in.
+    pub fn new(alloc: Global, family: Family) -> Tree
+        ensures empty { result.blocks ≡ [] }
+        ensures family { result.family ≡ family }
+    {
+        Tree {
+            alloc,
+            linked: Linked {
+                family,
+                pool: Pool::new(alloc),
+                root: None,
+            },
+        }
+    }
+
+    /// The family of the tree's blocks.
+    pub fn family(&self) -> Family
+        ensures { result ≡ self.now.family }
+    {
+        self.linked.family
+    }
+
+    /// How many blocks can be put in with no memory.
+    pub fn spare(&self) -> u32
+        ensures { result ≡ self.now.spare }
+    {
+        self.linked.pool.spare() / 2
+    }
+
+    /// The nodes. They have exactly the blocks of the tree, each as often as its node's count; no two have one block, the id of
+    /// each child has a node, and a node without a count has two children.
+    pub fn nodes(&self) -> &Pool<Node>
+        ensures blocks { blocks_of result.now ≡ self.now.blocks }
+        ensures one_each { HasOneEach result.now }
+        ensures live { HasLiveChildren result.now }
+        ensures two { HasTwoChildren result.now }
+    {
+        &self.linked.pool
+    }
+
+    /// Makes room for n more blocks in all, fewer than two to the 30 with those that are there. The one error is want of memory,
+    /// and the tree is then as before.
+    pub fn reserve(&mut self, n: u32) -> Result<(), AllocError>
+        requires { length self.old.blocks + n < 2 ^ 30 }
+        ensures room { OnOk result (n ≤ self.new.spare) }
+        ensures kept { self.old.spare ≤ self.new.spare }
+        ensures same { self.new.blocks ≡ self.old.blocks }
+        ensures family { self.new.family ≡ self.old.family }
+        ensures unchanged { OnErr result (self.new ≡ self.old) }
+    {
+        self.linked.pool.reserve(2 * n)
+    }
+
+    /// Puts a block of the tree's family in once more. It asks for room of one block, and takes no memory.
+    pub fn insert(&mut self, block: Block)
+        requires room { 1 ≤ self.old.spare }
+        requires few { length self.old.blocks < 2 ^ 30 }
+        requires family { block.family ≡ self.old.family }
+        ensures put { IsPermutation (block ∷ self.old.blocks) self.new.blocks }
+        ensures family { self.new.family ≡ self.old.family }
+        ensures spare { self.old.spare ≤ self.new.spare + 1 }
+    {
+        let _lawful = block.len();
+        insert_counted::<Brand>(&mut self.linked, block, Blank::new(1));
+    }
+
+    /// Takes a block of the tree's family out once, and answers whether it was there. It takes no
+    /// memory, and leaves as much room as before at least.
+    pub fn remove(&mut self, block: Block) -> bool
+        requires family { block.family ≡ self.old.family }
+        ensures taken { MatchBool result (IsPermutation self.old.blocks (block ∷ self.new.blocks)) (self.new.blocks ≡ self.old.blocks) }
+        ensures cause { MatchBool result (0 < times_of self.old.blocks block) (times_of self.old.blocks block ≡ 0) }
+        ensures family { self.new.family ≡ self.old.family }
+        ensures spare { self.old.spare ≤ self.new.spare }
+    {
+        let _lawful = block.len();
+        remove_counted::<Brand>(&mut self.linked, &block, Blank::new(1))
+    }
+
+    /// How often the tree has a block of its family.
+    pub fn times(&self, block: Block) -> u32
+        requires family { block.family ≡ self.now.family }
+        ensures { result ≡ times_of self.now.blocks block }
+    {
+        let _lawful = block.len();
+        times_counted::<Brand>(&self.linked, &block, Blank::new(1))
+    }
+
+    /// How many addresses of a block of the tree's family its blocks inside that block have, each once; with `strict`, one that
+    /// equals it does not count. The block has a length of at least 1, since no integer counts all addresses of IPv6.
+    pub fn covered(&self, within: Block, strict: bool) -> u128
+        requires family { within.family ≡ self.now.family }
+        requires long { 1 ≤ within.len }
+        ensures { result ≡ covered_of (counting_of self.now.blocks within strict) within }
+    {
+        let _lawful = within.len();
+        covered_counted::<Brand>(&self.linked, &within, strict, Blank::new(1))
+    }
+
+    /// The blocks of the tree that contain a block of its family, each once, the largest first: their lengths rise. A block
+    /// contains itself. The one error is want of memory.
+    pub fn covering(&self, block: Block) -> Result<Vec<Block>, AllocError>
+        requires family { block.family ≡ self.now.family }
+        ensures { IfOk result (λ v. ListsCovering self.now.blocks block v.items) }
+    {
+        let _lawful = block.len();
+        covering_counted::<Brand>(&self.linked, self.alloc, &block, Blank::new(1))
+    }
+}
+
+#[cfg(test)]
+mod tests;
