@@ -1,12 +1,12 @@
 -- The walk to the lowest place that fits: each block that meets the candidate moves it behind its end.
-use Rattle.std.proofs.Common.{◌≡◌, ℕ, ◌+◌, ◌-◌, ◌^◌, ◌<◌, ◌≤◌, refl, sym, ◌∙◌, ap, subst, arith, inl, inr, Bool, true, false, ◌&&◌, ◌||◌, nat_lt, List, [], ◌∷◌, ◌++◌, length, take, get_or, Option, Some, None}
+use Rattle.std.proofs.Common.{◌≡◌, ℕ, ◌+◌, ◌-◌, ◌^◌, ◌<◌, ◌≤◌, refl, sym, ◌∙◌, ap, subst, arith, inl, inr, Bool, true, false, ◌&&◌, ◌||◌, List, [], ◌∷◌, ◌++◌, length, take, get_or, Some, None}
 use Rattle.std.specs.List.{AllByRecursion, list_any}
 use Rattle.std.proofs.lemmas.Bool.{cases_lt}
 use Rattle.std.proofs.lemmas.Bool.Decides.{nat_tests}
 use Rattle.std.proofs.lemmas.Nat.{pow_pos}
 use Rattle.std.proofs.lemmas.List.{take_more, take_all}
 use Rattle.std.proofs.lemmas.List.Elements.{All-from_recursion}
-use Rattle.inet_num.specs.Net.{width_of, Cidr, size_of, HasAddress, IsInside}
+use Rattle.inet_num.specs.Net.{width_of, Cidr, size_of}
 use Rattle.inet_num.specs.Free.{IsFree, meets}
 use Rattle.inet_num.proofs.Frees.{free_by_test, not_free_by_test}
 use Rattle.block_space.specs.Listed.{counts, counting_of}
@@ -71,11 +71,11 @@ past_end w all done strict len from p i d h l e m c k =
     let free = met_none w all strict c i d k.free l e in
     let low = h.lowest c k in
     let size_is : size_of p ≡ size_of c = (
-      let len_p = h.place.len_is in
-      let len_c = k.len_is in
-      let width_is : width_of p.family ≡ width_of c.family = ap width_of (h.place.inside.family ∙ sym k.inside.family) in
-      let bits : width_of p.family - p.len ≡ width_of c.family - c.len = omega arith in
-      ap (λ (n : ℕ). 2 ^ n) bits
+    let len_p = h.place.len_is in
+    let len_c = k.len_is in
+    let width_is : width_of p.family ≡ width_of c.family = ap width_of (h.place.inside.family ∙ sym k.inside.family) in
+    let bits : width_of p.family - p.len ≡ width_of c.family - c.len = omega arith in
+    ap (λ (n : ℕ). 2 ^ n) bits
     ) in
     ahead p c (get_or all i d) low size_is m free
   where

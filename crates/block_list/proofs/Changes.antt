@@ -1,9 +1,9 @@
 -- Sorted blocks with one put in or taken out, and what is found among them.
-use Rattle.std.proofs.Common.{◌≡◌, ℕ, zero, suc, ◌+◌, ◌-◌, ◌<◌, ◌≤◌, refl, sym, ◌∙◌, ap, subst, arith, Bool, true, false, cond, ◌&&◌, not, List, [], ◌∷◌, ◌++◌, length, take, drop, get_or, filter, Option, Some, None, MatchOption}
+use Rattle.std.proofs.Common.{◌≡◌, ℕ, zero, suc, ◌+◌, ◌-◌, ◌<◌, ◌≤◌, refl, sym, ◌∙◌, ap, subst, arith, Bool, true, false, cond, ◌&&◌, not, List, [], ◌∷◌, ◌++◌, length, take, drop, get_or, Some, None}
 use Rattle.std.specs.List.{AllByRecursion, count_by, position, position_from}
 use Rattle.std.proofs.lemmas.Bool.Decides.{nat_tests}
 use Rattle.std.proofs.lemmas.Nat.{pow_pos}
-use Rattle.std.proofs.lemmas.List.{take-append-drop, get_or-take, get_or-drop, length-take, length-drop}
+use Rattle.std.proofs.lemmas.List.{take-append-drop, get_or-take, get_or-drop, length-take}
 use Rattle.std.proofs.lemmas.List.Edits.{length-insert, length-remove}
 use Rattle.std.proofs.lemmas.List.Sums.{sum_by-cons, length-filter}
 use Rattle.std.proofs.lemmas.List.Elements.{All-from_recursion}
@@ -16,7 +16,7 @@ use Rattle.inet_num.proofs.Numbers.{same_block}
 use Rattle.inet_num.specs.Free.{is_inside}
 use Rattle.block_space.specs.Listed.{IsBlockOf, AreBlocksOf, is_same, counts, counting_of, times_of}
 use Rattle.block_list.specs.Listing.{Rises, IsListing}
-use Rattle.block_list.proofs.Rising.{rises_front, rises_back, rises_take, rises_drop, filter_middle}
+use Rattle.block_list.proofs.Rising.{rises_take, rises_drop, filter_middle}
 
 -- ---- one more and one fewer
 

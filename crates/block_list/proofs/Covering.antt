@@ -1,13 +1,12 @@
 -- The count of covered addresses as the loop over the sorted blocks goes.
-use Rattle.std.proofs.Common.{◌≡◌, ℕ, zero, suc, ◌+◌, ◌-◌, ◌<◌, ◌≤◌, min, max, refl, sym, ◌∙◌, ap, subst, arith, inl, inr, Bool, true, false, cond, not, ◌&&◌, ◌||◌, nat_lt, nat_le, List, [], ◌∷◌, ◌++◌, length, take, get_or, filter}
-use Rattle.std.specs.List.{AllByRecursion, list_any, count_by}
-use Rattle.std.proofs.lemmas.Bool.{cases_lt}
+use Rattle.std.proofs.Common.{◌≡◌, ℕ, ◌+◌, ◌-◌, ◌<◌, ◌≤◌, min, max, refl, sym, ◌∙◌, ap, subst, arith, Bool, true, false, cond, not, ◌&&◌, ◌||◌, nat_lt, nat_le, List, [], ◌∷◌, ◌++◌, length, take, get_or}
+use Rattle.std.specs.List.{AllByRecursion, count_by}
 use Rattle.std.proofs.lemmas.Bool.Decides.{nat_tests}
 use Rattle.std.proofs.lemmas.Nat.{pow_pos}
 use Rattle.std.proofs.lemmas.List.{append-nil, take_more, take_all}
 use Rattle.std.proofs.lemmas.List.Elements.{filter-append}
 use Rattle.inet_num.specs.Net.{width_of, Cidr, size_of}
-use Rattle.inet_num.specs.Count.{numbers_from, addresses_of, count_of}
+use Rattle.inet_num.specs.Count.{addresses_of}
 use Rattle.inet_num.specs.Free.{has_address, is_taken, is_inside}
 use Rattle.inet_num.proofs.Counts.{count-cons, count_between, count_either}
 use Rattle.block_space.specs.Listed.{is_same, counts, counting_of, covered_of}
@@ -62,7 +61,7 @@ all_front P (x ∷ xs) b h = (let more = all_front P xs b h.1 in ((h.0, more.0),
 pub covered_same : (w : Cidr) (strict : Bool) (done : List Cidr) (b : Cidr) (end total : ℕ) → counts w strict b ≡ false → IsCovered w strict done end total → IsCovered w strict (done ++ b ∷ []) end total
 covered_same w strict done b end total e h =
     let same : counting_of (done ++ b ∷ []) w strict ≡ counting_of done w strict =
-        filter-append (counts w strict) done (b ∷ []) ∙ ap (λ (t : Bool). counting_of done w strict ++ cond t (b ∷ []) []) e ∙ append-nil (counting_of done w strict) in
+    filter-append (counts w strict) done (b ∷ []) ∙ ap (λ (t : Bool). counting_of done w strict ++ cond t (b ∷ []) []) e ∙ append-nil (counting_of done w strict) in
     record {
       counted = h.counted ∙ sym (ap (λ (bs : List Cidr). covered_of bs w) same);
       before = λ a k. h.before a (sym (ap (λ (bs : List Cidr). is_taken bs a) same) ∙ k);
@@ -93,9 +92,9 @@ covered_more w strict done b end total behind e o h is =
     let few = h.few in
     let within = h.within in
     let same : counting_of (done ++ b ∷ []) w strict ≡ counting_of done w strict ++ b ∷ [] =
-        filter-append (counts w strict) done (b ∷ []) ∙ ap (λ (t : Bool). counting_of done w strict ++ cond t (b ∷ []) []) e in
+    filter-append (counts w strict) done (b ∷ []) ∙ ap (λ (t : Bool). counting_of done w strict ++ cond t (b ∷ []) []) e in
     let each : (a : ℕ) → is_taken (counting_of (done ++ b ∷ []) w strict) a ≡ (is_taken (counting_of done w strict) a || has_address b a) =
-        λ a. ap (λ (bs : List Cidr). is_taken bs a) same ∙ taken_more (counting_of done w strict) b a in
+    λ a. ap (λ (bs : List Cidr). is_taken bs a) same ∙ taken_more (counting_of done w strict) b a in
     let sum = count_either (is_taken (counting_of done w strict)) (added w end b) (addresses_of w) (λ a. apart a (is_taken (counting_of done w strict) a) refl) in
     let agree = count_agree (is_taken (counting_of (done ++ b ∷ []) w strict)) (λ a. is_taken (counting_of done w strict) a || added w end b a) (λ a. each a ∙ alike ends.0 a (is_taken (counting_of done w strict) a) refl) (addresses_of w) in
     record {

@@ -3,8 +3,7 @@ use Rattle.std.proofs.Common.{◌≡◌, ℕ, ◌+◌, ◌-◌, ◌*◌, ◌/◌
 use Rattle.std.proofs.lemmas.Bool.{cases_lt}
 use Rattle.std.proofs.lemmas.Nat.{pow_pos, div-add-mod'}
 use Rattle.std.proofs.Math.Nat.{mul-mod_left, lt-div-mul-add, add-mod_right}
-use Rattle.inet_num.specs.declared.Family.{Family}
-use Rattle.inet_num.specs.Net.{width_of, Address, Cidr, IsBlock, size_of, HasAddress, IsInside, block_at}
+use Rattle.inet_num.specs.Net.{width_of, Address, Cidr, IsBlock, size_of, HasAddress, block_at}
 use Rattle.inet_num.proofs.Numbers.{and_ones, aligned_fits, block_fits, width_fits, ends_of_inside, same_block}
 use Rattle.inet_num.proofs.Aligned.{multiples_apart, inside_by_start}
 use Rattle.block_list.specs.Places.{IsPlace, IsNextPlace}
@@ -110,7 +109,11 @@ place_later w len from addr r addr_is none = go r where
     | inl before ↦ before
     | inr behind ↦ (let top = h c k in absurd (not_here c k (omega arith)))
   ]
-  go (Some b) h = (h.0, (let low = h.1 in omega arith), λ c k low. elim (cases_lt from c.first) [
-    | inl past ↦ h.2 c k (omega arith)
-    | inr here ↦ absurd (not_here c k (omega arith))
-  ])
+  go (Some b) h = (
+    h.0,
+    (let low = h.1 in omega arith),
+    λ c k low. elim (cases_lt from c.first) [
+      | inl past ↦ h.2 c k (omega arith)
+      | inr here ↦ absurd (not_here c k (omega arith))
+    ],
+  )

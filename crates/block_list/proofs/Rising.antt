@@ -1,11 +1,11 @@
 -- Blocks whose first addresses rise: what a binary search finds in them, and what of them counts.
-use Rattle.std.proofs.Common.{◌≡◌, ℕ, zero, suc, ◌+◌, ◌-◌, ◌<◌, ◌≤◌, refl, sym, ◌∙◌, ap, subst, arith, Bool, true, false, cond, nat_le, List, [], ◌∷◌, ◌++◌, length, take, drop, get_or, filter}
+use Rattle.std.proofs.Common.{◌≡◌, ℕ, zero, suc, ◌+◌, ◌-◌, ◌<◌, ◌≤◌, refl, sym, ◌∙◌, ap, subst, arith, Bool, false, cond, nat_le, List, [], ◌∷◌, ◌++◌, length, take, drop, get_or, filter}
 use Rattle.std.specs.List.{AllByRecursion, AllWithin}
 use Rattle.std.specs.List.Sorted.{IsPartitionedBy}
 use Rattle.std.proofs.lemmas.Bool.Decides.{nat_tests}
 use Rattle.std.proofs.lemmas.List.{append-nil, take-append-drop, drop-drop, get_or-take, get_or-drop, length-take, length-drop}
-use Rattle.std.proofs.lemmas.List.Elements.{recursion_from_All, All-from_recursion, filter-append}
-use Rattle.inet_num.specs.Net.{Cidr, size_of}
+use Rattle.std.proofs.lemmas.List.Elements.{recursion_from_All, filter-append}
+use Rattle.inet_num.specs.Net.{Cidr}
 use Rattle.block_list.specs.Listing.{Rises}
 
 -- each block begins at the number or after it
@@ -79,8 +79,8 @@ pub filter_middle : (p : Cidr → Bool) (xs : List Cidr) (from to : ℕ) → fro
 filter_middle p xs from to le before behind =
     let rest : drop (to - from) (drop from xs) ≡ drop to xs = drop-drop (to - from) from xs ∙ ap (λ k. drop k xs) (let e : from + (to - from) ≡ to = omega arith in e) in
     let cut : filter p (drop from xs) ≡ filter p (take (to - from) (drop from xs)) ++ filter p (drop to xs) =
-        sym (ap (filter p) (take-append-drop (to - from) (drop from xs))) ∙ filter-append p (take (to - from) (drop from xs)) (drop (to - from) (drop from xs))
-        ∙ ap (λ (zs : List Cidr). filter p (take (to - from) (drop from xs)) ++ filter p zs) rest in
+    sym (ap (filter p) (take-append-drop (to - from) (drop from xs))) ∙ filter-append p (take (to - from) (drop from xs)) (drop (to - from) (drop from xs))
+    ∙ ap (λ (zs : List Cidr). filter p (take (to - from) (drop from xs)) ++ filter p zs) rest in
     let whole : filter p xs ≡ filter p (take from xs) ++ filter p (drop from xs) = sym (ap (filter p) (take-append-drop from xs)) ∙ filter-append p (take from xs) (drop from xs) in
     let front = none_pass p (take from xs) before in
     let back = none_pass p (drop to xs) behind in

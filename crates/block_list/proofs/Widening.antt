@@ -1,9 +1,9 @@
 -- From a free block to the available one around it, and from there to the first available block from an address on.
-use Rattle.std.proofs.Common.{◌≡◌, ℕ, ◌+◌, ◌-◌, ◌<◌, ◌≤◌, ◌↔◌, refl, sym, ◌∙◌, ap, subst, arith, inl, inr, Bool, true, false, ◌&&◌, IsTrue, List, Option, Some, None}
+use Rattle.std.proofs.Common.{◌≡◌, ℕ, ◌+◌, ◌-◌, ◌<◌, ◌≤◌, ◌↔◌, refl, sym, ◌∙◌, ap, subst, arith, inl, inr, Bool, true, false, ◌&&◌, IsTrue, List, Some, None}
 use Rattle.std.specs.List.{list_any}
 use Rattle.std.proofs.lemmas.Bool.{cases_lt}
 use Rattle.std.proofs.lemmas.Nat.{pow_pos}
-use Rattle.inet_num.specs.Net.{width_of, Cidr, IsBlock, size_of, HasAddress, IsInside, enclosing_of}
+use Rattle.inet_num.specs.Net.{width_of, Cidr, IsBlock, size_of, IsInside, enclosing_of}
 use Rattle.inet_num.specs.Free.{IsFree, meets, IsAvailable}
 use Rattle.inet_num.proofs.Numbers.{ends_of_inside}
 use Rattle.inet_num.proofs.Frees.{free_by_test, not_free_by_test}
@@ -81,10 +81,10 @@ here_is w blocks from s m h a le = (
   a.available,
   le,
   λ c k low. (
-    let first = h.1 (block_from w (width_of w.family) c.first) (single_fits w blocks from c k low) in
-    let ends = ends_of_inside s m a.inside in
-    omega arith
-  ),
+      let first = h.1 (block_from w (width_of w.family) c.first) (single_fits w blocks from c k low) in
+      let ends = ends_of_inside s m a.inside in
+      omega arith
+      ),
 )
 
 -- an available block from an address on begins behind one that begins before the address
@@ -135,8 +135,8 @@ behind_is w blocks from s m t n end h a before end_is k b =
       b.available,
       omega arith,
       λ c j low. (
-        let behind = past w blocks from m c a.available before j low in
-        let first = k.1 (block_from w (width_of w.family) c.first) (single_fits w blocks (end + 1) c j (omega arith)) in
-        omega arith
-      ),
+          let behind = past w blocks from m c a.available before j low in
+          let first = k.1 (block_from w (width_of w.family) c.first) (single_fits w blocks (end + 1) c j (omega arith)) in
+          omega arith
+          ),
     )

@@ -1,4 +1,4 @@
-use Rattle.std.proofs.Common.{◌≡◌, ◌∙◌, ap}
+use Rattle.std.proofs.Common.{◌∙◌, ap}
 use Rattle.inet_num.specs.Net.{Address}
 use Rattle.block_list.proofs.Changes.{counting_middle, rises_middle}
 use Rattle.block_list.proofs.beginning_inside.Goals as goal

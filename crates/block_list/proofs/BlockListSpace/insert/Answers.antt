@@ -1,6 +1,6 @@
-use Rattle.std.proofs.Common.{◌≡◌, ◌+◌, ◌≤◌, ◌∷◌, ◌∙◌, sym, ap, subst, arith, List, IsPermutation}
+use Rattle.std.proofs.Common.{◌≤◌, ◌∷◌, ◌∙◌, sym, ap, subst, arith, List, IsPermutation}
 use Rattle.std.proofs.lemmas.List.Sorted.{IsPermutation-insert}
-use Rattle.inet_num.specs.Net.{Address, Cidr, IsBlock}
+use Rattle.inet_num.specs.Net.{Address, Cidr}
 use Rattle.block_list.specs.Listing.{Listing}
 use Rattle.block_list.proofs.Changes.{insert_listing}
 use Rattle.block_list.proofs.BlockListSpace.insert.Goals as goal
@@ -14,8 +14,8 @@ invariant_of-self c =
     let len = c.in-Ok.ensures.len in
     let capacity = c.in-Ok.ensures.capacity in (
       insert_listing c.self.inside.family c.self.inside.blocks.items c.deref.result.now c.insert.new.self.items c.beginning_by-index.result c.value.result c.self.inside.spare c.args.block c.self.invariant.0 c.deref.ensures.value
-      (c.value.ensures.value ∙ ap (λ (a : Address). a.value) c.first.ensures) c.beginning_by-index.ensures.bound c.beginning_by-index.ensures.below c.beginning_by-index.ensures.others c.in-Ok.ensures.items c.family-family.ensures.lawful
-      (c.requires.family ∙ sym family_is) some,
+          (c.value.ensures.value ∙ ap (λ (a : Address). a.value) c.first.ensures) c.beginning_by-index.ensures.bound c.beginning_by-index.ensures.below c.beginning_by-index.ensures.others c.in-Ok.ensures.items c.family-family.ensures.lawful
+          (c.requires.family ∙ sym family_is) some,
       omega arith,
     )
 

@@ -1,4 +1,4 @@
-use Rattle.std.proofs.Common.{◌≡◌, ◌+◌, ◌<◌, ◌≤◌, ◌∷◌, ◌∙◌, true, sym, ap, subst, arith, List, length, get_or, IsPermutation}
+use Rattle.std.proofs.Common.{◌≡◌, ◌<◌, ◌∷◌, ◌∙◌, true, sym, ap, subst, arith, List, length, get_or, IsPermutation}
 use Rattle.std.proofs.lemmas.List.Sorted.{IsPermutation-remove}
 use Rattle.inet_num.specs.Net.{Cidr}
 use Rattle.block_space.specs.Listed.{is_same}

@@ -1,4 +1,4 @@
-use Rattle.std.proofs.Common.{◌≡◌, ℕ, ◌+◌, ◌-◌, ◌≤◌, ◌∙◌, sym, ap, subst, arith, List, Option, Some, None}
+use Rattle.std.proofs.Common.{◌≡◌, ℕ, ◌+◌, ◌-◌, ◌∙◌, sym, ap, subst, arith, List, Option, Some, None}
 use Rattle.std.proofs.lemmas.Nat.{pow_pos}
 use Rattle.inet_num.specs.Net.{Address, Cidr, width_of}
 use Rattle.inet_num.specs.declared.Family.{Family}

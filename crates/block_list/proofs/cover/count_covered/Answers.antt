@@ -1,4 +1,4 @@
-use Rattle.std.proofs.Common.{◌≡◌, ℕ, ◌+◌, ◌-◌, ◌∙◌, max, sym, ap, arith, take}
+use Rattle.std.proofs.Common.{ℕ, ◌+◌, ◌-◌, ◌∙◌, max, sym, ap, arith, take}
 use Rattle.inet_num.specs.Net.{Address}
 use Rattle.inet_num.proofs.Numbers.{size_fits}
 use Rattle.block_list.proofs.Covering.{covered_none, counted_ends, walk_same, walk_more, covered_named}

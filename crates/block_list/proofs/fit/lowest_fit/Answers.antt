@@ -1,4 +1,4 @@
-use Rattle.std.proofs.Common.{◌≡◌, ◌∙◌, ap, sym, subst, ◌+◌, take, Option, Some, None}
+use Rattle.std.proofs.Common.{◌∙◌, ap, sym, subst, ◌+◌, take, Option}
 use Rattle.inet_num.specs.Net.{Address, Cidr}
 use Rattle.block_space.specs.Listed.{counting_of}
 use Rattle.block_space.specs.Fit.{IsFirstFit}

@@ -1,7 +1,7 @@
-use Rattle.std.proofs.Common.{◌≡◌, ◌∙◌, refl, ap}
+use Rattle.std.proofs.Common.{◌∙◌, refl, ap}
 use Rattle.inet_num.specs.declared.Family.{Family}
 use Rattle.inet_num.specs.Net.{Address}
-use Rattle.block_list.proofs.Places.{place_here, place_later}
+use Rattle.block_list.proofs.Places.{place_here}
 use Rattle.block_list.proofs.fit.next_from.Goals as goal
 
 pub returns-in-Some : goal.returns-in-Some

@@ -1,4 +1,4 @@
-use Rattle.std.proofs.Common.{◌≡◌, ◌+◌, ◌<◌, sym, subst, drop, List}
+use Rattle.std.proofs.Common.{◌<◌, sym, subst, drop, List}
 use Rattle.std.specs.List.{AllByRecursion}
 use Rattle.std.proofs.lemmas.List.{drop-drop}
 use Rattle.inet_num.specs.Net.{Cidr}

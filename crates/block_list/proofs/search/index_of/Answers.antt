@@ -9,7 +9,7 @@ returns-in_err-index-clause-cause c =
     let from = c.beginning_in-from.result.0 in
     let to = c.beginning_in-from.result.1 in
     let same = times_middle c.args.block.now c.args.blocks.now c.beginning_in-from.result.0 c.beginning_in-from.result.1 c.value-first.result (c.value-first.ensures.value ∙ ap (λ (a : Address). a.value) c.first.ensures)
-        c.beginning_in-from.ensures.order c.beginning_in-from.ensures.before c.beginning_in-from.ensures.behind in
+    c.beginning_in-from.ensures.order c.beginning_in-from.ensures.before c.beginning_in-from.ensures.behind in
     let none : times_of c.args.blocks.now c.args.block.now ≡ 0 = sym same ∙ none_found c.args.block.now (take (to - from) (drop from c.args.blocks.now)) (sym c.in_err-index.ensures) in
     subst (λ (r : Option ℕ). MatchOption r (times_of c.args.blocks.now c.args.block.now ≡ 0) (λ x. 0 < times_of c.args.blocks.now c.args.block.now)) (sym c.from_residual.ensures) none
 
