@@ -1,0 +1,6 @@
+pub mod Rising
+pub mod Places
+pub mod Candidates
+pub mod Widening
+pub mod Covering
+pub mod Changes

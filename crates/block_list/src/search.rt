@@ -1,0 +1,141 @@
+//! Blocks sorted by their first addresses: which of them begin in a range, and what two blocks have to do with each other.
+
+ghost use Rattle.std.specs.Prelude.{◌≡◌, ℕ, ◌+◌, ◌<◌, ◌≤◌, ◌&&◌, nat_le, true, length, take, drop, slice_index_or, IfSome, MatchOption};
+ghost use Rattle.std.specs.List.{AllByRecursion, list_any, position};
+ghost use Rattle.inet_num.specs.Net.{Cidr, size_of};
+ghost use Rattle.inet_num.specs.Free.{meets};
+ghost use Rattle.block_space.specs.Listed.{counts, is_same, times_of};
+ghost use Rattle.block_list.specs.Listing.{Rises};
+
+use inet_num::Block;
+
+/// The numbers of the block's first and last address.
+pub fn ends_of(block: &Block) -> (u128, u128)
+    ensures first { result.0 ≡ block.now.first }
+    ensures last { result.1 + 1 ≡ block.now.first + size_of block.now }
+{
+    (block.first().value(), block.last().value())
+}
+
+/// Whether the block counts for another of its family; strictly, not where the two are one.
+pub fn counts_for(block: &Block, within: &Block, strict: bool) -> bool
+    ensures { result ≡ counts within.now strict block.now }
+{
+    let (first, last) = ends_of(block);
+    let (low, high) = ends_of(within);
+    let same = first == low && block.len() == within.len();
+    low <= first && last <= high && !(strict && same)
+}
+
+/// Whether two blocks of one family have an address in common.
+fn meet(block: &Block, other: &Block) -> bool
+    ensures { result ≡ meets block.now other.now }
+{
+    let (first, last) = ends_of(block);
+    let (low, high) = ends_of(other);
+    first <= high && low <= last
+}
+
+/// Whether two blocks of one family are one.
+fn is_equal(block: &Block, other: &Block) -> bool
+    ensures { result ≡ is_same other.now block.now }
+{
+    other.first().value() == block.first().value() && other.len() == block.len()
+}
+
+/// Whether a block counts, and has an address of another one.
+pub fn is_in_the_way(other: &Block, within: &Block, strict: bool, block: &Block) -> bool
+    ensures { result ≡ (counts within.now strict other.now && meets block.now other.now) }
+{
+    counts_for(other, within, strict) && meet(block, other)
+}
+
+/// Whether a block that counts has an address of this one.
+pub fn is_met(blocks: &[Block], within: &Block, strict: bool, block: &Block) -> bool
+    ensures { result ≡ list_any (λ other. counts within.now strict other && meets block.now other) blocks.now }
+{
+    blocks
+        .iter()
+        .any(|other| is_in_the_way(other, within, strict, block))
+}
+
+/// Whether the block begins at the address or before it.
+fn begins_by(block: &Block, last: u128) -> bool
+    ensures { result ≡ nat_le block.now.first last }
+{
+    block.first().value() <= last
+}
+
+/// How many of the blocks begin at the address or before it: they stand in front.
+pub fn beginning_by(blocks: &[Block], last: u128) -> usize
+    requires { Rises 0 blocks.now }
+    ensures bound { result ≤ length blocks.now }
+    ensures below { AllByRecursion (λ b. b.first ≤ last) (take result blocks.now) }
+    ensures others { AllByRecursion (λ b. last < b.first) (drop result blocks.now) }
+{
+    blocks.partition_point(|block| begins_by(block, last))
+}
+
+/// How many of the blocks begin before the address: they stand in front.
+fn beginning_before(blocks: &[Block], first: u128) -> usize
+    requires { Rises 0 blocks.now }
+    ensures bound { result ≤ length blocks.now }
+    ensures below { AllByRecursion (λ b. b.first < first) (take result blocks.now) }
+{
+    if first == 0 {
+        0
+    } else {
+        beginning_by(blocks, first - 1)
+    }
+}
+
+/// Which of the blocks begin at one of the addresses from the first to the last: all of them are among those from the first
+/// index up to the second.
+pub fn beginning_in(blocks: &[Block], first: u128, last: u128) -> (usize, usize)
+    requires { Rises 0 blocks.now }
+    ensures order { result.0 ≤ result.1 }
+    ensures bound { result.1 ≤ length blocks.now }
+    ensures before { AllByRecursion (λ b. b.first < first) (take result.0 blocks.now) }
+    ensures behind { AllByRecursion (λ b. last < b.first) (drop result.1 blocks.now) }
+{
+    let from = beginning_before(blocks, first);
+    let (_, rest) = blocks.split_at(from);
+    let count = beginning_by(rest, last);
+    (from, from + count)
+}
+
+/// How many of the blocks are this one.
+fn count_equal(blocks: &[Block], block: &Block) -> usize
+    ensures { result ≡ times_of blocks.now block.now }
+{
+    blocks.iter().filter(|held| is_equal(held, block)).count()
+}
+
+/// The index of the first block that is this one.
+fn position_of(blocks: &[Block], block: &Block) -> Option<usize>
+    ensures { result ≡ position (is_same block.now) blocks.now }
+{
+    blocks.iter().position(|held| is_equal(held, block))
+}
+
+/// How often a block stands among sorted ones.
+pub fn times_in(blocks: &[Block], block: &Block) -> usize
+    requires { Rises 0 blocks.now }
+    ensures { result ≡ times_of blocks.now block.now }
+{
+    let first = block.first().value();
+    let (from, to) = beginning_in(blocks, first, first);
+    count_equal(&blocks[from..to], block)
+}
+
+/// Where a block stands among sorted ones, or `None` where it does not.
+pub fn index_of(blocks: &[Block], block: &Block) -> Option<usize>
+    requires { Rises 0 blocks.now }
+    ensures found { IfSome result (λ i. (i < length blocks.now) × (is_same block.now (slice_index_or blocks.now i block.now) ≡ true)) }
+    ensures cause { MatchOption result (times_of blocks.now block.now ≡ 0) (λ _. 0 < times_of blocks.now block.now) }
+{
+    let first = block.first().value();
+    let (from, to) = beginning_in(blocks, first, first);
+    let index = position_of(&blocks[from..to], block)?;
+    Some(from + index)
+}
