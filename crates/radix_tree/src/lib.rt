@@ -5,7 +5,7 @@
 ghost use Rattle.std.specs.Prelude.{◌≡◌, ℕ, ◌+◌, ◌^◌, ◌<◌, ◌≤◌, [], ◌∷◌, IsPermutation, length, OnOk, OnErr, IfOk, MatchBool};
 ghost use Rattle.radix_tree.specs.Shape.{child, HasOneEach};
 ghost use Rattle.radix_tree.specs.Listed.{blocks_of};
-ghost use Rattle.block_space.specs.Listed.{times_of, counting_of, covered_of};
+ghost use Rattle.block_space.specs.Listed.{AreBlocksOf, times_of, counting_of, covered_of};
 ghost use Rattle.radix_tree.specs.Lent.{HasLiveChildren, HasTwoChildren};
 ghost use Rattle.radix_tree.specs.Covering.{ListsCovering};
 
@@ -82,7 +82,8 @@ impl Tree {
 
     /// The family of the tree's blocks.
     pub fn family(&self) -> Family
-        ensures { result ≡ self.now.family }
+        ensures family { result ≡ self.now.family }
+        ensures lawful { AreBlocksOf self.now.family self.now.blocks }
     {
         self.linked.family
     }
