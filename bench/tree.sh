@@ -23,7 +23,7 @@ cp "$top/HANDLES" "$scratch/"
 grep -E '^(inet_num|block_space|block_list|node_pool|radix_tree):' "$top/crates.txt" > "$scratch/crates.txt"
 echo 'tree_bench: inet_num block_space block_list radix_tree anyhow' >> "$scratch/crates.txt"
 bench=$scratch/crates/tree_bench
-mkdir -p "$bench/src"
+mkdir -p "$bench/src" "$bench/proofs"
 cat > "$bench/src/main.rt" <<'E'
 //! Puts hosts into a set of blocks, asks for each, and takes each out: `tree`, `list` or `none`, `4` or `6`, the number of
 //! hosts, and for how many of them room is made first. It prints four times in nanoseconds, the sum of all answers, and how
