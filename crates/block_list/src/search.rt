@@ -1,6 +1,6 @@
 //! Blocks sorted by their first addresses: which of them begin in a range, and what two blocks have to do with each other.
 
-ghost use Rattle.std.specs.Prelude.{◌≡◌, ℕ, ◌+◌, ◌<◌, ◌≤◌, ◌&&◌, nat_le, true, length, take, drop, slice_index_or, IfSome, MatchOption};
+ghost use Rattle.std.specs.Prelude.{◌≡◌, ℕ, ◌+◌, ◌-◌, ◌<◌, ◌≤◌, ◌&&◌, nat_le, true, length, take, drop, slice_index_or, IfSome, MatchOption};
 ghost use Rattle.std.specs.List.{AllByRecursion, list_any, position};
 ghost use Rattle.inet_num.specs.Net.{Cidr, size_of};
 ghost use Rattle.inet_num.specs.Free.{meets};
@@ -81,6 +81,7 @@ fn beginning_before(blocks: &[Block], first: u128) -> usize
     requires { Rises 0 blocks.now }
     ensures bound { result ≤ length blocks.now }
     ensures below { AllByRecursion (λ b. b.first < first) (take result blocks.now) }
+    ensures others { AllByRecursion (λ b. first ≤ b.first) (drop result blocks.now) }
 {
     if first == 0 {
         0
@@ -89,13 +90,14 @@ fn beginning_before(blocks: &[Block], first: u128) -> usize
     }
 }
 
-/// Which of the blocks begin at one of the addresses from the first to the last: all of them are among those from the first
-/// index up to the second.
+/// Which of the blocks begin at one of the addresses from the first to the last: those from the first index up to the second.
 pub fn beginning_in(blocks: &[Block], first: u128, last: u128) -> (usize, usize)
     requires { Rises 0 blocks.now }
     ensures order { result.0 ≤ result.1 }
     ensures bound { result.1 ≤ length blocks.now }
     ensures before { AllByRecursion (λ b. b.first < first) (take result.0 blocks.now) }
+    ensures from { AllByRecursion (λ b. first ≤ b.first) (drop result.0 blocks.now) }
+    ensures by { AllByRecursion (λ b. b.first ≤ last) (take (result.1 - result.0) (drop result.0 blocks.now)) }
     ensures behind { AllByRecursion (λ b. last < b.first) (drop result.1 blocks.now) }
 {
     let from = beginning_before(blocks, first);
