@@ -4,7 +4,7 @@ use Rattle.inet_num.specs.Net.{Cidr, IsInside}
 use Rattle.block_space.specs.Listed.{times_of}
 use Rattle.radix_tree.specs.declared.Entry.{Entry}
 
--- the first block has the lower first address, or has the same one and is shorter in length
+-- the first block has the lower first address, or both have the same one and its length is the lower
 abbrev pub ComesBefore : Cidr → Cidr → Type 0
 ComesBefore a b = (a.first < b.first) ⊎ ((a.first ≡ b.first) × (a.len < b.len))
 

@@ -401,6 +401,7 @@ impl Linked {
         };
         let node = self.pool.visit(id, steps);
         push_entry(out, node)?;
+        // a single address has nothing below it
         if node.block.len() == self.family.width() {
             return Ok(());
         }
