@@ -205,7 +205,7 @@ pub covered_clear : (t : Linked) → IsTree t → (place : Place) (at : Option �
 covered_clear t w place at land within strict here famW inside_land none = covered_none t within strict within w famW (λ a h.
     let lead = (w.links place at land here).leads h.id h.node h.here (inside_trans h.node.block within land h.inside inside_land) in not_both at lead.0 none lead.2)
 
-half_short : (s : Bool) (b : Cidr) → HasRoom b → (half s b).len ≤ width_of (half s b).family
+pub half_short : (s : Bool) (b : Cidr) → HasRoom b → (half s b).len ≤ width_of (half s b).family
 half_short false b room = omega arith
 half_short true b room = omega arith
 

@@ -8,13 +8,15 @@ ghost use Rattle.radix_tree.specs.Listed.{blocks_of};
 ghost use Rattle.block_space.specs.Listed.{AreBlocksOf, times_of, counting_of, covered_of};
 ghost use Rattle.radix_tree.specs.Lent.{HasLiveChildren, HasTwoChildren};
 ghost use Rattle.radix_tree.specs.Covering.{ListsCovering};
+ghost use Rattle.radix_tree.specs.Inside.{ListsInside};
 
 mod halves;
 mod links;
 
 use inet_num::{Block, Family};
 use links::{
-    Linked, covered_counted, covering_counted, insert_counted, remove_counted, times_counted,
+    Linked, covered_counted, covering_counted, insert_counted, inside_counted, remove_counted,
+    times_counted,
 };
 use node_pool::{NodeId, Pool};
 use std::alloc::{AllocError, Global};
@@ -41,6 +43,13 @@ impl Node {
     {
         if high { self.high } else { self.low }
     }
+}
+
+/// A block of a tree, and how often the tree has it.
+#[derive(Clone, Copy)]
+pub struct Entry {
+    pub block: Block,
+    pub times: u32,
 }
 
 /// Blocks of one family, a block as often as it was put in. No two nodes have one block, and a node without a count has two
@@ -173,6 +182,16 @@ impl Tree {
     {
         let _lawful = block.len();
         covering_counted::<Brand>(&self.linked, self.alloc, &block, Blank::new(1))
+    }
+
+    /// The blocks of the tree that lie inside a block of its family, each once and with how often the tree has it, by first
+    /// address and then length. A block lies inside itself. The one error is want of memory.
+    pub fn inside(&self, within: Block) -> Result<Vec<Entry>, AllocError>
+        requires family { within.family ≡ self.now.family }
+        ensures { IfOk result (λ v. ListsInside self.now.blocks within v.items) }
+    {
+        let _lawful = within.len();
+        inside_counted::<Brand>(&self.linked, self.alloc, &within, Blank::new(1))
     }
 }
 

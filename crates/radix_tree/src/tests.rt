@@ -219,3 +219,55 @@ fn addresses_are_covered(rt: HostRuntime) -> Result<(), AllocError> {
     }
     Ok(())
 }
+
+/// What is put in, a block, and the blocks inside it as their first numbers, lengths and how often they are there.
+type InsideRow<'a> = (Family, &'a [Change], (u128, u8), &'a [(u128, u8, u32)]);
+
+/// Entries as the first numbers and lengths of their blocks, and how often they are there.
+fn counted(alloc: Global, entries: &[Entry]) -> Result<Vec<(u128, u8, u32)>, AllocError> {
+    let mut out = Vec::new(alloc);
+    for entry in entries {
+        out.push((entry.block.addr().value(), entry.block.len(), entry.times))?;
+    }
+    Ok(out)
+}
+
+#[test]
+fn blocks_inside_are_listed(rt: HostRuntime) -> Result<(), AllocError> {
+    let alloc = rt.alloc();
+    let table: [InsideRow<'_>; 4] = [
+        (Family::V4, &[], (0, 0), &[]),
+        // by first address and then length, in whatever order they came
+        (
+            Family::V4,
+            &[
+                Insert(TEN + 128, 25),
+                Insert(TEN, 32),
+                Insert(TEN, 24),
+                Insert(TEN, 25),
+                Insert(TEN, 24),
+                Insert(0, 0),
+                Insert(TEN + 256, 24),
+            ],
+            (TEN, 24),
+            &[(TEN, 24, 2), (TEN, 25, 1), (TEN, 32, 1), (TEN + 128, 25, 1)],
+        ),
+        // only a larger block is there
+        (Family::V4, &[Insert(TEN, 8)], (TEN, 24), &[]),
+        (
+            Family::V6,
+            &[Insert(u128::MAX, 128), Insert(0, 128)],
+            (0, 0),
+            &[(0, 128, 1), (u128::MAX, 128, 1)],
+        ),
+    ];
+    for (family, changes, asked, want) in table {
+        let tree = changed(alloc, family, changes)?;
+        let Some(block) = block(family, asked.0, asked.1) else {
+            continue;
+        };
+        let got = counted(alloc, &tree.inside(block)?)?;
+        assert!(rt; got.as_slice() == want, "{changes:?}");
+    }
+    Ok(())
+}

@@ -1,4 +1,4 @@
-use Rattle.std.proofs.Common.{rules, ◌≡◌, sym, subst}
+use Rattle.std.proofs.Common.{subst}
 use Rattle.block_space.specs.Listed.{AreBlocksOf}
 use Rattle.radix_tree.specs.Held.{Held}
 use Rattle.radix_tree.proofs.Lent.{blocks_of_family}
