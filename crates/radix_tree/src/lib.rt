@@ -1,5 +1,5 @@
-//! Blocks of one family in a path-compressed binary tree of their bits, over a pool of nodes. A block is found, put in and
-//! taken out within as many visits of nodes as an address has bits and a few, however many blocks there are.
+//! Blocks of one family in a path-compressed binary tree of their bits, over a pool of nodes. The way to a block follows its
+//! bits, however many blocks there are; no clause of a public call counts the nodes on it.
 #![tactic(auto)]
 
 ghost use Rattle.std.specs.Prelude.{◌≡◌, ℕ, ◌+◌, ◌^◌, ◌<◌, ◌≤◌, [], ◌∷◌, IsPermutation, length, OnOk, OnErr, IfOk, MatchBool};
@@ -48,7 +48,9 @@ impl Node {
 /// A block of a tree, and how often the tree has it.
 #[derive(Clone, Copy)]
 pub struct Entry {
+    /// A block that the tree has.
     pub block: Block,
+    /// How often the tree has it.
     pub times: u32,
 }
 
