@@ -109,8 +109,9 @@ impl Addr {
 /// A block of length L has two to the width less L addresses, and its first address is a multiple of that size.
 #[derive(Clone, Copy, Debug, PartialEq, Eq)]
 pub struct Block {
-    family: Family,
+    // The widest field first: a block takes 32 bytes then, and 48 in another order.
     first: u128,
+    family: Family,
     len: u8,
 }
 
