@@ -17,7 +17,7 @@ use block_space::{Space, Steps};
 use cover::count_covered;
 use fit::lowest_fit;
 use inet_num::{Addr, Block, Family};
-use search::{beginning_by, beginning_in, index_of, times_in};
+use search::{beginning_by, beginning_in, count_counting, index_of, times_in};
 use std::alloc::{AllocError, Global};
 use std::marker::Model;
 use std::sync::ledger::Ledger;
@@ -107,6 +107,10 @@ impl Space for BlockList {
 
     fn times(&self, block: Block) -> u32 {
         times_in(&self.blocks, &block) as u32
+    }
+
+    fn counting(&self, within: Block, strict: bool) -> u32 {
+        count_counting(beginning_inside(&self.blocks, within), &within, strict) as u32
     }
 
     fn covered(&self, within: Block, strict: bool) -> u128 {

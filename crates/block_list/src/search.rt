@@ -4,7 +4,7 @@ ghost use Rattle.std.specs.Prelude.{◌≡◌, ℕ, ◌+◌, ◌-◌, ◌<◌, �
 ghost use Rattle.std.specs.List.{AllByRecursion, list_any, position};
 ghost use Rattle.inet_num.specs.Net.{Cidr, size_of};
 ghost use Rattle.inet_num.specs.Free.{meets};
-ghost use Rattle.block_space.specs.Listed.{counts, is_same, times_of};
+ghost use Rattle.block_space.specs.Listed.{counts, counting_of, is_same, times_of};
 ghost use Rattle.block_list.specs.Listing.{Rises};
 
 use inet_num::Block;
@@ -25,6 +25,16 @@ pub fn counts_for(block: &Block, within: &Block, strict: bool) -> bool
     let (low, high) = ends_of(within);
     let same = first == low && block.len() == within.len();
     low <= first && last <= high && !(strict && same)
+}
+
+/// How many of the blocks count for a block.
+pub fn count_counting(blocks: &[Block], within: &Block, strict: bool) -> usize
+    ensures { result ≡ length (counting_of blocks.now within.now strict) }
+{
+    blocks
+        .iter()
+        .filter(|block| counts_for(block, within, strict))
+        .count()
 }
 
 /// Whether two blocks of one family have an address in common.
