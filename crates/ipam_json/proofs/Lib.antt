@@ -1,0 +1,4 @@
+pub mod Ascii
+pub mod Pieces
+pub mod Fields
+pub mod Unique

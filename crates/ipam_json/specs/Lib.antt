@@ -1,0 +1,5 @@
+pub mod Bodies
+pub mod Laws
+pub mod Members
+pub mod Replies
+pub mod Written

@@ -1,0 +1,66 @@
+-- Members of the object that a body is: which field each of them gives. `None` is a member that is malformed, or absent where
+-- it is required. A member is looked up by `get` of serde_json, which knows the last of two with one name, and no order.
+use Rattle.std.specs.Prelude.{ℕ, nat_le, Bool, not, ◌&&◌, ◌==◌, List, [], length, chars, codes, bytes_eq, Option, Some, None, option_map, option_and_then, is_some, if◌then◌else◌}
+use Rattle.std.specs.List.{list_any}
+use Rattle.ipam_data.specs.Texts.{is_control}
+use Rattle.ipam_data.specs.declared.prefix.PrefixStatus.{PrefixStatus}
+use Rattle.ipam_data.specs.declared.prefix.PrefixStatus.TheVariants.{Container, Active, Reserved, Deprecated}
+use Rattle.serde_json.specs.Data.{Data}
+use Rattle.serde_json.specs.Find.{as_null, as_bool, as_number, as_str, as_u64}
+
+-- the text has so many characters, and none is a control character
+abbrev pub is_plain : ℕ → ℕ → List ℕ → Bool
+is_plain least most text =
+    nat_le least (length (chars text)) && nat_le (length (chars text)) most && not (list_any is_control (chars text))
+
+-- a text of so many characters
+abbrev pub within : ℕ → ℕ → List ℕ → Option (List ℕ)
+within least most text = if is_plain least most text then Some text else None
+
+-- a name is required, and is a text of 1 to 100 characters
+abbrev pub name_of : Option Data → Option (List ℕ)
+name_of None = None
+name_of (Some d) = option_and_then (within 1 100) (as_str d)
+
+-- a description is a text of at most 200 characters; an absent one is empty
+abbrev pub description_of : Option Data → Option (List ℕ)
+description_of None = Some []
+description_of (Some d) = option_and_then (within 0 200) (as_str d)
+
+-- a route distinguisher in words: an empty text is none
+abbrev pub distinguisher_of : List ℕ → Option (Option (List ℕ))
+distinguisher_of text = if length text == 0 then Some None else option_map Some (within 1 21 text)
+
+-- a route distinguisher is a text of at most 21 characters; null, an empty text and an absent member are none
+abbrev pub rd_of : Option Data → Option (Option (List ℕ))
+rd_of None = Some None
+rd_of (Some d) = if is_some (as_null d) then Some None else option_and_then distinguisher_of (as_str d)
+
+-- a truth value; an absent one is the default
+abbrev pub flag_of : Bool → Option Data → Option Bool
+flag_of default None = Some default
+flag_of default (Some d) = as_bool d
+
+-- an id is a whole number from 1 to 4294967295, without fraction and exponent
+abbrev pub id_within : ℕ → Option ℕ
+id_within n = if nat_le 1 n && nat_le n 4294967295 then Some n else None
+
+-- the id of another row; null and an absent member are none
+abbrev pub id_of : Option Data → Option (Option ℕ)
+id_of None = Some None
+id_of (Some d) =
+    if is_some (as_null d) then Some None
+    else option_map Some (option_and_then id_within (option_and_then as_u64 (as_number d)))
+
+-- the status that a word names
+abbrev pub status_named : List ℕ → Option PrefixStatus
+status_named text =
+    if bytes_eq text (codes "container") then Some Container
+    else (if bytes_eq text (codes "active") then Some Active
+    else (if bytes_eq text (codes "reserved") then Some Reserved
+    else (if bytes_eq text (codes "deprecated") then Some Deprecated else None)))
+
+-- a status is one of four words; an absent one is active
+abbrev pub status_of : Option Data → Option PrefixStatus
+status_of None = Some Active
+status_of (Some d) = option_and_then status_named (as_str d)

@@ -1,0 +1,79 @@
+//! The body of a Create.
+
+ghost use Rattle.std.specs.Prelude.{◌≡◌, ◌⊎◌, IfOk, IfErr};
+ghost use Rattle.serde_json.specs.View.{view};
+ghost use Rattle.ipam_data.specs.declared.replies.Refusal.TheVariants.{BadJson, Memory};
+ghost use Rattle.ipam_data.specs.declared.kinds.Kind.TheVariants.{Prefixes};
+ghost use Rattle.ipam_json.specs.Bodies.{OrMemory, IsObjectText, IsNoObjectText, IsObjectOf, IsBodyOf, vrf_body};
+
+use crate::members::{block, description, flag, id, name, rd, status};
+use ipam_data::calls::Draft;
+use ipam_data::kinds::Kind;
+use ipam_data::replies::{FieldName, Refusal};
+use serde_json::Value;
+use std::alloc::Global;
+
+/// The object that a body is.
+fn read_object(alloc: Global, body: &[u8]) -> Result<Value, Refusal>
+    ensures ok { IfOk result (λ v. IsObjectText body.now (view v)) }
+    ensures err { IfErr result (λ e. (e ≡ Memory) ⊎ (IsNoObjectText body.now × (e ≡ BadJson))) }
+{
+    match Value::from_slice(alloc, body) {
+        Ok(value) if value.is_object() => Ok(value),
+        Err(error) if error.is_memory() => Err(Refusal::Memory),
+        _ => Err(Refusal::BadJson),
+    }
+}
+
+/// The draft of a VRF.
+fn vrf_draft(alloc: Global, body: &Value) -> Result<Draft, Refusal>
+    ensures { OrMemory (λ r. vrf_body (view body.now) ≡ r) result }
+{
+    let name = name(alloc, body)?;
+    let rd = rd(alloc, body)?;
+    let enforce_unique = flag(body, "enforce_unique", FieldName::EnforceUnique, true)?;
+    let description = description(alloc, body)?;
+    Ok(Draft::Vrf {
+        name,
+        rd,
+        enforce_unique,
+        description,
+    })
+}
+
+/// The draft of a prefix.
+fn prefix_draft(alloc: Global, body: &Value) -> Result<Draft, Refusal>
+    ensures { OrMemory (IsObjectOf Prefixes (view body.now)) result }
+{
+    let block = block(body)?;
+    let vrf = id(body, "vrf", FieldName::Vrf)?;
+    let status = status(body)?;
+    let role = id(body, "role", FieldName::Role)?;
+    let is_pool = flag(body, "is_pool", FieldName::IsPool, false)?;
+    let mark_utilized = flag(body, "mark_utilized", FieldName::MarkUtilized, false)?;
+    let description = description(alloc, body)?;
+    Ok(Draft::Prefix {
+        block,
+        vrf,
+        status,
+        role,
+        is_pool,
+        mark_utilized,
+        description,
+    })
+}
+
+/// What the body of a Create asks for: a draft of the kind. `BadJson` comes where the body is no JSON text (RFC 8259) or no
+/// object; `Field` where a member is malformed, or required and absent, and names the first such member in the order of the
+/// kind; `HostBits` in the same order for a prefix text with host bits set; `NoRoute` for a kind without drafts; and `Memory`
+/// may come in place of any answer.
+pub fn read_body(alloc: Global, kind: Kind, body: &[u8]) -> Result<Draft, Refusal>
+    ensures { OrMemory (IsBodyOf kind body.now) result }
+{
+    let object = read_object(alloc, body)?;
+    match kind {
+        Kind::Vrfs => vrf_draft(alloc, &object),
+        Kind::Roles => Err(Refusal::NoRoute),
+        Kind::Prefixes => prefix_draft(alloc, &object),
+    }
+}

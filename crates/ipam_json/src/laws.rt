@@ -1,0 +1,13 @@
+//! Laws of the definitions: each function is empty, and its contract is the law.
+
+ghost use Rattle.ipam_json.specs.Laws.{BodyIsOne, BoundsAreThose};
+
+/// A body asks for one thing.
+pub fn body_is_one()
+    ensures { BodyIsOne }
+{}
+
+/// The texts of a body have the bounds of the texts of rows.
+pub fn bounds_are_those()
+    ensures { BoundsAreThose }
+{}

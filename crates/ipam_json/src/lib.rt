@@ -1,0 +1,12 @@
+//! The JSON of the service: what the body of a request asks for, and the text of a reply.
+#![tactic(auto)]
+
+mod bodies;
+mod details;
+mod laws;
+mod members;
+mod replies;
+
+pub use bodies::read_body;
+pub use laws::{body_is_one, bounds_are_those};
+pub use replies::{Links, refusal_bytes, reply_bytes, write_reply};
