@@ -54,6 +54,7 @@ bounds_plain : (least most n : ℕ) (bad : Bool) → least ≤ n → n ≤ most 
 bounds_plain least most n bad p q r = rw r (grind (arith, nat_tests))
 
 pub bounds_are_those : BoundsAreThose
-bounds_are_those least most text =
-    ((λ h. let p = plain_bounds least most (length (chars text)) (list_any is_control (chars text)) h in record { enough = p.0; few = p.1; plain = p.2 }),
-    (λ h. bounds_plain least most (length (chars text)) (list_any is_control (chars text)) h.enough h.few h.plain))
+bounds_are_those least most text = (
+  (λ h. let p = plain_bounds least most (length (chars text)) (list_any is_control (chars text)) h in record { enough = p.0; few = p.1; plain = p.2 }),
+  (λ h. bounds_plain least most (length (chars text)) (list_any is_control (chars text)) h.enough h.few h.plain),
+)

@@ -6,6 +6,8 @@ mod details;
 mod laws;
 mod members;
 mod replies;
+#[cfg(test)]
+mod tests;
 
 pub use bodies::read_body;
 pub use laws::{body_is_one, bounds_are_those};

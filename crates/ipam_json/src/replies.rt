@@ -241,11 +241,7 @@ fn put_refusal(alloc: Global, writer: &mut Writer, refusal: &Refusal) -> Result<
 }
 
 /// Writes a refusal that is this one in words.
-fn put_refusal_with(
-    writer: &mut Writer,
-    refusal: &Refusal,
-    detail: &str,
-) -> Result<(), AllocError>
+fn put_refusal_with(writer: &mut Writer, refusal: &Refusal, detail: &str) -> Result<(), AllocError>
     requires { detail.now ≡ detail_of refusal.now }
     ensures { Puts result writer.old writer.new (pieces_of (refusal_data refusal.now)) }
 {

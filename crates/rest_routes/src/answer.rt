@@ -1,0 +1,99 @@
+//! The answer to a request, before its frame.
+
+ghost use Rattle.std.specs.Prelude.{◌≡◌, IfOk};
+ghost use Rattle.ipam_data.specs.Answers.{status_of, refusal_status_of};
+ghost use Rattle.http_session.specs.Replies.{answer_of};
+ghost use Rattle.rest_routes.specs.Answers.{IsRefusedAnswer, allow_of, reply_answer, route_methods};
+
+use crate::route::{Route, route_of};
+use http::StatusCode;
+use http_session::{Body, Reply as Answer};
+use ipam_data::replies::{Refusal, Reply};
+use ipam_json::{Links, refusal_bytes, reply_bytes};
+use std::alloc::{AllocError, Global};
+
+/// The status of a refusal.
+fn refusal_status(refusal: &Refusal) -> StatusCode
+    ensures { result ≡ refusal_status_of refusal.now }
+{
+    match refusal {
+        Refusal::BadHead => StatusCode::BAD_REQUEST,
+        Refusal::TooLarge(_) => StatusCode::PAYLOAD_TOO_LARGE,
+        Refusal::Coding => StatusCode::NOT_IMPLEMENTED,
+        Refusal::NoRoute => StatusCode::NOT_FOUND,
+        Refusal::Method => StatusCode::METHOD_NOT_ALLOWED,
+        Refusal::BadJson => StatusCode::BAD_REQUEST,
+        Refusal::Field(_) => StatusCode::BAD_REQUEST,
+        Refusal::NotFound(_, _) => StatusCode::NOT_FOUND,
+        Refusal::Rule(_) => StatusCode::BAD_REQUEST,
+        Refusal::Limit(_, _) => StatusCode::INSUFFICIENT_STORAGE,
+        Refusal::Memory => StatusCode::INTERNAL_SERVER_ERROR,
+    }
+}
+
+/// The status of a reply.
+fn reply_status(reply: &Reply) -> StatusCode
+    ensures { result ≡ status_of reply.now }
+{
+    match reply {
+        Reply::Made(_) => StatusCode::CREATED,
+        Reply::One(_) => StatusCode::OK,
+        Reply::Page { .. } => StatusCode::OK,
+        Reply::Refused(refusal) => refusal_status(refusal),
+    }
+}
+
+/// The methods of a route, where there is one.
+fn methods(route: Option<Route>) -> &'static [u8]
+    ensures { result.now ≡ route_methods route }
+{
+    match route {
+        Some(route) => route.methods().as_bytes(),
+        None => b"",
+    }
+}
+
+/// What the field `Allow` says with this refusal: nothing but for a method that the route does not have.
+fn allowed(route: Option<Route>, refusal: &Refusal) -> &'static [u8]
+    ensures { result.now ≡ allow_of route refusal.now }
+{
+    match refusal {
+        Refusal::Method => methods(route),
+        _ => b"",
+    }
+}
+
+/// The answer of a reply of the register, which stands at this place. `Err` is want of memory.
+pub fn answer_of_reply(
+    alloc: Global,
+    reply: &Reply,
+    links: &Links,
+    place: u64,
+) -> Result<Answer, AllocError>
+    ensures { IfOk result (λ a. answer_of a ≡ reply_answer reply.now links.now place) }
+{
+    let body = reply_bytes(alloc, reply, links)?;
+    Ok(Answer {
+        status: reply_status(reply),
+        allow: b"",
+        place: Some(place),
+        body: Body::Written(body),
+    })
+}
+
+/// The answer of a refusal that the bytes of a request decide, before the register: it has no place. `Err` is want of memory.
+pub fn answer_of_refusal(
+    alloc: Global,
+    target: &[u8],
+    refusal: &Refusal,
+) -> Result<Answer, AllocError>
+    ensures { IfOk result (λ a. IsRefusedAnswer target.now refusal.now (answer_of a)) }
+{
+    let body = refusal_bytes(alloc, refusal)?;
+    Ok(Answer {
+        status: refusal_status(refusal),
+        allow: allowed(route_of(target), refusal),
+        place: None,
+        body: Body::Written(body),
+    })
+}

@@ -1,0 +1,14 @@
+//! What a request asks of the register, by its target, its method and its body, and how replies are answered over HTTP.
+#![tactic(auto)]
+
+mod answer;
+mod call;
+mod laws;
+mod route;
+#[cfg(test)]
+mod tests;
+
+pub use answer::{answer_of_refusal, answer_of_reply};
+pub use call::read_call;
+pub use laws::request_is_one;
+pub use route::{Method, Route, route_of};
