@@ -1,0 +1,10 @@
+//! The register over HTTP: one connection that has a register for itself.
+#![tactic(auto)]
+
+mod laws;
+mod session;
+
+pub use http_session::SessionEnd;
+pub use laws::{answers_are_one, state_is_replay};
+pub use rest_routes::{Route, read_call};
+pub use session::{OwnRegister, serve_session};

@@ -1,0 +1,110 @@
+//! One connection that has a register for itself.
+
+ghost use Rattle.std.specs.Prelude.{◌≡◌, ◌≢◌, ◌≤◌, ℕ, List, [], IfOk, OnErr};
+ghost use Rattle.ipam_edge.specs.Faults.{Rose};
+ghost use Rattle.http_session.specs.Steps.{Grown, framed};
+ghost use Rattle.http_session.specs.Ends.{IsEnd, IsLeft, IsReadAsNeeded};
+ghost use Rattle.http_session.specs.Replies.{answer_of};
+ghost use Rattle.rest_routes.specs.Answers.{IsRefusedAnswer};
+ghost use Rattle.register_core.specs.Kept.{Kept};
+ghost use Rattle.rest_ipam.specs.Answered.{answers_plainly, IsActed};
+
+use http_session::{Desk, HttpRequest, Reply as Answer, SessionEnd, serve};
+use ipam_data::calls::Call;
+use ipam_data::replies::{Refusal, Reply};
+use ipam_edge::{Sink, Source};
+use ipam_json::Links;
+use register_core::register::{Register, Settings, open};
+use rest_routes::{answer_of_refusal, answer_of_reply, read_call};
+use std::alloc::{AllocError, Global};
+use std::mem;
+
+/// The number under which the one caller's changes are noted.
+const CALLER: u32 = 0;
+
+/// Lets the register answer a call, and writes the answer. The one error is want of memory: the register is then as before, or
+/// the call was made and its answer is lost.
+fn act(
+    alloc: Global,
+    register: &mut Register,
+    call: Call,
+    links: &Links,
+) -> Result<Answer, AllocError>
+    ensures { IsActed register.old call links.now result register.new }
+{
+    let place = register.log().len() as u64;
+    match register.act(CALLER, call) {
+        Reply::Refused(Refusal::Memory) => Err(AllocError),
+        reply => answer_of_reply(alloc, &reply, links, place),
+    }
+}
+
+/// Writes the answer to a refused request of this target. The one error is want of memory, in this call or as what was refused.
+fn refuse(alloc: Global, target: &[u8], refusal: &Refusal) -> Result<Answer, AllocError>
+    ensures { IfOk result (λ answer. (refusal.now ≢ Refusal.Memory) × IsRefusedAnswer target.now refusal.now (answer_of answer)) }
+{
+    match refusal {
+        Refusal::Memory => Err(AllocError),
+        _ => answer_of_refusal(alloc, target, refusal),
+    }
+}
+
+/// A register that one connection has for itself.
+pub struct OwnRegister;
+
+impl Desk for OwnRegister {
+    type Seat = Register;
+
+    ghost View = { Kept };
+
+    ghost view = { λ s. s };
+
+    ghost may = { answers_plainly };
+
+    fn answer(
+        &self,
+        alloc: Global,
+        seat: Register,
+        request: &HttpRequest,
+    ) -> (Register, Result<Answer, AllocError>) {
+        let mut register = seat;
+        match read_call(alloc, &request.method, &request.target, &request.body) {
+            Ok((call, links)) => {
+                let answer = act(alloc, &mut register, call, &links);
+                (register, answer)
+            }
+            Err(refusal) => (register, refuse(alloc, &request.target, &refusal)),
+        }
+    }
+}
+
+/// Serves one connection with a register of its own, from its first byte to its end, and notes its changes under the number 0.
+/// `SourceFault` comes where a read failed, with all requests that lay whole in the bytes read answered; `SinkFault` where a
+/// write failed, with a front of the last answer written; `Memory` where memory was wanting, before a call reached the register
+/// or after its reply was made.
+pub fn serve_session<So: Source, Si: Sink>(
+    alloc: Global,
+    register: &mut Register,
+    source: &mut So,
+    sink: &mut Si,
+) -> SessionEnd
+    ensures talk { (bytes : List ℕ) × Grown (So.left source.old) (So.left source.new) [] bytes
+        × IsEnd answers_plainly register.old register.new (Si.written sink.old) (Si.written sink.new) bytes (So.left source.new) result
+        × IsReadAsNeeded bytes }
+    ensures source_later { So.faults source.old ≤ So.faults source.new }
+    ensures source { result ≡ SessionEnd.SourceFault → Rose (So.faults source.old) (So.faults source.new) }
+    ensures sink_later { Si.faults sink.old ≤ Si.faults sink.new }
+    ensures sink { result ≡ SessionEnd.SinkFault → Rose (Si.faults sink.old) (Si.faults sink.new) }
+{
+    // The loop takes the register and gives it back; an empty one, which takes no memory, stands in its place meanwhile.
+    let empty = open(
+        alloc,
+        Settings {
+            global_unique: true,
+        },
+    );
+    let seat = mem::replace(register, empty);
+    let (seat, end) = serve(alloc, &OwnRegister, seat, source, sink);
+    *register = seat;
+    end
+}
