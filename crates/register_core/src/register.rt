@@ -3,7 +3,7 @@
 ghost use Rattle.std.specs.Prelude.{◌≡◌, ◌<◌, true, false, IfOk, OnErr, vec_len, vec_capacity};
 ghost use Rattle.ipam_data.specs.State.{empty_state};
 ghost use Rattle.ipam_data.specs.Steps.{plain_step};
-ghost use Rattle.ipam_data.specs.Replays.{is_accepted};
+ghost use Rattle.ipam_data.specs.Replays.{is_accepted, replay};
 ghost use Rattle.ipam_data.specs.Lawful.{IsLawful};
 ghost use Rattle.register_core.specs.Kept.{Kept, opened, logged};
 
@@ -29,11 +29,16 @@ pub struct Register {
 }
 
 impl Model for Register {
+    ghost use Rattle.std.specs.Prelude.{◌≡◌};
+    ghost use Rattle.ipam_data.specs.State.{empty_state};
+    ghost use Rattle.ipam_data.specs.Replays.{replay};
     ghost use Rattle.register_core.specs.Kept.{Kept};
 
     ghost Value = { Kept };
 
     ghost view = { λ r. record { state = r.books; log = r.log.items } };
+
+    ghost invariant = { λ r. r.books ≡ replay (empty_state r.books.global_unique) r.log.items };
 }
 
 /// Whether a reply is that of an accepted change.
@@ -66,6 +71,14 @@ impl Register {
         ensures { IsLawful self.now.state }
     {
         self.books.lawful();
+    }
+
+    /// What holds of every register: its state is what its accepted changes lead to, one after another, from the empty state.
+    /// A law, for callers.
+    pub fn replayed(&self)
+        ensures { self.now.state ≡ replay (empty_state self.now.state.global_unique) self.now.log }
+    {
+        let _log = self.log.as_slice();
     }
 
     /// Answers a call, and notes it where it is an accepted change. `Err` is want of memory, and leaves the register.
