@@ -15,6 +15,7 @@ ghost use Rattle.ipam_data.specs.Prefixes.{prefix_id, prefix_fault, depth_of, ch
 ghost use Rattle.row_book.specs.Book.{IsFitting};
 ghost use Rattle.prefix_rules.specs.Book.{TabledRows, empty_book, table_at, is_there, spare_of, blocks_at, blocks_of_rows, IsInOrder};
 
+mod spaces;
 mod tables;
 
 use block_space::Space;
