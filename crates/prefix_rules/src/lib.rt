@@ -13,7 +13,7 @@ ghost use Rattle.ipam_data.specs.Shelf.{row_at, row_after, with_row, without};
 ghost use Rattle.ipam_data.specs.Tables.{table_of, same_table};
 ghost use Rattle.ipam_data.specs.Prefixes.{prefix_id, prefix_fault, depth_of, children_of, coincidence_of};
 ghost use Rattle.row_book.specs.Book.{IsFitting};
-ghost use Rattle.prefix_rules.specs.Book.{TabledRows, empty_book, table_at, is_there, spare_of, blocks_at, blocks_of_rows, IsInOrder};
+ghost use Rattle.prefix_rules.specs.Book.{TabledRows, empty_book, table_at, is_there, spare_of, blocks_at, blocks_of_rows, AreInOrder, IsInOrder};
 
 mod spaces;
 mod tables;
@@ -27,6 +27,20 @@ use row_book::RowBook;
 use std::alloc::{AllocError, Global};
 use std::marker::Model;
 use tables::Tables;
+
+/// Takes the block of the row of an id out of its table; where there is no such row, nothing.
+fn forget<S: Space + Drop>(rows: &RowBook<Prefix>, tables: &mut Tables<S>, id: u32)
+    requires { AreInOrder rows.now.rows tables.old }
+    ensures order { AreInOrder (without prefix_id rows.now.rows id) tables.new }
+    ensures there { (t : Table) → is_there tables.new t ≡ is_there tables.old t }
+    ensures spares { (t : Table) → spare_of tables.old t ≤ spare_of tables.new t }
+{
+    let _ordered = rows.len();
+    match rows.get(id) {
+        Some(row) => tables.remove(Table::of(row.vrf), row.block),
+        None => {}
+    }
+}
 
 /// Prefixes in the order of their ids, and the spaces of their tables.
 ///
@@ -134,6 +148,9 @@ impl<S: Space + Drop> PrefixBook<S> {
         ensures table_spare { spare_of self.old.tables (table_of row.vrf) ≤ spare_of self.new.tables (table_of row.vrf) + 1 }
         ensures other_spares { (t : Table) → same_table t (table_of row.vrf) ≡ false → spare_of self.old.tables t ≤ spare_of self.new.tables t }
     {
+        let _ordered = self.rows.len();
+        forget(&self.rows, &mut self.tables, row.id);
+        self.tables.insert(Table::of(row.vrf), row.block);
         self.rows.put(row);
     }
 
@@ -147,6 +164,7 @@ impl<S: Space + Drop> PrefixBook<S> {
         ensures there { (t : Table) → is_there self.new.tables t ≡ is_there self.old.tables t }
         ensures spares { (t : Table) → spare_of self.old.tables t ≤ spare_of self.new.tables t }
     {
+        forget(&self.rows, &mut self.tables, id);
         self.rows.cut(id)
     }
 
@@ -186,7 +204,10 @@ impl<S: Space + Drop> PrefixBook<S> {
         ensures held { IfSome result (λ s. S.held s.now ≡ blocks_at self.now.tables table family) }
         ensures blocks { IfSome result (λ s. IsPermutation (blocks_of_rows self.now.rows table family) (S.held s.now)) }
     {
-        None
+        match self.tables.at(table) {
+            Some(spaces) => Some(spaces.space(family)),
+            None => None,
+        }
     }
 
     /// The least ids of two prefixes of the table with one block, or `None` where it has each block once: the lesser id is

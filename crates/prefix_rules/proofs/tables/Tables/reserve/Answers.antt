@@ -34,7 +34,7 @@ reserve-requires-in-Some-clause-few_v6 g c =
 pub invariant_of-self-in-Some : goal.invariant_of-self-in-Some
 invariant_of-self-in-Some g c =
     let rises = rises_at c.self-in-Of.inside.of_vrfs.items c.as_slice.result.now c.args.table c.in-Of.field-0 c.in-Some.at c.index_mut.result.now c.reserve-in-Some.new.self c.in-Of.is c.self-in-Of.invariant.1 c.as_slice.ensures.value c.in-Some.ensures.at c.index_mut.ensures.value
-        c.reserve-in-Some.ensures.table in
+    c.reserve-in-Some.ensures.table in
     (c.self-in-Of.invariant.0, rises)
 
 pub add-requires-clause-few : goal.add-requires-clause-few
