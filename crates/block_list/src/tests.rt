@@ -155,6 +155,9 @@ fn agrees<L: Ledger>(
     if space.covered(within, strict) != plain_count(&within, &children) {
         return Ok(false);
     }
+    if space.counting(within, strict) as usize != children.len() {
+        return Ok(false);
+    }
     let last = within.last().value();
     'addresses: for at in within.first().value()..last {
         if !agrees_at(space, within, &children, &available, at, strict, &mut steps) {

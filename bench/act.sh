@@ -1,0 +1,230 @@
+#!/usr/bin/env bash
+# Calls a second of the register, and memory of a record: 1,000 VRFs and prefixes made through `act`, then random ones read, then
+# pages of 1,000 rows listed. The prefixes are /32 blocks: `rising` and `random` are in the global table in rising order or in none,
+# `spread` are random ones over the tables of the 1,000 VRFs. Each time is the best of three runs; memory is the peak of the process
+# less that of a run that opens a register and makes nothing, and so it has what the log keeps of each call.
+# It writes a program into a scratch copy outside the repository, proves and builds it there, and runs it.
+# usage: bench/act.sh [prefixes]; with SCRATCH=DIR the program stays there
+set -euo pipefail
+top=$(cd "$(dirname "$0")/.." && pwd)
+prefixes=${1:-200000}
+scratch=${SCRATCH:-$(mktemp -d)}
+[ -n "${SCRATCH:-}" ] || trap 'rm -rf "$scratch"' EXIT
+mkdir -p "$scratch/crates"
+copied=() # register_core, and each crate of the repository below it
+copy() {
+    local crate=$1 line word
+    [[ " ${copied[*]:-} " != *" $crate "* ]] || return 0
+    copied+=("$crate")
+    line=$(grep -E "^$crate( [a-z_]+=[^:]*)?:" "$top/crates.txt")
+    for word in ${line#*:}; do
+        [ ! -d "$top/crates/$word" ] || copy "$word"
+    done
+    if [ ! -d "$scratch/crates/$crate" ]; then
+        cp -r "$top/crates/$crate" "$scratch/crates/"
+        rm -rf "$scratch/crates/$crate/must-fail" "$scratch/crates/$crate/out"
+    fi
+    echo "$line" >> "$scratch/crates.txt"
+}
+: > "$scratch/crates.txt"
+copy register_core
+cp "$top/HANDLES" "$scratch/"
+echo 'act_bench: inet_num ipam_data register_core anyhow' >> "$scratch/crates.txt"
+bench=$scratch/crates/act_bench
+mkdir -p "$bench/src"
+cat > "$bench/src/main.rt" <<'E'
+//! Makes VRFs and prefixes in a register, reads random prefixes, and lists pages: `rising`, `random`, `spread` or `none`, and the
+//! number of prefixes. It prints the nanoseconds of the VRFs, the prefixes, as many reads, and 100 pages, and how many of the
+//! calls gave what they should.
+#![tactic(auto)]
+
+use inet_num::{Addr, Block, Family};
+use ipam_data::calls::{Call, Draft, Filter};
+use ipam_data::kinds::Kind;
+use ipam_data::prefix::PrefixStatus;
+use ipam_data::replies::Reply;
+use ipam_data::text::{Description, Name};
+use register_core::{open, Register, Settings};
+use std::alloc::{AllocError, Global};
+use std::env;
+use std::time::Instant;
+
+/// Which prefixes are made.
+#[derive(Clone, Copy)]
+enum Order {
+    Rising,
+    Random,
+    Spread,
+    Nothing,
+}
+
+/// A mixed number (splitmix64).
+fn mixed(n: u64) -> u64 {
+    let state = n.wrapping_add(0x9e3779b97f4a7c15);
+    let a = (state ^ (state >> 30)).wrapping_mul(0xbf58476d1ce4e5b9);
+    let b = (a ^ (a >> 27)).wrapping_mul(0x94d049bb133111eb);
+    b ^ (b >> 31)
+}
+
+/// The n-th block: the numbers of 10.0.0.0/8 from the first, or mixed.
+fn block(order: Order, n: u32) -> Option<Block> {
+    let low = match order {
+        Order::Rising => u128::from(n & 0xffffff),
+        _ => u128::from(mixed(u64::from(n)) & 0xffffff),
+    };
+    Block::of(Addr::of(Family::V4, 0x0a000000 | low)?, 32)
+}
+
+fn table(order: Order, n: u32) -> Option<u32> {
+    match order {
+        Order::Spread => Some(n % 1000 + 1),
+        _ => None,
+    }
+}
+
+/// Whether the VRF was made.
+fn make_vrf(alloc: Global, register: &mut Register) -> Result<bool, AllocError> {
+    let name = Name::of(String::from_str(alloc, "customer")?);
+    let description = Description::of(String::from_str(alloc, "a customer's network")?);
+    match (name, description) {
+        (Some(name), Some(description)) => {
+            let draft = Draft::Vrf { name, rd: None, enforce_unique: false, description };
+            Ok(matches!(register.act(0, Call::Create { draft }), Reply::Made(_)))
+        }
+        _ => Ok(false),
+    }
+}
+
+/// Whether the prefix was made.
+fn make_prefix(
+    alloc: Global,
+    register: &mut Register,
+    block: Block,
+    vrf: Option<u32>,
+) -> Result<bool, AllocError> {
+    match Description::of(String::from_str(alloc, "a customer's host")?) {
+        Some(description) => {
+            let draft = Draft::Prefix {
+                block,
+                vrf,
+                status: PrefixStatus::Active,
+                role: None,
+                is_pool: false,
+                mark_utilized: false,
+                description,
+            };
+            Ok(matches!(register.act(0, Call::Create { draft }), Reply::Made(_)))
+        }
+        None => Ok(false),
+    }
+}
+
+fn one(done: bool) -> u64 {
+    if done { 1 } else { 0 }
+}
+
+fn make_vrfs(alloc: Global, register: &mut Register, count: u32) -> Result<u64, AllocError> {
+    let mut done = 0u64;
+    for _ in 0..count {
+        done = done.wrapping_add(one(make_vrf(alloc, register)?));
+    }
+    Ok(done)
+}
+
+fn make_prefixes(
+    alloc: Global,
+    register: &mut Register,
+    order: Order,
+    count: u32,
+) -> Result<u64, AllocError> {
+    let mut done = 0u64;
+    for n in 0..count {
+        if let Some(block) = block(order, n) {
+            done = done.wrapping_add(one(make_prefix(alloc, register, block, table(order, n))?));
+        }
+    }
+    Ok(done)
+}
+
+fn read(register: &mut Register, count: u32) -> u64 {
+    let mut done = 0u64;
+    for n in 0..count {
+        let id = (mixed(u64::from(n)) & 0x1ffff) as u32;
+        let reply = register.act(0, Call::Get { kind: Kind::Prefixes, id });
+        done = done.wrapping_add(one(matches!(reply, Reply::One(_))));
+    }
+    done
+}
+
+fn list(register: &mut Register, pages: u32) -> u64 {
+    let mut done = 0u64;
+    for n in 0..pages {
+        let offset = (mixed(u64::from(n)) & 0x1ffff) as u32;
+        let call = Call::List {
+            kind: Kind::Prefixes,
+            filter: Filter::Prefixes,
+            limit: 1000,
+            offset,
+        };
+        if let Reply::Page { count: _, views } = register.act(0, call) {
+            done = done.wrapping_add(views.as_slice().len() as u64);
+        }
+    }
+    done
+}
+
+fn main(rt: HostRuntime) -> anyhow::Result<()> {
+    let mut words = env::args(&rt)?;
+    let _ = words.next();
+    let order = words.next().expect(&rt, "rising, random, spread or none");
+    let mut count: u32 = words.next().expect(&rt, "prefixes").parse()?;
+    let order = match order.as_str() {
+        "rising" => Order::Rising,
+        "random" => Order::Random,
+        "spread" => Order::Spread,
+        _ => Order::Nothing,
+    };
+    let mut vrfs = 1000;
+    if matches!(order, Order::Nothing) {
+        count = 0;
+        vrfs = 0;
+    }
+    let mut register = open(rt.alloc(), Settings { global_unique: false });
+    let start = Instant::now(&rt)?;
+    let made_vrfs = make_vrfs(rt.alloc(), &mut register, vrfs)?;
+    let for_vrfs = start.elapsed(&rt)?.as_nanos();
+    let start = Instant::now(&rt)?;
+    let made = make_prefixes(rt.alloc(), &mut register, order, count)?;
+    let for_prefixes = start.elapsed(&rt)?.as_nanos();
+    let start = Instant::now(&rt)?;
+    let found = read(&mut register, count);
+    let for_reads = start.elapsed(&rt)?.as_nanos();
+    let start = Instant::now(&rt)?;
+    let listed = list(&mut register, if count > 0 { 100 } else { 0 });
+    let for_pages = start.elapsed(&rt)?.as_nanos();
+    println!(rt; "{for_vrfs} {for_prefixes} {for_reads} {for_pages} {made_vrfs} {made} {found} {listed}")?;
+    Ok(())
+}
+E
+(cd "$bench" && rt fmt > /dev/null && rt run -- none 0 > "$scratch/log" 2>&1) || { grep -E 'error|no proof|not proved' "$scratch/log" >&2; exit 1; }
+program=$bench/out/act_bench
+peak() { # the peak of resident memory of a run, in kilobytes, or 0 where there is no way to tell
+    if [ -x /usr/bin/time ]; then /usr/bin/time -f %M -o "$scratch/peak" "$@" > "$scratch/answer"; cat "$scratch/peak"; else "$@" > "$scratch/answer"; echo 0; fi
+}
+base=$(peak "$program" none 0)
+echo "load: $(uptime | sed 's/.*average: //')"
+echo
+echo '| prefixes | how many | VRFs a second | prefixes a second | reads a second | rows of pages a second | bytes a prefix |'
+echo '|---|---|---|---|---|---|---|'
+for order in rising random spread; do
+    rm -f "$scratch/answers"
+    for _ in 1 2 3; do
+        full=$(peak "$program" "$order" "$prefixes")
+        cat "$scratch/answer" >> "$scratch/answers"
+    done
+    awk -v k="$order" -v c="$prefixes" -v m=$(((full - base) * 1024)) '
+        { for (i = 1; i <= 4; i++) if (NR == 1 || $i < best[i]) best[i] = $i; vrfs = $5; made = $6; rows = $8 }
+        END {
+            printf "| %s | %d | %.0f | %.0f | %.0f | %.0f | %.0f |\n", k, made,
+                vrfs * 1e9 / best[1], made * 1e9 / best[2], c * 1e9 / best[3], rows * 1e9 / best[4], m / made }' "$scratch/answers"
+done
