@@ -12,7 +12,7 @@ use crate::free::{LineFault, Stop, free, refusal_text};
 use http_session::SessionEnd;
 use inet_num::{Block, read_block};
 use ipam_edge::{Sink, Source, write_all};
-use register_core::register::{Settings, open};
+use register_core::{Settings, open};
 use rest_ipam::serve_session;
 use std::alloc::Global;
 

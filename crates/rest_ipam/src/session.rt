@@ -14,7 +14,7 @@ use ipam_data::calls::Call;
 use ipam_data::replies::{Refusal, Reply};
 use ipam_edge::{Sink, Source};
 use ipam_json::Links;
-use register_core::register::{Register, Settings, open};
+use register_core::{Register, Settings, open};
 use rest_routes::{answer_of_refusal, answer_of_reply, read_call};
 use std::alloc::{AllocError, Global};
 use std::mem;
