@@ -284,18 +284,22 @@ fn is_taken(alloc: Global, body: &str) -> bool {
     read_body(alloc, Kind::Vrfs, body.as_bytes()).is_ok()
 }
 
+/// A text, how often it stands as a name, and whether that is one.
+fn name_case(number: u32) -> (&'static str, u32, bool) {
+    match number {
+        0 => ("\u{1f600}", 100, true),
+        1 => ("\u{1f600}", 101, false),
+        2 => ("\\ud83d\\ude00", 100, true),
+        3 => ("\\ud83d\\ude00", 101, false),
+        4 => ("a", 100, true),
+        _ => ("a", 101, false),
+    }
+}
+
 #[test]
 fn long_and_deep_bodies(rt: HostRuntime) -> Result<(), Fail> {
-    // a text, how often it stands as a name, and whether that is one
-    let names = [
-        ("\u{1f600}", 100, true),
-        ("\u{1f600}", 101, false),
-        ("\\ud83d\\ude00", 100, true),
-        ("\\ud83d\\ude00", 101, false),
-        ("a", 100, true),
-        ("a", 101, false),
-    ];
-    for (text, count, want) in names {
+    for number in 0..6 {
+        let (text, count, want) = name_case(number);
         let body = repeated(rt.alloc(), "{\"name\":\"", text, count, "\"}")?;
         assert_eq!(rt; is_taken(rt.alloc(), body.as_str()), want);
     }
@@ -324,6 +328,11 @@ fn prefix_view(rt: &impl Abort, alloc: Global, status: PrefixStatus) -> Result<V
     })
 }
 
+/// The page of two prefixes.
+fn page_text() -> &'static str {
+    "{\"count\":60,\"next\":\"/x/?limit=2&offset=2\",\"previous\":null,\"results\":[{\"children\":30,\"depth\":2,\"description\":\"\",\"family\":4,\"id\":4294967294,\"is_pool\":false,\"mark_utilized\":true,\"prefix\":\"10.0.0.0/24\",\"role\":null,\"status\":{\"label\":\"Reserved\",\"value\":\"reserved\"},\"vrf\":7},{\"children\":30,\"depth\":2,\"description\":\"\",\"family\":4,\"id\":4294967294,\"is_pool\":false,\"mark_utilized\":true,\"prefix\":\"10.0.0.0/24\",\"role\":null,\"status\":{\"label\":\"Deprecated\",\"value\":\"deprecated\"},\"vrf\":7}]}"
+}
+
 #[test]
 fn pages(rt: HostRuntime) -> Result<(), Fail> {
     let mut out = Vec::from_slice(rt.alloc(), b"HTTP ")?;
@@ -348,90 +357,94 @@ fn pages(rt: HostRuntime) -> Result<(), Fail> {
         previous: None,
     };
     let text = reply_bytes(rt.alloc(), &page, &links)?;
-    let want =
-        "{\"count\":60,\"next\":\"/x/?limit=2&offset=2\",\"previous\":null,\"results\":[{\"children\":30,\"depth\":2,\"description\":\"\",\"family\":4,\"id\":4294967294,\"is_pool\":false,\"mark_utilized\":true,\"prefix\":\"10.0.0.0/24\",\"role\":null,\"status\":{\"label\":\"Reserved\",\"value\":\"reserved\"},\"vrf\":7},{\"children\":30,\"depth\":2,\"description\":\"\",\"family\":4,\"id\":4294967294,\"is_pool\":false,\"mark_utilized\":true,\"prefix\":\"10.0.0.0/24\",\"role\":null,\"status\":{\"label\":\"Deprecated\",\"value\":\"deprecated\"},\"vrf\":7}]}";
+    let want = page_text();
     assert_eq!(rt; text.as_slice(), want.as_bytes());
     Ok(())
 }
 
-#[test]
-fn refusals(rt: HostRuntime) -> Result<(), Fail> {
-    let cases = [
-        (
+/// A refusal with its code and its detail.
+fn refusal_case(number: u32) -> (Refusal, &'static str, &'static str) {
+    match number {
+        0 => (
             Refusal::BadHead,
             "bad_head",
             "the request could not be read",
         ),
-        (
+        1 => (
             Refusal::TooLarge(Part::Head),
             "too_large",
             "the head exceeds 16384 bytes",
         ),
-        (
+        2 => (
             Refusal::TooLarge(Part::Body),
             "too_large",
             "the body exceeds 4194304 bytes",
         ),
-        (Refusal::Coding, "coding", "transfer codings are not served"),
-        (Refusal::NoRoute, "no_route", "no such path"),
-        (
+        3 => (Refusal::Coding, "coding", "transfer codings are not served"),
+        4 => (Refusal::NoRoute, "no_route", "no such path"),
+        5 => (
             Refusal::Method,
             "method",
             "the path does not have this method",
         ),
-        (
+        6 => (
             Refusal::Field(FieldName::Offset),
             "field",
             "offset is missing or malformed",
         ),
-        (
+        7 => (
             Refusal::Field(FieldName::Limit),
             "field",
             "limit is missing or malformed",
         ),
-        (
+        8 => (
             Refusal::NotFound(Kind::Prefixes, 9),
             "not_found",
             "prefixes 9 is not there",
         ),
-        (
+        9 => (
             Refusal::NotFound(Kind::Vrfs, 4294967295),
             "not_found",
             "vrfs 4294967295 is not there",
         ),
-        (
+        10 => (
             Refusal::Rule(Rule::NoSuch(Kind::Roles, 2)),
             "no_such",
             "roles 2 is not there",
         ),
-        (
+        11 => (
             Refusal::Rule(Rule::ZeroMask),
             "zero_mask",
             "a mask of length 0 is refused",
         ),
-        (
+        12 => (
             Refusal::Rule(Rule::Duplicate(1)),
             "duplicate",
             "coincides with 1",
         ),
-        (
+        13 => (
             Refusal::Rule(Rule::RdTaken(3)),
             "rd_taken",
             "the rd is that of 3",
         ),
-        (
+        14 => (
             Refusal::Limit(Which::Kind(Kind::Vrfs), 1000),
             "limit",
             "vrfs would exceed 1000",
         ),
-        (
+        15 => (
             Refusal::Limit(Which::Ids, 4294967294),
             "limit",
             "ids would exceed 4294967294",
         ),
-        (Refusal::Memory, "memory", "no memory"),
-    ];
-    for (refusal, code, detail) in cases {
+        _ => (Refusal::Memory, "memory", "no memory"),
+    }
+}
+
+#[test]
+fn refusals(rt: HostRuntime) -> Result<(), Fail> {
+    for number in 0..17 {
+        let (refusal, code, detail) = refusal_case(number);
         let text = reply_bytes(rt.alloc(), &Reply::Refused(refusal), &no_links())?;
         let want = format!(in rt.alloc(); "{{\"code\":\"{code}\",\"detail\":\"{detail}\"}}")?;
         assert_eq!(rt; text.as_slice(), want.as_bytes());
