@@ -184,7 +184,10 @@ impl<S: Space + Drop> PrefixBook<S> {
         requires { IsInOrder self.now }
         ensures { MatchOption (row_at prefix_id self.now.rows id) (result ≡ 0) (λ row. result ≡ depth_of self.now.rows row) }
     {
-        0
+        match self.rows.get(id) {
+            Some(row) => self.tables.count_around(Table::of(row.vrf), row.block),
+            None => 0,
+        }
     }
 
     /// How many rows of its table lie strictly inside the block of the prefix of this id; 0 where no prefix has the id.
@@ -192,7 +195,10 @@ impl<S: Space + Drop> PrefixBook<S> {
         requires { IsInOrder self.now }
         ensures { MatchOption (row_at prefix_id self.now.rows id) (result ≡ 0) (λ row. result ≡ children_of self.now.rows row) }
     {
-        0
+        match self.rows.get(id) {
+            Some(row) => self.tables.count_inside(Table::of(row.vrf), row.block),
+            None => 0,
+        }
     }
 
     /// The space of a table's blocks of one family, or `None` exactly where the table is not there: it is not the global one,
