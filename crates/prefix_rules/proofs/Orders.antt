@@ -3,7 +3,7 @@ use Rattle.std.proofs.Common.{◌≡◌, ℕ, zero, suc, ◌+◌, ◌<◌, ◌�
 use Rattle.std.specs.List.{count_by}
 use Rattle.std.proofs.lemmas.Bool.Decides.{nat_tests}
 use Rattle.std.proofs.lemmas.List.Sums.{sum_by-cons}
-use Rattle.std.proofs.lemmas.List.Sorted.{IsPermutation-refl, IsPermutation-sym, IsPermutation-trans, IsPermutation-cons, IsPermutation-remove, IsPermutation-middle, sum_by-IsPermutation}
+use Rattle.std.proofs.lemmas.List.Sorted.{IsPermutation-refl, IsPermutation-sym, IsPermutation-trans, IsPermutation-cons, IsPermutation-remove, IsPermutation-middle, sum_by-IsPermutation, length_permutation}
 use Rattle.inet_num.specs.declared.Family.{Family}
 use Rattle.inet_num.specs.declared.Family.TheVariants.{V4, V6}
 use Rattle.inet_num.specs.Net.{Cidr}
@@ -75,3 +75,8 @@ beside a xs ys h = by_counts xs ys (λ b. (let whole = count_alike (same_block b
 
 pub swapped : (a b : Cidr) (xs : List Cidr) → IsPermutation (a ∷ b ∷ xs) (b ∷ a ∷ xs)
 swapped a b xs = IsPermutation-middle (a ∷ []) b xs
+
+-- nothing is an order of nothing but itself
+pub of_nothing : (xs : List Cidr) → IsPermutation xs [] → xs ≡ []
+of_nothing [] h = refl
+of_nothing (x ∷ xs) h = (let n = length_permutation (x ∷ xs) [] h in absurd (omega arith))

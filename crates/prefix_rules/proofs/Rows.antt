@@ -12,7 +12,7 @@ use Rattle.ipam_data.specs.Tables.{table_of, same_table}
 use Rattle.ipam_data.specs.Prefixes.{prefix_id}
 use Rattle.ipam_data.proofs.Shelves.{contains_cases, contains_head, contains_rest}
 use Rattle.row_book.proofs.Places.{none_below, without_none}
-use Rattle.prefix_rules.specs.Book.{is_of, blocks_of_rows}
+use Rattle.prefix_rules.specs.Book.{TableBlocks, is_of, blocks_at, blocks_of_rows, AreInOrder}
 use Rattle.prefix_rules.proofs.Orders.{swapped}
 
 -- a row's block before others, where the row is of the table and the family
@@ -121,3 +121,7 @@ few_without (y ∷ ys) n = go (y.id == n) (few_without ys n) where
   go : (t : Bool) → length (without prefix_id ys n) ≤ length ys → length (cond (not t) (y ∷ without prefix_id ys n) (without prefix_id ys n)) ≤ length (y ∷ ys)
   go true h = omega arith
   go false h = omega arith
+
+-- the blocks of a table in order, by another name of the table
+pub same_order : (rows : List Prefix) (tables : List TableBlocks) (table other : Table) (family : Family) → table ≡ other → AreInOrder rows tables → IsPermutation (blocks_of_rows rows table family) (blocks_at tables other family)
+same_order rows tables table other family is h = subst (λ (t : Table). IsPermutation (blocks_of_rows rows table family) (blocks_at tables t family)) is (h.blocks table family)

@@ -15,6 +15,7 @@ ghost use Rattle.ipam_data.specs.Prefixes.{prefix_id, prefix_fault, depth_of, ch
 ghost use Rattle.row_book.specs.Book.{IsFitting};
 ghost use Rattle.prefix_rules.specs.Book.{TabledRows, empty_book, table_at, is_there, spare_of, blocks_at, blocks_of_rows, AreInOrder, IsInOrder};
 
+mod rivals;
 mod spaces;
 mod tables;
 
@@ -23,6 +24,7 @@ use inet_num::Family;
 use ipam_data::kinds::Table;
 use ipam_data::prefix::Prefix;
 use ipam_data::replies::Rule;
+use rivals::{least_rival, pair_at};
 use row_book::RowBook;
 use std::alloc::{AllocError, Global};
 use std::marker::Model;
@@ -171,11 +173,21 @@ impl<S: Space + Drop> PrefixBook<S> {
     /// The first rule that the row breaks beside the rows of other ids, past its references: `ZeroMask`, or, where its table
     /// enforces, `Duplicate` with the least id of another row of the table with its block. It takes no memory, and looks at
     /// the rows only where the table has the block once more.
+    #[tactic(auto, unfolding(ipam_data::specs::Prefixes::prefix_fault))]
     pub fn fault(&self, row: &Prefix, enforcing: bool) -> Option<Rule>
         requires { IsInOrder self.now }
         ensures { result ≡ prefix_fault self.now.rows row.now enforcing }
     {
-        None
+        if row.block.len() == 0 {
+            return Some(Rule::ZeroMask);
+        }
+        if !enforcing {
+            return None;
+        }
+        match least_rival(&self.rows, &self.tables, 0, row) {
+            Some(id) => Some(Rule::Duplicate(id)),
+            None => None,
+        }
     }
 
     /// How many different blocks of its table contain the block of the prefix of this id strictly; 0 where no prefix has the
@@ -184,7 +196,10 @@ impl<S: Space + Drop> PrefixBook<S> {
         requires { IsInOrder self.now }
         ensures { MatchOption (row_at prefix_id self.now.rows id) (result ≡ 0) (λ row. result ≡ depth_of self.now.rows row) }
     {
-        0
+        match self.rows.get(id) {
+            Some(row) => self.tables.count_around(Table::of(row.vrf), row.block),
+            None => 0,
+        }
     }
 
     /// How many rows of its table lie strictly inside the block of the prefix of this id; 0 where no prefix has the id.
@@ -192,7 +207,10 @@ impl<S: Space + Drop> PrefixBook<S> {
         requires { IsInOrder self.now }
         ensures { MatchOption (row_at prefix_id self.now.rows id) (result ≡ 0) (λ row. result ≡ children_of self.now.rows row) }
     {
-        0
+        match self.rows.get(id) {
+            Some(row) => self.tables.count_inside(Table::of(row.vrf), row.block),
+            None => 0,
+        }
     }
 
     /// The space of a table's blocks of one family, or `None` exactly where the table is not there: it is not the global one,
@@ -216,6 +234,12 @@ impl<S: Space + Drop> PrefixBook<S> {
         requires { IsInOrder self.now }
         ensures { result ≡ coincidence_of self.now.rows table }
     {
+        let count = self.rows.len();
+        'rows: for index in 0..count {
+            if let Some(pair) = pair_at(&self.rows, &self.tables, index, table) {
+                return Some(pair);
+            }
+        }
         None
     }
 }
