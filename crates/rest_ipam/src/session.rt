@@ -1,6 +1,6 @@
 //! One connection that has a register for itself.
 
-ghost use Rattle.std.specs.Prelude.{◌≡◌, ◌≢◌, ◌≤◌, ℕ, List, [], IfOk, OnErr};
+ghost use Rattle.std.specs.Prelude.{◌≡◌, ◌≢◌, ◌≤◌, ℕ, List, [], IfOk, OnErr, MatchBool};
 ghost use Rattle.ipam_edge.specs.Faults.{Rose};
 ghost use Rattle.http_session.specs.Steps.{Grown, framed};
 ghost use Rattle.http_session.specs.Ends.{IsEnd, IsLeft, IsReadAsNeeded};
@@ -22,6 +22,23 @@ use std::mem;
 /// The number under which the one caller's changes are noted.
 const CALLER: u32 = 0;
 
+/// Whether a refusal is want of memory.
+fn is_want(refusal: &Refusal) -> bool
+    ensures { MatchBool result (refusal.now ≡ Refusal.Memory) (refusal.now ≢ Refusal.Memory) }
+{
+    matches!(refusal, Refusal::Memory)
+}
+
+/// Whether a reply is want of memory.
+fn is_memory(reply: &Reply) -> bool
+    ensures { MatchBool result (reply.now ≡ Reply.Refused Refusal.Memory) (reply.now ≢ Reply.Refused Refusal.Memory) }
+{
+    match reply {
+        Reply::Refused(refusal) => is_want(refusal),
+        _ => false,
+    }
+}
+
 /// Lets the register answer a call, and writes the answer. The one error is want of memory: the register is then as before, or
 /// the call was made and its answer is lost.
 fn act(
@@ -33,10 +50,11 @@ fn act(
     ensures { IsActed register.old call links.now result register.new }
 {
     let place = register.log().len() as u64;
-    match register.act(CALLER, call) {
-        Reply::Refused(Refusal::Memory) => Err(AllocError),
-        reply => answer_of_reply(alloc, &reply, links, place),
+    let reply = register.act(CALLER, call);
+    if is_memory(&reply) {
+        return Err(AllocError);
     }
+    answer_of_reply(alloc, &reply, links, place)
 }
 
 /// Writes the answer to a refused request of this target. The one error is want of memory, in this call or as what was refused.
