@@ -2,3 +2,4 @@ pub mod Ascii
 pub mod Pieces
 pub mod Fields
 pub mod Unique
+pub mod Examples

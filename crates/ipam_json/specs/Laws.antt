@@ -1,10 +1,14 @@
 -- Laws that make the definitions mean something.
-use Rattle.std.specs.Prelude.{◌≡◌, ◌↔◌, ℕ, List, Result, IsTrue}
+use Rattle.std.specs.Prelude.{◌≡◌, ◌↔◌, ℕ, List, [], ◌∷◌, Result, IsTrue}
 use Rattle.ipam_data.specs.Texts.{IsPlain}
 use Rattle.ipam_data.specs.declared.kinds.Kind.{Kind}
 use Rattle.ipam_data.specs.declared.calls.Draft.{Draft}
 use Rattle.ipam_data.specs.declared.replies.Refusal.{Refusal}
+use Rattle.ipam_data.specs.declared.vrf.Vrf.{Vrf}
+use Rattle.ipam_data.specs.declared.prefix.Prefix.{Prefix}
+use Rattle.serde_json.specs.Data.{Data, Members, no_members, put}
 use Rattle.ipam_json.specs.Members.{is_plain}
+use Rattle.ipam_json.specs.Replies.{members, vrf_members, prefix_members}
 use Rattle.ipam_json.specs.Bodies.{IsBodyOf}
 
 -- a body asks for one thing
@@ -14,3 +18,13 @@ BodyIsOne = (kind : Kind) (body : List ℕ) (a b : Result Draft Refusal) → IsB
 -- the texts of a body have the bounds of the texts of rows
 abbrev pub BoundsAreThose : Type 0
 BoundsAreThose = (least most : ℕ) (text : List ℕ) → IsTrue (is_plain least most text) ↔ IsPlain least most text
+
+-- the members as serde_json keeps them: put in one after another, each at its place in the byte order of the names
+abbrev pub ordered : List (List ℕ × Data) → Members
+ordered [] = no_members
+ordered (m ∷ ms) = put m.0 m.1 (ordered ms)
+
+-- the members of a row stand in the byte order of their names, and no two have one name
+pub record RowsAreInOrder : Type 0 where
+  pub vrfs : (row : Vrf) → ordered (vrf_members row) ≡ members (vrf_members row)
+  pub prefixes : (row : Prefix) (depth children : ℕ) → ordered (prefix_members row depth children) ≡ members (prefix_members row depth children)

@@ -67,16 +67,19 @@ status_data status = object (members (
     (codes "label", string (status_label status))
     ∷ (codes "value", string (status_value status)) ∷ []))
 
-abbrev pub vrf_data : Vrf → Data
-vrf_data row = object (members (
+abbrev pub vrf_members : Vrf → List (List ℕ × Data)
+vrf_members row =
     (codes "description", string row.description)
     ∷ (codes "enforce_unique", boolean row.enforce_unique)
     ∷ (codes "id", number_data row.id)
     ∷ (codes "name", string row.name)
-    ∷ (codes "rd", text_data row.rd) ∷ []))
+    ∷ (codes "rd", text_data row.rd) ∷ []
 
-abbrev pub prefix_data : Prefix → ℕ → ℕ → Data
-prefix_data row depth children = object (members (
+abbrev pub vrf_data : Vrf → Data
+vrf_data row = object (members (vrf_members row))
+
+abbrev pub prefix_members : Prefix → ℕ → ℕ → List (List ℕ × Data)
+prefix_members row depth children =
     (codes "children", number_data children)
     ∷ (codes "depth", number_data depth)
     ∷ (codes "description", string row.description)
@@ -87,7 +90,10 @@ prefix_data row depth children = object (members (
     ∷ (codes "prefix", string (block_text_of row.block))
     ∷ (codes "role", id_data row.role)
     ∷ (codes "status", status_data row.status)
-    ∷ (codes "vrf", id_data row.vrf) ∷ []))
+    ∷ (codes "vrf", id_data row.vrf) ∷ []
+
+abbrev pub prefix_data : Prefix → ℕ → ℕ → Data
+prefix_data row depth children = object (members (prefix_members row depth children))
 
 abbrev pub view_data : View → Data
 view_data (VrfView row) = vrf_data row

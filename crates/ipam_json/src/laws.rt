@@ -1,6 +1,6 @@
 //! Laws of the definitions: each function is empty, and its contract is the law.
 
-ghost use Rattle.ipam_json.specs.Laws.{BodyIsOne, BoundsAreThose};
+ghost use Rattle.ipam_json.specs.Laws.{BodyIsOne, BoundsAreThose, RowsAreInOrder};
 
 /// A body asks for one thing.
 pub fn body_is_one()
@@ -10,4 +10,9 @@ pub fn body_is_one()
 /// The texts of a body have the bounds of the texts of rows.
 pub fn bounds_are_those()
     ensures { BoundsAreThose }
+{}
+
+/// The members of a row stand in the byte order of their names.
+pub fn rows_are_in_order()
+    ensures { RowsAreInOrder }
 {}

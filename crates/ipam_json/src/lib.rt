@@ -10,5 +10,5 @@ mod replies;
 mod tests;
 
 pub use bodies::read_body;
-pub use laws::{body_is_one, bounds_are_those};
+pub use laws::{body_is_one, bounds_are_those, rows_are_in_order};
 pub use replies::{Links, refusal_bytes, reply_bytes, write_reply};

@@ -79,75 +79,60 @@ const TOLD: &str = "{\"code\":\"field\",\"detail\":\"description is missing or m
 const RED: &str =
     "{\"description\":\"\",\"enforce_unique\":true,\"id\":1,\"name\":\"red\",\"rd\":null}";
 
-/// A body of a VRF and what it is told.
-fn vrf_case(number: u32) -> (&'static [u8], &'static str) {
+/// Sees that each of the bodies, one to a line, is told this.
+fn all_told(
+    rt: &impl Abort,
+    alloc: Global,
+    kind: Kind,
+    bodies: &[u8],
+    want: &str,
+) -> Result<(), AllocError> {
+    for body in bodies.split(|byte| *byte == b'\n') {
+        let text = told(alloc, kind, body)?;
+        assert_eq!(rt; text.as_slice(), want.as_bytes());
+    }
+    Ok(())
+}
+
+/// Bodies of VRFs, one to a line, and what each of them is told.
+fn vrf_bodies(number: u32) -> (&'static [u8], &'static str) {
     match number {
-        0 => (b"{\"name\":\"red\"}", RED),
-        1 => (b" { \"name\" : \"red\" , \"x\" : [1.5, {}] } ", RED),
-        2 => (b"{\"name\":5,\"name\":\"red\"}", RED),
-        3 => (b"{\"name\":\"red\",\"rd\":null}", RED),
-        4 => (b"{\"name\":\"red\",\"rd\":\"\"}", RED),
-        5 => (
-            b"{\"rd\":\"\",\"description\":\"\",\"enforce_unique\":true,\"name\":\"red\"}",
+        0 => (
+            b"{\"name\":\"red\"}\n { \"name\" : \"red\" , \"x\" : [1.5, {}] } \n{\"name\":5,\"name\":\"red\"}\n{\"name\":\"red\",\"rd\":null}\n{\"name\":\"red\",\"rd\":\"\"}\n{\"rd\":\"\",\"description\":\"\",\"enforce_unique\":true,\"name\":\"red\"}\n{\"name\":\"\\u0072ed\",\"id\":7}",
             RED,
         ),
-        6 => (b"{\"name\":\"\\u0072ed\",\"id\":7}", RED),
-        7 => (
+        1 => (
             b"{\"name\":\"a\\\"b\\\\\\/\",\"rd\":\"65000:1\",\"enforce_unique\":false,\"description\":\"\xc3\xa9\"}",
             "{\"description\":\"\u{e9}\",\"enforce_unique\":false,\"id\":1,\"name\":\"a\\\"b\\\\/\",\"rd\":\"65000:1\"}",
         ),
-        8 => (b"", BAD_JSON),
-        9 => (b"null", BAD_JSON),
-        10 => (b"[]", BAD_JSON),
-        11 => (b"[{\"name\":\"red\"}]", BAD_JSON),
-        12 => (b"\"red\"", BAD_JSON),
-        13 => (b"{\"name\":\"red\"", BAD_JSON),
-        14 => (b"{\"name\":\"red\"} x", BAD_JSON),
-        15 => (b"{\"name\":\"red\",}", BAD_JSON),
-        16 => (b"\xef\xbb\xbf{\"name\":\"red\"}", BAD_JSON),
-        17 => (b"{\"name\":\"red\",\"x\":\"\\ud800\"}", BAD_JSON),
-        18 => (b"{\"name\":\"red\",\"x\":\"\xff\"}", BAD_JSON),
-        19 => (b"{\"name\":\"red\",\"x\":1e400}", BAD_JSON),
-        20 => (b"{\"name\":\"red\",\"x\":01}", BAD_JSON),
-        21 => (b"{\"name\":\"red\",\"x\":\"\x07\"}", BAD_JSON),
-        22 => (b"{}", NAME),
-        23 => (b"{\"slug\":5}", NAME),
-        24 => (b"{\"name\":null}", NAME),
-        25 => (b"{\"name\":5}", NAME),
-        26 => (b"{\"name\":\"\"}", NAME),
-        27 => (b"{\"name\":\"a\\u0007\"}", NAME),
-        28 => (b"{\"name\":\"a\\u007f\"}", NAME),
-        29 => (b"{\"name\":\"red\",\"name\":null}", NAME),
-        30 => (b"{\"description\":5,\"rd\":5,\"name\":\"\"}", NAME),
-        31 => (
-            b"{\"description\":5,\"enforce_unique\":5,\"rd\":5,\"name\":\"red\"}",
+        2 => (
+            b"\nnull\n[]\n[{\"name\":\"red\"}]\n\"red\"\n{\"name\":\"red\"\n{\"name\":\"red\"} x\n{\"name\":\"red\",}\n\xef\xbb\xbf{\"name\":\"red\"}\n{\"name\":\"red\",\"x\":\"\\ud800\"}\n{\"name\":\"red\",\"x\":\"\xff\"}\n{\"name\":\"red\",\"x\":1e400}\n{\"name\":\"red\",\"x\":01}\n{\"name\":\"red\",\"x\":\"\x07\"}",
+            BAD_JSON,
+        ),
+        3 => (
+            b"{}\n{\"slug\":5}\n{\"name\":null}\n{\"name\":5}\n{\"name\":\"\"}\n{\"name\":\"a\\u0007\"}\n{\"name\":\"a\\u007f\"}\n{\"name\":\"red\",\"name\":null}\n{\"description\":5,\"rd\":5,\"name\":\"\"}",
+            NAME,
+        ),
+        4 => (
+            b"{\"description\":5,\"enforce_unique\":5,\"rd\":5,\"name\":\"red\"}\n{\"name\":\"red\",\"rd\":\"1234567890123456789012\"}\n{\"name\":\"red\",\"rd\":\"a\\n\"}\n{\"name\":\"red\",\"rd\":false}\n{\"name\":\"red\",\"rd\":[]}",
             RD,
         ),
-        32 => (b"{\"name\":\"red\",\"rd\":\"1234567890123456789012\"}", RD),
-        33 => (b"{\"name\":\"red\",\"rd\":\"a\\n\"}", RD),
-        34 => (b"{\"name\":\"red\",\"rd\":false}", RD),
-        35 => (b"{\"name\":\"red\",\"rd\":[]}", RD),
-        36 => (b"{\"name\":\"red\",\"enforce_unique\":null}", UNIQUE),
-        37 => (b"{\"name\":\"red\",\"enforce_unique\":1}", UNIQUE),
-        38 => (b"{\"name\":\"red\",\"enforce_unique\":\"true\"}", UNIQUE),
-        39 => (
-            b"{\"description\":5,\"enforce_unique\":0,\"name\":\"red\"}",
+        5 => (
+            b"{\"name\":\"red\",\"enforce_unique\":null}\n{\"name\":\"red\",\"enforce_unique\":1}\n{\"name\":\"red\",\"enforce_unique\":\"true\"}\n{\"description\":5,\"enforce_unique\":0,\"name\":\"red\"}",
             UNIQUE,
         ),
-        40 => (b"{\"name\":\"red\",\"description\":null}", TOLD),
-        41 => (b"{\"name\":\"red\",\"description\":5}", TOLD),
-        42 => (b"{\"name\":\"red\",\"description\":\"a\\tb\"}", TOLD),
-        _ => (b"{\"name\":\"red\",\"description\":{}}", TOLD),
+        _ => (
+            b"{\"name\":\"red\",\"description\":null}\n{\"name\":\"red\",\"description\":5}\n{\"name\":\"red\",\"description\":\"a\\tb\"}\n{\"name\":\"red\",\"description\":{}}",
+            TOLD,
+        ),
     }
 }
 
 #[test]
 fn bodies_of_vrfs(rt: HostRuntime) -> Result<(), Fail> {
-    let count = 44;
-    for number in 0..count {
-        let (body, want) = vrf_case(number);
-        let text = told(rt.alloc(), Kind::Vrfs, body)?;
-        assert_eq!(rt; text.as_slice(), want.as_bytes());
+    for number in 0..7 {
+        let (bodies, want) = vrf_bodies(number);
+        all_told(&rt, rt.alloc(), Kind::Vrfs, bodies, want)?;
     }
     Ok(())
 }
@@ -173,89 +158,60 @@ const TEN: &str =
 const FULL: &str =
     "{\"children\":0,\"depth\":0,\"description\":\"lab\",\"family\":6,\"id\":1,\"is_pool\":true,\"mark_utilized\":true,\"prefix\":\"2001:db8::/32\",\"role\":4294967295,\"status\":{\"label\":\"Container\",\"value\":\"container\"},\"vrf\":1}";
 
-/// A body of a prefix and what it is told.
-fn prefix_case(number: u32) -> (&'static [u8], &'static str) {
+/// Bodies of prefixes, one to a line, and what each of them is told.
+fn prefix_bodies(number: u32) -> (&'static [u8], &'static str) {
     match number {
-        0 => (b"{\"prefix\":\"10.0.0.0/24\"}", TEN),
-        1 => (
-            b"{\"prefix\":\"10.0.0.0/24\",\"vrf\":null,\"role\":null}",
+        0 => (
+            b"{\"prefix\":\"10.0.0.0/24\"}\n{\"prefix\":\"10.0.0.0/24\",\"vrf\":null,\"role\":null}\n{\"vrf\":0,\"prefix\":\"10.0.0.0/24\",\"vrf\":null}",
             TEN,
         ),
-        2 => (b"{\"vrf\":0,\"prefix\":\"10.0.0.0/24\",\"vrf\":null}", TEN),
-        3 => (
+        1 => (
             b"{\"prefix\":\"2001:DB8:0::/32\",\"vrf\":1,\"status\":\"container\",\"role\":4294967295,\"is_pool\":true,\"mark_utilized\":true,\"description\":\"lab\"}",
             FULL,
         ),
-        4 => (b"{\"prefix\":\"10.0.0.1/24\"}", BITS),
-        5 => (b"{\"prefix\":\"10.0.0.1/24\",\"vrf\":0}", BITS),
-        6 => (b"{}", PREFIX),
-        7 => (b"{\"prefix\":null}", PREFIX),
-        8 => (b"{\"prefix\":24}", PREFIX),
-        9 => (b"{\"prefix\":\"\"}", PREFIX),
-        10 => (b"{\"prefix\":\"10.0.0.0\"}", PREFIX),
-        11 => (b"{\"prefix\":\"10.0.0.0/33\"}", PREFIX),
-        12 => (b"{\"prefix\":\"10.0.0.0/024\"}", PREFIX),
-        13 => (b"{\"prefix\":\" 10.0.0.0/24\"}", PREFIX),
-        14 => (b"{\"vrf\":0}", PREFIX),
-        15 => (b"{\"prefix\":\"10.0.0.0/24\",\"vrf\":0}", VRF),
-        16 => (b"{\"prefix\":\"10.0.0.0/24\",\"vrf\":1.0}", VRF),
-        17 => (b"{\"prefix\":\"10.0.0.0/24\",\"vrf\":1e2}", VRF),
-        18 => (b"{\"prefix\":\"10.0.0.0/24\",\"vrf\":-0}", VRF),
-        19 => (b"{\"prefix\":\"10.0.0.0/24\",\"vrf\":-1}", VRF),
-        20 => (b"{\"prefix\":\"10.0.0.0/24\",\"vrf\":4294967296}", VRF),
-        21 => (
-            b"{\"prefix\":\"10.0.0.0/24\",\"vrf\":18446744073709551616}",
+        2 => (
+            b"{\"prefix\":\"10.0.0.1/24\"}\n{\"prefix\":\"10.0.0.1/24\",\"vrf\":0}",
+            BITS,
+        ),
+        3 => (
+            b"{}\n{\"prefix\":null}\n{\"prefix\":24}\n{\"prefix\":\"\"}\n{\"prefix\":\"10.0.0.0\"}\n{\"prefix\":\"10.0.0.0/33\"}\n{\"prefix\":\"10.0.0.0/024\"}\n{\"prefix\":\" 10.0.0.0/24\"}\n{\"vrf\":0}",
+            PREFIX,
+        ),
+        4 => (
+            b"{\"prefix\":\"10.0.0.0/24\",\"vrf\":0}\n{\"prefix\":\"10.0.0.0/24\",\"vrf\":1.0}\n{\"prefix\":\"10.0.0.0/24\",\"vrf\":1e2}\n{\"prefix\":\"10.0.0.0/24\",\"vrf\":-0}\n{\"prefix\":\"10.0.0.0/24\",\"vrf\":-1}\n{\"prefix\":\"10.0.0.0/24\",\"vrf\":4294967296}\n{\"prefix\":\"10.0.0.0/24\",\"vrf\":18446744073709551616}\n{\"prefix\":\"10.0.0.0/24\",\"vrf\":\"1\"}\n{\"prefix\":\"10.0.0.0/24\",\"vrf\":\"\"}\n{\"prefix\":\"10.0.0.0/24\",\"vrf\":true,\"status\":5}",
             VRF,
         ),
-        22 => (b"{\"prefix\":\"10.0.0.0/24\",\"vrf\":\"1\"}", VRF),
-        23 => (b"{\"prefix\":\"10.0.0.0/24\",\"vrf\":\"\"}", VRF),
-        24 => (
-            b"{\"prefix\":\"10.0.0.0/24\",\"vrf\":true,\"status\":5}",
-            VRF,
-        ),
-        25 => (b"{\"prefix\":\"10.0.0.0/24\",\"status\":null}", STATUS),
-        26 => (
-            b"{\"prefix\":\"10.0.0.0/24\",\"status\":\"Active\"}",
+        5 => (
+            b"{\"prefix\":\"10.0.0.0/24\",\"status\":null}\n{\"prefix\":\"10.0.0.0/24\",\"status\":\"Active\"}\n{\"prefix\":\"10.0.0.0/24\",\"status\":\"dhcp\",\"role\":0}",
             STATUS,
         ),
-        27 => (
-            b"{\"prefix\":\"10.0.0.0/24\",\"status\":\"dhcp\",\"role\":0}",
-            STATUS,
-        ),
-        28 => (b"{\"prefix\":\"10.0.0.0/24\",\"role\":\"\"}", ROLE),
-        29 => (
-            b"{\"prefix\":\"10.0.0.0/24\",\"role\":0,\"is_pool\":0}",
+        6 => (
+            b"{\"prefix\":\"10.0.0.0/24\",\"role\":\"\"}\n{\"prefix\":\"10.0.0.0/24\",\"role\":0,\"is_pool\":0}",
             ROLE,
         ),
-        30 => (b"{\"prefix\":\"10.0.0.0/24\",\"is_pool\":null}", POOL),
-        31 => (
-            b"{\"prefix\":\"10.0.0.0/24\",\"mark_utilized\":0,\"is_pool\":0}",
+        7 => (
+            b"{\"prefix\":\"10.0.0.0/24\",\"is_pool\":null}\n{\"prefix\":\"10.0.0.0/24\",\"mark_utilized\":0,\"is_pool\":0}",
             POOL,
         ),
-        32 => (
+        8 => (
             b"{\"prefix\":\"10.0.0.0/24\",\"mark_utilized\":\"\"}",
             UTILIZED,
         ),
-        33 => (b"{\"prefix\":\"10.0.0.0/24\",\"description\":null}", TOLD),
+        9 => (b"{\"prefix\":\"10.0.0.0/24\",\"description\":null}", TOLD),
         _ => (b"[\"10.0.0.0/24\"]", BAD_JSON),
     }
 }
 
 #[test]
 fn bodies_of_prefixes(rt: HostRuntime) -> Result<(), Fail> {
-    let count = 35;
-    for number in 0..count {
-        let (body, want) = prefix_case(number);
-        let text = told(rt.alloc(), Kind::Prefixes, body)?;
-        assert_eq!(rt; text.as_slice(), want.as_bytes());
+    for number in 0..11 {
+        let (bodies, want) = prefix_bodies(number);
+        all_told(&rt, rt.alloc(), Kind::Prefixes, bodies, want)?;
     }
     assert_eq!(rt; TEN.len(), 188);
     assert_eq!(rt; RED.len(), 70);
-    let none = told(rt.alloc(), Kind::Roles, b"{}")?;
-    assert_eq!(rt;
-        none.as_slice(),
-        "{\"code\":\"no_route\",\"detail\":\"no such path\"}".as_bytes()
-    );
+    let none = "{\"code\":\"no_route\",\"detail\":\"no such path\"}";
+    all_told(&rt, rt.alloc(), Kind::Roles, b"{}", none)?;
     Ok(())
 }
 
