@@ -1,5 +1,5 @@
 -- Whole paths: which routes a target can have.
-use Rattle.std.proofs.Common.{◌≡◌, ◌≢◌, ℕ, ◌+◌, ◌^◌, ◌<◌, ◌≤◌, List, [], ◌∷◌, ◌++◌, length, get_or, decimal, codes, Option, Some, None, sym, ◌∙◌, ap, subst, arith, refl, append-nil, length-append, IsUtf8, Result, Ok, Err}
+use Rattle.std.proofs.Common.{◌≡◌, ◌≢◌, ℕ, ◌+◌, ◌^◌, ◌<◌, List, [], ◌++◌, length, get_or, decimal, codes, Option, Some, None, sym, ◌∙◌, ap, subst, arith, refl, append-nil, length-append, IsUtf8}
 use Rattle.std.proofs.lemmas.Fmt.{decimal_nonempty, decimal_injective, IsAscii-decimal}
 use Rattle.std.proofs.lemmas.List.{append_cancel_left, append_cancel_right}
 use Rattle.std.proofs.lemmas.Str.{IsUtf8-from_ascii}

@@ -1,14 +1,12 @@
 -- A request asks for one thing.
-use Rattle.std.proofs.Common.{◌≡◌, List, ℕ, Option, Some, None, Result, sym, ◌∙◌, ap, subst}
-use Rattle.ipam_data.specs.declared.calls.Draft.{Draft}
-use Rattle.ipam_data.specs.declared.replies.Refusal.{Refusal}
+use Rattle.std.proofs.Common.{◌≡◌, List, ℕ, Option, Some, None, sym, ◌∙◌, ap, subst}
 use Rattle.ipam_json.proofs.Unique.{body_is_one}
 use Rattle.rest_routes.specs.declared.route.Route.{Route}
 use Rattle.rest_routes.specs.declared.route.Route.TheVariants.{Many, Single}
 use Rattle.rest_routes.specs.declared.route.Method.{Method}
 use Rattle.rest_routes.specs.declared.route.Method.TheVariants.{Get, Post}
-use Rattle.rest_routes.specs.Routes.{HasRoute, method_named}
-use Rattle.rest_routes.specs.Requests.{Asked, IsAskedOf, IsAskedAt, IsRequest, asks_draft}
+use Rattle.rest_routes.specs.Routes.{method_named}
+use Rattle.rest_routes.specs.Requests.{Asked, IsAskedOf, IsAskedAt, asks_draft}
 use Rattle.rest_routes.specs.Answers.{refused_answer}
 use Rattle.rest_routes.specs.Laws.{RequestIsOne}
 use Rattle.rest_routes.proofs.Paths.{one_route}
