@@ -7,11 +7,13 @@ ghost use Rattle.radix_tree.specs.Shape.{child, HasOneEach};
 ghost use Rattle.radix_tree.specs.Listed.{blocks_of};
 ghost use Rattle.block_space.specs.Listed.{AreBlocksOf, times_of, counting_of, covered_of};
 ghost use Rattle.radix_tree.specs.Lent.{HasLiveChildren, HasTwoChildren};
+ghost use Rattle.radix_tree.specs.Frees.{HasLeastFrees};
 ghost use Rattle.radix_tree.specs.Covering.{ListsCovering};
 ghost use Rattle.radix_tree.specs.Inside.{ListsInside};
 
 mod halves;
 mod links;
+mod mends;
 
 use inet_num::{Block, Family};
 use links::{
@@ -34,11 +36,14 @@ pub struct Node {
     pub low: Option<NodeId>,
     /// The topmost node with a block inside the high half of this one's, if there is any.
     pub high: Option<NodeId>,
+    /// The least length of a block inside this node's that no block of the tree inside it touches, this node's own included; so
+    /// a node with a count has none.
+    pub free: Option<u8>,
 }
 
 impl Node {
     /// The link for the high half or for the low one.
-    fn link(&self, high: bool) -> Option<NodeId>
+    pub fn link(&self, high: bool) -> Option<NodeId>
         ensures { result ≡ child high self.now }
     {
         if high { self.high } else { self.low }
@@ -66,13 +71,13 @@ impl Model for Tree {
     ghost use Rattle.std.specs.Prelude.{◌/◌};
     ghost use Rattle.radix_tree.specs.Held.{Held};
     ghost use Rattle.radix_tree.specs.Listed.{blocks_of};
-    ghost use Rattle.radix_tree.specs.Sound.{IsSound};
+    ghost use Rattle.radix_tree.specs.Sound.{IsKept};
 
     ghost Value = { Held };
 
     ghost view = { λ t. record { family = t.linked.family; blocks = blocks_of t.linked.pool; spare = t.linked.pool.spare / 2 } };
 
-    ghost invariant = { λ t. IsSound t.linked };
+    ghost invariant = { λ t. IsKept t.linked };
 }
 
 impl Tree {
@@ -107,12 +112,13 @@ impl Tree {
     }
 
     /// The nodes. They have exactly the blocks of the tree, each as often as its node's count; no two have one block, the id of
-    /// each child has a node, and a node without a count has two children.
+    /// each child has a node, a node without a count has two children, and each says the least length of a free block inside it.
     pub fn nodes(&self) -> &Pool<Node>
         ensures blocks { blocks_of result.now ≡ self.now.blocks }
         ensures one_each { HasOneEach result.now }
         ensures live { HasLiveChildren result.now }
         ensures two { HasTwoChildren result.now }
+        ensures frees { HasLeastFrees result.now }
     {
         &self.linked.pool
     }

@@ -7,6 +7,7 @@ ghost use Rattle.node_pool.specs.Pooled.{Pooled, node_at, live_nodes, Changes, I
 ghost use Rattle.radix_tree.specs.Shape.{half, child, owner, whole, HasRoom, HasLink, IsTree, IsPlace, Relinks};
 ghost use Rattle.radix_tree.specs.Edits.{IsPut, IsCut};
 ghost use Rattle.radix_tree.specs.Listed.{copies, blocks_of, link_count, child_count, links_of, IsTallied, Recounts};
+ghost use Rattle.radix_tree.specs.Frees.{HasFrees};
 ghost use Rattle.radix_tree.specs.Sound.{IsSound, IsOver, IsInserted, IsTrimmed, IsRemoved};
 ghost use Rattle.block_space.specs.Listed.{times_of, counting_of, covered_of};
 ghost use Rattle.radix_tree.specs.Covering.{ListsCovering, if_counted};
@@ -33,6 +34,7 @@ fn over(block: Block, count: u32, high: bool, id: NodeId) -> Node
             count,
             low: None,
             high: Some(id),
+            free: None,
         }
     } else {
         Node {
@@ -40,6 +42,7 @@ fn over(block: Block, count: u32, high: bool, id: NodeId) -> Node
             count,
             low: Some(id),
             high: None,
+            free: None,
         }
     }
 }
@@ -217,6 +220,7 @@ impl Linked {
                     count: 1,
                     low: None,
                     high: None,
+                    free: None,
                 },
             );
             return;
@@ -242,6 +246,7 @@ impl Linked {
                 count: 1,
                 low: None,
                 high: None,
+                free: None,
             },
         );
     }
@@ -455,34 +460,43 @@ impl Linked {
     }
 }
 
-/// Insertion, on a counter that is made for it.
+/// Insertion, on a counter that is made for it, with what the nodes say to be free.
 pub fn insert_counted<L: Ledger>(linked: &mut Linked, block: Block, blank: Blank)
     requires name { blank.name ≡ L.name }
     requires parts { blank.parts ≡ L.parts }
     requires some { 0 < blank.parts }
     requires sound { IsSound linked.old }
+    requires frees { HasFrees linked.old.pool }
     requires lawful { IsBlock block }
     requires family { block.family ≡ linked.old.family }
     requires room { 2 ≤ linked.old.pool.spare }
     requires few { length (blocks_of linked.old.pool) < 2 ^ 30 }
-    ensures { IsInserted linked.old linked.new block }
+    ensures inserted { IsInserted linked.old linked.new block }
+    ensures frees { HasFrees linked.new.pool }
 {
     let mut steps = Steps::<L>::new(blank);
     linked.insert(block, &mut steps);
+    let root = linked.root;
+    linked.mend(root, &block, &mut steps);
 }
 
-/// Removal, on a counter that is made for it.
+/// Removal, on a counter that is made for it, with what the nodes say to be free.
 pub fn remove_counted<L: Ledger>(linked: &mut Linked, block: &Block, blank: Blank) -> bool
     requires name { blank.name ≡ L.name }
     requires parts { blank.parts ≡ L.parts }
     requires some { 0 < blank.parts }
     requires sound { IsSound linked.old }
+    requires frees { HasFrees linked.old.pool }
     requires lawful { IsBlock block.now }
     requires family { block.now.family ≡ linked.old.family }
-    ensures { IsRemoved linked.old linked.new block.now result }
+    ensures removed { IsRemoved linked.old linked.new block.now result }
+    ensures frees { HasFrees linked.new.pool }
 {
     let mut steps = Steps::<L>::new(blank);
-    linked.remove(block, &mut steps)
+    let done = linked.remove(block, &mut steps);
+    let root = linked.root;
+    linked.mend(root, block, &mut steps);
+    done
 }
 
 /// How often a block was put in, on a counter that is made for it.

@@ -5,4 +5,4 @@ use Rattle.radix_tree.proofs.Lent.{blocks_of_family}
 use Rattle.radix_tree.proofs.Tree.family.Goals as goal
 
 pub returns-clause-lawful : goal.returns-clause-lawful
-returns-clause-lawful c = subst (λ (h : Held). AreBlocksOf h.family h.blocks) c.self.view_is (blocks_of_family c.self.inside.linked c.self.invariant.tree)
+returns-clause-lawful c = subst (λ (h : Held). AreBlocksOf h.family h.blocks) c.self.view_is (blocks_of_family c.self.inside.linked c.self.invariant.sound.tree)
