@@ -11,6 +11,7 @@ ghost use Rattle.radix_tree.specs.Frees.{HasLeastFrees};
 ghost use Rattle.radix_tree.specs.Covering.{ListsCovering};
 ghost use Rattle.radix_tree.specs.Inside.{ListsInside};
 
+mod fits;
 mod halves;
 mod links;
 mod mends;

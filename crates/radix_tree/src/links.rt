@@ -69,9 +69,9 @@ impl Place {
 /// Where a block is or belongs: the place, the link that stands there, and the land, which is the block that the link is for.
 #[derive(Clone, Copy)]
 pub struct Found {
-    place: Place,
-    at: Option<NodeId>,
-    land: Block,
+    pub place: Place,
+    pub at: Option<NodeId>,
+    pub land: Block,
 }
 
 /// Appends the node's block if its count is not 0.
@@ -98,7 +98,7 @@ fn push_entry(out: &mut Vec<Entry>, node: &Node) -> Result<(), AllocError>
 }
 
 /// Whether a block does not count for itself.
-fn is_left_out(strict: bool, block: &Block, within: &Block) -> bool
+pub fn is_left_out(strict: bool, block: &Block, within: &Block) -> bool
     ensures { IsTrue result ↔ (strict ≡ true) × (block.now ≡ within.now) }
 {
     if !strict {
@@ -174,13 +174,13 @@ impl Linked {
         let _node = self.pool.take(id);
     }
 
-    /// The place where a block is or belongs. It costs at most a step for each bit of an address, and one.
-    fn find<L: Ledger>(&self, block: &Block, steps: &mut Steps<L>) -> Found
+    /// The place where a block is or belongs. It costs at most one step more than the block's length.
+    pub fn find<L: Ledger>(&self, block: &Block, steps: &mut Steps<L>) -> Found
         requires tree { IsTree self.now }
         requires lawful { IsBlock block.now }
         requires family { block.now.family ≡ self.now.family }
         ensures found { IsFound self.now block.now result }
-        ensures cost { steps.new ≤ steps.old + (width_of self.now.family + 1) }
+        ensures cost { steps.new ≤ steps.old + (block.now.len + 1) }
     {
         let mut found = Found {
             place: Place::Root,
@@ -440,13 +440,13 @@ impl Linked {
         Ok(out)
     }
 
-    /// How often a block was put in. It costs at most a step for each bit of an address, and two.
+    /// How often a block was put in. It costs at most two steps more than the block's length.
     fn times<L: Ledger>(&self, block: &Block, steps: &mut Steps<L>) -> u32
         requires tree { IsTree self.now }
         requires lawful { IsBlock block.now }
         requires family { block.now.family ≡ self.now.family }
         ensures times { result ≡ times_of (blocks_of self.now.pool) block.now }
-        ensures cost { steps.new ≤ steps.old + (width_of self.now.family + 2) }
+        ensures cost { steps.new ≤ steps.old + (block.now.len + 2) }
     {
         let found = self.find(block, steps);
         let Some(id) = found.at else {
