@@ -1,35 +1,31 @@
 -- The parts of a search for the first fit: the lowest place in a free land, the links for its halves, and how many nodes it visits.
-use Rattle.std.proofs.Common.{◌≡◌, ◌≢◌, ◌⊎◌, ℕ, zero, suc, ◌+◌, ◌-◌, ◌*◌, ◌<◌, ◌≤◌, Bool, true, false, not, ◌&&◌, ◌↔◌, refl, sym, ◌∙◌, ap, subst, arith, inl, inr, Option, Some, None, List, []}
+use Rattle.std.proofs.Common.{◌≡◌, ◌≢◌, ℕ, zero, suc, ◌+◌, ◌*◌, ◌<◌, ◌≤◌, Bool, true, false, not, ◌&&◌, ◌↔◌, refl, sym, ◌∙◌, ap, subst, arith, inl, inr, Option, Some, None, List, []}
 use Rattle.std.specs.Prelude.{IfSome, IsSome, IsTrue}
 use Rattle.std.proofs.lemmas.Bool.{cases_lt}
-use Rattle.inet_num.specs.Net.{Address, Cidr, width_of, size_of, HasAddress, IsBlock, IsInside, first_of, block_at}
+use Rattle.inet_num.specs.Net.{Cidr, width_of, size_of, HasAddress, IsBlock, IsInside, first_of, block_at}
 use Rattle.inet_num.specs.Free.{is_taken, IsFree}
 use Rattle.inet_num.proofs.Nested.{inside_trans, same_by_len}
-use Rattle.inet_num.proofs.Numbers.{pow_double}
 use Rattle.inet_num.proofs.Aligned.{aligned_smaller, inside_by_start, nested}
 use Rattle.block_space.specs.Listed.{is_same, counting_of}
-use Rattle.block_space.specs.Fit.{Fits, IsFirstFit, IsFirstAvailable}
+use Rattle.block_space.specs.Fit.{Fits, IsFirstFit}
 use Rattle.node_pool.specs.Pooled.{node_at}
 use Rattle.radix_tree.specs.declared.Node.{Node}
 use Rattle.radix_tree.specs.declared.fits.Sides.{Sides}
 use Rattle.radix_tree.specs.declared.links.Linked.{Linked}
 use Rattle.radix_tree.specs.declared.links.Found.{Found}
 use Rattle.radix_tree.specs.declared.links.Place.TheVariants.{Under}
-use Rattle.radix_tree.specs.Shape.{half, child, HasRoom, IsLink, IsTree}
+use Rattle.radix_tree.specs.Shape.{half, HasRoom, IsLink, IsTree}
 use Rattle.radix_tree.specs.Listed.{blocks_of}
 use Rattle.radix_tree.specs.Find.{IsFound}
 use Rattle.radix_tree.specs.Frees.{if_uncounted, lesser, side_free, HasFrees, IsLeastFree}
-use Rattle.radix_tree.specs.Fits.{Reaches, side_link, AreSides, AreFitting, depth, IsQuick}
+use Rattle.radix_tree.specs.Fits.{Reaches, side_link, AreFitting, depth, IsQuick}
 use Rattle.radix_tree.specs.Sound.{IsSound}
-use Rattle.radix_tree.proofs.Sides.{self_in, has_first, half_family, half_in, not_in_half, side_of, longer, room_above, len_of_inside}
+use Rattle.radix_tree.proofs.Sides.{self_in, has_first, half_in, longer, room_above}
 use Rattle.radix_tree.proofs.Order.{some_same, not_both, one_node, move_link}
 use Rattle.radix_tree.proofs.Joints.{half_lawful}
 use Rattle.radix_tree.proofs.Covers.{half_len}
-use Rattle.radix_tree.proofs.Taken.{HasHeld}
-use Rattle.radix_tree.proofs.Times.{same_false}
-use Rattle.radix_tree.proofs.Mending.{child_node, child_in}
 use Rattle.radix_tree.proofs.Halving.{free_agree, first_low, first_high}
-use Rattle.radix_tree.proofs.Lands.{land_taken, land_free, half_taken, halves_linked, half_free, none_is_land}
+use Rattle.radix_tree.proofs.Lands.{land_taken, half_taken, halves_linked, half_free, none_is_land}
 use Rattle.radix_tree.proofs.Leasts.{node_least}
 
 -- ---- the lowest place in a land

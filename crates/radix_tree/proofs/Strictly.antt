@@ -1,26 +1,25 @@
 -- What counts for a block whose own node does not: the nodes below it. And where that node is not the block's, all that lie in it.
-use Rattle.std.proofs.Common.{◌≡◌, ◌≢◌, ℕ, ◌<◌, Bool, true, false, not, ◌&&◌, refl, sym, ◌∙◌, ap, subst, arith, Option, Some, None}
+use Rattle.std.proofs.Common.{◌≡◌, ◌≢◌, ℕ, Bool, true, false, not, ◌&&◌, refl, sym, ◌∙◌, ap, subst, arith, Option, Some, None}
 use Rattle.inet_num.specs.Net.{Cidr, IsBlock, IsInside}
 use Rattle.inet_num.specs.Free.{is_taken, IsFree}
-use Rattle.inet_num.proofs.Nested.{inside_trans}
+use Rattle.inet_num.proofs.Nested.{inside_trans, same_by_len}
 use Rattle.block_space.specs.Listed.{is_same, counting_of}
 use Rattle.block_space.specs.Fit.{IsFirstFit}
 use Rattle.node_pool.specs.Pooled.{node_at}
 use Rattle.radix_tree.specs.declared.Node.{Node}
 use Rattle.radix_tree.specs.declared.links.Linked.{Linked}
 use Rattle.radix_tree.specs.declared.links.Place.TheVariants.{Under}
-use Rattle.radix_tree.specs.Shape.{half, child, HasRoom, IsLink, IsTree}
+use Rattle.radix_tree.specs.Shape.{half, child, HasRoom, IsLink}
 use Rattle.radix_tree.specs.Listed.{blocks_of}
 use Rattle.radix_tree.specs.Sound.{IsSound}
-use Rattle.radix_tree.proofs.Sides.{half_family, half_in, not_in_half, side_of, longer, room_above}
+use Rattle.radix_tree.proofs.Sides.{not_in_half, side_of, longer, room_above}
 use Rattle.radix_tree.proofs.Order.{not_both, one_node}
 use Rattle.radix_tree.proofs.Copies.{same_true}
 use Rattle.radix_tree.proofs.Times.{same_false}
 use Rattle.radix_tree.proofs.Covered.{not_true}
 use Rattle.radix_tree.proofs.Taken.{HasHeld, taken_of, held_from, held_to, tests_agree}
 use Rattle.radix_tree.proofs.Mending.{child_node, child_in}
-use Rattle.radix_tree.proofs.Lands.{none_is_land}
-use Rattle.radix_tree.proofs.Fitting.{none_of_len}
+use Rattle.radix_tree.proofs.Lands.{land_taken, none_is_land}
 
 -- the block itself does not count
 pub not_itself : (within m : Cidr) → not (true && is_same m within) ≡ true → m ≢ within
@@ -56,19 +55,24 @@ module _ (t : Linked) (w : IsSound t) (within : Cidr) (hb : IsBlock within) (fam
       go true c is = not_both n.high c high is
 
   -- a node below it counts, so the block is not free
-  pub under_none : ((n.low ≡ None) × (n.high ≡ None) → ⊥) → (len from : ℕ) → within.len ≡ len → IsFirstFit within (counting_of (blocks_of t.pool) within true) len from None
-  under_none full len from is = go n.low n.high refl refl where
-    by : (s : Bool) (c : ℕ) → child s n ≡ Some c → IsFirstFit within (counting_of (blocks_of t.pool) within true) len from None
+  pub under_taken : ((n.low ≡ None) × (n.high ≡ None) → ⊥) → IsFree (counting_of (blocks_of t.pool) within true) within → ⊥
+  under_taken full = go n.low n.high refl refl where
+    by : (s : Bool) (c : ℕ) → child s n ≡ Some c → IsFree (counting_of (blocks_of t.pool) within true) within → ⊥
     by s c k =
         let r = child_node t w.tree id n s c e k in
         let inside = subst (IsInside r.0.block) same (child_in n r.0 s r.3 r.2) in
-        none_of_len t w within true c r.0 r.1 inside (λ m i. counts_other true within m (i.family ∙ inside.family) (λ z.
-        not_in_half s n.block r.3 (inside_trans n.block r.0.block (half s n.block) (subst (λ (b : Cidr). IsInside b r.0.block) (z ∙ sym same) i) r.2))) hb len from is
+        land_taken t w within true c r.0 r.1 inside (λ m i. counts_other true within m (i.family ∙ inside.family) (λ z.
+        not_in_half s n.block r.3 (inside_trans n.block r.0.block (half s n.block) (subst (λ (b : Cidr). IsInside b r.0.block) (z ∙ sym same) i) r.2)))
 
-    go : (x y : Option ℕ) → n.low ≡ x → n.high ≡ y → IsFirstFit within (counting_of (blocks_of t.pool) within true) len from None
+    go : (x y : Option ℕ) → n.low ≡ x → n.high ≡ y → IsFree (counting_of (blocks_of t.pool) within true) within → ⊥
     go (Some c) y low high = by false c low
     go None (Some c) low high = by true c high
     go None None low high = absurd (full (low, high))
+
+  pub under_none : ((n.low ≡ None) × (n.high ≡ None) → ⊥) → (len from : ℕ) → within.len ≡ len → IsFirstFit within (counting_of (blocks_of t.pool) within true) len from None
+  under_none full len from is = λ b f.
+      let len_is = f.len_is in
+      under_taken full (subst (IsFree (counting_of (blocks_of t.pool) within true)) (same_by_len b within f.inside (omega arith) f.lawful.short hb.short) f.free)
 
   pub under_link : (s : Bool) → HasRoom within → IsLink t.pool (child s n) (half s within)
   under_link s room = w.tree.links (Under id s) (child s n) (half s within) (n, e, subst HasRoom (sym same) room, refl, ap (half s) (sym same))

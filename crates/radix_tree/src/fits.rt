@@ -30,14 +30,14 @@ pub struct Sides {
 
 impl Node {
     /// Whether there is no node below it.
-    fn is_leaf(&self) -> bool
+    pub fn is_leaf(&self) -> bool
         ensures { IsTrue result ↔ (self.now.low ≡ None) × (self.now.high ≡ None) }
     {
         self.low.is_none() && self.high.is_none()
     }
 
     /// The links for the halves of the node's block.
-    fn sides(&self) -> Sides
+    pub fn sides(&self) -> Sides
         ensures low { result.low ≡ self.now.low }
         ensures high { result.high ≡ self.now.high }
     {

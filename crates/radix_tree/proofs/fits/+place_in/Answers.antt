@@ -1,4 +1,4 @@
-use Rattle.std.proofs.Common.{◌≡◌, ◌≤◌, ◌<◌, ◌∙◌, sym, ap, subst, arith}
+use Rattle.std.proofs.Common.{◌≡◌, ap, subst, arith}
 use Rattle.std.specs.Prelude.{IfSome, IsSome, ◌↔◌}
 use Rattle.inet_num.specs.Net.{Address, IsBlock, block_at}
 use Rattle.radix_tree.proofs.Fitting.{place_first, place_low, place_high}

@@ -1,8 +1,8 @@
-use Rattle.std.proofs.Common.{◌≡◌, ◌<◌, Bool, true, false, Option, refl, sym, ◌∙◌, ap, subst, arith}
+use Rattle.std.proofs.Common.{◌<◌, true, false, Option, refl, sym, ◌∙◌, ap, subst, arith}
 use Rattle.inet_num.specs.Net.{Cidr, Address, width_of, IsBlock}
 use Rattle.block_space.specs.Fit.{IsFirstFit}
 use Rattle.block_space.specs.Listed.{counting_of}
-use Rattle.radix_tree.specs.Shape.{half, HasRoom, IsLink}
+use Rattle.radix_tree.specs.Shape.{HasRoom, IsLink}
 use Rattle.radix_tree.specs.Listed.{blocks_of}
 use Rattle.radix_tree.proofs.Sides.{has_first, half_family}
 use Rattle.radix_tree.proofs.Joints.{half_lawful}

@@ -1,4 +1,4 @@
-use Rattle.std.proofs.Common.{false, IsTrue, Some, Option, refl, sym, subst, arith}
+use Rattle.std.proofs.Common.{false, IsTrue, Option, sym, subst}
 use Rattle.block_space.specs.Listed.{counting_of}
 use Rattle.radix_tree.specs.Shape.{IsLink}
 use Rattle.radix_tree.specs.Listed.{blocks_of}

@@ -1,8 +1,7 @@
-use Rattle.std.proofs.Common.{◌≡◌, ◌<◌, true, false, IsTrue, Option, refl, sym, ◌∙◌, ap, subst, arith}
-use Rattle.inet_num.specs.Net.{Cidr}
+use Rattle.std.proofs.Common.{◌<◌, true, false, IsTrue, Option, refl, sym, ◌∙◌, ap, subst, arith}
 use Rattle.block_space.specs.Listed.{counting_of}
 use Rattle.radix_tree.specs.declared.Node.{Node}
-use Rattle.radix_tree.specs.Shape.{half, HasRoom, IsLink}
+use Rattle.radix_tree.specs.Shape.{HasRoom, IsLink}
 use Rattle.radix_tree.specs.Listed.{blocks_of}
 use Rattle.radix_tree.proofs.Order.{one_node}
 use Rattle.radix_tree.proofs.Fitting.{fit_agree, fit_low, fit_high, pair_visits}

@@ -1,4 +1,4 @@
-use Rattle.std.proofs.Common.{◌≡◌, ◌<◌, true, false, IsTrue, refl, subst, sym, arith}
+use Rattle.std.proofs.Common.{true, false, IsTrue, refl, subst, sym, arith}
 use Rattle.inet_num.specs.Net.{IsInside}
 use Rattle.radix_tree.specs.Shape.{half, HasRoom}
 use Rattle.radix_tree.proofs.Joints.{in_other}

@@ -1,4 +1,4 @@
-use Rattle.std.proofs.Common.{true, false, IsTrue}
+use Rattle.std.proofs.Common.{false, IsTrue}
 use Rattle.radix_tree.proofs.Fitting.{link_none, link_some, link_apart}
 use Rattle.radix_tree.proofs.links.Linked.link_inside.Goals as goal
 
