@@ -49,11 +49,11 @@ all_joined : (P : Cidr → Type 0) (xs ys : List Cidr) → AllByRecursion P xs �
 all_joined P [] ys h k = k
 all_joined P (x ∷ xs) ys h k = (h.0, all_joined P xs ys h.1 k)
 
-all_front : (P : Cidr → Type 0) (xs ys : List Cidr) → AllByRecursion P (xs ++ ys) → AllByRecursion P xs
+pub all_front : (P : Cidr → Type 0) (xs ys : List Cidr) → AllByRecursion P (xs ++ ys) → AllByRecursion P xs
 all_front P [] ys h = tt
 all_front P (x ∷ xs) ys h = (h.0, all_front P xs ys h.1)
 
-all_back : (P : Cidr → Type 0) (xs ys : List Cidr) → AllByRecursion P (xs ++ ys) → AllByRecursion P ys
+pub all_back : (P : Cidr → Type 0) (xs ys : List Cidr) → AllByRecursion P (xs ++ ys) → AllByRecursion P ys
 all_back P [] ys h = h
 all_back P (x ∷ xs) ys h = all_back P xs ys h.1
 
@@ -117,13 +117,13 @@ found_is family bs b i h e l t =
 
 -- ---- what counts for a block begins in it
 
-front_uncounted : (w : Cidr) (strict : Bool) (xs : List Cidr) → AllByRecursion (λ x. x.first < w.first) xs → AllByRecursion (λ x. counts w strict x ≡ false) xs
+pub front_uncounted : (w : Cidr) (strict : Bool) (xs : List Cidr) → AllByRecursion (λ x. x.first < w.first) xs → AllByRecursion (λ x. counts w strict x ≡ false) xs
 front_uncounted w strict [] h = tt
 front_uncounted w strict (x ∷ xs) h = (uncounted, front_uncounted w strict xs h.1) where
   uncounted : counts w strict x ≡ false
   uncounted = (let l = h.0 in let e : is_inside x w ≡ false = grind (arith, nat_tests) in ap (λ (t : Bool). t && not (strict && is_same x w)) e)
 
-back_uncounted : (w : Cidr) (strict : Bool) (last : ℕ) (xs : List Cidr) → last ≡ w.first + size_of w - 1 → AllByRecursion (λ x. last < x.first) xs → AllByRecursion (λ x. counts w strict x ≡ false) xs
+pub back_uncounted : (w : Cidr) (strict : Bool) (last : ℕ) (xs : List Cidr) → last ≡ w.first + size_of w - 1 → AllByRecursion (λ x. last < x.first) xs → AllByRecursion (λ x. counts w strict x ≡ false) xs
 back_uncounted w strict last [] e h = tt
 back_uncounted w strict last (x ∷ xs) e h = (uncounted, back_uncounted w strict last xs e h.1) where
   uncounted : counts w strict x ≡ false

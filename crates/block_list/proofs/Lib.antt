@@ -4,3 +4,4 @@ pub mod Candidates
 pub mod Widening
 pub mod Covering
 pub mod Changes
+pub mod Inner

@@ -17,7 +17,7 @@ use block_space::{Space, Steps};
 use cover::count_covered;
 use fit::lowest_fit;
 use inet_num::{Addr, Block, Family};
-use search::{beginning_by, beginning_in, count_counting, index_of, times_in};
+use search::{beginning_by, beginning_in, count_inside, index_of, times_in};
 use std::alloc::{AllocError, Global};
 use std::marker::Model;
 use std::sync::ledger::Ledger;
@@ -110,7 +110,7 @@ impl Space for BlockList {
     }
 
     fn counting(&self, within: Block, strict: bool) -> u32 {
-        count_counting(beginning_inside(&self.blocks, within), &within, strict) as u32
+        count_inside(&self.blocks, &within, strict) as u32
     }
 
     fn covered(&self, within: Block, strict: bool) -> u128 {

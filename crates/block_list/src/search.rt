@@ -4,7 +4,7 @@ ghost use Rattle.std.specs.Prelude.{◌≡◌, ℕ, ◌+◌, ◌-◌, ◌<◌, �
 ghost use Rattle.std.specs.List.{AllByRecursion, list_any, position};
 ghost use Rattle.inet_num.specs.Net.{Cidr, size_of};
 ghost use Rattle.inet_num.specs.Free.{meets};
-ghost use Rattle.block_space.specs.Listed.{counts, counting_of, is_same, times_of};
+ghost use Rattle.block_space.specs.Listed.{AreBlocksOf, counts, counting_of, is_same, times_of};
 ghost use Rattle.block_list.specs.Listing.{Rises};
 
 use inet_num::Block;
@@ -28,7 +28,7 @@ pub fn counts_for(block: &Block, within: &Block, strict: bool) -> bool
 }
 
 /// How many of the blocks count for a block.
-pub fn count_counting(blocks: &[Block], within: &Block, strict: bool) -> usize
+fn count_counting(blocks: &[Block], within: &Block, strict: bool) -> usize
     ensures { result ≡ length (counting_of blocks.now within.now strict) }
 {
     blocks
@@ -114,6 +114,22 @@ pub fn beginning_in(blocks: &[Block], first: u128, last: u128) -> (usize, usize)
     let (_, rest) = blocks.split_at(from);
     let count = beginning_by(rest, last);
     (from, from + count)
+}
+
+/// How many of the sorted blocks count for one of their family. Of those that begin in it, only the ones that begin at its
+/// first address are looked at: behind it there is no room for a block that is not inside.
+pub fn count_inside(blocks: &[Block], within: &Block, strict: bool) -> usize
+    requires rises { Rises 0 blocks.now }
+    requires lawful { AreBlocksOf within.now.family blocks.now }
+    ensures counting { result ≡ length (counting_of blocks.now within.now strict) }
+    ensures bound { result ≤ length blocks.now }
+{
+    let _family = within.family();
+    let (first, last) = ends_of(within);
+    let (from, behind) = beginning_in(blocks, first, first);
+    let (_, rest) = blocks.split_at(behind);
+    let inside = beginning_by(rest, last);
+    count_counting(&blocks[from..behind], within, strict) + inside
 }
 
 /// How many of the blocks are this one.
