@@ -1,5 +1,5 @@
 //! Blocks of one family in a path-compressed binary tree of their bits, over a pool of nodes. The way to a block follows its
-//! bits, however many blocks there are; no clause of a public call counts the nodes on it.
+//! bits, however many blocks there are, and a first fit is one descent: it visits at most four nodes for each bit, and eight.
 #![tactic(auto)]
 
 ghost use Rattle.std.specs.Prelude.{◌≡◌, ℕ, ◌+◌, ◌*◌, IfOk};
@@ -17,18 +17,20 @@ mod fits;
 mod halves;
 mod links;
 mod mends;
+mod walk;
 
 use block_space::{Space, Steps};
 use counting::count_counted;
 use inet_num::{Addr, Block, Family};
 use links::{
-    Linked, covered_counted, covering_counted, insert_counted, inside_counted, remove_counted,
-    times_counted,
+    Linked, covered_counted, covering_counted, insert_counted, remove_counted, times_counted,
 };
 use node_pool::{NodeId, Pool};
 use std::alloc::{AllocError, Global};
 use std::marker::{Brand, Model};
 use std::sync::ledger::{Blank, Ledger};
+pub use walk::Inside;
+use walk::inside_counted;
 
 /// A node of a tree: a block, how often the tree has it, and the nodes below it.
 #[derive(Drop)]
@@ -109,13 +111,13 @@ impl Tree {
     }
 
     /// The blocks of the tree that lie inside a block of its family, each once and with how often the tree has it, by first
-    /// address and then length. A block lies inside itself. The one error is want of memory.
-    pub fn inside(&self, within: Block) -> Result<Vec<Entry>, AllocError>
+    /// address and then length. A block lies inside itself. It takes no memory.
+    pub fn inside(&self, within: Block) -> Inside<'_>
         requires family { within.family ≡ self.now.family }
-        ensures { IfOk result (λ v. ListsInside self.now.blocks within v.items) }
+        ensures { ListsInside self.now.blocks within result }
     {
         let _lawful = within.len();
-        inside_counted::<Brand>(&self.linked, self.alloc, &within, Blank::new(1))
+        inside_counted::<Brand>(&self.linked, &within, Blank::new(1))
     }
 }
 

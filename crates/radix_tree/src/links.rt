@@ -11,13 +11,12 @@ ghost use Rattle.radix_tree.specs.Frees.{HasFrees};
 ghost use Rattle.radix_tree.specs.Sound.{IsSound, IsOver, IsInserted, IsTrimmed, IsRemoved};
 ghost use Rattle.block_space.specs.Listed.{times_of, counting_of, covered_of};
 ghost use Rattle.radix_tree.specs.Covering.{ListsCovering, if_counted};
-ghost use Rattle.radix_tree.specs.Inside.{ListsInside, Appends, entry_if};
 ghost use Rattle.radix_tree.specs.Find.{IsFound};
 ghost use Rattle.radix_tree.specs.declared.links.Place.TheVariants.{Root, Under};
 ghost use Rattle.radix_tree.specs.declared.Node.{Node};
 
+use crate::Node;
 use crate::halves::{half_of, join, whole_of};
-use crate::{Entry, Node};
 use block_space::Steps;
 use inet_num::{Block, Family};
 use node_pool::{NodeId, Pool};
@@ -80,19 +79,6 @@ fn push_once(out: &mut Vec<Block>, node: &Node) -> Result<(), AllocError>
 {
     if node.count > 0 {
         out.push(node.block)?;
-    }
-    Ok(())
-}
-
-/// Appends the node's block with its count, if that is not 0.
-fn push_entry(out: &mut Vec<Entry>, node: &Node) -> Result<(), AllocError>
-    ensures { OnOk result (out.new.items ≡ out.old.items ++ entry_if node.now.count node.now.block) }
-{
-    if node.count > 0 {
-        out.push(Entry {
-            block: node.block,
-            times: node.count,
-        })?;
     }
     Ok(())
 }
@@ -390,56 +376,6 @@ impl Linked {
         low + high
     }
 
-    /// Appends the blocks of the nodes below a link: the node's own, then those in its low half, then those in its high half.
-    fn push_below<L: Ledger>(
-        &self,
-        at: Option<NodeId>,
-        out: &mut Vec<Entry>,
-        steps: &mut Steps<L>,
-    ) -> Result<(), AllocError>
-        requires sound { IsSound self.now }
-        requires place { (place : Place) × (land : Cidr) × HasLink self.now place at land }
-        ensures { OnOk result ((place : Place) (land : Cidr) → HasLink self.now place at land → Appends (blocks_of self.now.pool) land out.old.items out.new.items) }
-    {
-        let Some(id) = at else {
-            return Ok(());
-        };
-        let node = self.pool.visit(id, steps);
-        push_entry(out, node)?;
-        // a single address has nothing below it
-        if node.block.len() == self.family.width() {
-            return Ok(());
-        }
-        self.push_below(node.low, out, steps)?;
-        self.push_below(node.high, out, steps)?;
-        Ok(())
-    }
-
-    /// The blocks that lie inside a block, each once, by first address and then length.
-    fn inside<L: Ledger>(
-        &self,
-        alloc: Global,
-        within: &Block,
-        steps: &mut Steps<L>,
-    ) -> Result<Vec<Entry>, AllocError>
-        requires sound { IsSound self.now }
-        requires lawful { IsBlock within.now }
-        requires family { within.now.family ≡ self.now.family }
-        ensures ok { IfOk result (λ v. ListsInside (blocks_of self.now.pool) within.now v.items) }
-    {
-        let mut out = Vec::new(alloc);
-        let found = self.find(within, steps);
-        let Some(id) = found.at else {
-            return Ok(out);
-        };
-        let node = self.pool.visit(id, steps);
-        if !within.contains(&node.block) {
-            return Ok(out);
-        }
-        self.push_below(found.at, &mut out, steps)?;
-        Ok(out)
-    }
-
     /// How often a block was put in. It costs at most two steps more than the block's length.
     fn times<L: Ledger>(&self, block: &Block, steps: &mut Steps<L>) -> u32
         requires tree { IsTree self.now }
@@ -550,23 +486,4 @@ pub fn covered_counted<L: Ledger>(
 {
     let mut steps = Steps::<L>::new(blank);
     linked.covered(within, strict, &mut steps)
-}
-
-/// The blocks that lie inside a block, on a counter that is made for it.
-pub fn inside_counted<L: Ledger>(
-    linked: &Linked,
-    alloc: Global,
-    within: &Block,
-    blank: Blank,
-) -> Result<Vec<Entry>, AllocError>
-    requires name { blank.name ≡ L.name }
-    requires parts { blank.parts ≡ L.parts }
-    requires some { 0 < blank.parts }
-    requires sound { IsSound linked.now }
-    requires lawful { IsBlock within.now }
-    requires family { within.now.family ≡ linked.now.family }
-    ensures { IfOk result (λ v. ListsInside (blocks_of linked.now.pool) within.now v.items) }
-{
-    let mut steps = Steps::<L>::new(blank);
-    linked.inside(alloc, within, &mut steps)
 }

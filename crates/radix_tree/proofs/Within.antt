@@ -1,8 +1,7 @@
 -- What the nodes below a link list: the node's own block, then the blocks in its low half, then those in its high half.
-use Rattle.std.proofs.Common.{◌≡◌, ◌≢◌, ℕ, zero, suc, ◌<◌, Bool, true, false, refl, sym, ◌∙◌, ap, subst, arith, inl, inr, Option, Some, None, List, [], ◌∷◌, ◌++◌, append-nil}
+use Rattle.std.proofs.Common.{◌≡◌, ◌≢◌, ℕ, zero, suc, ◌<◌, Bool, true, false, refl, sym, ◌∙◌, ap, subst, arith, inl, inr, Option, Some, None, List, [], ◌∷◌, ◌++◌}
 use Rattle.std.specs.Prelude.{Contains}
 use Rattle.std.proofs.lemmas.Bool.{cases_lt, cases_eq}
-use Rattle.std.proofs.lemmas.List.{append_assoc}
 use Rattle.std.proofs.lemmas.List.Elements.{Contains-append_left, Contains-append_right, Contains-append_cases}
 use Rattle.inet_num.specs.Net.{Cidr, width_of, IsBlock, IsInside}
 use Rattle.inet_num.proofs.Nested.{inside_trans, same_by_len}
@@ -16,7 +15,7 @@ use Rattle.radix_tree.specs.declared.links.Linked.{Linked}
 use Rattle.radix_tree.specs.Shape.{half, HasRoom, HasLink}
 use Rattle.radix_tree.specs.Listed.{blocks_of}
 use Rattle.radix_tree.specs.Sound.{IsSound}
-use Rattle.radix_tree.specs.Inside.{ComesBefore, AreInOrder, ListsInside, Appends, entry_if}
+use Rattle.radix_tree.specs.Inside.{ComesBefore, AreInOrder, ListsInside, entry_if}
 use Rattle.radix_tree.proofs.Sides.{self_in, has_first, half_in, side_of, longer, len_of_inside}
 use Rattle.radix_tree.proofs.Order.{not_both, one_node}
 use Rattle.radix_tree.proofs.Covers.{node_of, node_held, half_len}
@@ -78,9 +77,6 @@ inside_land t w place land within id n here e within_land inside xs h = record {
   all = λ b held i. h.all b held (inside_trans b within land i within_land);
   ordered = h.ordered;
 }
-
-pub appends_none : (held : List Cidr) (land : Cidr) (old : List Entry) → ListsInside held land [] → Appends held land old old
-appends_none held land old h = record { added = []; joined = sym (append-nil old); lists = h }
 
 module _ (t : Linked) (w : IsSound t) (place : Place) (land : Cidr) (id : ℕ) (n : Node) (here : HasLink t place (Some id) land) (e : node_at t.pool id ≡ Some n) where
   own : IsBlock n.block
@@ -172,18 +168,3 @@ module _ (t : Linked) (w : IsSound t) (place : Place) (land : Cidr) (id : ℕ) (
           ];
       ordered = joined_order (entry_if n.count n.block) (low ++ high) (one_in_order n.count n.block) (joined_order low high l.ordered h.ordered low_before) own_before;
     }
-
-  -- a node with halves
-  pub appends_node : HasRoom n.block → (old own_new low_new new : List Entry) → own_new ≡ old ++ entry_if n.count n.block
-      → Appends (blocks_of t.pool) (half false n.block) own_new low_new → Appends (blocks_of t.pool) (half true n.block) low_new new → Appends (blocks_of t.pool) land old new
-  appends_node room old own_new low_new new is l h = record {
-    added = entry_if n.count n.block ++ (l.added ++ h.added);
-    joined = h.joined
-        ∙ ap (λ (xs : List Entry). xs ++ h.added) (l.joined ∙ ap (λ (xs : List Entry). xs ++ l.added) is)
-        ∙ append_assoc (old ++ entry_if n.count n.block) l.added h.added
-        ∙ append_assoc old (entry_if n.count n.block) (l.added ++ h.added);
-    lists = inside_node room l.added h.added l.lists h.lists;
-  }
-
-  pub appends_single : n.block.len ≡ width_of n.block.family → (old new : List Entry) → new ≡ old ++ entry_if n.count n.block → Appends (blocks_of t.pool) land old new
-  appends_single full old new is = record { added = entry_if n.count n.block; joined = is; lists = inside_single full }
