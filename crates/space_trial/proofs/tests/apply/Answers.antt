@@ -1,4 +1,4 @@
-use Rattle.std.proofs.Common.{◌∷◌, ap, arith, length, List}
+use Rattle.std.proofs.Common.{ap, arith, length, List}
 use Rattle.std.proofs.lemmas.List.Sorted.{length_permutation}
 use Rattle.inet_num.specs.Net.{Cidr}
 use Rattle.radix_tree.proofs.Copies.{no_longer}
