@@ -21,14 +21,14 @@ use Rattle.radix_tree.specs.declared.links.Linked.{Linked}
 use Rattle.radix_tree.specs.Shape.{half, child, HasRoom, HasLink, IsTree}
 use Rattle.radix_tree.specs.Listed.{blocks_of}
 use Rattle.radix_tree.specs.Sound.{IsSound}
-use Rattle.radix_tree.proofs.Sides.{self_in, half_in, not_in_half, sides_apart, side_of, longer, len_of_inside}
+use Rattle.radix_tree.proofs.Sides.{self_in, half_family, half_in, not_in_half, sides_apart, side_of, longer, len_of_inside}
 use Rattle.radix_tree.proofs.Order.{some_same, not_both, one_node}
 use Rattle.radix_tree.proofs.Covers.{half_len}
 use Rattle.radix_tree.proofs.Copies.{same_true}
 use Rattle.radix_tree.proofs.Times.{same_false}
 use Rattle.radix_tree.proofs.Taken.{HasHeld, taken_of, held_from, held_to, tests_agree, address_test, address_tested, or_true}
 
-not_true : (s : Bool) → (s ≡ true → ⊥) → s ≡ false
+pub not_true : (s : Bool) → (s ≡ true → ⊥) → s ≡ false
 not_true true f = absurd (f refl)
 not_true false f = refl
 
@@ -41,10 +41,6 @@ which f e = go (f false) refl e where
   go : (x : Bool) → f false ≡ x → (x || f true) ≡ true → (s : Bool) × (f s ≡ true)
   go true h k = (false, h)
   go false h k = (true, k)
-
-half_family : (s : Bool) (b : Cidr) → (half s b).family ≡ b.family
-half_family false b = refl
-half_family true b = refl
 
 -- a land is of the tree's family
 pub land_family : (t : Linked) → IsTree t → (place : Place) (at : Option ℕ) (land : Cidr) → HasLink t place at land → land.family ≡ t.family

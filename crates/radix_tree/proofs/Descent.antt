@@ -23,6 +23,13 @@ rank_land t w place (Some id) land h short =
     let same : width_of top.0.block.family ≡ width_of land.family = ap width_of top.2.family in
     rw top.1 (omega arith)
 
+-- the node of a link is at least as long as its land
+pub land_len : (t : Linked) → IsTree t → (place : Place) (at : Option ℕ) (land : Cidr) (id : ℕ) (n : Node) → HasLink t place at land → IsBlock land → at ≡ Some id → node_at t.pool id ≡ Some n → land.len ≤ n.block.len
+land_len t w place at land id n h hl is e =
+    let top = (w.links place at land h).top id is in
+    let inside : IsInside n.block land = subst (λ (x : Node). IsInside x.block land) (one_node t.pool id id top.0 n refl top.1 e) top.2 in
+    len_of_inside n.block land (w.each id n e).lawful.short hl.short inside
+
 pub rank_root : (t : Linked) → IsTree t → rank t.pool t.root ≤ width_of t.family + 1
 rank_root t w = let all = rank_land t w Root t.root (whole t.family) (refl, refl) (omega arith) in omega arith
 

@@ -16,14 +16,11 @@ use Rattle.radix_tree.specs.Edits.{CanPut, IsPut}
 use Rattle.radix_tree.specs.Listed.{copies, blocks_of, link_count, child_count, IsTallied, IsFull}
 use Rattle.radix_tree.specs.Find.{IsFound, IsJoint}
 use Rattle.radix_tree.specs.Sound.{IsSound, IsOver, IsInserted}
-use Rattle.radix_tree.proofs.Sides.{has_first, half_in, not_in_half, same_side, sides_apart}
+use Rattle.radix_tree.proofs.Sides.{self_in, half_family, has_first, half_in, not_in_half, same_side, sides_apart}
 use Rattle.radix_tree.proofs.Order.{some_same, not_both, one_node}
 use Rattle.radix_tree.proofs.Put.{put_tree}
+use Rattle.radix_tree.proofs.Mending.{put_frees, all_but}
 use Rattle.radix_tree.proofs.Joints.{other_side}
-
-half_family : (s : Bool) (b : Cidr) → (half s b).family ≡ b.family
-half_family false b = refl
-half_family true b = refl
 
 pub not_same : (s : Bool) → s ≢ not s
 not_same false e = cc
@@ -114,7 +111,7 @@ over_children n block count false id h = let a = ap link_count h.there in let b 
 over_children n block count true id h = let a = ap link_count h.there in let b = ap link_count h.other in omega arith
 
 abbrev pub leaf : Cidr → Node
-leaf block = record { block = block; count = 1; low = None; high = None }
+leaf block = record { block = block; count = 1; low = None; high = None; free = None }
 
 -- the leaf
 pub inserted_leaf : (old new : Linked) (block : Cidr) (f : Found) → IsSound old → IsBlock block → block.family ≡ old.family → IsFound old block f → f.at ≡ None → (i : ℕ) → IsPut old new f.place i (leaf block)
@@ -131,6 +128,7 @@ inserted_leaf old new block f w lawful family found none i put perm tally spare 
   family = put.family;
   blocks = perm;
   spare = omega arith;
+  frees = λ all. put_frees old new f.place f.at f.land i (leaf block) w.tree found.here put block found.inside (self_in block) (all_but old.pool block all);
 }
 
 -- the node between
@@ -154,6 +152,7 @@ inserted_over old new block f w lawful family found id m n s there e other room 
   family = put.family;
   blocks = subst (λ (xs : List Cidr). IsPermutation (xs ++ blocks_of old.pool) (blocks_of new.pool)) (ap (λ (x : ℕ). replicate x n.block) over.count_is ∙ ap (replicate 1) over.block_is) perm;
   spare = omega arith;
+  frees = λ all. put_frees old new f.place f.at f.land i n w.tree found.here put block found.inside (subst (IsInside block) (sym over.block_is) (self_in block)) (all_but old.pool block all);
 }
 
 -- the inner node over two
@@ -209,4 +208,8 @@ module _ (old mid : Linked) (block : Cidr) (f : Found) (w : IsSound old) (lawful
         family = again.family ∙ put.family;
         blocks = IsPermutation-trans (block ∷ blocks_of old.pool) (block ∷ blocks_of mid.pool) (blocks_of new.pool) (IsPermutation-cons block (blocks_of old.pool) (blocks_of mid.pool) first) perm2;
         spare = omega arith;
+        frees = λ all.
+            let in_n : IsInside block n.block = subst (IsInside block) (sym over.block_is) (inside_trans block (half j.high j.block) j.block joint.first (half_in j.high j.block joint.room)) in
+            put_frees mid new (Under i j.high) None (half j.high j.block) k (leaf block) mid_tree open_link again block joint.first (self_in block)
+            (put_frees old mid f.place f.at f.land i n w.tree found.here put block found.inside in_n (all_but old.pool block all));
       }

@@ -15,6 +15,10 @@ self_in b = record { family = refl; each = λ a h. h }
 pub has_first : (b : Cidr) → HasAddress b b.first
 has_first b = let some = pow_pos (width_of b.family - b.len) in (omega arith, omega arith)
 
+pub half_family : (s : Bool) (b : Cidr) → (half s b).family ≡ b.family
+half_family false b = refl
+half_family true b = refl
+
 pub half_in : (s : Bool) (b : Cidr) → HasRoom b → IsInside (half s b) b
 half_in false b room = (let double = pow_double (width_of b.family) b.len room in inside_by_ends (low_half_of b) b refl (omega arith) (omega arith))
 half_in true b room = (let double = pow_double (width_of b.family) b.len room in inside_by_ends (high_half_of b) b refl (omega arith) (omega arith))

@@ -1,5 +1,5 @@
 -- The blocks of a list that lie inside a block, with how often each stands there, by first address and then length.
-use Rattle.std.specs.Prelude.{◌≡◌, ◌⊎◌, ℕ, zero, suc, ◌<◌, ◌++◌, List, [], ◌∷◌, Contains}
+use Rattle.std.specs.Prelude.{◌≡◌, ◌⊎◌, ℕ, zero, suc, ◌<◌, List, [], ◌∷◌, Contains}
 use Rattle.inet_num.specs.Net.{Cidr, IsInside}
 use Rattle.block_space.specs.Listed.{times_of}
 use Rattle.radix_tree.specs.declared.Entry.{Entry}
@@ -18,12 +18,6 @@ pub record ListsInside (held : List Cidr) (within : Cidr) (xs : List Entry) : Ty
   pub each : (x : Entry) → Contains xs x → Contains held x.block × IsInside x.block within × (x.times ≡ times_of held x.block)
   pub all : (b : Cidr) → Contains held b → IsInside b within → (x : Entry) × Contains xs x × (x.block ≡ b)
   pub ordered : AreInOrder xs
-
--- the same, put behind what was there
-pub record Appends (held : List Cidr) (within : Cidr) (old new : List Entry) : Type 0 where
-  pub added : List Entry
-  pub joined : new ≡ old ++ added
-  pub lists : ListsInside held within added
 
 -- the block with its count, if that is not 0
 abbrev pub entry_if : ℕ → Cidr → List Entry

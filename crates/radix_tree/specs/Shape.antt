@@ -72,6 +72,7 @@ rank pool (Some id) = rank_of (node_at pool id)
 pub record IsSet (place : Place) (to : Option ℕ) (id : ℕ) (m n : Node) : Type 0 where
   pub block : n.block ≡ m.block
   pub count : n.count ≡ m.count
+  pub free : n.free ≡ m.free
   pub links : (side : Bool) → (child side n ≡ child side m) ⊎ (HasRoom m.block × (place ≡ Under id side) × (child side n ≡ to))
   pub put : (side : Bool) → place ≡ Under id side → child side n ≡ to
 

@@ -1,27 +1,36 @@
 //! Blocks of one family in a path-compressed binary tree of their bits, over a pool of nodes. The way to a block follows its
-//! bits, however many blocks there are; no clause of a public call counts the nodes on it.
+//! bits, however many blocks there are, and a first fit is one descent: it visits at most four nodes for each bit, and eight.
 #![tactic(auto)]
 
-ghost use Rattle.std.specs.Prelude.{◌≡◌, ℕ, ◌+◌, ◌^◌, ◌<◌, ◌≤◌, [], ◌∷◌, IsPermutation, length, OnOk, OnErr, IfOk, MatchBool};
+ghost use Rattle.std.specs.Prelude.{◌≡◌, ℕ, ◌+◌, ◌*◌, IfOk};
+ghost use Rattle.inet_num.specs.Net.{width_of};
 ghost use Rattle.radix_tree.specs.Shape.{child, HasOneEach};
 ghost use Rattle.radix_tree.specs.Listed.{blocks_of};
-ghost use Rattle.block_space.specs.Listed.{AreBlocksOf, times_of, counting_of, covered_of};
 ghost use Rattle.radix_tree.specs.Lent.{HasLiveChildren, HasTwoChildren};
+ghost use Rattle.radix_tree.specs.Frees.{HasLeastFrees};
 ghost use Rattle.radix_tree.specs.Covering.{ListsCovering};
 ghost use Rattle.radix_tree.specs.Inside.{ListsInside};
 
+mod available;
+mod counting;
+mod fits;
 mod halves;
 mod links;
+mod mends;
+mod walk;
 
-use inet_num::{Block, Family};
+use block_space::{Space, Steps};
+use counting::count_counted;
+use inet_num::{Addr, Block, Family};
 use links::{
-    Linked, covered_counted, covering_counted, insert_counted, inside_counted, remove_counted,
-    times_counted,
+    Linked, covered_counted, covering_counted, insert_counted, remove_counted, times_counted,
 };
 use node_pool::{NodeId, Pool};
 use std::alloc::{AllocError, Global};
 use std::marker::{Brand, Model};
-use std::sync::ledger::Blank;
+use std::sync::ledger::{Blank, Ledger};
+pub use walk::Inside;
+use walk::inside_counted;
 
 /// A node of a tree: a block, how often the tree has it, and the nodes below it.
 #[derive(Drop)]
@@ -34,11 +43,14 @@ pub struct Node {
     pub low: Option<NodeId>,
     /// The topmost node with a block inside the high half of this one's, if there is any.
     pub high: Option<NodeId>,
+    /// The least length of a block inside this node's that no block of the tree inside it touches, this node's own included; so
+    /// a node with a count has none.
+    pub free: Option<u8>,
 }
 
 impl Node {
     /// The link for the high half or for the low one.
-    fn link(&self, high: bool) -> Option<NodeId>
+    pub fn link(&self, high: bool) -> Option<NodeId>
         ensures { result ≡ child high self.now }
     {
         if high { self.high } else { self.low }
@@ -66,114 +78,26 @@ impl Model for Tree {
     ghost use Rattle.std.specs.Prelude.{◌/◌};
     ghost use Rattle.radix_tree.specs.Held.{Held};
     ghost use Rattle.radix_tree.specs.Listed.{blocks_of};
-    ghost use Rattle.radix_tree.specs.Sound.{IsSound};
+    ghost use Rattle.radix_tree.specs.Sound.{IsKept};
 
     ghost Value = { Held };
 
     ghost view = { λ t. record { family = t.linked.family; blocks = blocks_of t.linked.pool; spare = t.linked.pool.spare / 2 } };
 
-    ghost invariant = { λ t. IsSound t.linked };
+    ghost invariant = { λ t. IsKept t.linked };
 }
 
 impl Tree {
-    /// The empty tree of this family's blocks. It takes no memory; the tree keeps the allocator for what is put in.
-    pub fn new(alloc: Global, family: Family) -> Tree
-        ensures empty { result.blocks ≡ [] }
-        ensures family { result.family ≡ family }
-    {
-        Tree {
-            alloc,
-            linked: Linked {
-                family,
-                pool: Pool::new(alloc),
-                root: None,
-            },
-        }
-    }
-
-    /// The family of the tree's blocks.
-    pub fn family(&self) -> Family
-        ensures family { result ≡ self.now.family }
-        ensures lawful { AreBlocksOf self.now.family self.now.blocks }
-    {
-        self.linked.family
-    }
-
-    /// How many blocks can be put in with no memory.
-    pub fn spare(&self) -> u32
-        ensures { result ≡ self.now.spare }
-    {
-        self.linked.pool.spare() / 2
-    }
-
     /// The nodes. They have exactly the blocks of the tree, each as often as its node's count; no two have one block, the id of
-    /// each child has a node, and a node without a count has two children.
+    /// each child has a node, a node without a count has two children, and each says the least length of a free block inside it.
     pub fn nodes(&self) -> &Pool<Node>
         ensures blocks { blocks_of result.now ≡ self.now.blocks }
         ensures one_each { HasOneEach result.now }
         ensures live { HasLiveChildren result.now }
         ensures two { HasTwoChildren result.now }
+        ensures frees { HasLeastFrees result.now }
     {
         &self.linked.pool
-    }
-
-    /// Makes room for n more blocks in all, fewer than two to the 30 with those that are there. The one error is want of memory,
-    /// and the tree is then as before.
-    pub fn reserve(&mut self, n: u32) -> Result<(), AllocError>
-        requires { length self.old.blocks + n < 2 ^ 30 }
-        ensures room { OnOk result (n ≤ self.new.spare) }
-        ensures kept { self.old.spare ≤ self.new.spare }
-        ensures same { self.new.blocks ≡ self.old.blocks }
-        ensures family { self.new.family ≡ self.old.family }
-        ensures unchanged { OnErr result (self.new ≡ self.old) }
-    {
-        self.linked.pool.reserve(2 * n)
-    }
-
-    /// Puts a block of the tree's family in once more. It asks for room of one block, and takes no memory.
-    pub fn insert(&mut self, block: Block)
-        requires room { 1 ≤ self.old.spare }
-        requires few { length self.old.blocks < 2 ^ 30 }
-        requires family { block.family ≡ self.old.family }
-        ensures put { IsPermutation (block ∷ self.old.blocks) self.new.blocks }
-        ensures family { self.new.family ≡ self.old.family }
-        ensures spare { self.old.spare ≤ self.new.spare + 1 }
-    {
-        let _lawful = block.len();
-        insert_counted::<Brand>(&mut self.linked, block, Blank::new(1));
-    }
-
-    /// Takes a block of the tree's family out once, and answers whether it was there. It takes no
-    /// memory, and leaves as much room as before at least.
-    pub fn remove(&mut self, block: Block) -> bool
-        requires family { block.family ≡ self.old.family }
-        ensures taken { MatchBool result (IsPermutation self.old.blocks (block ∷ self.new.blocks)) (self.new.blocks ≡ self.old.blocks) }
-        ensures cause { MatchBool result (0 < times_of self.old.blocks block) (times_of self.old.blocks block ≡ 0) }
-        ensures family { self.new.family ≡ self.old.family }
-        ensures spare { self.old.spare ≤ self.new.spare }
-    {
-        let _lawful = block.len();
-        remove_counted::<Brand>(&mut self.linked, &block, Blank::new(1))
-    }
-
-    /// How often the tree has a block of its family.
-    pub fn times(&self, block: Block) -> u32
-        requires family { block.family ≡ self.now.family }
-        ensures { result ≡ times_of self.now.blocks block }
-    {
-        let _lawful = block.len();
-        times_counted::<Brand>(&self.linked, &block, Blank::new(1))
-    }
-
-    /// How many addresses of a block of the tree's family its blocks inside that block have, each once; with `strict`, one that
-    /// equals it does not count. The block has a length of at least 1, since no integer counts all addresses of IPv6.
-    pub fn covered(&self, within: Block, strict: bool) -> u128
-        requires family { within.family ≡ self.now.family }
-        requires long { 1 ≤ within.len }
-        ensures { result ≡ covered_of (counting_of self.now.blocks within strict) within }
-    {
-        let _lawful = within.len();
-        covered_counted::<Brand>(&self.linked, &within, strict, Blank::new(1))
     }
 
     /// The blocks of the tree that contain a block of its family, each once, the largest first: their lengths rise. A block
@@ -187,13 +111,96 @@ impl Tree {
     }
 
     /// The blocks of the tree that lie inside a block of its family, each once and with how often the tree has it, by first
-    /// address and then length. A block lies inside itself. The one error is want of memory.
-    pub fn inside(&self, within: Block) -> Result<Vec<Entry>, AllocError>
+    /// address and then length. A block lies inside itself. It takes no memory.
+    pub fn inside(&self, within: Block) -> Inside<'_>
         requires family { within.family ≡ self.now.family }
-        ensures { IfOk result (λ v. ListsInside self.now.blocks within v.items) }
+        ensures { ListsInside self.now.blocks within result }
     {
         let _lawful = within.len();
-        inside_counted::<Brand>(&self.linked, self.alloc, &within, Blank::new(1))
+        inside_counted::<Brand>(&self.linked, &within, Blank::new(1))
+    }
+}
+
+impl Space for Tree {
+    ghost held = { λ t. t.blocks };
+
+    ghost family_of = { λ t. t.family };
+
+    ghost room = { λ t. t.spare };
+
+    ghost reach = { λ t. 4 * width_of t.family + 8 };
+
+    fn new(alloc: Global, family: Family) -> Tree {
+        Tree {
+            alloc,
+            linked: Linked {
+                family,
+                pool: Pool::new(alloc),
+                root: None,
+            },
+        }
+    }
+
+    fn family(&self) -> Family {
+        self.linked.family
+    }
+
+    fn spare(&self) -> u32 {
+        self.linked.pool.spare() / 2
+    }
+
+    fn reserve(&mut self, n: u32) -> Result<(), AllocError> {
+        self.linked.pool.reserve(2 * n)
+    }
+
+    fn insert(&mut self, block: Block) {
+        let _lawful = block.len();
+        insert_counted::<Brand>(&mut self.linked, block, Blank::new(1));
+    }
+
+    fn remove(&mut self, block: Block) -> bool {
+        let _lawful = block.len();
+        remove_counted::<Brand>(&mut self.linked, &block, Blank::new(1))
+    }
+
+    fn times(&self, block: Block) -> u32 {
+        let _lawful = block.len();
+        times_counted::<Brand>(&self.linked, &block, Blank::new(1))
+    }
+
+    fn counting(&self, within: Block, strict: bool) -> u32 {
+        let _lawful = within.len();
+        count_counted::<Brand>(&self.linked, &within, strict, Blank::new(1))
+    }
+
+    fn covered(&self, within: Block, strict: bool) -> u128 {
+        let _lawful = within.len();
+        covered_counted::<Brand>(&self.linked, &within, strict, Blank::new(1))
+    }
+
+    fn first_free<L: Ledger>(
+        &self,
+        within: Block,
+        len: u8,
+        from: Addr,
+        strict: bool,
+        steps: &mut Steps<L>,
+    ) -> Option<Block> {
+        let _lawful = within.len();
+        self.linked
+            .first_fit(&within, len, from.value(), strict, steps)
+    }
+
+    fn next_free_block<L: Ledger>(
+        &self,
+        within: Block,
+        from: Addr,
+        strict: bool,
+        steps: &mut Steps<L>,
+    ) -> Option<Block> {
+        let _lawful = within.len();
+        self.linked
+            .next_available(&within, from.value(), strict, steps)
     }
 }
 

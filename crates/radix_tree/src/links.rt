@@ -7,16 +7,16 @@ ghost use Rattle.node_pool.specs.Pooled.{Pooled, node_at, live_nodes, Changes, I
 ghost use Rattle.radix_tree.specs.Shape.{half, child, owner, whole, HasRoom, HasLink, IsTree, IsPlace, Relinks};
 ghost use Rattle.radix_tree.specs.Edits.{IsPut, IsCut};
 ghost use Rattle.radix_tree.specs.Listed.{copies, blocks_of, link_count, child_count, links_of, IsTallied, Recounts};
+ghost use Rattle.radix_tree.specs.Frees.{HasFrees};
 ghost use Rattle.radix_tree.specs.Sound.{IsSound, IsOver, IsInserted, IsTrimmed, IsRemoved};
 ghost use Rattle.block_space.specs.Listed.{times_of, counting_of, covered_of};
 ghost use Rattle.radix_tree.specs.Covering.{ListsCovering, if_counted};
-ghost use Rattle.radix_tree.specs.Inside.{ListsInside, Appends, entry_if};
 ghost use Rattle.radix_tree.specs.Find.{IsFound};
 ghost use Rattle.radix_tree.specs.declared.links.Place.TheVariants.{Root, Under};
 ghost use Rattle.radix_tree.specs.declared.Node.{Node};
 
+use crate::Node;
 use crate::halves::{half_of, join, whole_of};
-use crate::{Entry, Node};
 use block_space::Steps;
 use inet_num::{Block, Family};
 use node_pool::{NodeId, Pool};
@@ -33,6 +33,7 @@ fn over(block: Block, count: u32, high: bool, id: NodeId) -> Node
             count,
             low: None,
             high: Some(id),
+            free: None,
         }
     } else {
         Node {
@@ -40,6 +41,7 @@ fn over(block: Block, count: u32, high: bool, id: NodeId) -> Node
             count,
             low: Some(id),
             high: None,
+            free: None,
         }
     }
 }
@@ -66,9 +68,9 @@ impl Place {
 /// Where a block is or belongs: the place, the link that stands there, and the land, which is the block that the link is for.
 #[derive(Clone, Copy)]
 pub struct Found {
-    place: Place,
-    at: Option<NodeId>,
-    land: Block,
+    pub place: Place,
+    pub at: Option<NodeId>,
+    pub land: Block,
 }
 
 /// Appends the node's block if its count is not 0.
@@ -81,21 +83,8 @@ fn push_once(out: &mut Vec<Block>, node: &Node) -> Result<(), AllocError>
     Ok(())
 }
 
-/// Appends the node's block with its count, if that is not 0.
-fn push_entry(out: &mut Vec<Entry>, node: &Node) -> Result<(), AllocError>
-    ensures { OnOk result (out.new.items ≡ out.old.items ++ entry_if node.now.count node.now.block) }
-{
-    if node.count > 0 {
-        out.push(Entry {
-            block: node.block,
-            times: node.count,
-        })?;
-    }
-    Ok(())
-}
-
 /// Whether a block does not count for itself.
-fn is_left_out(strict: bool, block: &Block, within: &Block) -> bool
+pub fn is_left_out(strict: bool, block: &Block, within: &Block) -> bool
     ensures { IsTrue result ↔ (strict ≡ true) × (block.now ≡ within.now) }
 {
     if !strict {
@@ -171,13 +160,13 @@ impl Linked {
         let _node = self.pool.take(id);
     }
 
-    /// The place where a block is or belongs. It costs at most a step for each bit of an address, and one.
-    fn find<L: Ledger>(&self, block: &Block, steps: &mut Steps<L>) -> Found
+    /// The place where a block is or belongs. It costs at most one step more than the block's length.
+    pub fn find<L: Ledger>(&self, block: &Block, steps: &mut Steps<L>) -> Found
         requires tree { IsTree self.now }
         requires lawful { IsBlock block.now }
         requires family { block.now.family ≡ self.now.family }
         ensures found { IsFound self.now block.now result }
-        ensures cost { steps.new ≤ steps.old + (width_of self.now.family + 1) }
+        ensures cost { steps.new ≤ steps.old + (block.now.len + 1) }
     {
         let mut found = Found {
             place: Place::Root,
@@ -217,6 +206,7 @@ impl Linked {
                     count: 1,
                     low: None,
                     high: None,
+                    free: None,
                 },
             );
             return;
@@ -242,6 +232,7 @@ impl Linked {
                 count: 1,
                 low: None,
                 high: None,
+                free: None,
             },
         );
     }
@@ -385,63 +376,13 @@ impl Linked {
         low + high
     }
 
-    /// Appends the blocks of the nodes below a link: the node's own, then those in its low half, then those in its high half.
-    fn push_below<L: Ledger>(
-        &self,
-        at: Option<NodeId>,
-        out: &mut Vec<Entry>,
-        steps: &mut Steps<L>,
-    ) -> Result<(), AllocError>
-        requires sound { IsSound self.now }
-        requires place { (place : Place) × (land : Cidr) × HasLink self.now place at land }
-        ensures { OnOk result ((place : Place) (land : Cidr) → HasLink self.now place at land → Appends (blocks_of self.now.pool) land out.old.items out.new.items) }
-    {
-        let Some(id) = at else {
-            return Ok(());
-        };
-        let node = self.pool.visit(id, steps);
-        push_entry(out, node)?;
-        // a single address has nothing below it
-        if node.block.len() == self.family.width() {
-            return Ok(());
-        }
-        self.push_below(node.low, out, steps)?;
-        self.push_below(node.high, out, steps)?;
-        Ok(())
-    }
-
-    /// The blocks that lie inside a block, each once, by first address and then length.
-    fn inside<L: Ledger>(
-        &self,
-        alloc: Global,
-        within: &Block,
-        steps: &mut Steps<L>,
-    ) -> Result<Vec<Entry>, AllocError>
-        requires sound { IsSound self.now }
-        requires lawful { IsBlock within.now }
-        requires family { within.now.family ≡ self.now.family }
-        ensures ok { IfOk result (λ v. ListsInside (blocks_of self.now.pool) within.now v.items) }
-    {
-        let mut out = Vec::new(alloc);
-        let found = self.find(within, steps);
-        let Some(id) = found.at else {
-            return Ok(out);
-        };
-        let node = self.pool.visit(id, steps);
-        if !within.contains(&node.block) {
-            return Ok(out);
-        }
-        self.push_below(found.at, &mut out, steps)?;
-        Ok(out)
-    }
-
-    /// How often a block was put in. It costs at most a step for each bit of an address, and two.
+    /// How often a block was put in. It costs at most two steps more than the block's length.
     fn times<L: Ledger>(&self, block: &Block, steps: &mut Steps<L>) -> u32
         requires tree { IsTree self.now }
         requires lawful { IsBlock block.now }
         requires family { block.now.family ≡ self.now.family }
         ensures times { result ≡ times_of (blocks_of self.now.pool) block.now }
-        ensures cost { steps.new ≤ steps.old + (width_of self.now.family + 2) }
+        ensures cost { steps.new ≤ steps.old + (block.now.len + 2) }
     {
         let found = self.find(block, steps);
         let Some(id) = found.at else {
@@ -455,34 +396,43 @@ impl Linked {
     }
 }
 
-/// Insertion, on a counter that is made for it.
+/// Insertion, on a counter that is made for it, with what the nodes say to be free.
 pub fn insert_counted<L: Ledger>(linked: &mut Linked, block: Block, blank: Blank)
     requires name { blank.name ≡ L.name }
     requires parts { blank.parts ≡ L.parts }
     requires some { 0 < blank.parts }
     requires sound { IsSound linked.old }
+    requires frees { HasFrees linked.old.pool }
     requires lawful { IsBlock block }
     requires family { block.family ≡ linked.old.family }
     requires room { 2 ≤ linked.old.pool.spare }
     requires few { length (blocks_of linked.old.pool) < 2 ^ 30 }
-    ensures { IsInserted linked.old linked.new block }
+    ensures inserted { IsInserted linked.old linked.new block }
+    ensures frees { HasFrees linked.new.pool }
 {
     let mut steps = Steps::<L>::new(blank);
     linked.insert(block, &mut steps);
+    let root = linked.root;
+    linked.mend(root, &block, &mut steps);
 }
 
-/// Removal, on a counter that is made for it.
+/// Removal, on a counter that is made for it, with what the nodes say to be free.
 pub fn remove_counted<L: Ledger>(linked: &mut Linked, block: &Block, blank: Blank) -> bool
     requires name { blank.name ≡ L.name }
     requires parts { blank.parts ≡ L.parts }
     requires some { 0 < blank.parts }
     requires sound { IsSound linked.old }
+    requires frees { HasFrees linked.old.pool }
     requires lawful { IsBlock block.now }
     requires family { block.now.family ≡ linked.old.family }
-    ensures { IsRemoved linked.old linked.new block.now result }
+    ensures removed { IsRemoved linked.old linked.new block.now result }
+    ensures frees { HasFrees linked.new.pool }
 {
     let mut steps = Steps::<L>::new(blank);
-    linked.remove(block, &mut steps)
+    let done = linked.remove(block, &mut steps);
+    let root = linked.root;
+    linked.mend(root, block, &mut steps);
+    done
 }
 
 /// How often a block was put in, on a counter that is made for it.
@@ -536,23 +486,4 @@ pub fn covered_counted<L: Ledger>(
 {
     let mut steps = Steps::<L>::new(blank);
     linked.covered(within, strict, &mut steps)
-}
-
-/// The blocks that lie inside a block, on a counter that is made for it.
-pub fn inside_counted<L: Ledger>(
-    linked: &Linked,
-    alloc: Global,
-    within: &Block,
-    blank: Blank,
-) -> Result<Vec<Entry>, AllocError>
-    requires name { blank.name ≡ L.name }
-    requires parts { blank.parts ≡ L.parts }
-    requires some { 0 < blank.parts }
-    requires sound { IsSound linked.now }
-    requires lawful { IsBlock within.now }
-    requires family { within.now.family ≡ linked.now.family }
-    ensures { IfOk result (λ v. ListsInside (blocks_of linked.now.pool) within.now v.items) }
-{
-    let mut steps = Steps::<L>::new(blank);
-    linked.inside(alloc, within, &mut steps)
 }

@@ -224,7 +224,7 @@ fn addresses_are_covered(rt: HostRuntime) -> Result<(), AllocError> {
 type InsideRow<'a> = (Family, &'a [Change], (u128, u8), &'a [(u128, u8, u32)]);
 
 /// Entries as the first numbers and lengths of their blocks, and how often they are there.
-fn counted(alloc: Global, entries: &[Entry]) -> Result<Vec<(u128, u8, u32)>, AllocError> {
+fn counted(alloc: Global, entries: Inside<'_>) -> Result<Vec<(u128, u8, u32)>, AllocError> {
     let mut out = Vec::new(alloc);
     for entry in entries {
         out.push((entry.block.addr().value(), entry.block.len(), entry.times))?;
@@ -266,7 +266,7 @@ fn blocks_inside_are_listed(rt: HostRuntime) -> Result<(), AllocError> {
         let Some(block) = block(family, asked.0, asked.1) else {
             continue;
         };
-        let got = counted(alloc, &tree.inside(block)?)?;
+        let got = counted(alloc, tree.inside(block))?;
         assert!(rt; got.as_slice() == want, "{changes:?}");
     }
     Ok(())

@@ -1,5 +1,9 @@
 use Rattle.radix_tree.proofs.Lent.{live_children}
+use Rattle.radix_tree.proofs.Leasts.{all_least}
 use Rattle.radix_tree.proofs.Tree.nodes.Goals as goal
 
 pub returns-clause-live : goal.returns-clause-live
-returns-clause-live c = live_children c.self.inside.linked c.self.invariant.tree
+returns-clause-live c = live_children c.self.inside.linked c.self.invariant.sound.tree
+
+pub returns-clause-frees : goal.returns-clause-frees
+returns-clause-frees c = all_least c.self.inside.linked c.self.invariant.sound c.self.invariant.frees

@@ -1,9 +1,10 @@
 use Rattle.std.proofs.Common.{not, refl, sym, ap, subst, arith}
-use Rattle.inet_num.specs.Net.{IsBlock, IsInside, IsStrictlyInside}
+use Rattle.inet_num.specs.Net.{Cidr, IsBlock, IsInside, IsStrictlyInside}
 use Rattle.radix_tree.specs.Shape.{rank}
-use Rattle.radix_tree.proofs.Sides.{whole_in, whole_lawful}
+use Rattle.radix_tree.proofs.Sides.{whole_in, whole_lawful, len_of_inside}
+use Rattle.radix_tree.proofs.Covers.{half_len}
 use Rattle.radix_tree.proofs.Joints.{half_lawful}
-use Rattle.radix_tree.proofs.Descent.{rank_root, rank_child, right_half, strict_room}
+use Rattle.radix_tree.proofs.Descent.{land_len, rank_child, right_half, strict_room}
 use Rattle.radix_tree.proofs.links.Linked.find.Goals as goal
 
 pub loop-found-init : goal.loop-found-init
@@ -11,7 +12,7 @@ loop-found-init g c = record {
   here = (refl, c.whole_of.ensures);
   inside = subst (IsInside c.args.block.now) (sym c.whole_of.ensures) (whole_in c.args.self.now.family c.args.block.now c.requires.lawful c.requires.family);
   lawful = subst IsBlock (sym c.whole_of.ensures) (whole_lawful c.args.self.now.family);
-  cost = omega (arith, rank_root c.args.self.now c.requires.tree);
+  cost = omega arith;
 }
 
 pub half_of-requires : goal.half_of-requires
@@ -40,10 +41,21 @@ loop-found-preserved g c =
     let at_is = ap (rank t.pool) c.in-Some.is in
     let to_is = ap (rank t.pool) c.link.ensures in
     let half_is = c.half_of-in-Some.ensures in
+    let len_is = ap (λ (b : Cidr). b.len) half_is in
     let own = (c.requires.tree.each c.in-Some.id n e).lawful in
     record {
       here = (n, e, room, c.link.ensures, half_is);
       inside = subst (IsInside block) (sym half_is) (right_half t c.requires.tree block c.requires.lawful c.in-Some.id n e strict c.contains-right.result c.half_of.result c.half_of.ensures c.contains-right.ensures.0 c.contains-right.ensures.1);
       lawful = subst IsBlock (sym half_is) (half_lawful (not c.contains-right.result) n.block own room);
-      cost = omega (arith, c.loop-found.invariant.cost, c.visit-node.ensures.cost);
+      cost = omega (arith, c.loop-found.invariant.cost, c.visit-node.ensures.cost, land_len t c.requires.tree c.loop-found.found.place c.loop-found.found.at c.loop-found.found.land c.in-Some.id n c.loop-found.invariant.here c.loop-found.invariant.lawful c.in-Some.is e, half_len (not c.contains-right.result) n.block, len_is);
     }
+
+pub returns-then-not-strictly_inside-clause-cost : goal.returns-then-not-strictly_inside-clause-cost
+returns-then-not-strictly_inside-clause-cost g c =
+    let v = c.loop-found.invariant in
+    omega (arith, v.cost, c.visit-node.ensures.cost, len_of_inside c.args.block.now c.loop-found.found.land c.requires.lawful.short v.lawful.short v.inside)
+
+pub returns-clause-cost : goal.returns-clause-cost
+returns-clause-cost g c =
+    let v = c.loop-found.invariant in
+    omega (arith, v.cost, len_of_inside c.args.block.now c.loop-found.found.land c.requires.lawful.short v.lawful.short v.inside)

@@ -1,5 +1,5 @@
 use Rattle.std.proofs.Common.{◌+◌, ◌≤◌}
-use Rattle.inet_num.specs.Net.{width_of, IsBlock, IsInside}
+use Rattle.inet_num.specs.Net.{IsBlock, IsInside}
 use Rattle.radix_tree.specs.Shape.{HasLink, rank}
 use Rattle.radix_tree.proofs.links.Linked.find.Given as goal
 
@@ -8,7 +8,7 @@ invariant-loop-found g l = record {
   here : HasLink l.self l.found.place l.found.at l.found.land;
   inside : IsInside l.block l.found.land;
   lawful : IsBlock l.found.land;
-  cost : l.steps + rank l.self.pool l.found.at ≤ l.initial.steps + (width_of l.fn.self.family + 1);
+  cost : l.steps ≤ l.initial.steps + l.found.land.len;
 }
 
 abbrev pub decreases-loop-found : goal.decreases-loop-found

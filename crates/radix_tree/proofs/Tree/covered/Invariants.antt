@@ -1,4 +1,0 @@
-use Rattle.radix_tree.proofs.Tree.covered.Given as goal
-
-abbrev pub ghosts-covered_counted : goal.ghosts-covered_counted
-ghosts-covered_counted a = record { name = a.blank.name; parts = a.blank.parts }

@@ -1,0 +1,79 @@
+-- The least length of a free block inside a node's block: how it follows from the node's children, and what it means.
+use Rattle.std.specs.Prelude.{◌≡◌, ◌≢◌, ℕ, zero, suc, ◌+◌, ◌≤◌, false, min, cond, nat_lt, List, Option, Some, None, MatchOption}
+use Rattle.inet_num.specs.Net.{Cidr, IsBlock, IsInside}
+use Rattle.inet_num.specs.Free.{IsFree}
+use Rattle.block_space.specs.Listed.{counting_of}
+use Rattle.node_pool.specs.Pooled.{Pooled, node_at}
+use Rattle.radix_tree.specs.declared.Node.{Node}
+use Rattle.radix_tree.specs.declared.links.Linked.{Linked}
+use Rattle.radix_tree.specs.Listed.{blocks_of}
+
+-- the lesser of two lengths, where there are any
+abbrev pub lesser : Option ℕ → Option ℕ → Option ℕ
+lesser None g = g
+lesser (Some a) None = Some a
+lesser (Some a) (Some b) = Some (min a b)
+
+-- of a half of this length and the topmost node in it, if there is one: with none the half itself is free; beside a smaller
+-- block one half of the half is; and else it is what the node says
+abbrev pub free_beside : ℕ → Option Node → Option ℕ
+free_beside len None = Some len
+free_beside len (Some m) = cond (nat_lt len m.block.len) (Some (len + 1)) m.free
+
+abbrev pub side_free : Pooled Node → ℕ → Option ℕ → Option ℕ
+side_free pool len None = Some len
+side_free pool len (Some id) = free_beside len (node_at pool id)
+
+-- a node with a count leaves nothing free
+abbrev pub if_uncounted : ℕ → Option ℕ → Option ℕ
+if_uncounted zero free = free
+if_uncounted (suc count) free = None
+
+-- what follows for a node from its count and its children
+abbrev pub free_of : Pooled Node → Node → Option ℕ
+free_of pool n = if_uncounted n.count (lesser (side_free pool (n.block.len + 1) n.low) (side_free pool (n.block.len + 1) n.high))
+
+-- each node says what follows for it
+abbrev pub HasFrees : Pooled Node → Type 0
+HasFrees pool = (id : ℕ) (n : Node) → node_at pool id ≡ Some n → n.free ≡ free_of pool n
+
+-- the same, but for the nodes around a block
+abbrev pub HasFreesBut : Pooled Node → Cidr → Type 0
+HasFreesBut pool block = (id : ℕ) (n : Node) → node_at pool id ≡ Some n → (¬ IsInside block n.block) → n.free ≡ free_of pool n
+
+-- and for those nodes around it too that lie in the land
+abbrev pub HasFreesIn : Pooled Node → Cidr → Cidr → Type 0
+HasFreesIn pool block land = HasFreesBut pool block × ((id : ℕ) (n : Node) → node_at pool id ≡ Some n → IsInside n.block land → n.free ≡ free_of pool n)
+
+-- the two nodes differ at most in what they say to be free
+pub record IsAlike (m n : Node) : Type 0 where
+  pub block : n.block ≡ m.block
+  pub count : n.count ≡ m.count
+  pub low : n.low ≡ m.low
+  pub high : n.high ≡ m.high
+
+-- what nodes say to be free was set, and nothing else was changed
+pub record Refrees (old new : Linked) : Type 0 where
+  pub family : new.family ≡ old.family
+  pub root : new.root ≡ old.root
+  pub spare : new.pool.spare ≡ old.pool.spare
+  pub kept : (id : ℕ) (m : Node) → node_at old.pool id ≡ Some m → (n : Node) × (node_at new.pool id ≡ Some n) × IsAlike m n
+  pub was : (id : ℕ) (n : Node) → node_at new.pool id ≡ Some n → (m : Node) × (node_at old.pool id ≡ Some m) × IsAlike m n
+
+-- it was set at one node to this
+pub record RefreesOne (old new : Linked) (id : ℕ) (free : Option ℕ) : Type 0 where
+  pub family : new.family ≡ old.family
+  pub root : new.root ≡ old.root
+  pub spare : new.pool.spare ≡ old.pool.spare
+  pub node : (n : Node) → node_at old.pool id ≡ Some n → node_at new.pool id ≡ Some (record n { free = free })
+  pub others : (other : ℕ) → other ≢ id → node_at new.pool other ≡ node_at old.pool other
+
+-- the least length of a free block inside the land, or that there is none
+abbrev pub IsLeastFree : List Cidr → Cidr → Option ℕ → Type 0
+IsLeastFree blocks land free =
+    MatchOption free ((b : Cidr) → IsBlock b → IsInside b land → ¬ IsFree blocks b)
+    (λ len. ((b : Cidr) × IsBlock b × IsInside b land × IsFree blocks b × (b.len ≡ len)) × ((b : Cidr) → IsBlock b → IsInside b land → IsFree blocks b → len ≤ b.len))
+
+-- each node says the least length of a free block inside its own, beside the blocks of the list that lie there
+abbrev pub HasLeastFrees : Pooled Node → Type 0
+HasLeastFrees pool = (id : ℕ) (n : Node) → node_at pool id ≡ Some n → IsLeastFree (counting_of (blocks_of pool) n.block false) n.block n.free

@@ -1,0 +1,5 @@
+//! Spaces that are kept in different ways, tried beside each other: after the same changes they answer alike.
+#![tactic(auto)]
+
+#[cfg(test)]
+mod tests;
