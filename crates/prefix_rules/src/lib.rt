@@ -18,6 +18,8 @@ ghost use Rattle.prefix_rules.specs.Book.{TabledRows, empty_book, table_at, is_t
 mod rivals;
 mod spaces;
 mod tables;
+#[cfg(test)]
+mod tests;
 
 use block_space::Space;
 use inet_num::Family;
