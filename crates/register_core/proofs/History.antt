@@ -70,12 +70,16 @@ outcome_setting s plan h = go (verdict_of plan) refl
 pub step_stays : (s t : State) (call : Call) (reply : Reply) → plain_step s call ≡ (t, reply) → is_accepted reply ≡ false → t ≡ s
 step_stays s t call reply e a = outcome_stays s t reply (plan_of s call) (call_tame s call) e a
 
+-- no call changes the setting
+pub step_setting : (s : State) (call : Call) → (plain_step s call).0.global_unique ≡ s.global_unique
+step_setting s call = outcome_setting s (plan_of s call) (call_tame s call)
+
 -- the state after a history, and after the entry of one more step
 pub step_replays : (s t : State) (log : List Entry) (entry : Entry) (reply : Reply) → s ≡ replay (empty_state s.global_unique) log
     → plain_step s entry.call ≡ (t, reply) → t ≡ replay (empty_state t.global_unique) (log ++ entry ∷ [])
 step_replays s t log entry reply r e =
     let left : (plain_step s entry.call).0 ≡ t = ap (λ (p : State × Reply). p.0) e in
-    let setting : t.global_unique ≡ s.global_unique = subst (λ (u : State). u.global_unique ≡ s.global_unique) left (outcome_setting s (plan_of s entry.call) (call_tame s entry.call)) in
+    let setting : t.global_unique ≡ s.global_unique = subst (λ (u : State). u.global_unique ≡ s.global_unique) left (step_setting s entry.call) in
     sym left ∙ ap (λ (u : State). (plain_step u entry.call).0) r ∙ sym (one_more (empty_state s.global_unique) log entry)
     ∙ ap (λ (g : Bool). replay (empty_state g) (log ++ entry ∷ [])) (sym setting)
 

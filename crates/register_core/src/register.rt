@@ -1,6 +1,6 @@
 //! The register: one call at a time.
 
-ghost use Rattle.std.specs.Prelude.{◌≡◌, ◌<◌, true, false, IfOk, OnErr, vec_len, vec_capacity};
+ghost use Rattle.std.specs.Prelude.{◌≡◌, ℕ, ◌<◌, ◌^◌, length, true, false, IfOk, OnErr, vec_len, vec_capacity};
 ghost use Rattle.ipam_data.specs.State.{empty_state};
 ghost use Rattle.ipam_data.specs.Steps.{plain_step};
 ghost use Rattle.ipam_data.specs.Replays.{is_accepted, replay};
@@ -59,9 +59,10 @@ pub fn open(alloc: Global, settings: Settings) -> Register
 }
 
 impl Register {
-    /// The accepted changes from the first.
+    /// The accepted changes from the first: fewer than 2^63.
     pub fn log(&self) -> &[Entry]
-        ensures { result.now ≡ self.now.log }
+        ensures entries { result.now ≡ self.now.log }
+        ensures few { length self.now.log < 2 ^ 63 }
     {
         self.log.as_slice()
     }
