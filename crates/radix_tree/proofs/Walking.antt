@@ -17,8 +17,7 @@ use Rattle.radix_tree.specs.Inside.{ListsInside, entry_if}
 use Rattle.radix_tree.specs.Preorder.{entries_at, preorder, entries_below, to_come, IsStacked, IsPending, heft, weight}
 use Rattle.radix_tree.specs.Sound.{IsSound}
 use Rattle.radix_tree.proofs.Sides.{self_in}
-use Rattle.radix_tree.proofs.Order.{not_both}
-use Rattle.radix_tree.proofs.Descent.{rank_land, rank_child}
+use Rattle.radix_tree.proofs.Descent.{rank_child}
 use Rattle.radix_tree.proofs.Mending.{child_node}
 use Rattle.radix_tree.proofs.Within.{inside_clear, inside_single, inside_node}
 
@@ -204,20 +203,6 @@ module _ (t : Linked) (all xs : List (Option ℕ)) (x : Option ℕ) (id : ℕ) (
         let low = heft_three (rank t.pool n.low) (rank t.pool (Some id)) (child_rank t h.sound.tree id n false e) in
         let some_weight = heft_some (rank t.pool (Some id)) in
         omega (arith, before, same, one, two, high, low, some_weight)
-
--- the stack of one link
-pub pending_one : (t : Linked) → IsSound t → (place : Place) (at : Option ℕ) (land : Cidr) → HasLink t place at land → land.len ≤ width_of land.family → IsPending t (at ∷ [])
-pending_one t w place at land here short = record {
-  sound = w;
-  stacked = (
-    (let le = rank_land t w.tree place at land here short in let small = width_small land.family in omega (arith, le, small)),
-    (λ id is. (let top = (w.tree.links place at land here).top id is in subst IsSome (sym top.1) refl)),
-    tt,
-  );
-}
-
-pub pending_empty : (t : Linked) → IsSound t → IsPending t (None ∷ [])
-pending_empty t w = record { sound = w; stacked = (omega arith, (λ id is. absurd (not_both None id refl is)), tt) }
 
 pub none_lists : (t : Linked) (within : Cidr) → ListsInside (blocks_of t.pool) within [] → ListsInside (blocks_of t.pool) within (entries_below t.pool None)
 none_lists t within h = subst (ListsInside (blocks_of t.pool) within) (sym (none_below 129 t.pool)) h

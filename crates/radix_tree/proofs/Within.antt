@@ -113,9 +113,6 @@ module _ (t : Linked) (w : IsSound t) (place : Place) (land : Cidr) (id : ℕ) (
   }
 
   module _ (room : HasRoom n.block) (low high : List Entry) (l : ListsInside (blocks_of t.pool) (half false n.block) low) (h : ListsInside (blocks_of t.pool) (half true n.block) high) where
-    all_of : List Entry
-    all_of = entry_if n.count n.block ++ (low ++ high)
-
     half_land : (s : Bool) (c : Cidr) → IsInside c (half s n.block) → IsInside c land
     half_land s c i = inside_trans c (half s n.block) land i (inside_trans (half s n.block) n.block land (half_in s n.block room) n_land)
 
