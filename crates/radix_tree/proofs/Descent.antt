@@ -6,9 +6,9 @@ use Rattle.inet_num.proofs.Nested.{same_by_len}
 use Rattle.node_pool.specs.Pooled.{node_at}
 use Rattle.radix_tree.specs.declared.Node.{Node}
 use Rattle.radix_tree.specs.declared.links.Place.{Place}
-use Rattle.radix_tree.specs.declared.links.Place.TheVariants.{Root, Under}
+use Rattle.radix_tree.specs.declared.links.Place.TheVariants.{Under}
 use Rattle.radix_tree.specs.declared.links.Linked.{Linked}
-use Rattle.radix_tree.specs.Shape.{half, child, HasRoom, whole, HasLink, IsTree, rank}
+use Rattle.radix_tree.specs.Shape.{half, child, HasRoom, HasLink, IsTree, rank}
 use Rattle.radix_tree.proofs.Sides.{len_of_inside}
 use Rattle.radix_tree.proofs.Order.{some_same, one_node}
 use Rattle.radix_tree.proofs.Joints.{in_other}
@@ -30,10 +30,7 @@ land_len t w place at land id n h hl is e =
     let inside : IsInside n.block land = subst (λ (x : Node). IsInside x.block land) (one_node t.pool id id top.0 n refl top.1 e) top.2 in
     len_of_inside n.block land (w.each id n e).lawful.short hl.short inside
 
-pub rank_root : (t : Linked) → IsTree t → rank t.pool t.root ≤ width_of t.family + 1
-rank_root t w = let all = rank_land t w Root t.root (whole t.family) (refl, refl) (omega arith) in omega arith
-
--- and strictly so below a node
+-- a node's children are of lower rank
 pub rank_child : (t : Linked) → IsTree t → (id : ℕ) (n : Node) (s : Bool) → node_at t.pool id ≡ Some n → HasRoom n.block → rank t.pool (child s n) + 1 ≤ rank t.pool (Some id)
 rank_child t w id n false e room = let below = rank_land t w (Under id false) (child false n) (half false n.block) (n, e, room, refl, refl) (omega arith) in rw e (omega arith)
 rank_child t w id n true e room = let below = rank_land t w (Under id true) (child true n) (half true n.block) (n, e, room, refl, refl) (omega arith) in rw e (omega arith)

@@ -178,10 +178,6 @@ some_fits land xs len from b hb i free le short early none =
     let first = (i.each b.first (has_first b)).0 in
     none p (record { lawful = hp; len_is = refl; inside = inside_trans p b land in_b i; free = λ a h. free a (in_b.each a h); from_on = omega arith })
 
--- nothing of the length is free
-pub none_fits : (land : Cidr) (xs : List Cidr) (len from : ℕ) → ((b : Cidr) → IsBlock b → IsInside b land → b.len ≤ len → IsFree xs b → ⊥) → IsFirstFit land xs len from None
-none_fits land xs len from none = λ b f. none b f.lawful f.inside (let is = f.len_is in omega arith) f.free
-
 module _ (t : Linked) (w : IsSound t) (land : Cidr) (hl : IsBlock land) (fam : land.family ≡ t.family) (room : HasRoom land) (strict : Bool) (strictly : (id : ℕ) (m : Node) → node_at t.pool id ≡ Some m → m.count ≢ 0 → not (strict && is_same m.block land) ≡ true → m.block ≢ land)
     (len from : ℕ) (less : land.len < len) (low : Cidr) (low_is : low ≡ half false land) (r : Option Cidr) where
   agree : (s : Bool) (a : ℕ) → HasAddress (half s land) a → is_taken (counting_of (blocks_of t.pool) land strict) a ≡ is_taken (counting_of (blocks_of t.pool) (half s land) false) a

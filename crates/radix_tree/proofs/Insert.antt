@@ -15,7 +15,7 @@ use Rattle.radix_tree.specs.Shape.{half, child, HasRoom, HasLink, IsLink, IsTree
 use Rattle.radix_tree.specs.Edits.{CanPut, IsPut}
 use Rattle.radix_tree.specs.Listed.{copies, blocks_of, link_count, child_count, IsTallied, IsFull}
 use Rattle.radix_tree.specs.Find.{IsFound, IsJoint}
-use Rattle.radix_tree.specs.Sound.{IsSound, IsOver, IsInserted}
+use Rattle.radix_tree.specs.Sound.{IsSound, leaf, IsOver, IsInserted}
 use Rattle.radix_tree.proofs.Sides.{self_in, half_family, has_first, half_in, not_in_half, same_side, sides_apart}
 use Rattle.radix_tree.proofs.Order.{some_same, not_both, one_node}
 use Rattle.radix_tree.proofs.Put.{put_tree}
@@ -110,8 +110,13 @@ pub over_children : (n : Node) (block : Cidr) (count : ℕ) (s : Bool) (id : ℕ
 over_children n block count false id h = let a = ap link_count h.there in let b = ap link_count h.other in omega arith
 over_children n block count true id h = let a = ap link_count h.there in let b = ap link_count h.other in omega arith
 
-abbrev pub leaf : Cidr → Node
-leaf block = record { block = block; count = 1; low = None; high = None; free = None }
+-- what is known of a node that was put at a place
+abbrev pub IsPlaced : Linked → Linked → Place → ℕ → Node → Type 0
+IsPlaced old new place i n = IsPut old new place i n × IsPermutation (copies n ++ blocks_of old.pool) (blocks_of new.pool)
+    × ((at : Option ℕ) (land : Cidr) → HasLink old place at land → child_count n ≡ link_count at → IsTallied old → IsTallied new)
+
+pub placed_leaf : (old new : Linked) (place : Place) (i : ℕ) (n : Node) (block : Cidr) → n ≡ leaf block → IsPlaced old new place i n → IsPlaced old new place i (leaf block)
+placed_leaf old new place i n block is h = subst (λ (x : Node). IsPlaced old new place i x) is h
 
 -- the leaf
 pub inserted_leaf : (old new : Linked) (block : Cidr) (f : Found) → IsSound old → IsBlock block → block.family ≡ old.family → IsFound old block f → f.at ≡ None → (i : ℕ) → IsPut old new f.place i (leaf block)

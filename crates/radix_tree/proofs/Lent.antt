@@ -9,8 +9,7 @@ use Rattle.radix_tree.specs.declared.links.Place.TheVariants.{Under}
 use Rattle.radix_tree.specs.declared.links.Linked.{Linked}
 use Rattle.radix_tree.specs.Shape.{half, child, IsTree}
 use Rattle.radix_tree.specs.Listed.{copies_at, blocks_of}
-use Rattle.radix_tree.specs.Sound.{IsSound}
-use Rattle.radix_tree.specs.Lent.{HasLiveChildren, HasTwoChildren}
+use Rattle.radix_tree.specs.Lent.{HasLiveChildren}
 use Rattle.radix_tree.proofs.Order.{not_both}
 use Rattle.radix_tree.proofs.Slots.{at}
 
@@ -21,9 +20,6 @@ live_children t w id below n side e is = elim (cases_lt n.block.len (width_of n.
       subst IsSome (sym top.1) refl
   | inr full ↦ absurd (not_both (child side n) below ((w.each id n e).shut (λ room. omega arith) side) is)
 ]
-
-pub two_children : (t : Linked) → IsSound t → HasTwoChildren t.pool
-two_children t h id n e none side = h.full id n e (λ k. cc) none side
 
 all_more : (P : Cidr → Type 0) (xs ys : List Cidr) → AllByRecursion P xs → AllByRecursion P ys → AllByRecursion P (xs ++ ys)
 all_more P [] ys h k = k

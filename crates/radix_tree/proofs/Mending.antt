@@ -143,9 +143,6 @@ all_but pool block h = λ id n e out. h id n e
 alike_self : (m : Node) → IsAlike m m
 alike_self m = record { block = refl; count = refl; low = refl; high = refl }
 
-pub refreed_none : (t : Linked) → Refrees t t
-refreed_none t = record { family = refl; root = refl; spare = refl; kept = λ id m e. (m, e, alike_self m); was = λ id m e. (m, e, alike_self m) }
-
 pub refreed_one : (old new : Linked) (id : ℕ) (n : Node) (free : Option ℕ) → node_at old.pool id ≡ Some n → RefreesOne old new id free → Refrees old new
 refreed_one old new id n free here h = record {
   family = h.family;

@@ -31,18 +31,6 @@ move_link pool at to land field e f h = subst (λ (x : Option ℕ). IsLink pool 
 abbrev pub IsAbove : Linked → Option ℕ → Cidr → Type 0
 IsAbove t at land = (k : ℕ) × (p : Node) × (node_at t.pool k ≡ Some p) × LeadsTo t.pool at p.block × IsInside land p.block × (IsInside p.block land → ⊥)
 
-pub place_cases : (p q : Place) → (p ≡ q) ⊎ (p ≢ q)
-place_cases Root Root = inl refl
-place_cases Root (Under m r) = inr (λ e. cc)
-place_cases (Under k s) Root = inr (λ e. cc)
-place_cases (Under k s) (Under m r) = elim (cases_eq k m) [
-  | inl ids ↦ elim (same_side s r) [
-    | inl sides ↦ inl (ap (λ (j : ℕ). Under j s) ids ∙ ap (λ (x : Bool). Under m x) sides)
-    | inr other ↦ inr (λ e. let f : s ≡ r = cc in other f)
-  ]
-  | inr other ↦ inr (λ e. let f : k ≡ m = cc in other f)
-]
-
 -- of two nodes around a number, the link on its side in the outer one leads to the inner one
 under_in : (t : Linked) → IsTree t → (k m : ℕ) (p q : Node) (s r : Bool) → node_at t.pool k ≡ Some p → node_at t.pool m ≡ Some q → HasRoom p.block → HasRoom q.block → k ≢ m
     → IsInside p.block q.block → (a : ℕ) → HasAddress (half s p.block) a → HasAddress (half r q.block) a → (at : Option ℕ) (land : Cidr) → at ≡ child s p → land ≡ half s p.block

@@ -10,9 +10,6 @@ use Rattle.radix_tree.specs.Edits.{CanPut, IsPut}
 use Rattle.radix_tree.proofs.Sides.{self_in, has_first, not_in_half}
 use Rattle.radix_tree.proofs.Order.{some_same, one_node, leads_weaker, move_link, order, one_land}
 
-block_in : (land : Cidr) → Cidr → Type 0
-block_in land b = IsInside b land
-
 -- a node whose link was set is still lawful
 pub set_node : (family : _) (place : Place) (to : Option ℕ) (id : ℕ) (m n : Node) → IsSet place to id m n → IsNode family m → IsNode family n
 set_node family place to id m n h own = record {

@@ -8,17 +8,14 @@ use Rattle.inet_num.proofs.Numbers.{width_small}
 use Rattle.node_pool.specs.Pooled.{Pooled, node_at, IsLive}
 use Rattle.radix_tree.specs.declared.Node.{Node}
 use Rattle.radix_tree.specs.declared.Entry.{Entry}
-use Rattle.radix_tree.specs.declared.links.Place.{Place}
 use Rattle.radix_tree.specs.declared.links.Place.TheVariants.{Under}
 use Rattle.radix_tree.specs.declared.links.Linked.{Linked}
-use Rattle.radix_tree.specs.Shape.{half, child, HasLink, IsTree, rank, rank_of}
+use Rattle.radix_tree.specs.Shape.{half, child, IsLink, IsTree, rank, rank_of}
 use Rattle.radix_tree.specs.Listed.{blocks_of}
 use Rattle.radix_tree.specs.Inside.{ListsInside, entry_if}
 use Rattle.radix_tree.specs.Preorder.{entries_at, preorder, entries_below, to_come, IsStacked, IsPending, heft, weight}
 use Rattle.radix_tree.specs.Sound.{IsSound}
-use Rattle.radix_tree.proofs.Sides.{self_in}
-use Rattle.radix_tree.proofs.Order.{not_both}
-use Rattle.radix_tree.proofs.Descent.{rank_land, rank_child}
+use Rattle.radix_tree.proofs.Descent.{rank_child}
 use Rattle.radix_tree.proofs.Mending.{child_node}
 use Rattle.radix_tree.proofs.Within.{inside_clear, inside_single, inside_node}
 
@@ -73,32 +70,41 @@ enough t w (suc d) (Some id) le live = go (node_at t.pool id) refl (live id refl
       ∙ sym (some_below (suc d) t.pool id n e)
 
 -- they are the blocks inside the land
-pub below_lists : (t : Linked) → IsSound t → (d : ℕ) (place : Place) (at : Option ℕ) (land : Cidr) → HasLink t place at land → rank t.pool at ≤ d → ListsInside (blocks_of t.pool) land (preorder d t.pool at)
-below_lists t w d place None land here le = subst (ListsInside (blocks_of t.pool) land) (sym (none_below d t.pool)) (inside_clear t w place None land land here (self_in land) refl)
-below_lists t w zero place (Some id) land here le =
-    let top = (w.tree.links place (Some id) land here).top id refl in
+pub below_lists : (t : Linked) → IsSound t → (d : ℕ) (at : Option ℕ) (land : Cidr) → IsLink t.pool at land → rank t.pool at ≤ d → ListsInside (blocks_of t.pool) land (preorder d t.pool at)
+below_lists t w d None land link le = subst (ListsInside (blocks_of t.pool) land) (sym (none_below d t.pool)) (inside_clear t land link)
+below_lists t w zero (Some id) land link le =
+    let top = link.top id refl in
     let own = rank_is t.pool id top.0 top.1 in
     let short = (w.tree.each id top.0 top.1).lawful.short in
     absurd (omega arith)
-below_lists t w (suc d) place (Some id) land here le =
-    let top = (w.tree.links place (Some id) land here).top id refl in
+below_lists t w (suc d) (Some id) land link le =
+    let top = link.top id refl in
     let n = top.0 in
     let e = top.1 in
     let own = w.tree.each id n e in
     subst (ListsInside (blocks_of t.pool) land) (sym (some_below d t.pool id n e)) (elim (cases_lt n.block.len (width_of n.block.family)) [
       | inl room ↦
-          let low = below_lists t w d (Under id false) n.low (half false n.block) (n, e, room, refl, refl) (let r = child_rank t w.tree id n false e in omega arith) in
-          let high = below_lists t w d (Under id true) n.high (half true n.block) (n, e, room, refl, refl) (let r = child_rank t w.tree id n true e in omega arith) in
-          inside_node t w place land id n here e room (preorder d t.pool n.low) (preorder d t.pool n.high) low high
+          let low = below_lists t w d n.low (half false n.block) (w.tree.links (Under id false) n.low (half false n.block) (n, e, room, refl, refl)) (let r = child_rank t w.tree id n false e in omega arith) in
+          let high = below_lists t w d n.high (half true n.block) (w.tree.links (Under id true) n.high (half true n.block) (n, e, room, refl, refl)) (let r = child_rank t w.tree id n true e in omega arith) in
+          inside_node t w land id n link e room (preorder d t.pool n.low) (preorder d t.pool n.high) low high
       | inr full ↦
           let short = own.lawful.short in
           let low = ap (preorder d t.pool) (own.shut (λ room. omega arith) false) ∙ none_below d t.pool in
           let high = ap (preorder d t.pool) (own.shut (λ room. omega arith) true) ∙ none_below d t.pool in
-          let single = inside_single t w place land id n here e (omega arith) in
+          let single = inside_single t w land id n link e (omega arith) in
           subst (λ (xs : List Entry). ListsInside (blocks_of t.pool) land (entry_if n.count n.block ++ (xs ++ preorder d t.pool n.high))) (sym low)
           (subst (λ (xs : List Entry). ListsInside (blocks_of t.pool) land (entry_if n.count n.block ++ xs)) (sym high)
           (subst (ListsInside (blocks_of t.pool) land) (sym (append-nil (entry_if n.count n.block))) single))
     ])
+
+-- a link's node can stand above 128 others
+link_rank : (t : Linked) → IsTree t → (at : Option ℕ) (land : Cidr) → IsLink t.pool at land → rank t.pool at ≤ 129
+link_rank t w None land link = omega arith
+link_rank t w (Some id) land link = (let top = link.top id refl in let own = rank_is t.pool id top.0 top.1 in let small = width_small top.0.block.family in omega (arith, own, small))
+
+-- the blocks inside a land, by the link for it
+pub link_lists : (t : Linked) → IsSound t → (at : Option ℕ) (land : Cidr) → IsLink t.pool at land → ListsInside (blocks_of t.pool) land (entries_below t.pool at)
+link_lists t w at land link = below_lists t w 129 at land link (link_rank t w.tree at land link)
 
 -- ---- the stack
 
@@ -204,23 +210,6 @@ module _ (t : Linked) (all xs : List (Option ℕ)) (x : Option ℕ) (id : ℕ) (
         let low = heft_three (rank t.pool n.low) (rank t.pool (Some id)) (child_rank t h.sound.tree id n false e) in
         let some_weight = heft_some (rank t.pool (Some id)) in
         omega (arith, before, same, one, two, high, low, some_weight)
-
--- the stack of one link
-pub pending_one : (t : Linked) → IsSound t → (place : Place) (at : Option ℕ) (land : Cidr) → HasLink t place at land → land.len ≤ width_of land.family → IsPending t (at ∷ [])
-pending_one t w place at land here short = record {
-  sound = w;
-  stacked = (
-    (let le = rank_land t w.tree place at land here short in let small = width_small land.family in omega (arith, le, small)),
-    (λ id is. (let top = (w.tree.links place at land here).top id is in subst IsSome (sym top.1) refl)),
-    tt,
-  );
-}
-
-pub pending_empty : (t : Linked) → IsSound t → IsPending t (None ∷ [])
-pending_empty t w = record { sound = w; stacked = (omega arith, (λ id is. absurd (not_both None id refl is)), tt) }
-
-pub none_lists : (t : Linked) (within : Cidr) → ListsInside (blocks_of t.pool) within [] → ListsInside (blocks_of t.pool) within (entries_below t.pool None)
-none_lists t within h = subst (ListsInside (blocks_of t.pool) within) (sym (none_below 129 t.pool)) h
 
 pub entry_some : (count : ℕ) (b : Cidr) → 0 < count → entry_if count b ≡ record { block = b; times = count } ∷ []
 entry_some zero b some = absurd (omega arith)

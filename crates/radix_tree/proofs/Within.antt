@@ -1,26 +1,24 @@
 -- What the nodes below a link list: the node's own block, then the blocks in its low half, then those in its high half.
-use Rattle.std.proofs.Common.{◌≡◌, ◌≢◌, ℕ, zero, suc, ◌<◌, Bool, true, false, refl, sym, ◌∙◌, ap, subst, arith, inl, inr, Option, Some, None, List, [], ◌∷◌, ◌++◌}
+use Rattle.std.proofs.Common.{◌≡◌, ◌≢◌, ℕ, zero, suc, ◌<◌, Bool, true, false, refl, sym, ◌∙◌, ap, subst, arith, inl, inr, Some, None, List, [], ◌∷◌, ◌++◌}
 use Rattle.std.specs.Prelude.{Contains}
 use Rattle.std.proofs.lemmas.Bool.{cases_lt, cases_eq}
 use Rattle.std.proofs.lemmas.List.Elements.{Contains-append_left, Contains-append_right, Contains-append_cases}
 use Rattle.inet_num.specs.Net.{Cidr, width_of, IsBlock, IsInside}
 use Rattle.inet_num.proofs.Nested.{inside_trans, same_by_len}
-use Rattle.inet_num.proofs.Aligned.{nested}
 use Rattle.block_space.specs.Listed.{times_of}
 use Rattle.node_pool.specs.Pooled.{node_at}
 use Rattle.radix_tree.specs.declared.Node.{Node}
 use Rattle.radix_tree.specs.declared.Entry.{Entry}
-use Rattle.radix_tree.specs.declared.links.Place.{Place}
 use Rattle.radix_tree.specs.declared.links.Linked.{Linked}
-use Rattle.radix_tree.specs.Shape.{half, HasRoom, HasLink}
+use Rattle.radix_tree.specs.Shape.{half, HasRoom, IsLink}
 use Rattle.radix_tree.specs.Listed.{blocks_of}
 use Rattle.radix_tree.specs.Sound.{IsSound}
 use Rattle.radix_tree.specs.Inside.{ComesBefore, AreInOrder, ListsInside, entry_if}
-use Rattle.radix_tree.proofs.Sides.{self_in, has_first, half_in, side_of, longer, len_of_inside}
-use Rattle.radix_tree.proofs.Order.{not_both, one_node}
+use Rattle.radix_tree.proofs.Sides.{has_first, half_in, side_of, longer, len_of_inside}
+use Rattle.radix_tree.proofs.Order.{some_same, not_both, one_node}
 use Rattle.radix_tree.proofs.Covers.{node_of, node_held, half_len}
 use Rattle.radix_tree.proofs.Times.{times_node}
-use Rattle.radix_tree.proofs.Covered.{in_land, under_node, half_short}
+use Rattle.radix_tree.proofs.Covered.{half_short}
 
 joined_order : (xs ys : List Entry) → AreInOrder xs → AreInOrder ys → ((x y : Entry) → Contains xs x → Contains ys y → ComesBefore x.block y.block) → AreInOrder (xs ++ ys)
 joined_order [] ys h k before = k
@@ -48,42 +46,21 @@ inside_none t land none = record {
   ordered = tt;
 }
 
--- no node stands at the place
-pub inside_clear : (t : Linked) → IsSound t → (place : Place) (at : Option ℕ) (land within : Cidr) → HasLink t place at land → IsInside within land → at ≡ None → ListsInside (blocks_of t.pool) within []
-inside_clear t w place at land within here inside_land none = inside_none t within (λ j m e i.
-    let lead = (w.tree.links place at land here).leads j m e (inside_trans m.block within land i inside_land) in not_both at lead.0 none lead.2)
+-- the link leads nowhere
+pub inside_clear : (t : Linked) (land : Cidr) → IsLink t.pool None land → ListsInside (blocks_of t.pool) land []
+inside_clear t land link = inside_none t land (λ j m e i. let lead = link.leads j m e i in not_both None lead.0 refl lead.2)
 
--- the node at the place is not inside the block
-pub inside_apart : (t : Linked) (w : IsSound t) (place : Place) (land within : Cidr) (id : ℕ) (n : Node) → HasLink t place (Some id) land → node_at t.pool id ≡ Some n → IsBlock within → within.family ≡ t.family → IsInside within land
-    → (IsInside n.block within → ⊥) → (IsInside within n.block → n.block ≡ within) → ListsInside (blocks_of t.pool) within []
-inside_apart t w place land within id n here e hb famW inside_land out stops = inside_none t within (λ j m f i.
-    let deep = under_node t w place land id n here e j m f (inside_trans m.block within land i inside_land) in
-    let own_n = w.tree.each id n e in
-    let first = has_first m.block in
-    elim (nested within n.block hb own_n.lawful (famW ∙ sym own_n.family_is) m.block.first (i.each m.block.first first) (deep.each m.block.first first)) [
-      | inl under ↦ out (subst (IsInside n.block) (stops under) (self_in n.block))
-      | inr over ↦ out over
-    ])
-
--- the node at the place is inside the block: what the land has, the block has
-pub inside_land : (t : Linked) (w : IsSound t) (place : Place) (land within : Cidr) (id : ℕ) (n : Node) → HasLink t place (Some id) land → node_at t.pool id ≡ Some n → IsInside within land → IsInside n.block within
-    → (xs : List Entry) → ListsInside (blocks_of t.pool) land xs → ListsInside (blocks_of t.pool) within xs
-inside_land t w place land within id n here e within_land inside xs h = record {
-  each = λ x k.
-      let r = h.each x k in
-      let m = node_of t.pool.slots x.block r.0 in
-      let deep = under_node t w place land id n here e m.0 m.1 m.2 (subst (λ (c : Cidr). IsInside c land) (sym m.3) r.1) in
-      (r.0, subst (λ (c : Cidr). IsInside c within) m.3 (inside_trans m.1.block n.block within deep inside), r.2);
-  all = λ b held i. h.all b held (inside_trans b within land i within_land);
-  ordered = h.ordered;
-}
-
-module _ (t : Linked) (w : IsSound t) (place : Place) (land : Cidr) (id : ℕ) (n : Node) (here : HasLink t place (Some id) land) (e : node_at t.pool id ≡ Some n) where
+module _ (t : Linked) (w : IsSound t) (land : Cidr) (id : ℕ) (n : Node) (link : IsLink t.pool (Some id) land) (e : node_at t.pool id ≡ Some n) where
   own : IsBlock n.block
   own = (w.tree.each id n e).lawful
 
   n_land : IsInside n.block land
-  n_land = in_land t w place land id n here e
+  n_land = (let top = link.top id refl in subst (λ (x : Node). IsInside x.block land) (one_node t.pool id id top.0 n refl top.1 e) top.2)
+
+  under_node : (j : ℕ) (m : Node) → node_at t.pool j ≡ Some m → IsInside m.block land → IsInside m.block n.block
+  under_node j m f i =
+      let lead = link.leads j m f i in
+      subst (λ (x : Node). IsInside m.block x.block) (one_node t.pool lead.0 id lead.1 n (sym (some_same id lead.0 lead.2)) lead.3 e) lead.4
 
   own_each : (x : Entry) → Contains (entry_if n.count n.block) x → Contains (blocks_of t.pool) x.block × IsInside x.block land × (x.times ≡ times_of (blocks_of t.pool) x.block)
   own_each x k =
@@ -103,7 +80,7 @@ module _ (t : Linked) (w : IsSound t) (place : Place) (land : Cidr) (id : ℕ) (
     each = own_each;
     all = λ b held i.
         let m = node_of t.pool.slots b held in
-        let deep = under_node t w place land id n here e m.0 m.1 m.2 (subst (λ (c : Cidr). IsInside c land) (sym m.3) i) in
+        let deep = under_node m.0 m.1 m.2 (subst (λ (c : Cidr). IsInside c land) (sym m.3) i) in
         let short = (w.tree.each m.0 m.1 m.2).lawful.short in
         let fam : width_of m.1.block.family ≡ width_of n.block.family = ap width_of deep.family in
         let same = same_by_len m.1.block n.block deep (omega (arith, short, fam, full)) short own.short in
@@ -113,9 +90,6 @@ module _ (t : Linked) (w : IsSound t) (place : Place) (land : Cidr) (id : ℕ) (
   }
 
   module _ (room : HasRoom n.block) (low high : List Entry) (l : ListsInside (blocks_of t.pool) (half false n.block) low) (h : ListsInside (blocks_of t.pool) (half true n.block) high) where
-    all_of : List Entry
-    all_of = entry_if n.count n.block ++ (low ++ high)
-
     half_land : (s : Bool) (c : Cidr) → IsInside c (half s n.block) → IsInside c land
     half_land s c i = inside_trans c (half s n.block) land i (inside_trans (half s n.block) n.block land (half_in s n.block room) n_land)
 
@@ -159,7 +133,7 @@ module _ (t : Linked) (w : IsSound t) (place : Place) (land : Cidr) (id : ℕ) (
       all = λ b held i.
           let m = node_of t.pool.slots b held in
           let own_m = (w.tree.each m.0 m.1 m.2).lawful in
-          let deep = under_node t w place land id n here e m.0 m.1 m.2 (subst (λ (c : Cidr). IsInside c land) (sym m.3) i) in
+          let deep = under_node m.0 m.1 m.2 (subst (λ (c : Cidr). IsInside c land) (sym m.3) i) in
           elim (cases_eq m.0 id) [
             | inl same ↦ (let r = own_has m.0 m.1 m.2 m.4 same in (r.0, Contains-append_left (entry_if n.count n.block) (low ++ high) r.0 r.1, r.2 ∙ m.3))
             | inr other ↦

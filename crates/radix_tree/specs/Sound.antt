@@ -23,6 +23,10 @@ pub record IsKept (t : Linked) : Type 0 where
   pub frees : HasFrees t.pool
   pub few : length (blocks_of t.pool) ≤ 2 ^ 30
 
+-- a node with the block once, and without children
+abbrev pub leaf : Cidr → Node
+leaf block = record { block = block; count = 1; low = None; high = None; free = None }
+
 -- the node has this block and count, and one child, on this side
 pub record IsOver (n : Node) (block : Cidr) (count : ℕ) (high : Bool) (id : ℕ) : Type 0 where
   pub block_is : n.block ≡ block

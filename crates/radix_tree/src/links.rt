@@ -8,7 +8,7 @@ ghost use Rattle.radix_tree.specs.Shape.{half, child, owner, whole, HasRoom, Has
 ghost use Rattle.radix_tree.specs.Edits.{IsPut, IsCut};
 ghost use Rattle.radix_tree.specs.Listed.{copies, blocks_of, link_count, child_count, links_of, IsTallied, Recounts};
 ghost use Rattle.radix_tree.specs.Frees.{HasFrees};
-ghost use Rattle.radix_tree.specs.Sound.{IsSound, IsOver, IsInserted, IsTrimmed, IsRemoved};
+ghost use Rattle.radix_tree.specs.Sound.{IsSound, leaf, IsOver, IsInserted, IsTrimmed, IsRemoved};
 ghost use Rattle.block_space.specs.Listed.{times_of, counting_of, covered_of};
 ghost use Rattle.radix_tree.specs.Covering.{ListsCovering, if_counted};
 ghost use Rattle.radix_tree.specs.Find.{IsFound};
@@ -43,6 +43,19 @@ fn over(block: Block, count: u32, high: bool, id: NodeId) -> Node
             high: None,
             free: None,
         }
+    }
+}
+
+/// A node with this block once, and no other node.
+fn leaf_of(block: Block) -> Node
+    ensures { result ≡ leaf block }
+{
+    Node {
+        block,
+        count: 1,
+        low: None,
+        high: None,
+        free: None,
     }
 }
 
@@ -199,16 +212,7 @@ impl Linked {
     {
         let found = self.find(&block, steps);
         let Some(id) = found.at else {
-            self.put_at(
-                found.place,
-                Node {
-                    block,
-                    count: 1,
-                    low: None,
-                    high: None,
-                    free: None,
-                },
-            );
+            self.put_at(found.place, leaf_of(block));
             return;
         };
         let node = self.pool.visit(id, steps);
@@ -225,16 +229,7 @@ impl Linked {
         }
         let joint = join(found.land, &block, &here);
         let above = self.put_at(found.place, over(joint.block, 0, !joint.high, id));
-        self.put_at(
-            Place::Under(above, joint.high),
-            Node {
-                block,
-                count: 1,
-                low: None,
-                high: None,
-                free: None,
-            },
-        );
+        self.put_at(Place::Under(above, joint.high), leaf_of(block));
     }
 
     /// Takes the node of a place away if it has no count and fewer than two children.

@@ -77,25 +77,6 @@ impl Linked {
         }
         None
     }
-
-    /// The link below which all blocks inside a block lie, and no others.
-    fn link_of_inside<L: Ledger>(&self, within: &Block, steps: &mut Steps<L>) -> Option<NodeId>
-        requires sound { IsSound self.now }
-        requires lawful { IsBlock within.now }
-        requires family { within.now.family ≡ self.now.family }
-        ensures pending { IsPending self.now (result ∷ []) }
-        ensures lists { ListsInside (blocks_of self.now.pool) within.now (entries_below self.now.pool result) }
-    {
-        let found = self.find(within, steps);
-        let Some(id) = found.at else {
-            return None;
-        };
-        let node = self.pool.visit(id, steps);
-        if !within.contains(&node.block) {
-            return None;
-        }
-        found.at
-    }
 }
 
 /// The next block of a walk, on a counter that is made for it.
@@ -122,7 +103,7 @@ pub fn inside_counted<'a, L: Ledger>(linked: &'a Linked, within: &Block, blank: 
     ensures { ListsInside (blocks_of linked.now.pool) within.now result }
 {
     let mut steps = Steps::<L>::new(blank);
-    let at = linked.link_of_inside(within, &mut steps);
+    let at = linked.link_inside(within, &mut steps);
     let mut pending = ArrayVec::new();
     pending.push(at);
     Inside { linked, pending }

@@ -7,7 +7,7 @@ ghost use Rattle.block_list.specs.Listing.{Listing};
 
 use block_list::BlockList;
 use block_space::{Space, Steps};
-use inet_num::{Addr, Block, Family};
+use inet_num::{Addr, Block, Family, read_block, write_block};
 use radix_tree::Tree;
 use std::alloc::{AllocError, Global};
 use std::marker::Brand;
@@ -421,5 +421,136 @@ fn a_tree_answers_as_a_list(rt: HostRuntime) -> Result<(), Fail> {
         let list: BlockList = changed(alloc, family, changes)?;
         assert!(rt; all_alike(&tree, &list, family, asked), "{changes:?}");
     }
+    Ok(())
+}
+
+/// The change that a word as `+10.0.0.0/24` or `-10.0.0.0/24` stands for.
+fn change_of(word: &str) -> Option<Change> {
+    let (sign, text) = word.as_bytes().split_first()?;
+    let block = read_block(text).ok()?;
+    let first = block.first().value();
+    match sign {
+        b'+' => Some(Insert(first, block.len())),
+        b'-' => Some(Remove(first, block.len())),
+        _ => None,
+    }
+}
+
+/// The changes of words with a space between them.
+fn changes_of(alloc: Global, words: &str) -> Result<Vec<Change>, AllocError> {
+    let mut out = Vec::new(alloc);
+    for word in words.split(' ') {
+        if let Some(change) = change_of(word) {
+            out.push(change)?;
+        }
+    }
+    Ok(out)
+}
+
+/// The first free block of this length in a block, from its first address on.
+fn fit_of<S: Space, L: Ledger>(
+    space: &S,
+    within: Block,
+    len: u8,
+    strict: bool,
+    blank: Blank,
+) -> Option<Block>
+    requires family { within.family ≡ S.family_of space.now }
+    requires name { blank.name ≡ L.name }
+    requires parts { blank.parts ≡ L.parts }
+    requires some { 0 < blank.parts }
+{
+    let mut steps = Steps::<L>::new(blank);
+    if len < within.len() || within.family().width() < len {
+        return None;
+    }
+    space.first_free(within, len, within.first(), strict, &mut steps)
+}
+
+/// The text of a block, or `none`.
+fn text_of(alloc: Global, block: Option<Block>) -> Result<Vec<u8>, AllocError> {
+    let mut out = Vec::new(alloc);
+    match block {
+        Some(block) => write_block(block, &mut out)?,
+        None => out.extend_from_slice(b"none")?,
+    }
+    Ok(out)
+}
+
+/// What a space says of a block: how often it is there (`times`), how many of its addresses are covered (`covered`), or its
+/// first free block of a length (`fit 24`), also beside those strictly inside it alone (`strict 24`).
+fn said<S: Space>(
+    alloc: Global,
+    space: &S,
+    within: Block,
+    question: &str,
+) -> Result<Vec<u8>, AllocError>
+    requires { within.family ≡ S.family_of space.now }
+{
+    if question == "times" {
+        return Ok(format!(in alloc; "{}", space.times(within))?.into_bytes());
+    }
+    let Some((kind, len)) = question.split_once(' ') else {
+        let covered = if within.len() >= 1 {
+            space.covered(within, false)
+        } else {
+            0
+        };
+        return Ok(format!(in alloc; "{covered}")?.into_bytes());
+    };
+    let len: u8 = len.parse().unwrap_or(0);
+    let fit = fit_of::<S, Brand>(space, within, len, kind == "strict", Blank::new(1));
+    text_of(alloc, fit)
+}
+
+/// Changes, a block, what is asked of it after them, and what is said: one case to a line.
+const CASES: &str = "+::/1 +::/128 +8000::/2 +::/128 -::/1|::/128|times|2
++::/1 +::/128 +8000::/2 +::/128 -::/1|::/0|fit 1|none
++::/1 +::/128 +8000::/2 +::/128 -::/1|::/0|fit 2|4000::/2
++::/1 +::/128|::/1|fit 2|none
++::/1 +::/128|::/1|strict 2|4000::/2
++10.0.0.0/24 +10.0.0.0/24|10.0.0.0/24|times|2
++10.0.0.0/24 +10.0.0.0/24|10.0.0.0/16|covered|256";
+
+/// Whether a space of this kind says what the case's line says.
+fn is_met<S: Space + Drop>(alloc: Global, line: &str) -> Result<bool, AllocError> {
+    let mut columns = line.split('|');
+    let changes = changes_of(alloc, columns.next().unwrap_or(""))?;
+    let Ok(within) = read_block(columns.next().unwrap_or("").as_bytes()) else {
+        return Ok(false);
+    };
+    let space: S = changed(alloc, within.family(), &changes)?;
+    let text = said(alloc, &space, within, columns.next().unwrap_or(""))?;
+    Ok(columns.next().unwrap_or("").as_bytes() == text.as_slice())
+}
+
+#[test]
+fn both_say_what_stands_here(rt: HostRuntime) -> Result<(), Fail> {
+    for line in CASES.split('\n') {
+        assert!(rt; is_met::<Tree>(rt.alloc(), line)?, "a tree: {line}");
+        assert!(rt; is_met::<BlockList>(rt.alloc(), line)?, "a list: {line}");
+    }
+    Ok(())
+}
+
+/// A space with a block twice, after room was made for two.
+fn with_two<S: Space + Drop>(alloc: Global, block: Block) -> Result<S, AllocError>
+    ensures { IfOk result (λ space. S.family_of space ≡ block.family) }
+{
+    let mut space = S::new(alloc, block.family());
+    space.reserve(2)?;
+    space.insert(block);
+    space.insert(block);
+    Ok(space)
+}
+
+#[test]
+fn room_for_two_holds_a_block_twice(rt: HostRuntime) -> Result<(), Fail> {
+    let net = block(Family::V4, TEN, 24).ok_or("no block")?;
+    let host = block(Family::V4, TEN + 1, 32).ok_or("no block")?;
+    let tree: Tree = with_two(rt.alloc(), net)?;
+    let list: BlockList = with_two(rt.alloc(), net)?;
+    assert!(rt; tree.times(net) == 2 && list.times(net) == 2);
+    assert!(rt; tree.covering(host)?.as_slice() == [net].as_slice());
     Ok(())
 }

@@ -1,15 +1,18 @@
 use Rattle.std.proofs.Common.{◌≢◌, false, not, IsTrue, None, arith}
 use Rattle.inet_num.specs.Net.{IsInside}
+use Rattle.radix_tree.specs.declared.links.Place.TheVariants.{Under}
 use Rattle.radix_tree.specs.Shape.{half}
 use Rattle.radix_tree.proofs.Sides.{longer, room_above}
 use Rattle.radix_tree.proofs.Joints.{right_side}
 use Rattle.radix_tree.proofs.Recount.{count_few, inserted_more}
-use Rattle.radix_tree.proofs.Insert.{inserted_leaf, inserted_over, open_link, inserted_join}
+use Rattle.radix_tree.proofs.Insert.{placed_leaf, inserted_leaf, inserted_over, open_link, inserted_join}
 use Rattle.radix_tree.proofs.links.Linked.insert.Goals as goal
 
 pub returns-in_default : goal.returns-in_default
-returns-in_default g c = inserted_leaf c.args.self.now c.put_at.new.self c.args.block c.find-found.result c.requires.sound c.requires.lawful c.requires.family c.find-found.ensures.found c.in_default.is
-    c.put_at.result c.put_at.ensures.put c.put_at.ensures.listed c.put_at.ensures.tally c.put_at.ensures.spare
+returns-in_default g c =
+    let placed = placed_leaf c.args.self.now c.put_at.new.self c.find-found.result.place c.put_at.result c.leaf_of.result c.args.block c.leaf_of.ensures (c.put_at.ensures.put, c.put_at.ensures.listed, c.put_at.ensures.tally) in
+    inserted_leaf c.args.self.now c.put_at.new.self c.args.block c.find-found.result c.requires.sound c.requires.lawful c.requires.family c.find-found.ensures.found c.in_default.is
+    c.put_at.result placed.0 placed.1 placed.2 c.put_at.ensures.spare
 
 pub overflow_add-count : goal.overflow_add-count
 overflow_add-count g c =
@@ -49,6 +52,8 @@ put_at-requires-2-clause-place g c = (
 )
 
 pub returns : goal.returns
-returns g c = inserted_join c.args.self.now c.put_at-above.new.self c.args.block c.find-found.result c.requires.sound c.requires.lawful c.requires.family c.find-found.ensures.found c.in-Some.id c.visit-node.result.now
-    c.in-Some.is c.visit-node.ensures.node c.join-joint.result c.join-joint.ensures c.over-2.result c.over-2.ensures c.put_at-above.result c.put_at-2.result c.put_at-above.ensures.put c.put_at-2.new.self c.put_at-2.ensures.put
-    c.put_at-above.ensures.listed c.put_at-above.ensures.tally c.put_at-above.ensures.spare c.put_at-2.ensures.listed c.put_at-2.ensures.tally c.put_at-2.ensures.spare
+returns g c =
+    let placed = placed_leaf c.put_at-above.new.self c.put_at-2.new.self (Under c.put_at-above.result c.join-joint.result.high) c.put_at-2.result c.leaf_of-2.result c.args.block c.leaf_of-2.ensures (c.put_at-2.ensures.put, c.put_at-2.ensures.listed, c.put_at-2.ensures.tally) in
+    inserted_join c.args.self.now c.put_at-above.new.self c.args.block c.find-found.result c.requires.sound c.requires.lawful c.requires.family c.find-found.ensures.found c.in-Some.id c.visit-node.result.now
+    c.in-Some.is c.visit-node.ensures.node c.join-joint.result c.join-joint.ensures c.over-2.result c.over-2.ensures c.put_at-above.result c.put_at-2.result c.put_at-above.ensures.put c.put_at-2.new.self placed.0
+    c.put_at-above.ensures.listed c.put_at-above.ensures.tally c.put_at-above.ensures.spare placed.1 placed.2 c.put_at-2.ensures.spare
