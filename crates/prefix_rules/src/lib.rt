@@ -22,18 +22,18 @@ mod tables;
 mod tests;
 
 use block_space::Space;
+use indexed_book::IndexedBook;
 use inet_num::Family;
 use ipam_data::kinds::Table;
 use ipam_data::prefix::Prefix;
 use ipam_data::replies::Rule;
 use rivals::{least_rival, pair_at};
-use row_book::RowBook;
 use std::alloc::{AllocError, Global};
 use std::marker::Model;
 use tables::Tables;
 
 /// Takes the block of the row of an id out of its table; where there is no such row, nothing.
-fn forget<S: Space + Drop>(rows: &RowBook<Prefix>, tables: &mut Tables<S>, id: u32)
+fn forget<S: Space + Drop>(rows: &IndexedBook<Prefix>, tables: &mut Tables<S>, id: u32)
     requires { AreInOrder rows.now.rows tables.old }
     ensures order { AreInOrder (without prefix_id rows.now.rows id) tables.new }
     ensures there { (t : Table) → is_there tables.new t ≡ is_there tables.old t }
@@ -52,7 +52,7 @@ fn forget<S: Space + Drop>(rows: &RowBook<Prefix>, tables: &mut Tables<S>, id: u
 /// with a spare of its own and its blocks.
 #[derive(Drop)]
 pub struct PrefixBook<S: Space> {
-    rows: RowBook<Prefix>,
+    rows: IndexedBook<Prefix>,
     tables: Tables<S>,
 }
 
@@ -71,7 +71,7 @@ impl<S: Space + Drop> PrefixBook<S> {
         ensures order { IsInOrder result }
     {
         PrefixBook {
-            rows: RowBook::new(alloc),
+            rows: IndexedBook::new(alloc),
             tables: Tables::new(alloc),
         }
     }
