@@ -3,6 +3,7 @@
 # pages of 1,000 rows listed. The prefixes are /32 blocks: `rising` and `random` are in the global table in rising order or in none,
 # `spread` are random ones over the tables of the 1,000 VRFs. Each time is the best of three runs; memory is the peak of the process
 # less that of a run that opens a register and makes nothing, and so it has what the log keeps of each call.
+# It also sees that every prefix that is made is found, and that the 200,001st is refused.
 # It writes a program into a scratch copy outside the repository, proves and builds it there, and runs it.
 # usage: bench/act.sh [prefixes]; with SCRATCH=DIR the program stays there
 set -euo pipefail
@@ -35,7 +36,7 @@ mkdir -p "$bench/src"
 cat > "$bench/src/main.rt" <<'E'
 //! Makes VRFs and prefixes in a register, reads random prefixes, and lists pages: `rising`, `random`, `spread` or `none`, and the
 //! number of prefixes. It prints the nanoseconds of the VRFs, the prefixes, as many reads, and 100 pages, and how many of the
-//! calls gave what they should.
+//! calls gave what they should; last, whether one more prefix is made.
 #![tactic(auto)]
 
 use inet_num::{Addr, Block, Family};
@@ -146,20 +147,29 @@ fn make_prefixes(
     Ok(done)
 }
 
+/// A mixed number below another, or 0.
+fn below(n: u32, count: u32) -> u32 {
+    if count == 0 {
+        0
+    } else {
+        ((mixed(u64::from(n)) & 0xffffffff) as u32) % count
+    }
+}
+
 fn read(register: &mut Register, count: u32) -> u64 {
     let mut done = 0u64;
     for n in 0..count {
-        let id = (mixed(u64::from(n)) & 0x1ffff) as u32;
+        let id = below(n, count).saturating_add(1);
         let reply = register.act(0, Call::Get { kind: Kind::Prefixes, id });
         done = done.wrapping_add(one(matches!(reply, Reply::One(_))));
     }
     done
 }
 
-fn list(register: &mut Register, pages: u32) -> u64 {
+fn list(register: &mut Register, pages: u32, count: u32) -> u64 {
     let mut done = 0u64;
     for n in 0..pages {
-        let offset = (mixed(u64::from(n)) & 0x1ffff) as u32;
+        let offset = below(n, count);
         let call = Call::List {
             kind: Kind::Prefixes,
             filter: Filter::Prefixes,
@@ -200,9 +210,10 @@ fn main(rt: HostRuntime) -> anyhow::Result<()> {
     let found = read(&mut register, count);
     let for_reads = start.elapsed(&rt)?.as_nanos();
     let start = Instant::now(&rt)?;
-    let listed = list(&mut register, if count > 0 { 100 } else { 0 });
+    let listed = list(&mut register, if count > 0 { 100 } else { 0 }, count);
     let for_pages = start.elapsed(&rt)?.as_nanos();
-    println!(rt; "{for_vrfs} {for_prefixes} {for_reads} {for_pages} {made_vrfs} {made} {found} {listed}")?;
+    let more = make_prefixes(rt.alloc(), &mut register, order, if count > 0 { 1 } else { 0 })?;
+    println!(rt; "{for_vrfs} {for_prefixes} {for_reads} {for_pages} {made_vrfs} {made} {found} {listed} {more}")?;
     Ok(())
 }
 E
@@ -222,6 +233,8 @@ for order in rising random spread; do
         full=$(peak "$program" "$order" "$prefixes")
         cat "$scratch/answer" >> "$scratch/answers"
     done
+    awk -v c="$prefixes" '
+        $5 != 1000 || $6 != c || $7 != c || $9 != (c < 200000) { print "the answers are not those of the rules: " $0 > "/dev/stderr"; exit 1 }' "$scratch/answers"
     awk -v k="$order" -v c="$prefixes" -v m=$(((full - base) * 1024)) '
         { for (i = 1; i <= 4; i++) if (NR == 1 || $i < best[i]) best[i] = $i; vrfs = $5; made = $6; rows = $8 }
         END {
