@@ -726,6 +726,6 @@ sed -i 's/share: Share<L>,/&\n    pub seen: u64,/; s/Steps { book, share }/Steps
 sed -i 's/let seen = 0;/let seen = steps.seen;/' "$counted/crates/tree_bench/src/main.rt"
 echo
 for family in 4 6; do
-    most=$(cd "$counted/crates/tree_bench" && rt try -- tree $family "$hosts" 0 "$claims" 2> "$scratch/log" | awk 'NF == 6 { print $6 }')
+    most=$(cd "$counted/crates/tree_bench" && rt try --seconds 3600 -- tree $family "$hosts" 0 "$claims" 2> "$scratch/log" | awk 'NF == 6 { print $6 }')
     echo "IPv$family: the most nodes that a search among $hosts hosts visited: $most"
 done
