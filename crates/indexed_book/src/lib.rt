@@ -10,7 +10,7 @@ ghost use Rattle.indexed_book.specs.Indexed.{entry_id, resettled, IsOnlyFor};
 #[cfg(test)]
 mod tests;
 
-use ipam_data::kinds::Row;
+use ipam_data::kinds::HasId;
 use row_book::{found, seek};
 use std::alloc::{AllocError, Global};
 use std::marker::Model;
@@ -22,7 +22,7 @@ struct Entry {
     slot: u32,
 }
 
-impl Row for Entry {
+impl HasId for Entry {
     ghost id_of = { λ e. e.id };
 
     fn id(&self) -> u32 {
@@ -56,13 +56,13 @@ fn resettle(index: &mut Vec<Entry>, id: u32, from: u32, to: u32)
 ///
 /// A contract sees the rows and the spare: how many more rows can be put without taking memory.
 #[derive(Drop)]
-pub struct IndexedBook<T: Row> {
+pub struct IndexedBook<T: HasId> {
     index: Vec<Entry>,
     slots: Vec<T>,
     spare: u32,
 }
 
-impl<T: Row> Model for IndexedBook<T> {
+impl<T: HasId> Model for IndexedBook<T> {
     ghost use Rattle.std.specs.Prelude.{◌≡◌, ◌+◌, ◌≤◌, ◌<◌, ◌^◌, vec_len, vec_capacity};
     ghost use Rattle.ipam_data.specs.Shelf.{Rises};
     ghost use Rattle.row_book.specs.Book.{Book, book_code};
@@ -78,7 +78,7 @@ impl<T: Row> Model for IndexedBook<T> {
     ghost invariant = { λ b. Rises entry_id 0 b.index.items × AreKept T.id_of b.slots.items b.index.items × (vec_len b.index + b.spare ≤ vec_capacity b.index) × (vec_len b.slots ≡ vec_len b.index) × (vec_len b.slots + b.spare ≤ vec_capacity b.slots) × (vec_len b.index + b.spare < 2 ^ 30) };
 }
 
-impl<T: Row> IndexedBook<T> {
+impl<T: HasId> IndexedBook<T> {
     /// A book without rows and without room. It takes no memory.
     pub fn new(alloc: Global) -> IndexedBook<T>
         ensures { result ≡ record { rows = []; spare = 0 } }
@@ -147,7 +147,7 @@ impl<T: Row> IndexedBook<T> {
     }
 }
 
-impl<T: Row + Drop> IndexedBook<T> {
+impl<T: HasId + Drop> IndexedBook<T> {
     /// Puts the row in the place of the one of its id, or else behind all: its id is then above all others. It takes no
     /// memory, and uses up at most one row's room.
     pub fn put(&mut self, row: T)

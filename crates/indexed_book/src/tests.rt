@@ -1,7 +1,7 @@
 //! A book of small rows: put, replaced, cut at the front, in the middle and at the end, and put again.
 
 use crate::IndexedBook;
-use ipam_data::kinds::Row;
+use ipam_data::kinds::HasId;
 use std::test::Fail;
 
 #[derive(Clone, Copy, Debug)]
@@ -10,7 +10,7 @@ struct Item {
     weight: u32,
 }
 
-impl Row for Item {
+impl HasId for Item {
     ghost id_of = { λ r. r.id };
 
     fn id(&self) -> u32 {

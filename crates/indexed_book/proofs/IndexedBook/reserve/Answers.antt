@@ -5,7 +5,7 @@ use Rattle.indexed_book.proofs.IndexedBook.reserve.Goals as goal
 
 pub invariant_of-self-then-self-n : goal.invariant_of-self-then-self-n
 invariant_of-self-then-self-n g c =
-    let same = length_rows g.T.Row.id_of c.self.inside.slots.items c.self.inside.index.items c.self.invariant.1 in
+    let same = length_rows g.T.HasId.id_of c.self.inside.slots.items c.self.inside.index.items c.self.invariant.1 in
     let few = rw (← ap (λ (b : Book g.row.T.Denot). b.rows) c.self.view_is) at c.requires in
     let equal = c.self.invariant.3 in
     let first = c.in_ok-reserve.ensures.ok in

@@ -1,0 +1,147 @@
+-- A plan that answers no accepted change does nothing; so a call whose reply is none leaves the state.
+use Rattle.std.proofs.Common.{◌≡◌, ℕ, Bool, true, false, List, [], Option, Some, None, refl, ap, sym, ◌∙◌}
+use Rattle.ipam_data.specs.declared.kinds.Kind.{Kind}
+use Rattle.ipam_data.specs.declared.kinds.Kind.TheVariants.{Vrfs, Rirs, Roles, Aggregates, Prefixes, Ranges, Addresses}
+use Rattle.ipam_data.specs.declared.calls.Call.{Call}
+use Rattle.ipam_data.specs.declared.calls.Call.TheVariants.{List as ListOf, Get, Create, Change, Delete}
+use Rattle.ipam_data.specs.declared.calls.Filter.{Filter}
+use Rattle.ipam_data.specs.declared.calls.Filter.TheVariants.{Vrfs as SomeVrfs, Rirs as SomeRirs, Roles as SomeRoles, Aggregates as SomeAggregates, Prefixes as SomePrefixes, Ranges as SomeRanges, Addresses as SomeAddresses}
+use Rattle.ipam_data.specs.declared.calls.Draft.{Draft}
+use Rattle.ipam_data.specs.declared.calls.Draft.TheVariants.{Vrf as VrfDraft, Rir as RirDraft, Role as RoleDraft, Aggregate as AggregateDraft, Prefix as PrefixDraft, IpRange as RangeDraft, IpAddress as AddressDraft}
+use Rattle.ipam_data.specs.declared.calls.Edit.{Edit}
+use Rattle.ipam_data.specs.declared.calls.Edit.TheVariants.{Vrf as VrfEdit, Rir as RirEdit, Role as RoleEdit, Aggregate as AggregateEdit, Prefix as PrefixEdit, IpRange as RangeEdit, IpAddress as AddressEdit}
+use Rattle.ipam_data.specs.declared.replies.Rule.{Rule}
+use Rattle.ipam_data.specs.declared.replies.Refusal.{Refusal}
+use Rattle.ipam_data.specs.declared.replies.Reply.{Reply}
+use Rattle.ipam_data.specs.declared.replies.Reply.TheVariants.{Made, MadeMany, Changed, Gone, Imported, One, Page, Blocks, Addrs, Percent, Refused}
+use Rattle.ipam_data.specs.Shelf.{row_at}
+use Rattle.ipam_data.specs.State.{State, Plan, verdict_of, no_update, reading}
+use Rattle.ipam_data.specs.Plans.{KindRules, with_found, with_row_at, create, replace, change, take_out, delete, get, list, nothing_told}
+use Rattle.ipam_data.specs.Updates.{updated, answered, outcome}
+use Rattle.ipam_data.specs.Vrfs.{vrf_rules, meets_vrf}
+use Rattle.ipam_data.specs.Rirs.{rir_rules, meets_rir}
+use Rattle.ipam_data.specs.Roles.{role_rules, meets_role}
+use Rattle.ipam_data.specs.Aggregates.{aggregate_rules, meets_aggregate}
+use Rattle.ipam_data.specs.Prefixes.{prefix_rules, meets_prefix}
+use Rattle.ipam_data.specs.Ranges.{range_rules, meets_range, range_told}
+use Rattle.ipam_data.specs.Addresses.{address_rules, meets_address}
+use Rattle.ipam_data.specs.Steps.{plan_of, create_plan, change_plan, delete_plan, get_plan, list_plan, told_of_change}
+use Rattle.ipam_data.specs.Replays.{is_accepted}
+use Rattle.ipam_data.specs.Lawful.{StepsStay}
+use Rattle.ipam_data.proofs.Sound.{nothing_done}
+
+-- the plan does nothing where it answers no accepted change
+pub record IsQuiet (plan : Plan) : Type 0 where
+  pub nothing : is_accepted plan.reply ≡ false → plan.update ≡ no_update
+
+-- figures make no accepted change of a reply, and take none away
+accepted_same : (s : State) (reply : Reply) → is_accepted (answered s reply) ≡ is_accepted reply
+accepted_same s (Made view) = refl
+accepted_same s (MadeMany views) = refl
+accepted_same s (Changed view) = refl
+accepted_same s Gone = refl
+accepted_same s (Imported created present) = refl
+accepted_same s (One view) = refl
+accepted_same s (Page count views) = refl
+accepted_same s (Blocks vrf list) = refl
+accepted_same s (Addrs vrf len list) = refl
+accepted_same s (Percent figure) = refl
+accepted_same s (Refused refusal) = refl
+
+pub quiet_stays : (s : State) (plan : Plan) → IsQuiet plan → is_accepted (outcome s plan).1 ≡ false → (outcome s plan).0 ≡ s
+quiet_stays s plan q a = go (verdict_of plan) refl
+  where
+    go : (v : Option Refusal) → verdict_of plan ≡ v → (outcome s plan).0 ≡ s
+    go (Some refusal) e = rw (e, outcome) refl
+    go None e =
+        let a : is_accepted (answered (updated s plan.update) plan.reply) ≡ false = rw (e, outcome) at a in
+        let n = q.nothing (sym (accepted_same (updated s plan.update) plan.reply) ∙ a) in
+        rw (e, outcome) (ap (updated s) n ∙ nothing_done s)
+
+-- ---- the plans
+
+pub accepting_quiet : (plan : Plan) → is_accepted plan.reply ≡ true → IsQuiet plan
+accepting_quiet plan t = record { nothing = λ a. (let f : true ≡ false = sym t ∙ a in cc) }
+
+pub idle_quiet : (plan : Plan) → plan.update ≡ no_update → IsQuiet plan
+idle_quiet plan e = record { nothing = λ a. e }
+
+module _ {T : Type 0} (rules : KindRules T) where
+  pub found_quiet : (n : ℕ) (plan : T → Plan) (found : Option T) → ((row : T) → IsQuiet (plan row)) → IsQuiet (with_found rules n plan found)
+  found_quiet n plan None q = record { nothing = λ a. refl }
+  found_quiet n plan (Some row) q = q row
+
+  create_quiet : (s : State) (told : List (Option Rule)) (row : T) → IsQuiet (create rules s told row)
+  create_quiet s told row = accepting_quiet (create rules s told row) refl
+
+  change_quiet : (s : State) (n : ℕ) (told : T → List (Option Rule)) (edit : T → T) → IsQuiet (change rules s n told edit)
+  change_quiet s n told edit = found_quiet n (λ old. replace rules s old (told old) (edit old)) (row_at rules.id (rules.shelf s).rows n)
+      (λ old. accepting_quiet (replace rules s old (told old) (edit old)) refl)
+
+  delete_quiet : (s : State) (n : ℕ) → IsQuiet (delete rules s n)
+  delete_quiet s n = found_quiet n (λ old. take_out rules s n) (row_at rules.id (rules.shelf s).rows n) (λ old. accepting_quiet (take_out rules s n) refl)
+
+  get_quiet : (s : State) (n : ℕ) → IsQuiet (get rules s n)
+  get_quiet s n = found_quiet n _ (row_at rules.id (rules.shelf s).rows n) (λ row. record { nothing = λ a. refl })
+
+  list_quiet : (s : State) (meets : T → Bool) (limit offset : ℕ) → IsQuiet (list rules s meets limit offset)
+  list_quiet s meets limit offset = record { nothing = λ a. refl }
+
+-- ---- the calls
+
+create_all : (s : State) (draft : Draft) → IsQuiet (create_plan s draft)
+create_all s (VrfDraft name rd enforce_unique description) = create_quiet vrf_rules s [] _
+create_all s (RirDraft name slug is_private description) = create_quiet rir_rules s [] _
+create_all s (RoleDraft name slug weight description) = create_quiet role_rules s [] _
+create_all s (AggregateDraft block rir description) = create_quiet aggregate_rules s [] _
+create_all s (PrefixDraft block vrf status role is_pool mark_utilized description) = create_quiet prefix_rules s [] _
+create_all s (RangeDraft start end vrf status role mark_utilized description) = create_quiet range_rules s (range_told start end) _
+create_all s (AddressDraft host vrf status role dns_name description) = create_quiet address_rules s [] _
+
+change_all : (s : State) (n : ℕ) (edit : Edit) → IsQuiet (change_plan s n edit)
+change_all s n (VrfEdit name rd enforce_unique description) = change_quiet vrf_rules s n nothing_told _
+change_all s n (RirEdit name slug is_private description) = change_quiet rir_rules s n nothing_told _
+change_all s n (RoleEdit name slug weight description) = change_quiet role_rules s n nothing_told _
+change_all s n (AggregateEdit block rir description) = change_quiet aggregate_rules s n nothing_told _
+change_all s n (PrefixEdit block vrf status role is_pool mark_utilized description) = change_quiet prefix_rules s n nothing_told _
+change_all s n (RangeEdit start end vrf status role mark_utilized description) = change_quiet range_rules s n (told_of_change start end) _
+change_all s n (AddressEdit host vrf status role dns_name description) = change_quiet address_rules s n nothing_told _
+
+delete_all : (s : State) (kind : Kind) (n : ℕ) → IsQuiet (delete_plan s kind n)
+delete_all s Vrfs n = delete_quiet vrf_rules s n
+delete_all s Rirs n = delete_quiet rir_rules s n
+delete_all s Roles n = delete_quiet role_rules s n
+delete_all s Aggregates n = delete_quiet aggregate_rules s n
+delete_all s Prefixes n = delete_quiet prefix_rules s n
+delete_all s Ranges n = delete_quiet range_rules s n
+delete_all s Addresses n = delete_quiet address_rules s n
+
+get_all : (s : State) (kind : Kind) (n : ℕ) → IsQuiet (get_plan s kind n)
+get_all s Vrfs n = get_quiet vrf_rules s n
+get_all s Rirs n = get_quiet rir_rules s n
+get_all s Roles n = get_quiet role_rules s n
+get_all s Aggregates n = get_quiet aggregate_rules s n
+get_all s Prefixes n = get_quiet prefix_rules s n
+get_all s Ranges n = get_quiet range_rules s n
+get_all s Addresses n = get_quiet address_rules s n
+
+list_all : (s : State) (filter : Filter) (limit offset : ℕ) → IsQuiet (list_plan s filter limit offset)
+list_all s (SomeVrfs name rd) limit offset = list_quiet vrf_rules s (meets_vrf name rd) limit offset
+list_all s (SomeRirs name slug) limit offset = list_quiet rir_rules s (meets_rir name slug) limit offset
+list_all s (SomeRoles name slug) limit offset = list_quiet role_rules s (meets_role name slug) limit offset
+list_all s (SomeAggregates family rir_id) limit offset = list_quiet aggregate_rules s (meets_aggregate family rir_id) limit offset
+list_all s (SomePrefixes family vrf_id status role_id prefix within within_include contains) limit offset =
+    list_quiet prefix_rules s (meets_prefix family vrf_id status role_id prefix within within_include contains) limit offset
+list_all s (SomeRanges family vrf_id status role_id contains) limit offset = list_quiet range_rules s (meets_range family vrf_id status role_id contains) limit offset
+list_all s (SomeAddresses family vrf_id status role parent dns_name) limit offset =
+    list_quiet address_rules s (meets_address family vrf_id status role parent dns_name) limit offset
+
+all_quiet : (s : State) (call : Call) → IsQuiet (plan_of s call)
+all_quiet s (ListOf kind filter limit offset) = list_all s filter limit offset
+all_quiet s (Get kind n) = get_all s kind n
+all_quiet s (Create draft) = create_all s draft
+all_quiet s (Change n edit) = change_all s n edit
+all_quiet s (Delete kind n) = delete_all s kind n
+
+pub steps_stay : StepsStay
+steps_stay s call a = quiet_stays s (plan_of s call) (all_quiet s call) a

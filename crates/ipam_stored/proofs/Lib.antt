@@ -1,0 +1,4 @@
+pub mod Ascii
+pub mod Segments
+pub mod StoredLaws
+pub mod Examples
