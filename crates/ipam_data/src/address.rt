@@ -8,6 +8,9 @@ use crate::kinds::HasId;
 use crate::text::{Description, DnsName};
 use std::alloc::AllocError;
 
+/// How many addresses there may be.
+pub const MOST_ADDRESSES: u32 = 500_000;
+
 /// What an address is used for. `Slaac` is for IPv6 alone.
 #[derive(Clone, Copy, Debug)]
 pub enum AddressStatus {

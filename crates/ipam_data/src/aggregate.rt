@@ -8,6 +8,9 @@ use crate::text::Description;
 use inet_num::Block;
 use std::alloc::AllocError;
 
+/// How many aggregates there may be.
+pub const MOST_AGGREGATES: u32 = 1000;
+
 /// An aggregate, from the registry of this id. It is in no table.
 #[derive(Debug, Drop)]
 pub struct Aggregate {

@@ -8,6 +8,9 @@ use crate::kinds::HasId;
 use crate::text::Description;
 use std::alloc::AllocError;
 
+/// How many ranges there may be.
+pub const MOST_RANGES: u32 = 10_000;
+
 /// What a range is used for.
 #[derive(Clone, Copy, Debug)]
 pub enum RangeStatus {

@@ -7,6 +7,9 @@ use crate::kinds::HasId;
 use crate::text::{Description, Name, Slug};
 use std::alloc::AllocError;
 
+/// How many RIRs there may be.
+pub const MOST_RIRS: u32 = 1000;
+
 /// A registry. Its name and its slug are unique.
 #[derive(Debug, Drop)]
 pub struct Rir {

@@ -7,6 +7,9 @@ use crate::kinds::HasId;
 use crate::text::{Description, Name, Slug, Weight};
 use std::alloc::AllocError;
 
+/// How many roles there may be.
+pub const MOST_ROLES: u32 = 1000;
+
 /// A role. Its name and its slug are unique.
 #[derive(Debug, Drop)]
 pub struct Role {
