@@ -1,0 +1,174 @@
+//! Room for the rows of an update.
+
+ghost use Rattle.std.specs.Prelude.{◌≡◌, ℕ, ◌<◌, ◌≤◌, ◌+◌, ◌^◌, ◌==◌, true, OnOk, length, count_by};
+ghost use Rattle.ipam_data.specs.declared.kinds.Table.{Table as SeenTable};
+ghost use Rattle.ipam_data.specs.Tables.{table_of, same_table};
+ghost use Rattle.prefix_rules.specs.Book.{IsInOrder, spare_of};
+ghost use Rattle.register_shelves.specs.Held.{state_of, place_of_kind, kind_of, is_of, is_prefix_in, HasRoom, HasAtMost};
+
+use crate::{Prefixes, Shelves};
+use ipam_data::kinds::{Kind, Table};
+use ipam_data::replies::View;
+use std::alloc::AllocError;
+
+/// How many rows an update may put: more of them want more memory than there is.
+const MOST_PUTS: usize = 500_000_000;
+
+/// The place of a kind among the kinds.
+fn place(kind: Kind) -> u32
+    ensures { result ≡ place_of_kind kind }
+{
+    match kind {
+        Kind::Vrfs => 0,
+        Kind::Rirs => 1,
+        Kind::Roles => 2,
+        Kind::Aggregates => 3,
+        Kind::Prefixes => 4,
+        Kind::Ranges => 5,
+        Kind::Addresses => 6,
+    }
+}
+
+/// The kind of a row.
+fn kind_of_view(view: &View) -> Kind
+    ensures { result ≡ kind_of view.now }
+{
+    match view {
+        View::Vrf(_) => Kind::Vrfs,
+        View::Rir(_) => Kind::Rirs,
+        View::Role(_) => Kind::Roles,
+        View::Aggregate(_) => Kind::Aggregates,
+        View::Prefix {
+            row: _,
+            depth: _,
+            children: _,
+        } => Kind::Prefixes,
+        View::IpRange(_) => Kind::Ranges,
+        View::IpAddress(_) => Kind::Addresses,
+    }
+}
+
+/// Whether the row is of the kind.
+fn is_of_kind(view: &View, kind: Kind) -> bool
+    ensures { result ≡ is_of kind view.now }
+{
+    place(kind_of_view(view)) == place(kind)
+}
+
+/// Whether two tables are one.
+fn is_same_table(a: Table, b: Table) -> bool
+    ensures { result ≡ same_table a b }
+{
+    match (a, b) {
+        (Table::Global, Table::Global) => true,
+        (Table::Of(vrf), Table::Of(other)) => vrf == other,
+        (Table::Global, Table::Of(_)) => false,
+        (Table::Of(_), Table::Global) => false,
+    }
+}
+
+/// Whether the row is a prefix of the table.
+fn is_a_prefix_in(view: &View, table: Table) -> bool
+    ensures { result ≡ is_prefix_in table view.now }
+{
+    match view {
+        View::Prefix {
+            row,
+            depth: _,
+            children: _,
+        } => is_same_table(Table::of(row.vrf), table),
+        View::Vrf(_) => false,
+        View::Rir(_) => false,
+        View::Role(_) => false,
+        View::Aggregate(_) => false,
+        View::IpRange(_) => false,
+        View::IpAddress(_) => false,
+    }
+}
+
+/// How many of the rows are of the kind.
+fn count_of_kind(views: &[View], kind: Kind) -> usize
+    ensures { result ≡ count_by (is_of kind) views.now }
+{
+    views.iter().filter(|view| is_of_kind(view, kind)).count()
+}
+
+/// How many of the rows are prefixes of the table.
+fn count_prefixes_in(views: &[View], table: Table) -> usize
+    ensures { result ≡ count_by (is_prefix_in table) views.now }
+{
+    views
+        .iter()
+        .filter(|view| is_a_prefix_in(view, table))
+        .count()
+}
+
+/// Makes room in the table of a row, where it is a prefix, for all rows of that table.
+fn reserve_table_of(prefixes: &mut Prefixes, views: &[View], view: &View) -> Result<(), AllocError>
+    requires order { IsInOrder prefixes.old }
+    requires few { length prefixes.old.rows + length views.now < 2 ^ 30 }
+    ensures order { IsInOrder prefixes.new }
+    ensures rows { prefixes.new.rows ≡ prefixes.old.rows }
+    ensures spare { prefixes.new.spare ≡ prefixes.old.spare }
+    ensures kept { (t : SeenTable) → spare_of prefixes.old.tables t ≤ spare_of prefixes.new.tables t }
+    ensures ok { OnOk result ((t : SeenTable) → is_prefix_in t view.now ≡ true → count_by (is_prefix_in t) views.now ≤ spare_of prefixes.new.tables t) }
+{
+    match view {
+        View::Prefix {
+            row,
+            depth: _,
+            children: _,
+        } => {
+            let table = Table::of(row.vrf);
+            let count = count_prefixes_in(views, table);
+            prefixes.reserve_table(table, count as u32)
+        }
+        View::Vrf(_) => Ok(()),
+        View::Rir(_) => Ok(()),
+        View::Role(_) => Ok(()),
+        View::Aggregate(_) => Ok(()),
+        View::IpRange(_) => Ok(()),
+        View::IpAddress(_) => Ok(()),
+    }
+}
+
+/// Makes room in the tables of all rows that are prefixes.
+fn reserve_tables(prefixes: &mut Prefixes, views: &[View]) -> Result<(), AllocError>
+    requires order { IsInOrder prefixes.old }
+    requires few { length prefixes.old.rows + length views.now < 2 ^ 30 }
+    ensures order { IsInOrder prefixes.new }
+    ensures rows { prefixes.new.rows ≡ prefixes.old.rows }
+    ensures spare { prefixes.new.spare ≡ prefixes.old.spare }
+    ensures ok { OnOk result ((t : SeenTable) → count_by (is_prefix_in t) views.now ≤ spare_of prefixes.new.tables t) }
+{
+    for view in views {
+        reserve_table_of(prefixes, views, view)?;
+    }
+    Ok(())
+}
+
+impl Shelves {
+    /// Makes room for rows that are to be put. `Err` is want of memory, and leaves the rows.
+    pub fn reserve(&mut self, views: &[View]) -> Result<(), AllocError>
+        requires few { HasAtMost 500000000 self.old }
+        ensures state { state_of self.new ≡ state_of self.old }
+        ensures ok { OnOk result (HasRoom self.new views.now) }
+    {
+        if views.len() > MOST_PUTS {
+            return Err(AllocError);
+        }
+        self.vrfs.reserve(count_of_kind(views, Kind::Vrfs) as u32)?;
+        self.rirs.reserve(count_of_kind(views, Kind::Rirs) as u32)?;
+        self.roles
+            .reserve(count_of_kind(views, Kind::Roles) as u32)?;
+        self.aggregates
+            .reserve(count_of_kind(views, Kind::Aggregates) as u32)?;
+        self.prefixes
+            .reserve(count_of_kind(views, Kind::Prefixes) as u32)?;
+        self.ranges
+            .reserve(count_of_kind(views, Kind::Ranges) as u32)?;
+        self.addresses
+            .reserve(count_of_kind(views, Kind::Addresses) as u32)?;
+        reserve_tables(&mut self.prefixes, views)
+    }
+}
