@@ -13,7 +13,6 @@ mod figures;
 mod room;
 
 use block_list::BlockList;
-use indexed_book::IndexedBook;
 use ipam_data::address::IpAddress;
 use ipam_data::aggregate::Aggregate;
 use ipam_data::kinds::Kind;
@@ -42,7 +41,7 @@ pub struct Shelves {
     aggregates: RowBook<Aggregate>,
     prefixes: Prefixes,
     ranges: RowBook<IpRange>,
-    addresses: IndexedBook<IpAddress>,
+    addresses: RowBook<IpAddress>,
     next_vrf: u32,
     next_rir: u32,
     next_role: u32,
@@ -78,7 +77,7 @@ impl Shelves {
             aggregates: RowBook::new(alloc),
             prefixes: PrefixBook::new(alloc),
             ranges: RowBook::new(alloc),
-            addresses: IndexedBook::new(alloc),
+            addresses: RowBook::new(alloc),
             next_vrf: 1,
             next_rir: 1,
             next_role: 1,
@@ -140,7 +139,7 @@ impl Shelves {
     }
 
     /// The book of addresses.
-    pub fn addresses(&self) -> &IndexedBook<IpAddress>
+    pub fn addresses(&self) -> &RowBook<IpAddress>
         ensures { result.now ≡ self.now.addresses }
     {
         &self.addresses
