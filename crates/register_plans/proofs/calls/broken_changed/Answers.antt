@@ -1,0 +1,11 @@
+use Rattle.std.proofs.Common.{sym, ◌∙◌}
+use Rattle.register_plans.specs.Broken.{own_row}
+use Rattle.register_plans.proofs.Verdicts.{names_none, names_all}
+use Rattle.register_shelves.specs.Held.{state_of}
+use Rattle.register_plans.proofs.calls.broken_changed.Goals as goal
+
+pub returns-in-Some : goal.returns-in-Some
+returns-in-Some g c = sym (names_none g.T.Registered.rules (state_of c.args.shelves.now) (own_row g.T.Registered.rules (state_of c.args.shelves.now) c.args.row.now) c.args.row.now c.in-Some.rule (sym c.missing.ensures ∙ c.in-Some.is))
+
+pub returns-in-None : goal.returns-in-None
+returns-in-None g c = c.fault_changed.ensures ∙ sym (names_all g.T.Registered.rules (state_of c.args.shelves.now) (own_row g.T.Registered.rules (state_of c.args.shelves.now) c.args.row.now) c.args.row.now (sym c.missing.ensures ∙ c.in-None.is))

@@ -1,0 +1,10 @@
+use Rattle.std.proofs.Common.{sym, ◌∙◌, arith}
+use Rattle.register_plans.proofs.Verdicts.{next_fits}
+use Rattle.register_shelves.specs.Held.{state_of}
+use Rattle.register_plans.proofs.calls.plan_create.Goals as goal
+
+pub overflow_add-next : goal.overflow_add-next
+overflow_add-next g c =
+    let fits = next_fits g.T.Registered.rules (state_of c.args.shelves.now) c.args.row (sym c.check_new.ensures ∙ c.in-None.is) in
+    let same = c.next-next.ensures in
+    omega arith

@@ -1,0 +1,4 @@
+pub mod Planned
+pub mod Pages
+pub mod Meets
+pub mod Broken

@@ -1,0 +1,157 @@
+//! Aggregates: blocks that an operator has from registries. None shares an address with another.
+
+ghost use Rattle.std.specs.Prelude.{◌≡◌, ℕ, ◌&&◌, ◌||◌, [], IfOk, find, option_copied};
+ghost use Rattle.ipam_data.specs.Shelf.{is_rival};
+ghost use Rattle.ipam_data.specs.Rows.{aggregate_id};
+ghost use Rattle.ipam_data.specs.Plans.{change, nothing_told};
+ghost use Rattle.ipam_data.specs.Edits.{edited_aggregate};
+ghost use Rattle.ipam_data.specs.Aggregates.{aggregate_rules, aggregate_fault, overlaps};
+ghost use Rattle.register_shelves.specs.Held.{state_of};
+ghost use Rattle.register_plans.specs.Planned.{IsPlanned};
+ghost use Rattle.register_plans.specs.Meets.{aggregate_meets};
+
+use crate::calls::plan_replace;
+use crate::edits::{edited_description, edited_value};
+use crate::filters::{asks_family, asks_id};
+use crate::planned::Planned;
+use crate::references::missing_rir;
+use crate::registered::Registered;
+use crate::same::is_block_inside;
+use inet_num::Block;
+use ipam_data::aggregate::{Aggregate, MOST_AGGREGATES};
+use ipam_data::calls::Filter;
+use ipam_data::kinds::Kind;
+use ipam_data::replies::{Refusal, Rule, View};
+use ipam_data::text::Description;
+use register_shelves::Shelves;
+use std::alloc::AllocError;
+
+/// Whether the other row is another aggregate that shares addresses with this one.
+fn is_overlapping(row: &Aggregate, other: &Aggregate) -> bool
+    ensures { result ≡ is_rival aggregate_id overlaps row.now other.now }
+{
+    other.id != row.id
+        && (is_block_inside(&row.block, &other.block) || is_block_inside(&other.block, &row.block))
+}
+
+/// The first such row.
+fn rival<'a>(rows: &'a [Aggregate], row: &Aggregate) -> Option<&'a Aggregate>
+    ensures { option_copied result ≡ find (is_rival aggregate_id overlaps row.now) rows.now }
+{
+    rows.iter().find(|other| is_overlapping(row, other))
+}
+
+/// The first rule past its registry that an aggregate breaks beside the rows of other ids.
+#[tactic(auto, unfolding(ipam_data::specs::Aggregates::aggregate_fault))]
+fn fault(rows: &[Aggregate], row: &Aggregate) -> Option<Rule>
+    ensures { result ≡ aggregate_fault rows.now row.now }
+{
+    if row.block.len() == 0 {
+        return Some(Rule::ZeroMask);
+    }
+    match rival(rows, row) {
+        Some(other) => Some(Rule::AggregateOverlap(other.id)),
+        None => None,
+    }
+}
+
+impl Registered for Aggregate {
+    ghost rules = { aggregate_rules };
+
+    ghost meets = { aggregate_meets };
+
+    fn kind() -> Kind {
+        Kind::Aggregates
+    }
+
+    fn most() -> u32 {
+        MOST_AGGREGATES
+    }
+
+    fn copied(&self) -> Result<Aggregate, AllocError> {
+        self.copy()
+    }
+
+    fn into_view(self) -> View {
+        View::Aggregate(self)
+    }
+
+    fn is_met(&self, filter: &Filter) -> bool {
+        match filter {
+            Filter::Aggregates { family, rir_id } => {
+                asks_family(family, self.block.family()) && asks_id(rir_id, self.rir)
+            }
+            _ => false,
+        }
+    }
+
+    fn found<'a>(shelves: &'a Shelves, id: u32) -> Option<&'a Aggregate> {
+        shelves.aggregates().get(id)
+    }
+
+    fn count(shelves: &Shelves) -> u32 {
+        shelves.aggregates().len()
+    }
+
+    fn nth<'a>(shelves: &'a Shelves, index: u32) -> Option<&'a Aggregate> {
+        shelves.aggregates().at(index)
+    }
+
+    fn next(shelves: &Shelves) -> u32 {
+        shelves.next(Kind::Aggregates)
+    }
+
+    fn missing(&self, shelves: &Shelves) -> Option<Rule> {
+        missing_rir(shelves, self.rir)
+    }
+
+    fn fault_new(&self, shelves: &Shelves) -> Option<Rule> {
+        fault(shelves.aggregates().rows(), self)
+    }
+
+    fn fault_changed(&self, shelves: &Shelves) -> Option<Rule> {
+        fault(shelves.aggregates().rows(), self)
+    }
+
+    fn user(_shelves: &Shelves, _id: u32) -> Option<Refusal> {
+        None
+    }
+
+    fn forgetting(shelves: &Shelves, _id: u32) -> Result<Vec<View>, AllocError> {
+        Ok(Vec::new(shelves.allocator()))
+    }
+}
+
+/// The aggregate that an edit leaves. `Err` is want of memory.
+fn edited_row(
+    old: &Aggregate,
+    block: Option<Block>,
+    rir: Option<u32>,
+    description: &Option<Description>,
+) -> Result<Aggregate, AllocError>
+    ensures { IfOk result (λ row. row ≡ edited_aggregate block rir description.now old.now) }
+{
+    Ok(Aggregate {
+        id: old.id,
+        block: edited_value(block, old.block),
+        rir: edited_value(rir, old.rir),
+        description: edited_description(description, &old.description)?,
+    })
+}
+
+/// Plans the aggregate of an id with the given fields changed. `Err` is want of memory.
+pub fn plan_edit(
+    shelves: &Shelves,
+    id: u32,
+    block: Option<Block>,
+    rir: Option<u32>,
+    description: &Option<Description>,
+) -> Result<Planned, AllocError>
+    ensures { IfOk result (λ p. IsPlanned (change aggregate_rules (state_of shelves.now) id nothing_told (edited_aggregate block rir description.now)) p) }
+{
+    let row = match Aggregate::found(shelves, id) {
+        Some(old) => edited_row(old, block, rir, description)?,
+        None => return Ok(Planned::Refused(Refusal::NotFound(Kind::Aggregates, id))),
+    };
+    plan_replace(shelves, row)
+}

@@ -1,0 +1,284 @@
+//! The calls, planned once for all kinds.
+
+ghost use Rattle.std.specs.Prelude.{◌≡◌, ℕ, ◌<◌, ◌+◌, ◌^◌, ◌++◌, ◌∷◌, ◌&&◌, [], None, Some, IsSome, IfOk, OnOk, length, slice_get};
+ghost use Rattle.ipam_data.specs.declared.replies.Reply.TheVariants.{Made as MadeReply, Changed as ChangedReply, Gone as GoneReply};
+ghost use Rattle.ipam_data.specs.Checks.{first, no_room, no_log};
+ghost use Rattle.ipam_data.specs.State.{verdict_of};
+ghost use Rattle.ipam_data.specs.Plans.{create, replace, delete, get, list};
+ghost use Rattle.register_shelves.specs.Held.{state_of};
+ghost use Rattle.register_plans.specs.Planned.{IsPlanned};
+ghost use Rattle.register_plans.specs.Pages.{is_paged, one_if, only_if};
+ghost use Rattle.register_plans.specs.Broken.{first_broken, own_row};
+
+use crate::planned::Planned;
+use crate::registered::Registered;
+use ipam_data::calls::Filter;
+use ipam_data::kinds::{Kind, LAST_ID, MOST_SPENT};
+use ipam_data::replies::{Refusal, Reply, Rule, View, Views, Which};
+use ipam_data::update::{Ids, Update};
+use register_shelves::Shelves;
+use std::alloc::{AllocError, Global};
+
+/// Why a kind takes no further row, if so: it would have more than `most`, or no id is left.
+fn no_room_for_one(kind: Kind, most: u32, count: u32, next: u32) -> Option<Refusal>
+    ensures { result ≡ first (no_room kind most count next 1) }
+{
+    if count >= most {
+        return Some(Refusal::Limit(Which::Kind(kind), u64::from(most)));
+    }
+    if next > LAST_ID {
+        return Some(Refusal::Limit(Which::Ids, u64::from(LAST_ID)));
+    }
+    None
+}
+
+/// Why no further log item may be spent, if so.
+fn no_log_for_one(spent: u32) -> Option<Refusal>
+    ensures { result ≡ no_log spent 1 }
+{
+    if spent >= MOST_SPENT {
+        return Some(Refusal::Limit(Which::Log, u64::from(MOST_SPENT)));
+    }
+    None
+}
+
+/// The first rule that a row breaks as a new one, the rows that it names first.
+pub fn broken<T: Registered>(shelves: &Shelves, row: &T) -> Option<Rule>
+    ensures { result ≡ first_broken T.rules (state_of shelves.now) None row.now }
+{
+    match row.missing(shelves) {
+        Some(rule) => Some(rule),
+        None => row.fault_new(shelves),
+    }
+}
+
+/// The first rule that a row breaks in the place of the one of its id, the rows that it names first.
+fn broken_changed<T: Registered>(shelves: &Shelves, row: &T) -> Option<Rule>
+    ensures { result ≡ first_broken T.rules (state_of shelves.now) (own_row T.rules (state_of shelves.now) row.now) row.now }
+{
+    match row.missing(shelves) {
+        Some(rule) => Some(rule),
+        None => row.fault_changed(shelves),
+    }
+}
+
+/// Why the row can't be made, if so.
+fn check_new<T: Registered>(shelves: &Shelves, row: &T) -> Option<Refusal>
+    ensures { result ≡ verdict_of (create T.rules (state_of shelves.now) [] row.now) }
+{
+    if let Some(rule) = broken(shelves, row) {
+        return Some(Refusal::Rule(rule));
+    }
+    if let Some(refusal) = no_room_for_one(
+        T::kind(),
+        T::most(),
+        T::count(shelves),
+        T::next(shelves),
+    ) {
+        return Some(refusal);
+    }
+    no_log_for_one(shelves.spent())
+}
+
+/// Why the row can't stand in the place of the one of its id, if so.
+fn check_changed<T: Registered>(shelves: &Shelves, row: &T) -> Option<Refusal>
+    ensures { (old : T) → own_row T.rules (state_of shelves.now) row.now ≡ Some old → result ≡ verdict_of (replace T.rules (state_of shelves.now) old [] row.now) }
+{
+    if let Some(rule) = broken_changed(shelves, row) {
+        return Some(Refusal::Rule(rule));
+    }
+    no_log_for_one(shelves.spent())
+}
+
+/// One row more, and the next id of its kind after it; the other row is the same one, for the answer.
+fn made(
+    alloc: Global,
+    row: View,
+    copy: View,
+    kind: Kind,
+    next: u32,
+) -> Result<Planned, AllocError>
+    ensures { IfOk result (λ p. p ≡ Planned.Change (record { puts = row ∷ []; cuts = []; next = (kind, next) ∷ []; spent = 1 }) (MadeReply copy)) }
+{
+    let mut puts = Vec::new(alloc);
+    puts.push(row)?;
+    let mut nexts = Vec::new(alloc);
+    nexts.push((kind, next))?;
+    Ok(Planned::Change(
+        Update {
+            puts: Views::of(puts),
+            cuts: Ids::of(Vec::new(alloc)),
+            next: Ids::of(nexts),
+            spent: 1,
+        },
+        Reply::Made(copy),
+    ))
+}
+
+/// A row in the place of the one of its id; the other row is the same one, for the answer.
+fn replaced(alloc: Global, row: View, copy: View) -> Result<Planned, AllocError>
+    ensures { IfOk result (λ p. p ≡ Planned.Change (record { puts = row ∷ []; cuts = []; next = []; spent = 1 }) (ChangedReply copy)) }
+{
+    let mut puts = Vec::new(alloc);
+    puts.push(row)?;
+    Ok(Planned::Change(
+        Update {
+            puts: Views::of(puts),
+            cuts: Ids::of(Vec::new(alloc)),
+            next: Ids::of(Vec::new(alloc)),
+            spent: 1,
+        },
+        Reply::Changed(copy),
+    ))
+}
+
+/// A row less, and these rows put again.
+fn taken_out(
+    alloc: Global,
+    puts: Vec<View>,
+    kind: Kind,
+    id: u32,
+) -> Result<Planned, AllocError>
+    ensures { IfOk result (λ p. p ≡ Planned.Change (record { puts = puts.items; cuts = (kind, id) ∷ []; next = []; spent = 1 }) GoneReply) }
+{
+    let mut cuts = Vec::new(alloc);
+    cuts.push((kind, id))?;
+    Ok(Planned::Change(
+        Update {
+            puts: Views::of(puts),
+            cuts: Ids::of(cuts),
+            next: Ids::of(Vec::new(alloc)),
+            spent: 1,
+        },
+        Reply::Gone,
+    ))
+}
+
+/// Plans a row more. `Err` is want of memory.
+pub fn plan_create<T: Registered + Drop>(shelves: &Shelves, row: T) -> Result<Planned, AllocError>
+    ensures { IfOk result (λ p. IsPlanned (create T.rules (state_of shelves.now) [] row) p) }
+{
+    match check_new(shelves, &row) {
+        Some(refusal) => return Ok(Planned::Refused(refusal)),
+        None => {}
+    }
+    let next = T::next(shelves) + 1;
+    let copy = row.copied()?;
+    made(
+        shelves.allocator(),
+        row.into_view(),
+        copy.into_view(),
+        T::kind(),
+        next,
+    )
+}
+
+/// Plans a changed row in the place of the one of its id, which is there. `Err` is want of memory.
+pub fn plan_replace<T: Registered + Drop>(shelves: &Shelves, row: T) -> Result<Planned, AllocError>
+    ensures { IfOk result (λ p. (old : T) → own_row T.rules (state_of shelves.now) row ≡ Some old → IsPlanned (replace T.rules (state_of shelves.now) old [] row) p) }
+{
+    match check_changed(shelves, &row) {
+        Some(refusal) => return Ok(Planned::Refused(refusal)),
+        None => {}
+    }
+    let copy = row.copied()?;
+    replaced(shelves.allocator(), row.into_view(), copy.into_view())
+}
+
+/// Plans that the row of an id is taken out. `Err` is want of memory.
+pub fn plan_delete<T: Registered>(shelves: &Shelves, id: u32) -> Result<Planned, AllocError>
+    ensures { IfOk result (λ p. IsPlanned (delete T.rules (state_of shelves.now) id) p) }
+{
+    match T::found(shelves, id) {
+        Some(_) => {}
+        None => return Ok(Planned::Refused(Refusal::NotFound(T::kind(), id))),
+    }
+    match T::user(shelves, id) {
+        Some(refusal) => return Ok(Planned::Refused(refusal)),
+        None => {}
+    }
+    match no_log_for_one(shelves.spent()) {
+        Some(refusal) => return Ok(Planned::Refused(refusal)),
+        None => {}
+    }
+    let again = T::forgetting(shelves, id)?;
+    taken_out(shelves.allocator(), again, T::kind(), id)
+}
+
+/// Reads the row of an id. `Err` is want of memory.
+pub fn plan_get<T: Registered>(shelves: &Shelves, id: u32) -> Result<Planned, AllocError>
+    ensures { IfOk result (λ p. IsPlanned (get T.rules (state_of shelves.now) id) p) }
+{
+    match T::found(shelves, id) {
+        Some(row) => {
+            let row = row.copied()?;
+            Ok(Planned::Read(Reply::One(row.into_view())))
+        }
+        None => Ok(Planned::Refused(Refusal::NotFound(T::kind(), id))),
+    }
+}
+
+/// Whether the row before which so many meet the filter stands on the page.
+fn is_on_page(before: u32, limit: u32, offset: u32) -> bool
+    ensures { result ≡ is_paged before limit offset }
+{
+    offset <= before && before - offset < limit
+}
+
+/// The row at an index that is there.
+fn row_at_index<T: Registered>(shelves: &Shelves, index: u32) -> &T
+    requires { index < length (T.rules.shelf (state_of shelves.now)).rows }
+    ensures { Some result.now ≡ slice_get (T.rules.shelf (state_of shelves.now)).rows index }
+{
+    match T::nth(shelves, index) {
+        Some(row) => row,
+        None => unreachable!(),
+    }
+}
+
+/// Adds a row to a page where it meets the filter and stands on the page, and gives how many meet it now. `Err` is want of
+/// memory.
+fn take_in<T: Registered>(
+    row: &T,
+    filter: &Filter,
+    met: u32,
+    limit: u32,
+    offset: u32,
+    views: &mut Vec<View>,
+) -> Result<u32, AllocError>
+    requires few { met < 2 ^ 30 }
+    ensures met { IfOk result (λ n. n ≡ met + one_if (T.meets filter.now row.now)) }
+    ensures views { OnOk result (views.new.items ≡ views.old.items ++ only_if (T.meets filter.now row.now && is_paged met limit offset) (T.rules.view row.now)) }
+{
+    if !row.is_met(filter) {
+        return Ok(met);
+    }
+    if !is_on_page(met, limit, offset) {
+        return Ok(met + 1);
+    }
+    let copy = row.copied()?;
+    views.push(copy.into_view())?;
+    Ok(met + 1)
+}
+
+/// Reads the rows that meet the filter, past the first `offset`, at most `limit`, and how many meet it. `Err` is want of memory.
+pub fn plan_list<T: Registered>(
+    shelves: &Shelves,
+    filter: &Filter,
+    limit: u32,
+    offset: u32,
+) -> Result<Planned, AllocError>
+    ensures { IfOk result (λ p. IsPlanned (list T.rules (state_of shelves.now) (T.meets filter.now) limit offset) p) }
+{
+    let mut views = Vec::new(shelves.allocator());
+    let mut met: u32 = 0;
+    let count = T::count(shelves);
+    'rows: for index in 0..count {
+        let row: &T = row_at_index(shelves, index);
+        met = take_in(row, filter, met, limit, offset, &mut views)?;
+    }
+    Ok(Planned::Read(Reply::Page {
+        count: met,
+        views: Views::of(views),
+    }))
+}

@@ -1,0 +1,351 @@
+//! What each call comes to, by its kind: a line a kind in each dispatch.
+
+ghost use Rattle.std.specs.Prelude.{◌≡◌, IfOk};
+ghost use Rattle.ipam_data.specs.Steps.{create_plan, change_plan, delete_plan, get_plan, list_plan, plan_of};
+ghost use Rattle.register_shelves.specs.Held.{state_of};
+ghost use Rattle.register_plans.specs.Planned.{IsPlanned};
+ghost use Rattle.register_plans.specs.Broken.{broken_new};
+
+use crate::addresses;
+use crate::aggregates;
+use crate::calls::{broken, plan_create, plan_delete, plan_get, plan_list};
+use crate::planned::Planned;
+use crate::prefixes;
+use crate::ranges;
+use crate::rirs;
+use crate::roles;
+use crate::vrfs;
+use ipam_data::address::IpAddress;
+use ipam_data::aggregate::Aggregate;
+use ipam_data::calls::{Call, Draft, Edit, Filter};
+use ipam_data::kinds::Kind;
+use ipam_data::prefix::Prefix;
+use ipam_data::range::IpRange;
+use ipam_data::replies::{Rule, View};
+use ipam_data::rir::Rir;
+use ipam_data::role::Role;
+use ipam_data::vrf::{Vrf, copy_distinguisher};
+use register_shelves::Shelves;
+use std::alloc::AllocError;
+
+/// The first rule that a row breaks as a new one beside the rows that are there, the rows that it names first.
+pub fn broken_by_view(shelves: &Shelves, view: &View) -> Option<Rule>
+    ensures { result ≡ broken_new (state_of shelves.now) view.now }
+{
+    match view {
+        View::Vrf(row) => broken(shelves, row),
+        View::Rir(row) => broken(shelves, row),
+        View::Role(row) => broken(shelves, row),
+        View::Aggregate(row) => broken(shelves, row),
+        View::Prefix {
+            row,
+            depth: _,
+            children: _,
+        } => broken(shelves, row),
+        View::IpRange(row) => broken(shelves, row),
+        View::IpAddress(row) => broken(shelves, row),
+    }
+}
+
+/// Plans the row of a draft. `Err` is want of memory.
+fn plan_draft(shelves: &Shelves, draft: &Draft) -> Result<Planned, AllocError>
+    ensures { IfOk result (λ p. IsPlanned (create_plan (state_of shelves.now) draft.now) p) }
+{
+    match draft {
+        Draft::Vrf {
+            name,
+            rd,
+            enforce_unique,
+            description,
+        } => plan_create(
+            shelves,
+            Vrf {
+                id: shelves.next(Kind::Vrfs),
+                name: name.copy()?,
+                rd: copy_distinguisher(rd)?,
+                enforce_unique: *enforce_unique,
+                description: description.copy()?,
+            },
+        ),
+        Draft::Rir {
+            name,
+            slug,
+            is_private,
+            description,
+        } => plan_create(
+            shelves,
+            Rir {
+                id: shelves.next(Kind::Rirs),
+                name: name.copy()?,
+                slug: slug.copy()?,
+                is_private: *is_private,
+                description: description.copy()?,
+            },
+        ),
+        Draft::Role {
+            name,
+            slug,
+            weight,
+            description,
+        } => plan_create(
+            shelves,
+            Role {
+                id: shelves.next(Kind::Roles),
+                name: name.copy()?,
+                slug: slug.copy()?,
+                weight: *weight,
+                description: description.copy()?,
+            },
+        ),
+        Draft::Aggregate {
+            block,
+            rir,
+            description,
+        } => plan_create(
+            shelves,
+            Aggregate {
+                id: shelves.next(Kind::Aggregates),
+                block: *block,
+                rir: *rir,
+                description: description.copy()?,
+            },
+        ),
+        Draft::Prefix {
+            block,
+            vrf,
+            status,
+            role,
+            is_pool,
+            mark_utilized,
+            description,
+        } => plan_create(
+            shelves,
+            Prefix {
+                id: shelves.next(Kind::Prefixes),
+                block: *block,
+                vrf: *vrf,
+                status: *status,
+                role: *role,
+                is_pool: *is_pool,
+                mark_utilized: *mark_utilized,
+                description: description.copy()?,
+            },
+        ),
+        Draft::IpRange {
+            start,
+            end,
+            vrf,
+            status,
+            role,
+            mark_utilized,
+            description,
+        } => ranges::plan_new(
+            shelves,
+            *start,
+            *end,
+            *vrf,
+            *status,
+            *role,
+            *mark_utilized,
+            description,
+        ),
+        Draft::IpAddress {
+            host,
+            vrf,
+            status,
+            role,
+            dns_name,
+            description,
+        } => plan_create(
+            shelves,
+            IpAddress {
+                id: shelves.next(Kind::Addresses),
+                host: *host,
+                vrf: *vrf,
+                status: *status,
+                role: *role,
+                dns_name: dns_name.lowered()?,
+                description: description.copy()?,
+            },
+        ),
+    }
+}
+
+/// Plans the row of an id with the fields of an edit changed. `Err` is want of memory.
+fn plan_edit(shelves: &Shelves, id: u32, edit: &Edit) -> Result<Planned, AllocError>
+    ensures { IfOk result (λ p. IsPlanned (change_plan (state_of shelves.now) id edit.now) p) }
+{
+    match edit {
+        Edit::Vrf {
+            name,
+            rd,
+            enforce_unique,
+            description,
+        } => vrfs::plan_edit(shelves, id, name, rd, *enforce_unique, description),
+        Edit::Rir {
+            name,
+            slug,
+            is_private,
+            description,
+        } => rirs::plan_edit(shelves, id, name, slug, *is_private, description),
+        Edit::Role {
+            name,
+            slug,
+            weight,
+            description,
+        } => roles::plan_edit(shelves, id, name, slug, weight, description),
+        Edit::Aggregate {
+            block,
+            rir,
+            description,
+        } => aggregates::plan_edit(shelves, id, *block, *rir, description),
+        Edit::Prefix {
+            block,
+            vrf,
+            status,
+            role,
+            is_pool,
+            mark_utilized,
+            description,
+        } => prefixes::plan_edit(
+            shelves,
+            id,
+            *block,
+            *vrf,
+            *status,
+            *role,
+            *is_pool,
+            *mark_utilized,
+            description,
+        ),
+        Edit::IpRange {
+            start,
+            end,
+            vrf,
+            status,
+            role,
+            mark_utilized,
+            description,
+        } => ranges::plan_edit(
+            shelves,
+            id,
+            *start,
+            *end,
+            *vrf,
+            *status,
+            *role,
+            *mark_utilized,
+            description,
+        ),
+        Edit::IpAddress {
+            host,
+            vrf,
+            status,
+            role,
+            dns_name,
+            description,
+        } => addresses::plan_edit(
+            shelves,
+            id,
+            *host,
+            *vrf,
+            *status,
+            *role,
+            dns_name,
+            description,
+        ),
+    }
+}
+
+/// Plans that the row of an id is taken out. `Err` is want of memory.
+fn plan_gone(shelves: &Shelves, kind: Kind, id: u32) -> Result<Planned, AllocError>
+    ensures { IfOk result (λ p. IsPlanned (delete_plan (state_of shelves.now) kind id) p) }
+{
+    match kind {
+        Kind::Vrfs => plan_delete::<Vrf>(shelves, id),
+        Kind::Rirs => plan_delete::<Rir>(shelves, id),
+        Kind::Roles => plan_delete::<Role>(shelves, id),
+        Kind::Aggregates => plan_delete::<Aggregate>(shelves, id),
+        Kind::Prefixes => plan_delete::<Prefix>(shelves, id),
+        Kind::Ranges => plan_delete::<IpRange>(shelves, id),
+        Kind::Addresses => plan_delete::<IpAddress>(shelves, id),
+    }
+}
+
+/// Reads the row of an id. `Err` is want of memory.
+fn plan_one(shelves: &Shelves, kind: Kind, id: u32) -> Result<Planned, AllocError>
+    ensures { IfOk result (λ p. IsPlanned (get_plan (state_of shelves.now) kind id) p) }
+{
+    match kind {
+        Kind::Vrfs => plan_get::<Vrf>(shelves, id),
+        Kind::Rirs => plan_get::<Rir>(shelves, id),
+        Kind::Roles => plan_get::<Role>(shelves, id),
+        Kind::Aggregates => plan_get::<Aggregate>(shelves, id),
+        Kind::Prefixes => plan_get::<Prefix>(shelves, id),
+        Kind::Ranges => plan_get::<IpRange>(shelves, id),
+        Kind::Addresses => plan_get::<IpAddress>(shelves, id),
+    }
+}
+
+/// Reads the rows of a page, and how many meet the filter. `Err` is want of memory.
+fn plan_page(
+    shelves: &Shelves,
+    filter: &Filter,
+    limit: u32,
+    offset: u32,
+) -> Result<Planned, AllocError>
+    ensures { IfOk result (λ p. IsPlanned (list_plan (state_of shelves.now) filter.now limit offset) p) }
+{
+    match filter {
+        Filter::Vrfs { name: _, rd: _ } => plan_list::<Vrf>(shelves, filter, limit, offset),
+        Filter::Rirs { name: _, slug: _ } => plan_list::<Rir>(shelves, filter, limit, offset),
+        Filter::Roles { name: _, slug: _ } => plan_list::<Role>(shelves, filter, limit, offset),
+        Filter::Aggregates {
+            family: _,
+            rir_id: _,
+        } => plan_list::<Aggregate>(shelves, filter, limit, offset),
+        Filter::Prefixes {
+            family: _,
+            vrf_id: _,
+            status: _,
+            role_id: _,
+            prefix: _,
+            within: _,
+            within_include: _,
+            contains: _,
+        } => plan_list::<Prefix>(shelves, filter, limit, offset),
+        Filter::Ranges {
+            family: _,
+            vrf_id: _,
+            status: _,
+            role_id: _,
+            contains: _,
+        } => plan_list::<IpRange>(shelves, filter, limit, offset),
+        Filter::Addresses {
+            family: _,
+            vrf_id: _,
+            status: _,
+            role: _,
+            parent: _,
+            dns_name: _,
+        } => plan_list::<IpAddress>(shelves, filter, limit, offset),
+    }
+}
+
+/// What a call comes to. It changes nothing. `Err` is want of memory.
+pub fn plan(shelves: &Shelves, call: &Call) -> Result<Planned, AllocError>
+    ensures { IfOk result (λ p. IsPlanned (plan_of (state_of shelves.now) call.now) p) }
+{
+    match call {
+        Call::List {
+            kind: _,
+            filter,
+            limit,
+            offset,
+        } => plan_page(shelves, filter, *limit, *offset),
+        Call::Get { kind, id } => plan_one(shelves, *kind, *id),
+        Call::Create { draft } => plan_draft(shelves, draft),
+        Call::Change { id, edit } => plan_edit(shelves, *id, edit),
+        Call::Delete { kind, id } => plan_gone(shelves, *kind, *id),
+    }
+}

@@ -1,0 +1,24 @@
+//! What each call comes to, before anything is done: its refusal, its answer, or an update with its answer. The five calls are
+//! planned once over what a kind gives (`Registered`); a kind has a file, and a line in each dispatch. Nothing here changes a row.
+#![tactic(auto)]
+
+mod addresses;
+mod aggregates;
+mod calls;
+mod dispatch;
+mod edits;
+mod filters;
+mod planned;
+mod prefixes;
+mod ranges;
+mod references;
+mod registered;
+mod rirs;
+mod roles;
+mod same;
+mod vrfs;
+
+pub use calls::broken;
+pub use dispatch::{broken_by_view, plan};
+pub use planned::Planned;
+pub use registered::Registered;

@@ -1,0 +1,194 @@
+//! Prefixes: a table that enforces has each block once.
+
+ghost use Rattle.std.specs.Prelude.{◌≡◌, ℕ, ◌&&◌, ◌==◌, IfOk};
+ghost use Rattle.ipam_data.specs.Tables.{table_of, is_enforcing};
+ghost use Rattle.ipam_data.specs.Plans.{change, nothing_told};
+ghost use Rattle.ipam_data.specs.Edits.{edited_prefix};
+ghost use Rattle.ipam_data.specs.Prefixes.{prefix_rules, prefix_fault};
+ghost use Rattle.ipam_data.specs.Rows.{prefix_status_number};
+ghost use Rattle.ipam_data.specs.Checks.{asks};
+ghost use Rattle.register_shelves.specs.Held.{state_of};
+ghost use Rattle.register_plans.specs.Planned.{IsPlanned};
+ghost use Rattle.register_plans.specs.Meets.{prefix_meets};
+
+use crate::calls::plan_replace;
+use crate::edits::{edited_description, edited_value};
+use crate::filters::{
+    asks_block, asks_contains, asks_family, asks_inside, asks_name, asks_within,
+};
+use crate::planned::Planned;
+use crate::references::{missing_role, missing_vrf};
+use crate::registered::Registered;
+use inet_num::Block;
+use ipam_data::calls::Filter;
+use ipam_data::kinds::{Kind, Table};
+use ipam_data::prefix::{MOST_PREFIXES, Prefix, PrefixStatus};
+use ipam_data::replies::{Refusal, Rule, View};
+use ipam_data::text::Description;
+use register_shelves::Shelves;
+use std::alloc::AllocError;
+
+/// Whether the status is the one that is asked for.
+fn asks_status(wanted: &Option<PrefixStatus>, status: PrefixStatus) -> bool
+    ensures { result ≡ asks wanted.now (λ t. prefix_status_number status == prefix_status_number t) }
+{
+    match wanted {
+        None => true,
+        Some(wanted) => status.number() == wanted.number(),
+    }
+}
+
+/// The first rule past the rows that it names that a prefix breaks beside the rows of other ids.
+fn fault(shelves: &Shelves, row: &Prefix) -> Option<Rule>
+    ensures { result ≡ prefix_fault shelves.now.prefixes.rows row.now (is_enforcing shelves.now.global_unique shelves.now.vrfs.rows (table_of row.now.vrf)) }
+{
+    let enforcing = shelves
+        .vrfs()
+        .enforcing(Table::of(row.vrf), shelves.global_unique());
+    shelves.prefixes().fault(row, enforcing)
+}
+
+impl Registered for Prefix {
+    ghost rules = { prefix_rules };
+
+    ghost meets = { prefix_meets };
+
+    fn kind() -> Kind {
+        Kind::Prefixes
+    }
+
+    fn most() -> u32 {
+        MOST_PREFIXES
+    }
+
+    fn copied(&self) -> Result<Prefix, AllocError> {
+        self.copy()
+    }
+
+    fn into_view(self) -> View {
+        View::Prefix {
+            row: self,
+            depth: 0,
+            children: 0,
+        }
+    }
+
+    fn is_met(&self, filter: &Filter) -> bool {
+        match filter {
+            Filter::Prefixes {
+                family,
+                vrf_id,
+                status,
+                role_id,
+                prefix,
+                within,
+                within_include,
+                contains,
+            } => {
+                asks_family(family, self.block.family())
+                    && asks_name(vrf_id, self.vrf)
+                    && asks_status(status, self.status)
+                    && asks_name(role_id, self.role)
+                    && asks_block(prefix, &self.block)
+                    && asks_within(within, &self.block)
+                    && asks_inside(within_include, &self.block)
+                    && asks_contains(contains, &self.block)
+            }
+            _ => false,
+        }
+    }
+
+    fn found<'a>(shelves: &'a Shelves, id: u32) -> Option<&'a Prefix> {
+        shelves.prefixes().get(id)
+    }
+
+    fn count(shelves: &Shelves) -> u32 {
+        shelves.prefixes().len()
+    }
+
+    fn nth<'a>(shelves: &'a Shelves, index: u32) -> Option<&'a Prefix> {
+        shelves.prefixes().at(index)
+    }
+
+    fn next(shelves: &Shelves) -> u32 {
+        shelves.next(Kind::Prefixes)
+    }
+
+    fn missing(&self, shelves: &Shelves) -> Option<Rule> {
+        if let Some(rule) = missing_vrf(shelves, self.vrf) {
+            return Some(rule);
+        }
+        missing_role(shelves, self.role)
+    }
+
+    fn fault_new(&self, shelves: &Shelves) -> Option<Rule> {
+        fault(shelves, self)
+    }
+
+    fn fault_changed(&self, shelves: &Shelves) -> Option<Rule> {
+        fault(shelves, self)
+    }
+
+    fn user(_shelves: &Shelves, _id: u32) -> Option<Refusal> {
+        None
+    }
+
+    fn forgetting(shelves: &Shelves, _id: u32) -> Result<Vec<View>, AllocError> {
+        Ok(Vec::new(shelves.allocator()))
+    }
+}
+
+/// The prefix that an edit leaves. `Err` is want of memory.
+fn edited_row(
+    old: &Prefix,
+    block: Option<Block>,
+    vrf: Option<Option<u32>>,
+    status: Option<PrefixStatus>,
+    role: Option<Option<u32>>,
+    is_pool: Option<bool>,
+    mark_utilized: Option<bool>,
+    description: &Option<Description>,
+) -> Result<Prefix, AllocError>
+    ensures { IfOk result (λ row. row ≡ edited_prefix block vrf status role is_pool mark_utilized description.now old.now) }
+{
+    Ok(Prefix {
+        id: old.id,
+        block: edited_value(block, old.block),
+        vrf: edited_value(vrf, old.vrf),
+        status: edited_value(status, old.status),
+        role: edited_value(role, old.role),
+        is_pool: edited_value(is_pool, old.is_pool),
+        mark_utilized: edited_value(mark_utilized, old.mark_utilized),
+        description: edited_description(description, &old.description)?,
+    })
+}
+
+/// Plans the prefix of an id with the given fields changed. `Err` is want of memory.
+pub fn plan_edit(
+    shelves: &Shelves,
+    id: u32,
+    block: Option<Block>,
+    vrf: Option<Option<u32>>,
+    status: Option<PrefixStatus>,
+    role: Option<Option<u32>>,
+    is_pool: Option<bool>,
+    mark_utilized: Option<bool>,
+    description: &Option<Description>,
+) -> Result<Planned, AllocError>
+    ensures { IfOk result (λ p. IsPlanned (change prefix_rules (state_of shelves.now) id nothing_told (edited_prefix block vrf status role is_pool mark_utilized description.now)) p) }
+{
+    let row = match Prefix::found(shelves, id) {
+        Some(old) => edited_row(
+            old,
+            block,
+            vrf,
+            status,
+            role,
+            is_pool,
+            mark_utilized,
+            description,
+        )?,
+        None => return Ok(Planned::Refused(Refusal::NotFound(Kind::Prefixes, id))),
+    };
+    plan_replace(shelves, row)
+}

@@ -1,0 +1,80 @@
+//! What the calls need of a kind of row.
+
+ghost use Rattle.std.specs.Prelude.{◌≡◌, ℕ, ◌<◌, ◌^◌, Bool, None, IfOk, option_copied, length, slice_get};
+ghost use Rattle.ipam_data.specs.declared.calls.Filter.{Filter};
+ghost use Rattle.ipam_data.specs.Checks.{first};
+ghost use Rattle.ipam_data.specs.Shelf.{Shelf, row_at, Rises};
+ghost use Rattle.ipam_data.specs.State.{State};
+ghost use Rattle.ipam_data.specs.Plans.{KindRules};
+ghost use Rattle.register_shelves.specs.Held.{state_of};
+ghost use Rattle.register_plans.specs.Broken.{own_row};
+
+use ipam_data::calls::Filter;
+use ipam_data::kinds::{HasId, Kind};
+use ipam_data::replies::{Refusal, Rule, View};
+use register_shelves::Shelves;
+use std::alloc::AllocError;
+
+/// A kind of row: its rules, and the few functions that look at them.
+pub trait Registered: HasId {
+    ghost rules: { KindRules Self };
+
+    ghost meets: { Filter → Self → Bool };
+
+    /// The name of the kind.
+    fn kind() -> Kind
+        ensures { result ≡ rules.kind };
+
+    /// How many rows of it there may be.
+    fn most() -> u32
+        ensures { result ≡ rules.most };
+
+    /// The same row again. `Err` is want of memory.
+    fn copied(&self) -> Result<Self, AllocError>
+        ensures { IfOk result (λ row. row ≡ self.now) };
+
+    /// The row as it is answered, without its figures.
+    fn into_view(self) -> View
+        ensures { result ≡ rules.view self };
+
+    /// Whether the row meets a filter.
+    fn is_met(&self, filter: &Filter) -> bool
+        ensures { result ≡ meets filter.now self.now };
+
+    /// The row of an id.
+    fn found<'a>(shelves: &'a Shelves, id: u32) -> Option<&'a Self>
+        ensures { option_copied result ≡ row_at rules.id (rules.shelf (state_of shelves.now)).rows id };
+
+    /// How many rows there are.
+    fn count(shelves: &Shelves) -> u32
+        ensures count { result ≡ length (rules.shelf (state_of shelves.now)).rows }
+        ensures few { length (rules.shelf (state_of shelves.now)).rows < 2 ^ 30 };
+
+    /// The row at an index, in the order of the ids.
+    fn nth<'a>(shelves: &'a Shelves, index: u32) -> Option<&'a Self>
+        ensures { option_copied result ≡ slice_get (rules.shelf (state_of shelves.now)).rows index };
+
+    /// The next id.
+    fn next(shelves: &Shelves) -> u32
+        ensures { result ≡ (rules.shelf (state_of shelves.now)).next };
+
+    /// The first row that it names and that is not there.
+    fn missing(&self, shelves: &Shelves) -> Option<Rule>
+        ensures { result ≡ first (rules.references (state_of shelves.now) self.now) };
+
+    /// The first rule that it breaks as a new row.
+    fn fault_new(&self, shelves: &Shelves) -> Option<Rule>
+        ensures { result ≡ first (rules.faults (state_of shelves.now) None self.now) };
+
+    /// The first rule that it breaks in the place of the row of its id.
+    fn fault_changed(&self, shelves: &Shelves) -> Option<Rule>
+        ensures { result ≡ first (rules.faults (state_of shelves.now) (own_row rules (state_of shelves.now) self.now) self.now) };
+
+    /// Why the row of an id can't be taken out, if so: the first row that names it.
+    fn user(shelves: &Shelves, id: u32) -> Option<Refusal>
+        ensures { result ≡ first (rules.users (state_of shelves.now) id) };
+
+    /// The rows that are put again where the row of an id goes. `Err` is want of memory.
+    fn forgetting(shelves: &Shelves, id: u32) -> Result<Vec<View>, AllocError>
+        ensures { IfOk result (λ v. v.items ≡ rules.forgetting (state_of shelves.now) id) };
+}

@@ -1,0 +1,239 @@
+//! Roles: their names and slugs are unique, and prefixes and ranges forget one that goes.
+
+ghost use Rattle.std.specs.Prelude.{◌≡◌, ℕ, ◌<◌, ◌++◌, ◌∷◌, [], Some, IfOk, OnOk, length, slice_get, find, filter, map, take, option_copied};
+ghost use Rattle.ipam_data.specs.declared.prefix.Prefix.{Prefix};
+ghost use Rattle.ipam_data.specs.declared.range.IpRange.{IpRange};
+ghost use Rattle.ipam_data.specs.Shelf.{is_rival};
+ghost use Rattle.ipam_data.specs.Rows.{role_id};
+ghost use Rattle.ipam_data.specs.Plans.{change, nothing_told};
+ghost use Rattle.ipam_data.specs.Edits.{edited_role};
+ghost use Rattle.ipam_data.specs.Roles.{role_rules, role_fault, same_role_name, same_role_slug};
+ghost use Rattle.ipam_data.specs.Prefixes.{prefix_rules, prefixes_without_role};
+ghost use Rattle.ipam_data.specs.Ranges.{range_rules, ranges_without_role};
+ghost use Rattle.register_shelves.specs.Held.{state_of};
+ghost use Rattle.register_plans.specs.Planned.{IsPlanned};
+ghost use Rattle.register_plans.specs.Meets.{role_meets};
+
+use crate::calls::plan_replace;
+use crate::edits::{edited_description, edited_name, edited_slug, edited_weight};
+use crate::filters::asks_text;
+use crate::planned::Planned;
+use crate::registered::Registered;
+use crate::same::names;
+use ipam_data::calls::Filter;
+use ipam_data::kinds::Kind;
+use ipam_data::replies::{Refusal, Rule, View};
+use ipam_data::role::{MOST_ROLES, Role};
+use ipam_data::prefix::Prefix;
+use ipam_data::range::IpRange;
+use ipam_data::text::{Description, Name, Slug, Weight};
+use register_shelves::{Prefixes, Shelves};
+use std::alloc::AllocError;
+
+/// Whether the other row is another role with the row's name.
+fn takes_name(row: &Role, other: &Role) -> bool
+    ensures { result ≡ is_rival role_id same_role_name row.now other.now }
+{
+    other.id != row.id && other.name.as_str() == row.name.as_str()
+}
+
+/// Whether the other row is another role with the row's slug.
+fn takes_slug(row: &Role, other: &Role) -> bool
+    ensures { result ≡ is_rival role_id same_role_slug row.now other.now }
+{
+    other.id != row.id && other.slug.as_str() == row.slug.as_str()
+}
+
+/// The first role that takes the row's name.
+fn name_rival<'a>(rows: &'a [Role], row: &Role) -> Option<&'a Role>
+    ensures { option_copied result ≡ find (is_rival role_id same_role_name row.now) rows.now }
+{
+    rows.iter().find(|other| takes_name(row, other))
+}
+
+/// The first role that takes the row's slug.
+fn slug_rival<'a>(rows: &'a [Role], row: &Role) -> Option<&'a Role>
+    ensures { option_copied result ≡ find (is_rival role_id same_role_slug row.now) rows.now }
+{
+    rows.iter().find(|other| takes_slug(row, other))
+}
+
+/// The first rule that a role breaks beside the rows of other ids.
+#[tactic(auto, unfolding(ipam_data::specs::Roles::role_fault))]
+fn fault(rows: &[Role], row: &Role) -> Option<Rule>
+    ensures { result ≡ role_fault rows.now row.now }
+{
+    if let Some(other) = name_rival(rows, row) {
+        return Some(Rule::NameTaken(other.id));
+    }
+    if let Some(other) = slug_rival(rows, row) {
+        return Some(Rule::SlugTaken(other.id));
+    }
+    None
+}
+
+/// Adds a prefix without the role, where it has it. `Err` is want of memory.
+fn forget_in_prefix(row: &Prefix, id: u32, views: &mut Vec<View>) -> Result<(), AllocError>
+    ensures { OnOk result (views.new.items ≡ views.old.items ++ map prefix_rules.view (prefixes_without_role id (row.now ∷ []))) }
+{
+    if !names(id, row.role) {
+        return Ok(());
+    }
+    let mut copy = row.copy()?;
+    copy.role = None;
+    views.push(copy.into_view())?;
+    Ok(())
+}
+
+/// Adds a range without the role, where it has it. `Err` is want of memory.
+fn forget_in_range(row: &IpRange, id: u32, views: &mut Vec<View>) -> Result<(), AllocError>
+    ensures { OnOk result (views.new.items ≡ views.old.items ++ map range_rules.view (ranges_without_role id (row.now ∷ []))) }
+{
+    if !names(id, row.role) {
+        return Ok(());
+    }
+    let mut copy = row.copy()?;
+    copy.role = None;
+    views.push(copy.into_view())?;
+    Ok(())
+}
+
+/// The prefix at an index that is there.
+fn prefix_at(book: &Prefixes, index: u32) -> &Prefix
+    requires { index < length book.now.rows }
+    ensures { slice_get book.now.rows index ≡ Some result.now }
+{
+    match book.at(index) {
+        Some(row) => row,
+        None => unreachable!(),
+    }
+}
+
+/// Adds the prefixes that have the role, without it. `Err` is want of memory.
+fn forget_in_prefixes(book: &Prefixes, id: u32, views: &mut Vec<View>) -> Result<(), AllocError>
+    ensures { OnOk result (views.new.items ≡ views.old.items ++ map prefix_rules.view (prefixes_without_role id book.now.rows)) }
+{
+    let count = book.len();
+    'rows: for index in 0..count {
+        let row: &Prefix = prefix_at(book, index);
+        forget_in_prefix(row, id, views)?;
+    }
+    Ok(())
+}
+
+/// Adds the ranges that have the role, without it. `Err` is want of memory.
+fn forget_in_ranges(rows: &[IpRange], id: u32, views: &mut Vec<View>) -> Result<(), AllocError>
+    ensures { OnOk result (views.new.items ≡ views.old.items ++ map range_rules.view (ranges_without_role id rows.now)) }
+{
+    'rows: for row in rows {
+        forget_in_range(row, id, views)?;
+    }
+    Ok(())
+}
+
+impl Registered for Role {
+    ghost rules = { role_rules };
+
+    ghost meets = { role_meets };
+
+    fn kind() -> Kind {
+        Kind::Roles
+    }
+
+    fn most() -> u32 {
+        MOST_ROLES
+    }
+
+    fn copied(&self) -> Result<Role, AllocError> {
+        self.copy()
+    }
+
+    fn into_view(self) -> View {
+        View::Role(self)
+    }
+
+    fn is_met(&self, filter: &Filter) -> bool {
+        match filter {
+            Filter::Roles { name, slug } => {
+                asks_text(name, self.name.as_str()) && asks_text(slug, self.slug.as_str())
+            }
+            _ => false,
+        }
+    }
+
+    fn found<'a>(shelves: &'a Shelves, id: u32) -> Option<&'a Role> {
+        shelves.roles().get(id)
+    }
+
+    fn count(shelves: &Shelves) -> u32 {
+        shelves.roles().len()
+    }
+
+    fn nth<'a>(shelves: &'a Shelves, index: u32) -> Option<&'a Role> {
+        shelves.roles().at(index)
+    }
+
+    fn next(shelves: &Shelves) -> u32 {
+        shelves.next(Kind::Roles)
+    }
+
+    fn missing(&self, _shelves: &Shelves) -> Option<Rule> {
+        None
+    }
+
+    fn fault_new(&self, shelves: &Shelves) -> Option<Rule> {
+        fault(shelves.roles().rows(), self)
+    }
+
+    fn fault_changed(&self, shelves: &Shelves) -> Option<Rule> {
+        fault(shelves.roles().rows(), self)
+    }
+
+    fn user(_shelves: &Shelves, _id: u32) -> Option<Refusal> {
+        None
+    }
+
+    fn forgetting(shelves: &Shelves, id: u32) -> Result<Vec<View>, AllocError> {
+        let mut views = Vec::new(shelves.allocator());
+        forget_in_prefixes(shelves.prefixes(), id, &mut views)?;
+        forget_in_ranges(shelves.ranges().rows(), id, &mut views)?;
+        Ok(views)
+    }
+}
+
+/// The role that an edit leaves. `Err` is want of memory.
+fn edited_row(
+    old: &Role,
+    name: &Option<Name>,
+    slug: &Option<Slug>,
+    weight: &Option<Weight>,
+    description: &Option<Description>,
+) -> Result<Role, AllocError>
+    ensures { IfOk result (λ row. row ≡ edited_role name.now slug.now weight.now description.now old.now) }
+{
+    Ok(Role {
+        id: old.id,
+        name: edited_name(name, &old.name)?,
+        slug: edited_slug(slug, &old.slug)?,
+        weight: edited_weight(weight, old.weight),
+        description: edited_description(description, &old.description)?,
+    })
+}
+
+/// Plans the role of an id with the given fields changed. `Err` is want of memory.
+pub fn plan_edit(
+    shelves: &Shelves,
+    id: u32,
+    name: &Option<Name>,
+    slug: &Option<Slug>,
+    weight: &Option<Weight>,
+    description: &Option<Description>,
+) -> Result<Planned, AllocError>
+    ensures { IfOk result (λ p. IsPlanned (change role_rules (state_of shelves.now) id nothing_told (edited_role name.now slug.now weight.now description.now)) p) }
+{
+    let row = match Role::found(shelves, id) {
+        Some(old) => edited_row(old, name, slug, weight, description)?,
+        None => return Ok(Planned::Refused(Refusal::NotFound(Kind::Roles, id))),
+    };
+    plan_replace(shelves, row)
+}

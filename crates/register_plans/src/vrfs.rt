@@ -1,0 +1,215 @@
+//! VRFs: no two have one route distinguisher, one that has rows stays, and a table may enforce only where no two of its rows coincide.
+
+ghost use Rattle.std.specs.Prelude.{◌≡◌, ℕ, ◌<◌, ◌≤◌, ◌&&◌, Some, None, IfOk, find, drop, length, option_map, option_copied, slice_get};
+ghost use Rattle.ipam_data.specs.declared.prefix.Prefix.{Prefix};
+ghost use Rattle.ipam_data.specs.declared.range.IpRange.{IpRange};
+ghost use Rattle.ipam_data.specs.declared.address.IpAddress.{IpAddress};
+ghost use Rattle.ipam_data.specs.Shelf.{least, row_at};
+ghost use Rattle.ipam_data.specs.Rows.{vrf_id, prefix_id};
+ghost use Rattle.ipam_data.specs.Tables.{is_named};
+ghost use Rattle.ipam_data.specs.Plans.{change, nothing_told};
+ghost use Rattle.ipam_data.specs.Edits.{edited_vrf};
+ghost use Rattle.ipam_data.specs.Checks.{asks};
+ghost use Rattle.ipam_data.specs.Vrfs.{vrf_rules, turns_on, coincidence, has_rd};
+ghost use Rattle.register_shelves.specs.Held.{state_of};
+ghost use Rattle.register_plans.specs.Planned.{IsPlanned};
+ghost use Rattle.register_plans.specs.Meets.{vrf_meets};
+
+use crate::addresses::pair_of;
+use crate::calls::plan_replace;
+use crate::edits::{edited_description, edited_distinguisher, edited_name, edited_value};
+use crate::filters::asks_text;
+use crate::planned::Planned;
+use crate::registered::Registered;
+use crate::same::names;
+use ipam_data::address::IpAddress;
+use ipam_data::calls::Filter;
+use ipam_data::kinds::{Kind, Table};
+use ipam_data::range::IpRange;
+use ipam_data::replies::{Refusal, Rule, View};
+use ipam_data::text::{Description, Distinguisher, Name, Text};
+use ipam_data::vrf::{MOST_VRFS, Vrf};
+use register_shelves::{Prefixes, Shelves};
+use std::alloc::AllocError;
+
+/// The least id of a prefix of a VRF.
+fn prefix_of(book: &Prefixes, id: u32) -> Option<u32>
+    ensures { result ≡ least prefix_id (λ (row : Prefix). is_named id row.vrf) book.now.rows }
+{
+    let count = book.len();
+    'rows: for index in 0..count {
+        if let Some(row) = book.at(index) {
+            if names(id, row.vrf) {
+                return Some(row.id);
+            }
+        }
+    }
+    None
+}
+
+/// The first range of a VRF.
+fn range_of(rows: &[IpRange], id: u32) -> Option<&IpRange>
+    ensures { option_copied result ≡ find (λ (row : IpRange). is_named id row.vrf) rows.now }
+{
+    rows.iter().find(|row| names(id, row.vrf))
+}
+
+/// The first address of a VRF.
+fn address_of(rows: &[IpAddress], id: u32) -> Option<&IpAddress>
+    ensures { option_copied result ≡ find (λ (row : IpAddress). is_named id row.vrf) rows.now }
+{
+    rows.iter().find(|row| names(id, row.vrf))
+}
+
+/// Whether the change to this row turns enforcing on.
+fn is_turned_on(shelves: &Shelves, row: &Vrf) -> bool
+    ensures { result ≡ turns_on (row_at vrf_id shelves.now.vrfs.rows row.now.id) row.now }
+{
+    match shelves.vrfs().get(row.id) {
+        Some(old) => !old.enforce_unique && row.enforce_unique,
+        None => false,
+    }
+}
+
+/// Two rows of the VRF's table that may not stand in it once it enforces, where it is to: prefixes before addresses.
+fn coinciding(shelves: &Shelves, row: &Vrf) -> Option<Rule>
+    ensures { result ≡ coincidence (state_of shelves.now) (row_at vrf_id shelves.now.vrfs.rows row.now.id) row.now }
+{
+    if !is_turned_on(shelves, row) {
+        return None;
+    }
+    if let Some((a, b)) = shelves.prefixes().coincide(Table::Of(row.id)) {
+        return Some(Rule::Coincide(Kind::Prefixes, a, b));
+    }
+    match pair_of(shelves.addresses().rows(), Table::Of(row.id)) {
+        Some((a, b)) => Some(Rule::Coincide(Kind::Addresses, a, b)),
+        None => None,
+    }
+}
+
+/// Whether the route distinguisher is the one that is asked for.
+fn asks_distinguisher(wanted: &Option<Text>, rd: &Option<Distinguisher>) -> bool
+    ensures { result ≡ asks wanted.now (λ w. has_rd w rd.now) }
+{
+    match (wanted, rd) {
+        (None, _) => true,
+        (Some(wanted), Some(rd)) => rd.as_str() == wanted.as_str(),
+        (Some(_), None) => false,
+    }
+}
+
+impl Registered for Vrf {
+    ghost rules = { vrf_rules };
+
+    ghost meets = { vrf_meets };
+
+    fn kind() -> Kind {
+        Kind::Vrfs
+    }
+
+    fn most() -> u32 {
+        MOST_VRFS
+    }
+
+    fn copied(&self) -> Result<Vrf, AllocError> {
+        self.copy()
+    }
+
+    fn into_view(self) -> View {
+        View::Vrf(self)
+    }
+
+    fn is_met(&self, filter: &Filter) -> bool {
+        match filter {
+            Filter::Vrfs { name, rd } => {
+                asks_text(name, self.name.as_str()) && asks_distinguisher(rd, &self.rd)
+            }
+            _ => false,
+        }
+    }
+
+    fn found<'a>(shelves: &'a Shelves, id: u32) -> Option<&'a Vrf> {
+        shelves.vrfs().get(id)
+    }
+
+    fn count(shelves: &Shelves) -> u32 {
+        shelves.vrfs().len()
+    }
+
+    fn nth<'a>(shelves: &'a Shelves, index: u32) -> Option<&'a Vrf> {
+        shelves.vrfs().rows().get(index as usize)
+    }
+
+    fn next(shelves: &Shelves) -> u32 {
+        shelves.next(Kind::Vrfs)
+    }
+
+    fn missing(&self, _shelves: &Shelves) -> Option<Rule> {
+        None
+    }
+
+    fn fault_new(&self, shelves: &Shelves) -> Option<Rule> {
+        shelves.vrfs().fault(self)
+    }
+
+    fn fault_changed(&self, shelves: &Shelves) -> Option<Rule> {
+        if let Some(rule) = shelves.vrfs().fault(self) {
+            return Some(rule);
+        }
+        coinciding(shelves, self)
+    }
+
+    fn user(shelves: &Shelves, id: u32) -> Option<Refusal> {
+        if let Some(prefix) = prefix_of(shelves.prefixes(), id) {
+            return Some(Refusal::InUse(Kind::Prefixes, prefix));
+        }
+        if let Some(range) = range_of(shelves.ranges().rows(), id) {
+            return Some(Refusal::InUse(Kind::Ranges, range.id));
+        }
+        match address_of(shelves.addresses().rows(), id) {
+            Some(address) => Some(Refusal::InUse(Kind::Addresses, address.id)),
+            None => None,
+        }
+    }
+
+    fn forgetting(shelves: &Shelves, _id: u32) -> Result<Vec<View>, AllocError> {
+        Ok(Vec::new(shelves.allocator()))
+    }
+}
+
+/// The VRF that an edit leaves. `Err` is want of memory.
+fn edited_row(
+    old: &Vrf,
+    name: &Option<Name>,
+    rd: &Option<Option<Distinguisher>>,
+    enforce_unique: Option<bool>,
+    description: &Option<Description>,
+) -> Result<Vrf, AllocError>
+    ensures { IfOk result (λ row. row ≡ edited_vrf name.now rd.now enforce_unique description.now old.now) }
+{
+    Ok(Vrf {
+        id: old.id,
+        name: edited_name(name, &old.name)?,
+        rd: edited_distinguisher(rd, &old.rd)?,
+        enforce_unique: edited_value(enforce_unique, old.enforce_unique),
+        description: edited_description(description, &old.description)?,
+    })
+}
+
+/// Plans the VRF of an id with the given fields changed. `Err` is want of memory.
+pub fn plan_edit(
+    shelves: &Shelves,
+    id: u32,
+    name: &Option<Name>,
+    rd: &Option<Option<Distinguisher>>,
+    enforce_unique: Option<bool>,
+    description: &Option<Description>,
+) -> Result<Planned, AllocError>
+    ensures { IfOk result (λ p. IsPlanned (change vrf_rules (state_of shelves.now) id nothing_told (edited_vrf name.now rd.now enforce_unique description.now)) p) }
+{
+    let row = match Vrf::found(shelves, id) {
+        Some(old) => edited_row(old, name, rd, enforce_unique, description)?,
+        None => return Ok(Planned::Refused(Refusal::NotFound(Kind::Vrfs, id))),
+    };
+    plan_replace(shelves, row)
+}
