@@ -1,0 +1,4 @@
+//! Keepers of stored tables, which hold the rows of a register when the program has ended, and openers, which start keepers.
+#![tactic(auto)]
+
+pub mod keeper;
