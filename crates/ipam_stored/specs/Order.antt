@@ -1,5 +1,5 @@
 -- What any stored tables keep, and the tables without rows.
-use Rattle.std.specs.Prelude.{ℕ, List, []}
+use Rattle.std.specs.Prelude.{[]}
 use Rattle.ipam_stored.specs.declared.tables.Tables.{Tables}
 use Rattle.ipam_data.specs.Shelf.{Rises}
 use Rattle.ipam_stored.specs.Stored.{kinds, next_ids, row_place, next_place}

@@ -61,7 +61,7 @@ fn addr_text(alloc: Global, addr: Addr) -> Result<String, AllocError>
 }
 
 /// An address with its mask.
-fn host_words(alloc: Global, addr: Addr, len: u8) -> Result<Text, AllocError>
+pub(crate) fn host_words(alloc: Global, addr: Addr, len: u8) -> Result<Text, AllocError>
     requires { IsAddress addr }
     ensures { IfOk result (λ t. t ≡ host_text addr len) }
 {
