@@ -4,9 +4,11 @@ ghost use Rattle.std.specs.Prelude.{◌≡◌, ℕ, ◌≤◌, List, Option, opt
 ghost use Rattle.ipam_stored.specs.declared.tables.Tables.{Tables as StoredTables};
 ghost use Rattle.ipam_stored.specs.Stored.{changed};
 ghost use Rattle.ipam_stored.specs.Order.{AreTables};
+ghost use Rattle.ipam_keeper.specs.declared.keeper.KeepFault.TheVariants.{Memory};
 ghost use Rattle.ipam_keeper.specs.Keeping.{Rose, IsRaised, IsTold, started, IsReturned};
 
 use ipam_stored::tables::{Change, Tables, Text};
+use std::alloc::AllocError;
 
 /// Why a keeper did not do what it was asked, or was not started.
 #[derive(Clone, Copy, Debug)]
@@ -15,6 +17,14 @@ pub enum KeepFault {
     Failed,
     /// Want of memory.
     Memory,
+}
+
+impl From<AllocError> for KeepFault {
+    ghost from_gives = { λ _ fault. fault ≡ Memory };
+
+    fn from(_fault: AllocError) -> KeepFault {
+        KeepFault::Memory
+    }
 }
 
 /// What keeps stored tables.

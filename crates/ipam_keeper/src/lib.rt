@@ -2,3 +2,5 @@
 #![tactic(auto)]
 
 pub mod keeper;
+pub mod memory;
+mod places;

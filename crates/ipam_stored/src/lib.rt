@@ -5,4 +5,6 @@ mod columns;
 pub mod laws;
 pub mod reading;
 pub mod tables;
+#[cfg(test)]
+mod tests;
 pub mod writing;
