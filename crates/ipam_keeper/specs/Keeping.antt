@@ -1,6 +1,5 @@
 -- What a keeper tells of its tables, what an opener knows of those under each path, and what their counts of faults do.
-use Rattle.std.specs.Prelude.{◌≡◌, ℕ, ◌+◌, ◌<◌, ◌≤◌, ◌⊎◌, nat_eq, List, [], ◌∷◌, Option, Some, None, if◌then◌else◌, option_map}
-use Rattle.std.specs.Cmp.Lexicographic.{pointwise}
+use Rattle.std.specs.Prelude.{◌≡◌, ℕ, ◌+◌, ◌<◌, ◌≤◌, ◌⊎◌, Bool, bytes_eq, List, [], ◌∷◌, Option, Some, None, if◌then◌else◌, option_map}
 use Rattle.ipam_stored.specs.declared.tables.Tables.{Tables}
 use Rattle.ipam_stored.specs.Order.{empty_tables}
 
@@ -27,10 +26,14 @@ IsTold (Some told) tables = told ≡ tables
 
 -- ---- an opener
 
+-- the entry is one of the path
+abbrev pub is_under : List ℕ → List ℕ × Tables → Bool
+is_under path entry = bytes_eq entry.0 path
+
 -- the tables under a path: those of its first entry, or without one the empty tables
 abbrev pub tables_at : List (List ℕ × Tables) → List ℕ → Tables
 tables_at [] path = empty_tables
-tables_at (entry ∷ rest) path = if pointwise nat_eq entry.0 path then entry.1 else tables_at rest path
+tables_at (entry ∷ rest) path = if is_under path entry then entry.1 else tables_at rest path
 
 -- the tables of a keeper that is started: the empty ones without a path, and else those that are known to stand there
 abbrev pub started : Option (List (List ℕ × Tables)) → Option (List ℕ) → Option Tables

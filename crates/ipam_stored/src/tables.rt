@@ -173,6 +173,19 @@ pub struct Tables {
     pub rows: Rows,
 }
 
+impl Tables {
+    /// The same tables again. `Err` is want of memory.
+    pub fn copy(&self, alloc: Global) -> Result<Tables, AllocError>
+        ensures { IfOk result (λ t. t ≡ self.now) }
+    {
+        Ok(Tables {
+            version: self.version,
+            next: self.next.copy(alloc)?,
+            rows: self.rows.copy()?,
+        })
+    }
+}
+
 /// An edit of stored tables: the rows that come or are replaced, those that go, and next ids.
 #[derive(Debug, Drop)]
 pub struct Change {
