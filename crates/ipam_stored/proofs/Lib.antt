@@ -12,3 +12,6 @@ pub mod PrefixReads
 pub mod RangeReads
 pub mod AddressReads
 pub mod ReadBack
+pub mod Nexts
+pub mod OpenLaws
+pub mod OpenOne

@@ -18,7 +18,7 @@ kinds_apart : (a b : View) → stored_row a ≡ stored_row b → kind_number (st
 kinds_apart a b e = ap (λ (r : Row). kind_number r.kind) e
 
 -- of two rows without figures that are stored alike, one is the other
-one_row : (a b : View) → IsBare a → IsBare b → stored_row a ≡ stored_row b → a ≡ b
+pub one_row : (a b : View) → IsBare a → IsBare b → stored_row a ≡ stored_row b → a ≡ b
 one_row (VrfView a) (VrfView b) h k e = ap VrfView (one_vrf a b h k e)
 one_row (VrfView a) (RirView b) h k e = absurd (let n : 1 ≡ 2 = kinds_apart (VrfView a) (RirView b) e in omega arith)
 one_row (VrfView a) (RoleView b) h k e = absurd (let n : 1 ≡ 3 = kinds_apart (VrfView a) (RoleView b) e in omega arith)

@@ -3,6 +3,7 @@
 
 mod columns;
 pub mod laws;
+pub mod opening;
 pub mod reading;
 pub mod tables;
 #[cfg(test)]
