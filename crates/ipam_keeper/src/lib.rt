@@ -6,3 +6,5 @@ pub mod keeper;
 pub mod memory;
 pub mod opener;
 mod places;
+#[cfg(test)]
+mod tests;
