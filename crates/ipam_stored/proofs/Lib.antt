@@ -2,3 +2,16 @@ pub mod Ascii
 pub mod Segments
 pub mod StoredLaws
 pub mod Examples
+pub mod HostTexts
+pub mod ColumnLaws
+pub mod VrfReads
+pub mod RirReads
+pub mod RoleReads
+pub mod AggregateReads
+pub mod PrefixReads
+pub mod RangeReads
+pub mod AddressReads
+pub mod ReadBack
+pub mod Nexts
+pub mod OpenLaws
+pub mod OpenOne

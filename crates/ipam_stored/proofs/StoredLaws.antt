@@ -232,7 +232,7 @@ puts_ordered : (s : State) (views : List View) → AreOrdered s → AreFit s vie
 puts_ordered s [] h f = h
 puts_ordered s (view ∷ views) h f = puts_ordered (with_view s view) views (ordered_put s view h f.0) f.1
 
-puts_next : (s : State) (views : List View) → (tables_of (fold with_view s views)).next ≡ (tables_of s).next
+pub puts_next : (s : State) (views : List View) → (tables_of (fold with_view s views)).next ≡ (tables_of s).next
 puts_next s [] = refl
 puts_next s (view ∷ views) = puts_next (with_view s view) views ∙ put_next s view
 

@@ -1,1 +1,4 @@
 pub mod Stored
+pub mod Order
+pub mod Reading
+pub mod Opening

@@ -81,6 +81,17 @@ impl Texts {
     {
         self.items.as_slice()
     }
+
+    /// The same texts again. `Err` is want of memory.
+    pub fn copy(&self) -> Result<Texts, AllocError>
+        ensures { IfOk result (λ t. t ≡ self.now) }
+    {
+        let mut items = Vec::with_capacity(*self.items.allocator(), self.items.len())?;
+        for text in &self.items {
+            items.push(text.copy()?)?;
+        }
+        Ok(Texts { items })
+    }
 }
 
 /// A stored row: its kind, its id and the texts of its other columns.
@@ -89,6 +100,19 @@ pub struct Row {
     pub kind: Kind,
     pub id: u32,
     pub fields: Texts,
+}
+
+impl Row {
+    /// The same row again. `Err` is want of memory.
+    pub fn copy(&self) -> Result<Row, AllocError>
+        ensures { IfOk result (λ r. r ≡ self.now) }
+    {
+        Ok(Row {
+            kind: self.kind,
+            id: self.id,
+            fields: self.fields.copy()?,
+        })
+    }
 }
 
 /// Stored rows in order. A contract sees the list.
@@ -127,6 +151,17 @@ impl Rows {
     {
         self.items
     }
+
+    /// The same rows again. `Err` is want of memory.
+    pub fn copy(&self) -> Result<Rows, AllocError>
+        ensures { IfOk result (λ r. r ≡ self.now) }
+    {
+        let mut items = Vec::with_capacity(*self.items.allocator(), self.items.len())?;
+        for row in &self.items {
+            items.push(row.copy()?)?;
+        }
+        Ok(Rows { items })
+    }
 }
 
 /// What a keeper holds: a version, the next id of each kind in the order of the kinds, and the rows in the order of their kinds
@@ -136,6 +171,19 @@ pub struct Tables {
     pub version: u32,
     pub next: Ids,
     pub rows: Rows,
+}
+
+impl Tables {
+    /// The same tables again. `Err` is want of memory.
+    pub fn copy(&self, alloc: Global) -> Result<Tables, AllocError>
+        ensures { IfOk result (λ t. t ≡ self.now) }
+    {
+        Ok(Tables {
+            version: self.version,
+            next: self.next.copy(alloc)?,
+            rows: self.rows.copy()?,
+        })
+    }
 }
 
 /// An edit of stored tables: the rows that come or are replaced, those that go, and next ids.

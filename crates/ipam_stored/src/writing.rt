@@ -5,6 +5,8 @@ ghost use Rattle.inet_num.specs.Net.{IsAddress};
 ghost use Rattle.inet_num.specs.Text.{block_text_of, canonical_text_of};
 ghost use Rattle.ipam_stored.specs.Stored.{flag_text, optional_text, reference_text, host_text, prefix_status_text, range_status_text, address_status_text, address_role_text, stored_vrf, stored_rir, stored_role, stored_aggregate, stored_prefix, stored_range, stored_address, stored_row, change_of};
 
+use crate::tables::{Change, Row, Rows, Text, Texts};
+use inet_num::{Addr, Block, write_addr, write_block};
 use ipam_data::address::{AddressRole, AddressStatus, IpAddress};
 use ipam_data::aggregate::Aggregate;
 use ipam_data::kinds::Kind;
@@ -13,11 +15,9 @@ use ipam_data::range::{IpRange, RangeStatus};
 use ipam_data::replies::View;
 use ipam_data::rir::Rir;
 use ipam_data::role::Role;
-use crate::tables::{Change, Row, Rows, Text, Texts};
 use ipam_data::text::Distinguisher;
 use ipam_data::update::Update;
 use ipam_data::vrf::Vrf;
-use inet_num::{Addr, Block, write_addr, write_block};
 use std::alloc::{AllocError, Global};
 
 /// A text of these characters.
@@ -61,7 +61,7 @@ fn addr_text(alloc: Global, addr: Addr) -> Result<String, AllocError>
 }
 
 /// An address with its mask.
-fn host_words(alloc: Global, addr: Addr, len: u8) -> Result<Text, AllocError>
+pub(crate) fn host_words(alloc: Global, addr: Addr, len: u8) -> Result<Text, AllocError>
     requires { IsAddress addr }
     ensures { IfOk result (λ t. t ≡ host_text addr len) }
 {

@@ -1,0 +1,29 @@
+//! Tables without rows.
+
+ghost use Rattle.std.specs.Prelude.{◌≡◌, IfOk, IfSome};
+ghost use Rattle.ipam_stored.specs.Order.{AreTables, empty_tables as no_rows};
+
+use ipam_data::kinds::Kind;
+use ipam_data::update::Ids;
+use ipam_stored::tables::{Rows, Tables};
+use std::alloc::{AllocError, Global};
+
+/// The tables without rows: version 1, and each next id is 1. `Err` is want of memory.
+pub fn empty_tables(alloc: Global) -> Result<Tables, AllocError>
+    ensures tables { IfOk result (λ t. t ≡ no_rows) }
+    ensures order { IfOk result (λ t. AreTables t) }
+{
+    let mut next = Vec::new(alloc);
+    next.push((Kind::Vrfs, 1))?;
+    next.push((Kind::Rirs, 1))?;
+    next.push((Kind::Roles, 1))?;
+    next.push((Kind::Aggregates, 1))?;
+    next.push((Kind::Prefixes, 1))?;
+    next.push((Kind::Ranges, 1))?;
+    next.push((Kind::Addresses, 1))?;
+    Ok(Tables {
+        version: 1,
+        next: Ids::of(next),
+        rows: Rows::of(Vec::new(alloc)),
+    })
+}

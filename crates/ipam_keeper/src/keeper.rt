@@ -1,0 +1,83 @@
+//! What a keeper and an opener do, whatever they keep tables in.
+
+ghost use Rattle.std.specs.Prelude.{◌≡◌, ℕ, ◌≤◌, List, Option, option_map, option_copied, IfOk, OnOk, OnErr, IsErrOf};
+ghost use Rattle.ipam_stored.specs.declared.tables.Tables.{Tables as StoredTables};
+ghost use Rattle.ipam_stored.specs.Stored.{changed};
+ghost use Rattle.ipam_stored.specs.Order.{AreTables};
+ghost use Rattle.ipam_keeper.specs.declared.keeper.KeepFault.TheVariants.{Memory};
+ghost use Rattle.ipam_keeper.specs.Keeping.{Rose, IsRaised, IsTold, started, IsReturned};
+
+use ipam_stored::tables::{Change, Tables, Text};
+use std::alloc::AllocError;
+
+/// Why a keeper did not do what it was asked, or was not started.
+#[derive(Clone, Copy, Debug)]
+pub enum KeepFault {
+    /// What it keeps could not be read or written.
+    Failed,
+    /// Want of memory.
+    Memory,
+}
+
+impl From<AllocError> for KeepFault {
+    ghost from_gives = { λ _ fault. fault ≡ Memory };
+
+    fn from(_fault: AllocError) -> KeepFault {
+        KeepFault::Memory
+    }
+}
+
+/// What keeps stored tables.
+pub trait Keeper {
+    /// The tables that it keeps, where it tells them.
+    ghost told: { Self → Option StoredTables };
+
+    /// How often it has failed. The count never falls.
+    ghost faults: { Self → ℕ };
+
+    /// The tables that it keeps, in order. It leaves them. `Err` is `Failed` only where the count rose.
+    fn load(&mut self) -> Result<Tables, KeepFault>
+        ensures told { IfOk result (λ tables. IsTold (told self.old) tables) }
+        ensures order { IfOk result (λ tables. AreTables tables) }
+        ensures stays { told self.new ≡ told self.old }
+        ensures later { faults self.old ≤ faults self.new }
+        ensures failed { IsErrOf result KeepFault.Failed → Rose (faults self.old) (faults self.new) };
+
+    /// Makes a change, whole or not at all. `Err` is `Failed` only where the count rose, and leaves the tables.
+    fn apply(&mut self, change: &Change) -> Result<(), KeepFault>
+        ensures ok { OnOk result (told self.new ≡ option_map (changed change.now) (told self.old)) }
+        ensures err { OnErr result (told self.new ≡ told self.old) }
+        ensures later { faults self.old ≤ faults self.new }
+        ensures failed { IsErrOf result KeepFault.Failed → Rose (faults self.old) (faults self.new) };
+}
+
+/// What starts keepers, one at a time: over the tables of a path, or over empty tables of their own.
+pub trait KeeperOpener {
+    type Kept: Keeper + Drop + Send;
+
+    /// The tables under each path, where it knows them.
+    ghost stored: { Self → Option (List (List ℕ × StoredTables)) };
+
+    /// The path of the keeper that was started last and is not back, where one is out; one may have no path.
+    ghost lent: { Self → Option (Option (List ℕ)) };
+
+    /// How often it or a keeper that came back has failed. The count never falls.
+    ghost faults: { Self → ℕ };
+
+    /// A keeper over the tables of this path, which are the empty ones where none stand there; without a path over empty tables. It
+    /// changes no path, also where it is refused. `Err` is `Failed` only where the count rose, and leaves out what was out.
+    fn start(&mut self, path: Option<&Text>) -> Result<Self::Kept, KeepFault>
+        ensures told { IfOk result (λ kept. Self.Kept.told kept ≡ started (stored self.old) (option_copied path.entry)) }
+        ensures stays { stored self.new ≡ stored self.old }
+        ensures ok { OnOk result (lent self.new ≡ Some (option_copied path.entry)) }
+        ensures err { OnErr result (lent self.new ≡ lent self.old) }
+        ensures later { faults self.old ≤ faults self.new }
+        ensures failed { IsErrOf result KeepFault.Failed → Rose (faults self.old) (faults self.new) };
+
+    /// Takes back the keeper that was started last: its tables are then those of its path, and all other paths are as before. It
+    /// takes no memory. The count rises by the keeper's, or up to its last value.
+    fn done(&mut self, kept: Self::Kept)
+        ensures returned { IsReturned (lent self.old) (Self.Kept.told kept) (stored self.old) (stored self.new) }
+        ensures lent { lent self.new ≡ None }
+        ensures raised { IsRaised (faults self.old) (Self.Kept.faults kept) (faults self.new) };
+}
