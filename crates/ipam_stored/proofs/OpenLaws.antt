@@ -431,6 +431,10 @@ all_before next (view ∷ views) h =
 
 -- ---- the law
 
+-- rows that were read from tables in order fit, one after another
+pub read_fit : (nexts : List (Kind × ℕ)) (g : Bool) (views : List View) → Rises row_place 0 (map stored_row views) → AllBare views → AreFit (bare_state nexts g) views
+read_fit nexts g views r b = all_fit (bare_state nexts g) views (all_above (bare_state nexts g) 0 views (bare_under nexts g) r) b
+
 pub accepted_are_opened : AcceptedAreOpened
 accepted_are_opened tables g views order fits ok =
     let s = bare_state tables.next g in

@@ -1,3 +1,3 @@
-pub mod Rows
-pub mod Made
+pub mod Told
+pub mod Planning
 pub mod History

@@ -1,13 +1,11 @@
-//! The register: VRFs and prefixes in memory, one call at a time. `act` answers each call as the plain step of `ipam_data` does,
-//! and notes each accepted change; nothing is changed before all memory for the change is taken.
+//! The register over a keeper of stored tables, one call at a time: `act` answers each call as the plain step of `ipam_data` does,
+//! and an accepted change is stored by the keeper before it is made. `open` makes a register of stored tables.
 #![tactic(auto)]
 
 mod books;
 mod log;
 mod register;
-#[cfg(test)]
-mod tests;
-mod views;
+mod stop;
 
 pub use log::Entry;
-pub use register::{Register, Settings, open};
+pub use register::{Register, Settings, begin};

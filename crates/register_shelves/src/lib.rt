@@ -175,7 +175,7 @@ impl Shelves {
     }
 
     /// Puts a row, for which there is room, in the place of the one of its kind and id, or else behind all of its kind.
-    fn put(&mut self, view: View)
+    pub(crate) fn put(&mut self, view: View)
         requires fits { IsFit (state_of self.old) view }
         requires room { HasRoom self.old (view ∷ []) }
         ensures state { state_of self.new ≡ with_view (state_of self.old) view }

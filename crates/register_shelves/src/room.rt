@@ -1,6 +1,7 @@
 //! Room for the rows of an update.
 
-ghost use Rattle.std.specs.Prelude.{◌≡◌, ℕ, ◌<◌, ◌≤◌, ◌+◌, ◌^◌, ◌==◌, true, OnOk, length, count_by};
+ghost use Rattle.std.specs.Prelude.{◌≡◌, ℕ, ◌<◌, ◌≤◌, ◌+◌, ◌^◌, ◌==◌, ◌∷◌, [], true, false, OnOk, length, count_by};
+ghost use Rattle.ipam_data.specs.Updates.{with_view, IsFit};
 ghost use Rattle.ipam_data.specs.declared.kinds.Table.{Table as SeenTable};
 ghost use Rattle.ipam_data.specs.Tables.{table_of, same_table};
 ghost use Rattle.prefix_rules.specs.Book.{IsInOrder, spare_of};
@@ -170,5 +171,40 @@ impl Shelves {
         self.addresses
             .reserve(count_of_kind(views, Kind::Addresses) as u32)?;
         reserve_tables(&mut self.prefixes, views)
+    }
+
+    /// Whether a kind has so many rows that one more wants more memory than there is.
+    fn is_huge(&self) -> bool
+        ensures { result ≡ false → HasAtMost 500000000 self.now }
+    {
+        self.vrfs.len() > 500_000_000
+            || self.rirs.len() > 500_000_000
+            || self.roles.len() > 500_000_000
+            || self.aggregates.len() > 500_000_000
+            || self.prefixes.len() > 500_000_000
+            || self.ranges.len() > 500_000_000
+            || self.addresses.len() > 500_000_000
+    }
+
+    /// Makes room for a row.
+    fn reserve_one(&mut self, view: &View) -> Result<(), AllocError>
+        requires few { HasAtMost 500000000 self.old }
+        ensures state { state_of self.new ≡ state_of self.old }
+        ensures ok { OnOk result (HasRoom self.new (view.now ∷ [])) }
+    {
+        self.reserve(std::slice::from_ref(view))
+    }
+
+    /// Takes room for a row, and puts it. `Err` is want of memory.
+    pub fn admit(&mut self, view: View) -> Result<(), AllocError>
+        requires fits { IsFit (state_of self.old) view }
+        ensures { OnOk result (state_of self.new ≡ with_view (state_of self.old) view) }
+    {
+        if self.is_huge() {
+            return Err(AllocError);
+        }
+        self.reserve_one(&view)?;
+        self.put(view);
+        Ok(())
     }
 }

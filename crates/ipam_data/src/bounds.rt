@@ -1,0 +1,277 @@
+//! What drafts, edits and calls keep by their types: laws, for callers that make states of them.
+
+ghost use Rattle.std.specs.Prelude.{◌≡◌};
+ghost use Rattle.inet_num.specs.Net.{IsBlock};
+ghost use Rattle.ipam_data.specs.Texts.{IsName, IsSlug, IsDistinguisher, IsDescription, IsWeight, IsDnsText};
+ghost use Rattle.ipam_data.specs.Hosts.{IsMasked};
+ghost use Rattle.ipam_data.specs.Steps.{Given, IsDistinguisherToo, HasDraftBounds, HasEditBounds, HasCallBounds};
+
+use crate::calls::{Call, Draft, Edit};
+use crate::host::Host;
+use crate::text::{Description, Distinguisher, DnsText, Name, Slug, Weight};
+use crate::vrf::distinguisher_bounds;
+use inet_num::Block;
+
+/// A name that is given is one.
+fn name_bounds(field: &Option<Name>)
+    ensures { Given IsName field.now }
+{
+    if let Some(name) = field {
+        let _text = name.as_str();
+    }
+}
+
+/// A slug that is given is one.
+fn slug_bounds(field: &Option<Slug>)
+    ensures { Given IsSlug field.now }
+{
+    if let Some(slug) = field {
+        let _text = slug.as_str();
+    }
+}
+
+/// A route distinguisher that is given is one, or none.
+fn given_distinguisher_bounds(field: &Option<Option<Distinguisher>>)
+    ensures { Given IsDistinguisherToo field.now }
+{
+    if let Some(rd) = field {
+        distinguisher_bounds(rd);
+    }
+}
+
+/// A description that is given is one.
+fn description_bounds(field: &Option<Description>)
+    ensures { Given IsDescription field.now }
+{
+    if let Some(description) = field {
+        let _text = description.as_str();
+    }
+}
+
+/// A weight that is given is one.
+fn weight_bounds(field: &Option<Weight>)
+    ensures { Given IsWeight field.now }
+{
+    if let Some(weight) = field {
+        let _value = weight.get();
+    }
+}
+
+/// A block that is given is one.
+fn block_bounds(field: Option<Block>)
+    ensures { Given IsBlock field }
+{
+    if let Some(block) = field {
+        let _len = block.len();
+    }
+}
+
+/// The mask of a host that is given fits it.
+fn host_bounds(field: Option<Host>)
+    ensures { Given IsMasked field }
+{
+    if let Some(host) = field {
+        let _len = host.len();
+    }
+}
+
+/// The text of a host's name that is given is short enough.
+fn dns_text_bounds(field: &Option<DnsText>)
+    ensures { Given IsDnsText field.now }
+{
+    if let Some(text) = field {
+        let _text = text.as_str();
+    }
+}
+
+impl Draft {
+    /// The blocks, hosts and texts of a draft are in their bounds, by their types.
+    pub fn bounds(&self)
+        ensures { HasDraftBounds self.now }
+    {
+        match self {
+            Draft::Vrf {
+                name,
+                rd,
+                enforce_unique: _,
+                description,
+            } => {
+                let _name = name.as_str();
+                distinguisher_bounds(rd);
+                let _description = description.as_str();
+            }
+            Draft::Rir {
+                name,
+                slug,
+                is_private: _,
+                description,
+            } => {
+                let _name = name.as_str();
+                let _slug = slug.as_str();
+                let _description = description.as_str();
+            }
+            Draft::Role {
+                name,
+                slug,
+                weight,
+                description,
+            } => {
+                let _name = name.as_str();
+                let _slug = slug.as_str();
+                let _weight = weight.get();
+                let _description = description.as_str();
+            }
+            Draft::Aggregate {
+                block,
+                rir: _,
+                description,
+            } => {
+                let _len = block.len();
+                let _description = description.as_str();
+            }
+            Draft::Prefix {
+                block,
+                vrf: _,
+                status: _,
+                role: _,
+                is_pool: _,
+                mark_utilized: _,
+                description,
+            } => {
+                let _len = block.len();
+                let _description = description.as_str();
+            }
+            Draft::IpRange {
+                start,
+                end,
+                vrf: _,
+                status: _,
+                role: _,
+                mark_utilized: _,
+                description,
+            } => {
+                let _start = start.len();
+                let _end = end.len();
+                let _description = description.as_str();
+            }
+            Draft::IpAddress {
+                host,
+                vrf: _,
+                status: _,
+                role: _,
+                dns_name,
+                description,
+            } => {
+                let _len = host.len();
+                let _dns_name = dns_name.as_str();
+                let _description = description.as_str();
+            }
+        }
+    }
+}
+
+impl Edit {
+    /// The blocks, hosts and texts of an edit are in their bounds, by their types.
+    pub fn bounds(&self)
+        ensures { HasEditBounds self.now }
+    {
+        match self {
+            Edit::Vrf {
+                name,
+                rd,
+                enforce_unique: _,
+                description,
+            } => {
+                name_bounds(name);
+                given_distinguisher_bounds(rd);
+                description_bounds(description);
+            }
+            Edit::Rir {
+                name,
+                slug,
+                is_private: _,
+                description,
+            } => {
+                name_bounds(name);
+                slug_bounds(slug);
+                description_bounds(description);
+            }
+            Edit::Role {
+                name,
+                slug,
+                weight,
+                description,
+            } => {
+                name_bounds(name);
+                slug_bounds(slug);
+                weight_bounds(weight);
+                description_bounds(description);
+            }
+            Edit::Aggregate {
+                block,
+                rir: _,
+                description,
+            } => {
+                block_bounds(*block);
+                description_bounds(description);
+            }
+            Edit::Prefix {
+                block,
+                vrf: _,
+                status: _,
+                role: _,
+                is_pool: _,
+                mark_utilized: _,
+                description,
+            } => {
+                block_bounds(*block);
+                description_bounds(description);
+            }
+            Edit::IpRange {
+                start,
+                end,
+                vrf: _,
+                status: _,
+                role: _,
+                mark_utilized: _,
+                description,
+            } => {
+                host_bounds(*start);
+                host_bounds(*end);
+                description_bounds(description);
+            }
+            Edit::IpAddress {
+                host,
+                vrf: _,
+                status: _,
+                role: _,
+                dns_name,
+                description,
+            } => {
+                host_bounds(*host);
+                dns_text_bounds(dns_name);
+                description_bounds(description);
+            }
+        }
+    }
+}
+
+impl Call {
+    /// What a call holds is in its bounds, by its types.
+    pub fn bounds(&self)
+        ensures { HasCallBounds self.now }
+    {
+        match self {
+            Call::List {
+                kind: _,
+                filter: _,
+                limit: _,
+                offset: _,
+            } => {}
+            Call::Get { kind: _, id: _ } => {}
+            Call::Create { draft } => draft.bounds(),
+            Call::Change { id: _, edit } => edit.bounds(),
+            Call::Delete { kind: _, id: _ } => {}
+        }
+    }
+}

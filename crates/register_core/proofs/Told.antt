@@ -1,0 +1,18 @@
+-- What a keeper tells after an update, by the names that a caller has.
+use Rattle.std.proofs.Common.{◌≡◌, Option, option_map, refl, sym, ◌∙◌, subst}
+use Rattle.ipam_stored.specs.declared.tables.Tables.{Tables}
+use Rattle.ipam_stored.specs.declared.tables.Change.{Change}
+use Rattle.ipam_data.specs.declared.update.Update.{Update}
+use Rattle.ipam_data.specs.State.{State}
+use Rattle.ipam_data.specs.Updates.{updated}
+use Rattle.ipam_data.specs.Updates.{CanUpdate}
+use Rattle.ipam_stored.specs.Stored.{changed, change_of, Tells}
+use Rattle.ipam_data.specs.Lawful.{IsLawful}
+use Rattle.ipam_stored.proofs.StoredLaws.{told_after}
+
+pub told_at : (old inner new : State) (u : Update) (change : Change) (told after : Option Tables) → inner ≡ old → IsLawful inner → CanUpdate old u → new ≡ updated old u
+    → change ≡ change_of u → after ≡ option_map (changed change) told → Tells told old → Tells after new
+told_at old inner new u change told after same h can n e a t =
+    let lawful = subst IsLawful same h in
+    let said : after ≡ option_map (changed (change_of u)) told = subst (λ (c : Change). after ≡ option_map (changed c) told) e a in
+    subst (λ (s : State). Tells after s) (sym n) (subst (λ (o : Option Tables). Tells o (updated old u)) (sym said) (told_after old u told lawful can t))
