@@ -1,6 +1,6 @@
-use Rattle.std.proofs.Common.{◌≡◌, sym, ◌∙◌, subst, List, ℕ}
+use Rattle.std.proofs.Common.{sym, ◌∙◌, subst, List, ℕ}
 use Rattle.ipam_stored.specs.declared.tables.Tables.{Tables}
-use Rattle.ipam_keeper.specs.Opener.{AllTables, kept_at}
+use Rattle.ipam_keeper.specs.Opener.{AllTables}
 use Rattle.ipam_keeper.proofs.Paths.{at_index, nowhere, ordered_kept}
 use Rattle.ipam_keeper.proofs.opener.keep_at.Goals as goal
 

@@ -1,6 +1,4 @@
-use Rattle.std.proofs.Common.{◌≡◌, List, None, sym, ◌∙◌, subst}
-use Rattle.ipam_data.specs.Shelf.{Rises, row_at}
-use Rattle.row_book.specs.Book.{IsAt}
+use Rattle.std.proofs.Common.{sym, ◌∙◌}
 use Rattle.row_book.proofs.Places.{remove_at, rises_without, without_none}
 use Rattle.ipam_keeper.proofs.places.cut.Goals as goal
 

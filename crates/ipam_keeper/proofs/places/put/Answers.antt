@@ -1,6 +1,4 @@
-use Rattle.std.proofs.Common.{◌≡◌, ◌≤◌, ℕ, List, arith, sym, ap, ◌∙◌, length}
-use Rattle.ipam_data.specs.Shelf.{Rises, row_at, placed}
-use Rattle.row_book.specs.Book.{IsAt, place}
+use Rattle.std.proofs.Common.{arith, sym}
 use Rattle.row_book.proofs.Places.{place_short}
 use Rattle.ipam_keeper.proofs.Placing.{placed_here, inserted, rises_placed}
 use Rattle.ipam_keeper.proofs.places.put.Goals as goal
