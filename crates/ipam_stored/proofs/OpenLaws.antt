@@ -13,7 +13,8 @@ use Rattle.ipam_data.specs.declared.replies.View.TheVariants.{Vrf as VrfView, Ri
 use Rattle.ipam_data.specs.Rows.{HasVrfBounds, HasRirBounds, HasRoleBounds, HasAggregateBounds, HasPrefixBounds, HasRangeBounds, HasAddressBounds, vrf_id, rir_id, role_id, aggregate_id, prefix_id, range_id, address_id}
 use Rattle.ipam_data.specs.Shelf.{Shelf, IsShelf, with_row, replaced, Rises, AllBelow, last_next, placed}
 use Rattle.ipam_data.specs.Checks.{first}
-use Rattle.ipam_data.specs.State.{State}
+use Rattle.ipam_data.specs.State.{State, empty_state}
+use Rattle.ipam_stored.specs.Order.{empty_tables}
 use Rattle.ipam_data.specs.Plans.{KindRules, put_row}
 use Rattle.ipam_data.specs.ByKind.{by_kind}
 use Rattle.ipam_data.specs.Vrfs.{vrf_rules}
@@ -430,6 +431,28 @@ all_before next (view ∷ views) h =
     )
 
 -- ---- the law
+
+-- the register without rows is that of the empty tables, and is lawful
+empty_low : (kind : Kind) → 1 ≤ told_next empty_tables.next kind
+empty_low Vrfs = omega arith
+empty_low Rirs = omega arith
+empty_low Roles = omega arith
+empty_low Aggregates = omega arith
+empty_low Prefixes = omega arith
+empty_low Ranges = omega arith
+empty_low Addresses = omega arith
+
+empty_fits : AreNextIds empty_tables.next
+empty_fits Vrfs = omega arith
+empty_fits Rirs = omega arith
+empty_fits Roles = omega arith
+empty_fits Aggregates = omega arith
+empty_fits Prefixes = omega arith
+empty_fits Ranges = omega arith
+empty_fits Addresses = omega arith
+
+pub empty_lawful : (g : Bool) → IsLawful (empty_state g)
+empty_lawful g = bare_lawful empty_tables.next g empty_low empty_fits
 
 -- rows that were read from tables in order fit, one after another
 pub read_fit : (nexts : List (Kind × ℕ)) (g : Bool) (views : List View) → Rises row_place 0 (map stored_row views) → AllBare views → AreFit (bare_state nexts g) views

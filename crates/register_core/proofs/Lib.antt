@@ -1,3 +1,4 @@
 pub mod Told
 pub mod Planning
 pub mod History
+pub mod NoKeeper

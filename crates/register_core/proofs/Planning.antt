@@ -13,15 +13,16 @@ use Rattle.ipam_stored.specs.Stored.{tables_of, changed, change_of}
 use Rattle.ipam_data.specs.Replays.{is_accepted}
 use Rattle.ipam_data.specs.Lawful.{IsLawful}
 use Rattle.ipam_data.proofs.AllCalls.{steps_keep, calls_can}
+use Rattle.ipam_data.proofs.Sound.{nothing_done}
 use Rattle.ipam_stored.proofs.StoredLaws.{change_told, lawful_ordered}
 use Rattle.register_plans.specs.declared.planned.Planned.{Planned}
-use Rattle.register_plans.specs.declared.planned.Planned.TheVariants.{Change}
+use Rattle.register_plans.specs.declared.planned.Planned.TheVariants.{Read, Change}
 use Rattle.ipam_data.specs.declared.replies.Refusal.{Refusal}
 use Rattle.ipam_data.specs.declared.replies.Refusal.TheVariants.{Memory, Keeper}
 use Rattle.register_core.specs.declared.stop.Stop.{Stop}
 use Rattle.register_core.specs.declared.stop.Stop.TheVariants.{Memory as NoMemory, Keeper as KeeperStop}
 use Rattle.register_core.specs.Stops.{refusal_of}
-use Rattle.register_plans.specs.Planned.{IsPlanned, IsChange}
+use Rattle.register_plans.specs.Planned.{IsPlanned, IsRead, IsChange}
 use Rattle.register_core.specs.Kept.{Kept, Leads, IsLastChange}
 
 -- a change that was planned is that of the plan
@@ -89,3 +90,15 @@ change_last s new u change answer before a l can n c =
 -- the state of what is kept, by another name
 pub state_same : {K : Type 0} (a b : Kept K) → a ≡ b → a.state ≡ b.state
 state_same {K} a b e = ap (λ (k : Kept K). k.state) e
+
+-- what was planned at a state, where the state is known by another name
+pub plan_same : (inner old : State) (call : Call) (u : Update) (reply : Reply) → inner ≡ old → IsPlanned (plan_of old call) (Change u reply) → IsPlanned (plan_of inner call) (Change u reply)
+plan_same inner old call u reply e h = subst (λ (s : State). IsPlanned (plan_of s call) (Change u reply)) (sym e) h
+
+-- the plain step of a read that was planned
+pub read_steps : (inner s : State) (call : Call) (p : Planned) (reply answer : Reply) → inner ≡ s → p ≡ Read reply → IsPlanned (plan_of s call) p → answer ≡ answered inner reply → plain_step s call ≡ (s, answer)
+read_steps inner s call p reply answer same e h a =
+    let is : IsRead (plan_of s call) reply = subst (λ (q : Planned). IsPlanned (plan_of s call) q) e h in
+    let idle : updated s (plan_of s call).update ≡ s = ap (λ (w : Update). updated s w) is.idle ∙ nothing_done s in
+    outcome_is s (plan_of s call) is.verdict ∙ ap (λ (t : State). let pair : State × Reply = (t, answered t (plan_of s call).reply) in pair) idle
+    ∙ ap (λ (r : Reply). let pair : State × Reply = (s, r) in pair) (ap (λ (r : Reply). answered s r) is.says ∙ sym (a ∙ ap (λ (t : State). answered t reply) same))

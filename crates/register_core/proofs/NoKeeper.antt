@@ -1,0 +1,185 @@
+-- No plan answers that the keeper failed: that answer is the keeper's alone.
+use Rattle.std.proofs.Common.{◌≡◌, ◌≢◌, ℕ, ◌+◌, Bool, true, false, nat_le, List, [], ◌∷◌, ◌++◌, map, length, Option, Some, None, option_map, refl, ap, sym, ◌∙◌, if◌then◌else◌}
+use Rattle.ipam_data.specs.declared.kinds.Kind.{Kind}
+use Rattle.ipam_data.specs.declared.kinds.Kind.TheVariants.{Vrfs, Rirs, Roles, Aggregates, Prefixes, Ranges, Addresses}
+use Rattle.ipam_data.specs.declared.calls.Call.{Call}
+use Rattle.ipam_data.specs.declared.calls.Call.TheVariants.{List as ListOf, Get, Create, Change, Delete}
+use Rattle.ipam_data.specs.declared.calls.Filter.{Filter}
+use Rattle.ipam_data.specs.declared.calls.Filter.TheVariants.{Vrfs as SomeVrfs, Rirs as SomeRirs, Roles as SomeRoles, Aggregates as SomeAggregates, Prefixes as SomePrefixes, Ranges as SomeRanges, Addresses as SomeAddresses}
+use Rattle.ipam_data.specs.declared.calls.Draft.{Draft}
+use Rattle.ipam_data.specs.declared.calls.Draft.TheVariants.{Vrf as VrfDraft, Rir as RirDraft, Role as RoleDraft, Aggregate as AggregateDraft, Prefix as PrefixDraft, IpRange as RangeDraft, IpAddress as AddressDraft}
+use Rattle.ipam_data.specs.declared.calls.Edit.{Edit}
+use Rattle.ipam_data.specs.declared.calls.Edit.TheVariants.{Vrf as VrfEdit, Rir as RirEdit, Role as RoleEdit, Aggregate as AggregateEdit, Prefix as PrefixEdit, IpRange as RangeEdit, IpAddress as AddressEdit}
+use Rattle.ipam_data.specs.declared.replies.Rule.{Rule}
+use Rattle.ipam_data.specs.declared.replies.Which.{Which}
+use Rattle.ipam_data.specs.declared.replies.Refusal.{Refusal}
+use Rattle.ipam_data.specs.declared.replies.Refusal.TheVariants.{Keeper, Limit, InUse}
+use Rattle.ipam_data.specs.declared.replies.Reply.{Reply}
+use Rattle.ipam_data.specs.declared.replies.Reply.TheVariants.{Made, MadeMany, Changed, Gone, Imported, One, Page, Blocks, Addrs, Percent, Refused}
+use Rattle.ipam_data.specs.Shelf.{row_at, least}
+use Rattle.ipam_data.specs.Checks.{first, too_many, no_ids, no_room, no_log, breaks, in_use}
+use Rattle.ipam_data.specs.State.{State, Plan, verdict_of}
+use Rattle.ipam_data.specs.Plans.{KindRules, broken, no_seats, create, replace, change, take_out, delete, get, list, with_found, nothing_told}
+use Rattle.ipam_data.specs.Vrfs.{vrf_rules, meets_vrf}
+use Rattle.ipam_data.specs.Rirs.{rir_rules, meets_rir}
+use Rattle.ipam_data.specs.Roles.{role_rules, meets_role}
+use Rattle.ipam_data.specs.Aggregates.{aggregate_rules, meets_aggregate}
+use Rattle.ipam_data.specs.Prefixes.{prefix_rules, meets_prefix}
+use Rattle.ipam_data.specs.Ranges.{range_rules, range_told, meets_range}
+use Rattle.ipam_data.specs.Addresses.{address_rules, meets_address}
+use Rattle.ipam_data.specs.Updates.{updated, answered, outcome}
+use Rattle.ipam_data.specs.Steps.{create_plan, change_plan, delete_plan, get_plan, list_plan, plan_of, plain_step, told_of_change}
+
+-- of two lists of checks neither of which refuses so, none does together
+never_append : (xs ys : List (Option Refusal)) → first xs ≢ Some Keeper → first ys ≢ Some Keeper → first (xs ++ ys) ≢ Some Keeper
+never_append [] ys a b = b
+never_append (None ∷ xs) ys a b = never_append xs ys a b
+never_append (Some x ∷ xs) ys a b = a
+
+never_one : (x : Option Refusal) → x ≢ Some Keeper → first (x ∷ []) ≢ Some Keeper
+never_one None a = λ e. cc
+never_one (Some x) a = a
+
+never_breaks : (rules : List (Option Rule)) → first (map breaks rules) ≢ Some Keeper
+never_breaks [] = λ e. cc
+never_breaks (None ∷ rules) = never_breaks rules
+never_breaks (Some rule ∷ rules) = λ e. cc
+
+limited : (t : Bool) (which : Which) (most : ℕ) → (if t then None else Some (Limit which most)) ≢ Some Keeper
+limited true which most = λ e. cc
+limited false which most = λ e. cc
+
+never_many : (which : Which) (most count : ℕ) → too_many which most count ≢ Some Keeper
+never_many which most count = limited (nat_le count most) which most
+
+never_used : {T : Type 0} (kind : Kind) (found : Option ℕ) → option_map (InUse kind) found ≢ Some Keeper
+never_used kind None = λ e. cc
+never_used kind (Some n) = λ e. cc
+
+-- no check of the plan refuses so, and where none refuses the answer is no refusal
+record IsOfRules (plan : Plan) : Type 0 where
+  checks : first plan.checks ≢ Some Keeper
+  reply : verdict_of plan ≡ None → (refusal : Refusal) → plan.reply ≢ Refused refusal
+
+answered_alike : (s : State) (reply : Reply) → ((refusal : Refusal) → reply ≢ Refused refusal) → answered s reply ≢ Refused Keeper
+answered_alike s (Made view) h = λ e. cc
+answered_alike s (MadeMany views) h = λ e. cc
+answered_alike s (Changed view) h = λ e. cc
+answered_alike s Gone h = λ e. cc
+answered_alike s (Imported created present) h = λ e. cc
+answered_alike s (One view) h = λ e. cc
+answered_alike s (Page count views) h = λ e. cc
+answered_alike s (Blocks vrf list) h = λ e. cc
+answered_alike s (Addrs vrf len list) h = λ e. cc
+answered_alike s (Percent figure) h = λ e. cc
+answered_alike s (Refused refusal) h = λ e. h refusal refl
+
+never_outcome : (s : State) (plan : Plan) → IsOfRules plan → (outcome s plan).1 ≢ Refused Keeper
+never_outcome s plan p = go (verdict_of plan) refl
+  where
+    go : (v : Option Refusal) → verdict_of plan ≡ v → (outcome s plan).1 ≢ Refused Keeper
+    go (Some refusal) e = λ h. p.checks (e ∙ (let h : Refused refusal ≡ Refused Keeper = rw (e, outcome) at h in cc))
+    go None e = λ h. answered_alike (updated s plan.update) plan.reply (p.reply e) (rw (e, outcome) at h)
+
+module _ {T : Type 0} (rules : KindRules T) (s : State) where
+  never_log : first (no_log s.spent 1 ∷ []) ≢ Some Keeper
+  never_log = never_one (no_log s.spent 1) (never_many _ _ _)
+
+  never_seats : first (no_seats rules s 1) ≢ Some Keeper
+  never_seats =
+      never_append (too_many _ rules.most (length (rules.shelf s).rows + 1) ∷ []) (no_ids (rules.shelf s).next 1 ∷ []) (never_one (too_many _ rules.most (length (rules.shelf s).rows + 1)) (never_many _ _ _))
+      (never_one (no_ids (rules.shelf s).next 1) (limited (nat_le _ _) _ _))
+
+  create_rules : (told : List (Option Rule)) (row : T) → IsOfRules (create rules s told row)
+  create_rules told row = record {
+    checks = never_append (broken rules s None told row ++ no_seats rules s 1) (no_log s.spent 1 ∷ []) (never_append (broken rules s None told row) (no_seats rules s 1) (never_breaks _) never_seats) never_log;
+    reply = λ v refusal e. cc;
+  }
+
+  replace_rules : (old : T) (told : List (Option Rule)) (row : T) → IsOfRules (replace rules s old told row)
+  replace_rules old told row = record {
+    checks = never_append (broken rules s (Some old) told row) (no_log s.spent 1 ∷ []) (never_breaks _) never_log;
+    reply = λ v refusal e. cc;
+  }
+
+  found_rules : (n : ℕ) (plan : T → Plan) (found : Option T) → ((row : T) → IsOfRules (plan row)) → IsOfRules (with_found rules n plan found)
+  found_rules n plan None h = record { checks = λ e. cc; reply = λ v refusal e. cc }
+  found_rules n plan (Some row) h = h row
+
+  change_rules : (n : ℕ) (told : T → List (Option Rule)) (edit : T → T) → IsOfRules (change rules s n told edit)
+  change_rules n told edit = found_rules n (λ old. replace rules s old (told old) (edit old)) (row_at rules.id (rules.shelf s).rows n) (λ old. replace_rules old (told old) (edit old))
+
+  delete_rules : (n : ℕ) → first (rules.users s n) ≢ Some Keeper → IsOfRules (delete rules s n)
+  delete_rules n u = found_rules n (λ old. take_out rules s n) (row_at rules.id (rules.shelf s).rows n) (λ old. record {
+    checks = never_append (rules.users s n) (no_log s.spent 1 ∷ []) u never_log;
+    reply = λ v refusal e. cc;
+  })
+
+  get_rules : (n : ℕ) → IsOfRules (get rules s n)
+  get_rules n = found_rules n _ (row_at rules.id (rules.shelf s).rows n) (λ row. record { checks = λ e. cc; reply = λ v refusal e. cc })
+
+  list_rules : (meets : T → Bool) (limit offset : ℕ) → IsOfRules (list rules s meets limit offset)
+  list_rules meets limit offset = record { checks = λ e. cc; reply = λ v refusal e. cc }
+
+create_all : (s : State) (draft : Draft) → IsOfRules (create_plan s draft)
+create_all s (VrfDraft name rd enforce_unique description) = create_rules vrf_rules s [] _
+create_all s (RirDraft name slug is_private description) = create_rules rir_rules s [] _
+create_all s (RoleDraft name slug weight description) = create_rules role_rules s [] _
+create_all s (AggregateDraft block rir description) = create_rules aggregate_rules s [] _
+create_all s (PrefixDraft block vrf status role is_pool mark_utilized description) = create_rules prefix_rules s [] _
+create_all s (RangeDraft start end vrf status role mark_utilized description) = create_rules range_rules s (range_told start end) _
+create_all s (AddressDraft host vrf status role dns_name description) = create_rules address_rules s [] _
+
+change_all : (s : State) (n : ℕ) (edit : Edit) → IsOfRules (change_plan s n edit)
+change_all s n (VrfEdit name rd enforce_unique description) = change_rules vrf_rules s n nothing_told _
+change_all s n (RirEdit name slug is_private description) = change_rules rir_rules s n nothing_told _
+change_all s n (RoleEdit name slug weight description) = change_rules role_rules s n nothing_told _
+change_all s n (AggregateEdit block rir description) = change_rules aggregate_rules s n nothing_told _
+change_all s n (PrefixEdit block vrf status role is_pool mark_utilized description) = change_rules prefix_rules s n nothing_told _
+change_all s n (RangeEdit start end vrf status role mark_utilized description) = change_rules range_rules s n (told_of_change start end) _
+change_all s n (AddressEdit host vrf status role dns_name description) = change_rules address_rules s n nothing_told _
+
+vrf_users : (s : State) (n : ℕ) → first (vrf_rules.users s n) ≢ Some Keeper
+vrf_users s n = never_append (used Prefixes _ ∷ []) (used Ranges _ ∷ used Addresses _ ∷ []) (never_one _ (never_used {T = ℕ} Prefixes _))
+    (never_append (used Ranges _ ∷ []) (used Addresses _ ∷ []) (never_one _ (never_used {T = ℕ} Ranges _)) (never_one _ (never_used {T = ℕ} Addresses _)))
+  where
+    used : Kind → Option ℕ → Option Refusal
+    used kind found = option_map (InUse kind) found
+
+delete_all : (s : State) (kind : Kind) (n : ℕ) → IsOfRules (delete_plan s kind n)
+delete_all s Vrfs n = delete_rules vrf_rules s n (vrf_users s n)
+delete_all s Rirs n = delete_rules rir_rules s n (never_one _ (never_used {T = ℕ} Aggregates _))
+delete_all s Roles n = delete_rules role_rules s n (λ e. cc)
+delete_all s Aggregates n = delete_rules aggregate_rules s n (λ e. cc)
+delete_all s Prefixes n = delete_rules prefix_rules s n (λ e. cc)
+delete_all s Ranges n = delete_rules range_rules s n (λ e. cc)
+delete_all s Addresses n = delete_rules address_rules s n (λ e. cc)
+
+get_all : (s : State) (kind : Kind) (n : ℕ) → IsOfRules (get_plan s kind n)
+get_all s Vrfs n = get_rules vrf_rules s n
+get_all s Rirs n = get_rules rir_rules s n
+get_all s Roles n = get_rules role_rules s n
+get_all s Aggregates n = get_rules aggregate_rules s n
+get_all s Prefixes n = get_rules prefix_rules s n
+get_all s Ranges n = get_rules range_rules s n
+get_all s Addresses n = get_rules address_rules s n
+
+list_all : (s : State) (filter : Filter) (limit offset : ℕ) → IsOfRules (list_plan s filter limit offset)
+list_all s (SomeVrfs name rd) limit offset = list_rules vrf_rules s _ limit offset
+list_all s (SomeRirs name slug) limit offset = list_rules rir_rules s _ limit offset
+list_all s (SomeRoles name slug) limit offset = list_rules role_rules s _ limit offset
+list_all s (SomeAggregates family rir_id) limit offset = list_rules aggregate_rules s _ limit offset
+list_all s (SomePrefixes family vrf_id status role_id prefix within within_include contains) limit offset = list_rules prefix_rules s _ limit offset
+list_all s (SomeRanges family vrf_id status role_id contains) limit offset = list_rules range_rules s _ limit offset
+list_all s (SomeAddresses family vrf_id status role parent dns_name) limit offset = list_rules address_rules s _ limit offset
+
+all_rules : (s : State) (call : Call) → IsOfRules (plan_of s call)
+all_rules s (ListOf kind filter limit offset) = list_all s filter limit offset
+all_rules s (Get kind n) = get_all s kind n
+all_rules s (Create draft) = create_all s draft
+all_rules s (Change n edit) = change_all s n edit
+all_rules s (Delete kind n) = delete_all s kind n
+
+-- the plain step never answers that the keeper failed
+pub no_keeper : (s : State) (call : Call) → (plain_step s call).1 ≢ Refused Keeper
+no_keeper s call = never_outcome s (plan_of s call) (all_rules s call)
