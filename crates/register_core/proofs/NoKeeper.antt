@@ -1,5 +1,5 @@
 -- No plan answers that the keeper failed: that answer is the keeper's alone.
-use Rattle.std.proofs.Common.{◌≡◌, ◌≢◌, ℕ, ◌+◌, Bool, true, false, nat_le, List, [], ◌∷◌, ◌++◌, map, length, Option, Some, None, option_map, refl, ap, sym, ◌∙◌, if◌then◌else◌}
+use Rattle.std.proofs.Common.{◌≡◌, ◌≢◌, ℕ, ◌+◌, Bool, true, false, nat_le, List, [], ◌∷◌, ◌++◌, map, length, Option, Some, None, option_map, refl, ◌∙◌, if◌then◌else◌}
 use Rattle.ipam_data.specs.declared.kinds.Kind.{Kind}
 use Rattle.ipam_data.specs.declared.kinds.Kind.TheVariants.{Vrfs, Rirs, Roles, Aggregates, Prefixes, Ranges, Addresses}
 use Rattle.ipam_data.specs.declared.calls.Call.{Call}
@@ -16,17 +16,17 @@ use Rattle.ipam_data.specs.declared.replies.Refusal.{Refusal}
 use Rattle.ipam_data.specs.declared.replies.Refusal.TheVariants.{Keeper, Limit, InUse}
 use Rattle.ipam_data.specs.declared.replies.Reply.{Reply}
 use Rattle.ipam_data.specs.declared.replies.Reply.TheVariants.{Made, MadeMany, Changed, Gone, Imported, One, Page, Blocks, Addrs, Percent, Refused}
-use Rattle.ipam_data.specs.Shelf.{row_at, least}
-use Rattle.ipam_data.specs.Checks.{first, too_many, no_ids, no_room, no_log, breaks, in_use}
+use Rattle.ipam_data.specs.Shelf.{row_at}
+use Rattle.ipam_data.specs.Checks.{first, too_many, no_ids, no_log, breaks}
 use Rattle.ipam_data.specs.State.{State, Plan, verdict_of}
 use Rattle.ipam_data.specs.Plans.{KindRules, broken, no_seats, create, replace, change, take_out, delete, get, list, with_found, nothing_told}
-use Rattle.ipam_data.specs.Vrfs.{vrf_rules, meets_vrf}
-use Rattle.ipam_data.specs.Rirs.{rir_rules, meets_rir}
-use Rattle.ipam_data.specs.Roles.{role_rules, meets_role}
-use Rattle.ipam_data.specs.Aggregates.{aggregate_rules, meets_aggregate}
-use Rattle.ipam_data.specs.Prefixes.{prefix_rules, meets_prefix}
-use Rattle.ipam_data.specs.Ranges.{range_rules, range_told, meets_range}
-use Rattle.ipam_data.specs.Addresses.{address_rules, meets_address}
+use Rattle.ipam_data.specs.Vrfs.{vrf_rules}
+use Rattle.ipam_data.specs.Rirs.{rir_rules}
+use Rattle.ipam_data.specs.Roles.{role_rules}
+use Rattle.ipam_data.specs.Aggregates.{aggregate_rules}
+use Rattle.ipam_data.specs.Prefixes.{prefix_rules}
+use Rattle.ipam_data.specs.Ranges.{range_rules, range_told}
+use Rattle.ipam_data.specs.Addresses.{address_rules}
 use Rattle.ipam_data.specs.Updates.{updated, answered, outcome}
 use Rattle.ipam_data.specs.Steps.{create_plan, change_plan, delete_plan, get_plan, list_plan, plan_of, plain_step, told_of_change}
 
@@ -52,7 +52,7 @@ limited false which most = λ e. cc
 never_many : (which : Which) (most count : ℕ) → too_many which most count ≢ Some Keeper
 never_many which most count = limited (nat_le count most) which most
 
-never_used : {T : Type 0} (kind : Kind) (found : Option ℕ) → option_map (InUse kind) found ≢ Some Keeper
+never_used : (kind : Kind) (found : Option ℕ) → option_map (InUse kind) found ≢ Some Keeper
 never_used kind None = λ e. cc
 never_used kind (Some n) = λ e. cc
 
@@ -92,13 +92,13 @@ module _ {T : Type 0} (rules : KindRules T) (s : State) where
 
   create_rules : (told : List (Option Rule)) (row : T) → IsOfRules (create rules s told row)
   create_rules told row = record {
-    checks = never_append (broken rules s None told row ++ no_seats rules s 1) (no_log s.spent 1 ∷ []) (never_append (broken rules s None told row) (no_seats rules s 1) (never_breaks _) never_seats) never_log;
+    checks = never_append (broken rules s None told row ++ no_seats rules s 1) (no_log s.spent 1 ∷ []) (never_append (broken rules s None told row) (no_seats rules s 1) (never_breaks (rules.references s row ++ told ++ rules.faults s None row)) never_seats) never_log;
     reply = λ v refusal e. cc;
   }
 
   replace_rules : (old : T) (told : List (Option Rule)) (row : T) → IsOfRules (replace rules s old told row)
   replace_rules old told row = record {
-    checks = never_append (broken rules s (Some old) told row) (no_log s.spent 1 ∷ []) (never_breaks _) never_log;
+    checks = never_append (broken rules s (Some old) told row) (no_log s.spent 1 ∷ []) (never_breaks (rules.references s row ++ told ++ rules.faults s (Some old) row)) never_log;
     reply = λ v refusal e. cc;
   }
 
@@ -140,15 +140,15 @@ change_all s n (RangeEdit start end vrf status role mark_utilized description) =
 change_all s n (AddressEdit host vrf status role dns_name description) = change_rules address_rules s n nothing_told _
 
 vrf_users : (s : State) (n : ℕ) → first (vrf_rules.users s n) ≢ Some Keeper
-vrf_users s n = never_append (used Prefixes _ ∷ []) (used Ranges _ ∷ used Addresses _ ∷ []) (never_one _ (never_used {T = ℕ} Prefixes _))
-    (never_append (used Ranges _ ∷ []) (used Addresses _ ∷ []) (never_one _ (never_used {T = ℕ} Ranges _)) (never_one _ (never_used {T = ℕ} Addresses _)))
+vrf_users s n = never_append (used Prefixes _ ∷ []) (used Ranges _ ∷ used Addresses _ ∷ []) (never_one _ (never_used Prefixes _))
+    (never_append (used Ranges _ ∷ []) (used Addresses _ ∷ []) (never_one _ (never_used Ranges _)) (never_one _ (never_used Addresses _)))
   where
     used : Kind → Option ℕ → Option Refusal
     used kind found = option_map (InUse kind) found
 
 delete_all : (s : State) (kind : Kind) (n : ℕ) → IsOfRules (delete_plan s kind n)
 delete_all s Vrfs n = delete_rules vrf_rules s n (vrf_users s n)
-delete_all s Rirs n = delete_rules rir_rules s n (never_one _ (never_used {T = ℕ} Aggregates _))
+delete_all s Rirs n = delete_rules rir_rules s n (never_one _ (never_used Aggregates _))
 delete_all s Roles n = delete_rules role_rules s n (λ e. cc)
 delete_all s Aggregates n = delete_rules aggregate_rules s n (λ e. cc)
 delete_all s Prefixes n = delete_rules prefix_rules s n (λ e. cc)

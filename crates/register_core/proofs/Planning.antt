@@ -1,5 +1,5 @@
 -- What is known where a call was planned as a change.
-use Rattle.std.proofs.Common.{◌≡◌, ◌≢◌, ℕ, ◌+◌, ◌<◌, suc, zero, Bool, true, false, List, [], ◌∷◌, ◌++◌, map, take, drop, length, get_or, Option, Some, None, MatchBool, refl, ap, sym, ◌∙◌, subst}
+use Rattle.std.proofs.Common.{◌≡◌, ◌≢◌, true, Option, Some, None, refl, ap, sym, ◌∙◌, subst}
 use Rattle.ipam_data.specs.declared.calls.Call.{Call}
 use Rattle.ipam_stored.specs.declared.tables.Change.{Change as StoredChange}
 use Rattle.ipam_data.specs.declared.update.Update.{Update}

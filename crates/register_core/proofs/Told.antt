@@ -1,5 +1,5 @@
 -- What a keeper tells after an update, by the names that a caller has.
-use Rattle.std.proofs.Common.{◌≡◌, Option, option_map, refl, sym, ◌∙◌, subst}
+use Rattle.std.proofs.Common.{◌≡◌, Option, option_map, sym, subst}
 use Rattle.ipam_stored.specs.declared.tables.Tables.{Tables}
 use Rattle.ipam_stored.specs.declared.tables.Change.{Change}
 use Rattle.ipam_data.specs.declared.update.Update.{Update}

@@ -1,5 +1,4 @@
 use Rattle.std.proofs.Common.{sym, subst}
-use Rattle.ipam_data.specs.State.{State}
 use Rattle.ipam_data.specs.Lawful.{IsLawful}
 use Rattle.ipam_stored.proofs.OpenLaws.{empty_lawful}
 use Rattle.register_core.proofs.books.Books.new.Goals as goal

@@ -1,6 +1,3 @@
-use Rattle.std.proofs.Common.{◌≡◌, ◌∙◌, ap}
-use Rattle.ipam_data.specs.State.{State}
-use Rattle.ipam_data.specs.declared.replies.Reply.{Reply}
 use Rattle.register_core.proofs.Planning.{state_same, read_steps}
 use Rattle.register_core.proofs.register.Register.follow.Goals as goal
 

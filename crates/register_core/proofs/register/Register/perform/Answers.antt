@@ -1,8 +1,5 @@
-use Rattle.std.proofs.Common.{◌≡◌, Some, sym, subst, refl}
+use Rattle.std.proofs.Common.{Some, subst, refl}
 use Rattle.ipam_data.specs.State.{State}
-use Rattle.ipam_data.specs.Steps.{plan_of}
-use Rattle.register_plans.specs.Planned.{IsPlanned}
-use Rattle.register_plans.specs.declared.planned.Planned.{Planned}
 use Rattle.register_plans.specs.declared.planned.Planned.TheVariants.{Change}
 use Rattle.register_core.specs.Kept.{Leads}
 use Rattle.register_core.proofs.Planning.{state_same, plan_same, change_can, change_lawful, change_leads, change_steps}
