@@ -373,6 +373,8 @@ addresses|10.0.0.0/28||10.0.0.0-10.0.0.255|3|
 give|192.0.2.0/30|||3|no space 2
 give|192.0.2.0/30|||2|192.0.2.1 192.0.2.2
 give|10.0.0.0/24||10.0.0.1-10.0.0.9|1|10.0.0.10
+give|ffff:ffff:ffff:ffff:ffff:ffff:ffff:fffe/127|||1|ffff:ffff:ffff:ffff:ffff:ffff:ffff:fffe
+give|ffff:ffff:ffff:ffff:ffff:ffff:ffff:fffe/127|ffff:ffff:ffff:ffff:ffff:ffff:ffff:fffe/128||1|ffff:ffff:ffff:ffff:ffff:ffff:ffff:ffff
 give|ffff:ffff:ffff:ffff:ffff:ffff:ffff:fffe/127|||2|ffff:ffff:ffff:ffff:ffff:ffff:ffff:fffe ffff:ffff:ffff:ffff:ffff:ffff:ffff:ffff
 give|ffff:ffff:ffff:ffff:ffff:ffff:ffff:fffe/127|ffff:ffff:ffff:ffff:ffff:ffff:ffff:fffe/128 ffff:ffff:ffff:ffff:ffff:ffff:ffff:ffff/128||1|no space 0
 give|255.255.255.254/31|||2|255.255.255.254 255.255.255.255
