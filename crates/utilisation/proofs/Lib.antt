@@ -1,0 +1,4 @@
+pub mod Counted
+pub mod Examples
+pub mod Parts
+pub mod Sizes
