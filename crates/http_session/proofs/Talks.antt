@@ -13,7 +13,7 @@ use Rattle.http_session.specs.Replies.{answer_of, body_bytes}
 use Rattle.std.proofs.lemmas.Bool.Decides.{nat_tests}
 use Rattle.http_session.specs.Steps.{Grown, IsReadWhile, next_number}
 use Rattle.http_session.proofs.ItemLemmas.{all_open_more, ends_closed, items_more, items_wait}
-use Rattle.http_session.specs.Talk.{Answer, Answered, May, Run, texts, refusal_answer, refusal_body, refusal_status, text_of}
+use Rattle.http_session.specs.Talk.{Answer, Answered, May, Run, is_head, texts, refusal_answer, refusal_body, refusal_status, text_of}
 use Rattle.http_session.specs.Ends.{IsBetween, IsLeft, IsLost, IsReadAsNeeded, IsClosed, IsCutShort, IsStarved, IsTalk, IsUnsaid}
 
 run_more : {S : Type 0} (may : May S) (s : S) (items : List Item) (answers : List Answer) (t : S) (item : Item) (a : Answer) (u : S) → Run may s items answers t → Answered may t item a u → Run may s (items ++ item ∷ []) (answers ++ a ∷ []) u
@@ -22,11 +22,11 @@ run_more may s [] (b ∷ bs) t item a u run h = absurd run
 run_more may s (i ∷ is) [] t item a u run h = absurd run
 run_more may s (i ∷ is) (b ∷ bs) t item a u run h = (run.0, run.1, run_more may run.0 is bs t item a u run.2 h)
 
-texts_more : {S : Type 0} (may : May S) (s : S) (items : List Item) (answers : List Answer) (t : S) (item : Item) (a : Answer) → Run may s items answers t → texts (items ++ item ∷ []) (answers ++ a ∷ []) ≡ texts items answers ++ text_of a (closes item)
-texts_more may s [] [] t item a run = append-nil (text_of a (closes item))
+texts_more : {S : Type 0} (may : May S) (s : S) (items : List Item) (answers : List Answer) (t : S) (item : Item) (a : Answer) → Run may s items answers t → texts (items ++ item ∷ []) (answers ++ a ∷ []) ≡ texts items answers ++ text_of a item
+texts_more may s [] [] t item a run = append-nil (text_of a item)
 texts_more may s [] (b ∷ bs) t item a run = absurd run
 texts_more may s (i ∷ is) [] t item a run = absurd run
-texts_more may s (i ∷ is) (b ∷ bs) t item a run = ap (λ l. text_of b (closes i) ++ l) (texts_more may run.0 is bs t item a run.2) ∙ sym (append_assoc (text_of b (closes i)) (texts is bs) (text_of a (closes item)))
+texts_more may s (i ∷ is) (b ∷ bs) t item a run = ap (λ l. text_of b i ++ l) (texts_more may run.0 is bs t item a run.2) ∙ sym (append_assoc (text_of b i) (texts is bs) (text_of a item))
 
 -- a request depends on no end
 open_any : (n : ℕ) (bytes : List ℕ) (E F : Type 0) (item : Item) (rest : List ℕ) → closes item ≡ false → IsItem n bytes E item rest → IsItem n bytes F item rest
@@ -34,10 +34,11 @@ open_any n bytes E F (Asks r) rest o q = q
 open_any n bytes E F (Refuses fault) rest o q = cc o
 
 -- a reply in its frame
-pub reply_text : (reply : Reply) (body : List ℕ) (close : Bool) → body ≡ body_bytes reply.body → answer_text reply.status reply.allow.now reply.place close body ≡ text_of (answer_of reply) close
-reply_text reply body close e = rw e refl
+pub reply_text : (reply : Reply) (body : List ℕ) (request : Framed) (bare : Bool) → body ≡ body_bytes reply.body → bare ≡ is_head request.method
+    → answer_text reply.status reply.allow.now reply.place request.close bare body ≡ text_of (answer_of reply) (Asks request)
+reply_text reply body request bare e h = rw (e, h) refl
 
-pub refused_text : (fault : Fault) (status : ℕ) (body : List ℕ) → status ≡ refusal_status fault → body ≡ refusal_body fault → answer_text status [] None true body ≡ text_of (refusal_answer fault) true
+pub refused_text : (fault : Fault) (status : ℕ) (body : List ℕ) → status ≡ refusal_status fault → body ≡ refusal_body fault → answer_text status [] None true false body ≡ text_of (refusal_answer fault) (Refuses fault)
 refused_text fault status body hs hb = rw (hs, hb) refl
 
 -- an item that leaves the connection open is not the 1,000th
@@ -73,7 +74,7 @@ module _ {S : Type 0} (may : May S) (s t : S) (old now : Option (List ℕ)) (byt
   counted : (item : Item) → n + 1 ≡ length (so_far.items ++ item ∷ [])
   counted item = omega (arith, so_far.count, length-append so_far.items (item ∷ []))
 
-  talked : (item : Item) (a : Answer) (u : S) (new : Option (List ℕ)) (text : List ℕ) → Appends now new text → text ≡ text_of a (closes item) → Answered may t item a u → IsTalk may s u old new (so_far.items ++ item ∷ [])
+  talked : (item : Item) (a : Answer) (u : S) (new : Option (List ℕ)) (text : List ℕ) → Appends now new text → text ≡ text_of a item → Answered may t item a u → IsTalk may s u old new (so_far.items ++ item ∷ [])
   talked item a u new text said e h =
       record {
         answers = so_far.talk.answers ++ a ∷ [];
@@ -102,7 +103,7 @@ module _ {S : Type 0} (may : May S) (s t : S) (old now : Option (List ℕ)) (byt
 
   -- the next item was answered, and the connection stays open
   pub goes_on : (E : Type 0) (item : Item) (kept : List ℕ) (a : Answer) (u : S) (new : Option (List ℕ)) (text : List ℕ) → IsItem n all E item kept → closes item ≡ false → n + 1 ≤ 999
-      → Appends now new text → text ≡ text_of a (closes item) → Answered may t item a u → IsBetween may s u old new (bytes ++ got) kept (n + 1)
+      → Appends now new text → text ≡ text_of a item → Answered may t item a u → IsBetween may s u old new (bytes ++ got) kept (n + 1)
   goes_on E item kept a u new text q o few said e h =
       record {
         items = so_far.items ++ item ∷ [];
@@ -115,7 +116,7 @@ module _ {S : Type 0} (may : May S) (s t : S) (old now : Option (List ℕ)) (byt
 
   -- it closes the connection
   pub closes_now : (E : Type 0) (item : Item) (kept : List ℕ) (a : Answer) (u : S) (new : Option (List ℕ)) (text : List ℕ) → IsItem n all E item kept → closes item ≡ true
-      → Appends now new text → text ≡ text_of a (closes item) → Answered may t item a u → IsClosed may s u old new (bytes ++ got) E (n + 1)
+      → Appends now new text → text ≡ text_of a item → Answered may t item a u → IsClosed may s u old new (bytes ++ got) E (n + 1)
   closes_now E item kept a u new text q c said e h =
       record {
         items = so_far.items ++ item ∷ [];
@@ -126,7 +127,7 @@ module _ {S : Type 0} (may : May S) (s t : S) (old now : Option (List ℕ)) (byt
 
   -- its answer could not be written
   pub unsaid : (E : Type 0) (item : Item) (kept : List ℕ) (a : Answer) (u : S) (new : Option (List ℕ)) (text : List ℕ) → IsItem n all E item kept
-      → AppendsFront now new text → text ≡ text_of a (closes item) → Answered may t item a u → IsUnsaid may s u old new (bytes ++ got) E
+      → AppendsFront now new text → text ≡ text_of a item → Answered may t item a u → IsUnsaid may s u old new (bytes ++ got) E
   unsaid E item kept a u new text q said e h =
       record {
         items = so_far.items;

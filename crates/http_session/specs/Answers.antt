@@ -24,16 +24,24 @@ abbrev pub place_line : Option ℕ → List ℕ
 place_line None = []
 place_line (Some n) = codes "Ipam-Place: " ++ decimal n ++ codes "\r\n"
 
--- an answer: status line, fields, empty line, body
-unfoldable pub answer_text : ℕ → List ℕ → Option ℕ → Bool → List ℕ → List ℕ
-answer_text status allow place close body =
+-- the head of an answer: status line, fields (two of them tell of the body, sent or not), and the empty line
+unfoldable pub head_text : ℕ → List ℕ → Option ℕ → Bool → List ℕ → List ℕ
+head_text status allow place close body =
     codes "HTTP/1.1 " ++ code_digits status ++ codes " " ++ phrase_of status ++ codes "\r\n"
     ++ line_where (is_there body) (codes "Content-Type: ") (codes "application/json")
     ++ line_where (is_there body) (codes "Content-Length: ") (decimal (length body))
     ++ line_where (is_there allow) (codes "Allow: ") allow
     ++ place_line place
     ++ line_where close (codes "Connection: ") (codes "close")
-    ++ codes "\r\n" ++ body
+    ++ codes "\r\n"
+
+-- what is sent of a body: nothing in a bare answer
+abbrev pub sent_body : Bool → List ℕ → List ℕ
+sent_body bare body = if bare then [] else body
+
+-- an answer: the same head, whether it is bare or not, and the body where it is not
+abbrev pub answer_text : ℕ → List ℕ → Option ℕ → Bool → Bool → List ℕ → List ℕ
+answer_text status allow place close bare body = head_text status allow place close body ++ sent_body bare body
 
 -- a whole answer was written, or a front of it
 abbrev pub IsPutEnd : Option (List ℕ) → Option (List ℕ) → PutEnd → List ℕ → Type 0

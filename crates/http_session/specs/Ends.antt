@@ -39,7 +39,7 @@ pub record IsUnsaid {S : Type 0} (may : May S) (s t : S) (old new : Option (List
   pub items_are : AreItems 0 bytes ended (items ++ last ∷ []) rest
   pub talk : IsTalk may s state old mid items
   pub answered : Answered may state last answer t
-  pub front : AppendsFront mid new (text_of answer (closes last))
+  pub front : AppendsFront mid new (text_of answer last)
 
 -- the answers but the last were written, and nothing of the last one, whose request was acted on
 pub record IsLost {S : Type 0} (may : May S) (s t : S) (old new : Option (List ℕ)) (bytes : List ℕ) (ended : Type 0) : Type 0 where

@@ -1,8 +1,9 @@
-use Rattle.std.proofs.Common.{◌++◌, refl, inl, arith}
+use Rattle.std.proofs.Common.{◌++◌, ◌∙◌, ap, refl, inl, arith}
 use Rattle.std.specs.Io.KnownBytes.{IsAtEnd}
 use Rattle.http_session.specs.Requests.{Asks, Refuses}
 use Rattle.http_session.specs.Steps.{framed}
 use Rattle.http_session.specs.Replies.{answer_of}
+use Rattle.http_session.specs.Talk.{is_head}
 use Rattle.http_session.proofs.Talks.{closes_now, cut_short, ends, few_after, goes_on, number_is, refused_text, reply_text, starved, starved_at, still_needed, total, unsaid}
 use Rattle.http_session.proofs.session.serve.Goals as goal
 
@@ -20,7 +21,7 @@ pub returns-in-SinkFault-clause-talk : goal.returns-in-SinkFault-clause-talk
 returns-in-SinkFault-clause-talk g c =
     let so_far = c.loop-request.invariant.talk in
     let item = c.in-Request.ensures.item in
-    let text = reply_text c.in-Ok.reply _ c.in-Request.request.close c.bytes.ensures in
+    let text = reply_text c.in-Ok.reply _ (framed c.in-Request.request) _ c.bytes.ensures (c.is_head.ensures ∙ ap is_head c.deref.ensures.value) in
     let answered = rw c.in-Ok.is at c.answer-next.ensures.answer in (
       so_far.0 ++ item.1.got,
       total _ _ _ _ _ _ so_far.1 item.1,
@@ -32,7 +33,7 @@ pub returns-then-request-clause-talk : goal.returns-then-request-clause-talk
 returns-then-request-clause-talk g c =
     let so_far = c.loop-request.invariant.talk in
     let item = c.in-Request.ensures.item in
-    let text = reply_text c.in-Ok.reply _ c.in-Request.request.close c.bytes.ensures in
+    let text = reply_text c.in-Ok.reply _ (framed c.in-Request.request) _ c.bytes.ensures (c.is_head.ensures ∙ ap is_head c.deref.ensures.value) in
     let answered = rw c.in-Ok.is at c.answer-next.ensures.answer in
     let counted = number_is _ _ item.2.1 so_far.2.few in
     let closed = closes_now _ _ _ _ _ _ _ _ so_far.2 item.1.got item.0 item.1.grown _ (Asks (framed c.in-Request.request)) _ (answer_of c.in-Ok.reply) _ _ _ item.2.0 c.if-request.true c.in-Whole.ensures.told text answered in (
@@ -46,7 +47,7 @@ pub loop-request-preserved : goal.loop-request-preserved
 loop-request-preserved g c =
     let so_far = c.loop-request.invariant.talk in
     let item = c.in-Request.ensures.item in
-    let text = reply_text c.in-Ok.reply _ c.in-Request.request.close c.bytes.ensures in
+    let text = reply_text c.in-Ok.reply _ (framed c.in-Request.request) _ c.bytes.ensures (c.is_head.ensures ∙ ap is_head c.deref.ensures.value) in
     let answered = rw c.in-Ok.is at c.answer-next.ensures.answer in
     let few = few_after _ _ _ _ item.2.0 c.if-request.false in
     let counted = number_is _ _ item.2.1 so_far.2.few in
