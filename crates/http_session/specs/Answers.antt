@@ -2,7 +2,7 @@
 use Rattle.std.specs.Prelude.{◌≡◌, ◌++◌, ℕ, Bool, List, [], Option, Some, None, if◌then◌else◌, codes, decimal, length, nat_lt, ◌≤◌, unwrap_or}
 use Rattle.http.specs.StatusCode.{code_digits, reason_phrase}
 use Rattle.std.specs.Io.KnownBytes.{Appends}
-use Rattle.ipam_edge.specs.Writing.{AppendsFront}
+use Rattle.ipam_edge.specs.Writing.{AppendsLess}
 use Rattle.ipam_edge.specs.Faults.{Rose}
 use Rattle.http_session.specs.declared.answer.PutEnd.{PutEnd}
 use Rattle.http_session.specs.declared.answer.PutEnd.TheVariants.{Whole, SinkFault}
@@ -43,15 +43,15 @@ sent_body bare body = if bare then [] else body
 abbrev pub answer_text : ℕ → List ℕ → Option ℕ → Bool → Bool → List ℕ → List ℕ
 answer_text status allow place close bare body = head_text status allow place close body ++ sent_body bare body
 
--- a whole answer was written, or a front of it
+-- a whole answer was written, or a front of it that is shorter
 abbrev pub IsPutEnd : Option (List ℕ) → Option (List ℕ) → PutEnd → List ℕ → Type 0
 IsPutEnd old new Whole text = Appends old new text
-IsPutEnd old new SinkFault text = AppendsFront old new text
+IsPutEnd old new SinkFault text = AppendsLess old new text
 
--- a part of the text was written, and the rest of it is gathered; after a fault a front of it was written
+-- a part of the text was written, and the rest of it is gathered; after a fault a shorter front of it was written
 abbrev pub IsGathered : Option (List ℕ) → Option (List ℕ) → PutEnd → List ℕ → List ℕ → Type 0
 IsGathered start now Whole gathered text = (sent : List ℕ) × Appends start now sent × (text ≡ sent ++ gathered)
-IsGathered start now SinkFault gathered text = AppendsFront start now text
+IsGathered start now SinkFault gathered text = AppendsLess start now text
 
 -- a fault comes only where the sink's count rose, and the count never falls
 abbrev pub HasPutCause : ℕ → ℕ → PutEnd → Type 0

@@ -2,9 +2,9 @@
 ghost use Rattle.std.specs.Prelude.{◌≡◌, ◌≤◌, ◌<◌, ℕ, List, [], Option, IfOk, OnErr};
 ghost use Rattle.ipam_edge.specs.Faults.{Rose};
 ghost use Rattle.http_session.specs.Requests.{Framed};
-ghost use Rattle.http_session.specs.Steps.{Grown, framed};
+ghost use Rattle.http_session.specs.Steps.{framed};
 ghost use Rattle.http_session.specs.Talk.{Answer, is_head, refusal_status, refusal_body};
-ghost use Rattle.http_session.specs.Ends.{IsEnd, IsLeft, IsReadAsNeeded};
+ghost use Rattle.http_session.specs.Ends.{IsLeft, IsSession};
 ghost use Rattle.http_session.specs.Replies.{answer_of};
 
 use crate::{Asked, Fault, HttpRequest, Inbox, PutEnd, Reply, next_request, put_answer};
@@ -90,9 +90,7 @@ pub fn serve<D: Desk, R: Source, W: Sink>(
     source: &mut R,
     sink: &mut W,
 ) -> (D::Seat, SessionEnd)
-    ensures talk { (bytes : List ℕ) × Grown (R.left source.old) (R.left source.new) [] bytes
-        × IsEnd D.may (D.view seat) (D.view result.0) (W.written sink.old) (W.written sink.new) bytes (R.left source.new) result.1
-        × IsReadAsNeeded bytes }
+    ensures session { IsSession D.may R.reads (D.view seat) (D.view result.0) source.old source.new (R.left source.old) (R.left source.new) (W.written sink.old) (W.written sink.new) result.1 }
     ensures source_later { R.faults source.old ≤ R.faults source.new }
     ensures source { result.1 ≡ SessionEnd.SourceFault → Rose (R.faults source.old) (R.faults source.new) }
     ensures sink_later { W.faults sink.old ≤ W.faults sink.new }
