@@ -6,7 +6,7 @@ ghost use Rattle.std.specs.Prelude.{◌≡◌, ℕ, ◌+◌, ◌*◌, IfOk};
 ghost use Rattle.inet_num.specs.Net.{width_of};
 ghost use Rattle.radix_tree.specs.Shape.{child, HasOneEach};
 ghost use Rattle.radix_tree.specs.Listed.{blocks_of};
-ghost use Rattle.radix_tree.specs.Lent.{HasLiveChildren, HasTwoChildren};
+ghost use Rattle.radix_tree.specs.Lent.{HasLiveChildren, HasTwoChildren, IsShaped};
 ghost use Rattle.radix_tree.specs.Frees.{HasLeastFrees};
 ghost use Rattle.radix_tree.specs.Covering.{ListsCovering};
 ghost use Rattle.radix_tree.specs.Inside.{ListsInside};
@@ -90,12 +90,14 @@ impl Model for Tree {
 impl Tree {
     /// The nodes. They have exactly the blocks of the tree, each as often as its node's count; no two have one block, the id of
     /// each child has a node, a node without a count has two children, and each says the least length of a free block inside it.
+    /// All hang together under one, and a child's block lies in the half of its parent's block on its side.
     pub fn nodes(&self) -> &Pool<Node>
         ensures blocks { blocks_of result.now ≡ self.now.blocks }
         ensures one_each { HasOneEach result.now }
         ensures live { HasLiveChildren result.now }
         ensures two { HasTwoChildren result.now }
         ensures frees { HasLeastFrees result.now }
+        ensures shape { IsShaped result.now }
     {
         &self.linked.pool
     }

@@ -30,7 +30,7 @@ fn block(family: Family, first: u128, len: u8) -> Option<Block>
     Block::of(Addr::of(family, first)?, len)
 }
 
-/// Puts a block in or takes it out, if it is one of the family.
+/// Puts a block in or takes it out. What is no block of the family fails, as for want of memory.
 fn apply<S: Space + Drop>(space: &mut S, change: Change) -> Result<(), AllocError>
     requires { length (S.held space.old) < 1000 }
     ensures family { S.family_of space.new ≡ S.family_of space.old }
@@ -39,7 +39,7 @@ fn apply<S: Space + Drop>(space: &mut S, change: Change) -> Result<(), AllocErro
     match change {
         Insert(first, len) => {
             let Some(block) = block(space.family(), first, len) else {
-                return Ok(());
+                return Err(AllocError);
             };
             space.reserve(1)?;
             space.insert(block);
@@ -47,7 +47,7 @@ fn apply<S: Space + Drop>(space: &mut S, change: Change) -> Result<(), AllocErro
         }
         Remove(first, len) => {
             let Some(block) = block(space.family(), first, len) else {
-                return Ok(());
+                return Err(AllocError);
             };
             space.remove(block);
             Ok(())
