@@ -2,7 +2,7 @@
 //! bits, however many blocks there are, and a first fit is one descent: it visits at most four nodes for each bit, and eight.
 #![tactic(auto)]
 
-ghost use Rattle.std.specs.Prelude.{◌≡◌, ℕ, ◌+◌, ◌*◌, IfOk};
+ghost use Rattle.std.specs.Prelude.{◌≡◌, ℕ, ◌+◌, ◌*◌, ◌^◌, ◌<◌, ◌≤◌, max, length, IfOk, OnOk, OnErr};
 ghost use Rattle.inet_num.specs.Net.{width_of};
 ghost use Rattle.radix_tree.specs.Shape.{child, HasOneEach};
 ghost use Rattle.radix_tree.specs.Listed.{blocks_of};
@@ -151,7 +151,18 @@ impl Space for Tree {
         self.linked.pool.spare() / 2
     }
 
-    fn reserve(&mut self, n: u32) -> Result<(), AllocError> {
+    fn reserve(&mut self, n: u32) -> Result<(), AllocError>
+        requires { length self.old.blocks + n < 2 ^ 30 }
+        ensures ok { OnOk result (n ≤ self.new.spare) }
+        ensures kept { self.old.spare ≤ self.new.spare }
+        ensures err { OnErr result (self.new.spare ≡ self.old.spare) }
+        ensures same { self.new.blocks ≡ self.old.blocks }
+        ensures family { self.new.family ≡ self.old.family }
+        ensures reach { 4 * width_of self.new.family + 8 ≡ 4 * width_of self.old.family + 8 }
+
+        // The room is at most the greater of n and what it was.
+        ensures most { self.new.spare ≤ max self.old.spare n }
+    {
         self.linked.pool.reserve(2 * n)
     }
 
