@@ -1,8 +1,7 @@
 -- A law of the rule: no fault that a seat was told of is lost from the machine's count.
-use Rattle.std.specs.Prelude.{◌≡◌, ◌⊎◌, ℕ, ◌+◌, List, [], ◌∷◌, Option, Some, if◌then◌else◌}
+use Rattle.std.specs.Prelude.{◌≡◌, ◌⊎◌, ℕ, ◌+◌, [], ◌∷◌, Some, if◌then◌else◌}
 use mathlib.Core.Option.{none, some}
 use lib.ListN.{get_elem?}
-use Rattle.atomic_table.specs.Table.{State}
 use Rattle.history_lock.specs.Machines.{Meaning, Reaches}
 use Rattle.history_lock.specs.Views.{HasTurn}
 use Rattle.history_lock.specs.LockRule.{Board, KeepsOneHistory, total}

@@ -1,5 +1,5 @@
 -- All nodes of a tree hang together under its topmost one.
-use Rattle.std.proofs.Common.{◌≡◌, ◌∙◌, ℕ, zero, suc, ◌≤◌, Bool, List, [], ◌∷◌, IsSome, refl, sym, ap, subst, arith, inl, inr, Option, Some, None}
+use Rattle.std.proofs.Common.{◌≡◌, ◌∙◌, ℕ, zero, suc, ◌≤◌, Bool, List, [], ◌∷◌, IsSome, refl, sym, ap, subst, arith, inl, inr, Option, Some}
 use Rattle.std.proofs.lemmas.Bool.{cases_lt}
 use Rattle.inet_num.specs.Net.{Cidr, IsInside}
 use Rattle.inet_num.proofs.Nested.{same_by_len}
