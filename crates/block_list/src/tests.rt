@@ -26,7 +26,7 @@ fn put(space: &mut BlockList, block: Block)
     }
 }
 
-/// A space with these blocks, each a first address and a length.
+/// A space with these blocks, each a first address and a length. What is no block fails, as for want of memory.
 fn space_of(alloc: Global, family: Family, blocks: &[(u128, u8)]) -> Result<BlockList, AllocError>
     ensures { IfOk result (λ s. s.family ≡ family) }
 {
@@ -34,9 +34,10 @@ fn space_of(alloc: Global, family: Family, blocks: &[(u128, u8)]) -> Result<Bloc
     'each: for (first, len) in blocks {
         if space.blocks.len() < 1000 {
             space.reserve(1)?;
-            if let Some(block) = block(family, *first, *len) {
-                put(&mut space, block);
-            }
+            let Some(block) = block(family, *first, *len) else {
+                return Err(AllocError);
+            };
+            put(&mut space, block);
         }
     }
     Ok(space)
@@ -51,10 +52,11 @@ fn counted(
 ) -> Result<Vec<Block>, AllocError> {
     let mut out = Vec::new(alloc);
     'each: for (first, len) in blocks {
-        if let Some(block) = block(within.family(), *first, *len) {
-            if within.contains(&block) && !(strict && block.is(within)) {
-                out.push(block)?;
-            }
+        let Some(block) = block(within.family(), *first, *len) else {
+            return Err(AllocError);
+        };
+        if within.contains(&block) && !(strict && block.is(within)) {
+            out.push(block)?;
         }
     }
     Ok(out)
@@ -206,18 +208,10 @@ fn lists_answer_as_the_definitions(rt: HostRuntime) -> Result<(), Fail> {
     for (family, first, len, blocks) in cases {
         let space = space_of(rt.alloc(), family, blocks)?;
         let within = block(family, first, len).ok_or("no block")?;
-        if within.len() >= 1 {
-            for strict in [false, true] {
-                let same = agrees::<Brand>(
-                    rt.alloc(),
-                    &space,
-                    within,
-                    blocks,
-                    strict,
-                    Blank::new(1),
-                )?;
-                assert!(rt; same, "{first}/{len} {strict}");
-            }
+        assert!(rt; within.len() >= 1, "{first}/{len}");
+        for strict in [false, true] {
+            let same = agrees::<Brand>(rt.alloc(), &space, within, blocks, strict, Blank::new(1))?;
+            assert!(rt; same, "{first}/{len} {strict}");
         }
     }
     Ok(())
@@ -233,9 +227,8 @@ fn a_block_put_in_twice(rt: HostRuntime) -> Result<(), Fail> {
     put(&mut space, net);
     put(&mut space, net);
     assert_eq!(rt; space.times(net), 2);
-    if all.len() >= 1 {
-        assert_eq!(rt; space.covered(all, false), 256);
-    }
+    assert!(rt; all.len() >= 1);
+    assert_eq!(rt; space.covered(all, false), 256);
     assert!(rt; space.remove(net));
     assert_eq!(rt; space.times(net), 1);
     assert!(rt; space.remove(net));

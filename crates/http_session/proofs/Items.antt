@@ -1,5 +1,5 @@
 -- Items as the code finds them.
-use Rattle.std.proofs.Common.{◌≡◌, ◌∙◌, ◌+◌, ◌<◌, ◌≤◌, ◌||◌, ℕ, nat_le, List, ◌++◌, length, take, drop, map, Ok, Err, inl, inr, refl, sym, ap, subst, arith, take-append-drop, length-append, length-drop}
+use Rattle.std.proofs.Common.{◌≡◌, ◌∙◌, ◌+◌, ◌<◌, ◌≤◌, ◌||◌, ℕ, nat_le, List, Option, ◌++◌, length, take, drop, map, Ok, Err, inl, inr, refl, sym, ap, subst, arith, take-append-drop, length-append, length-drop}
 use Rattle.std.proofs.lemmas.List.{append_cancel_left, drop-append-le}
 use Rattle.httparse.specs.Grammar.{RequestHead}
 use Rattle.httparse.specs.Spans.{name_and_value}
@@ -8,7 +8,12 @@ use Rattle.http_session.specs.declared.request.Fault.{Fault}
 use Rattle.http_session.specs.declared.request.Fault.TheVariants.{BadHead, LargeHead, LargeBody, Coding}
 use Rattle.http_session.specs.declared.head.Head.{Head}
 use Rattle.http_session.specs.Requests.{Framed, HasHead, IsRefused, IsRequest, IsUnfinished, StopsInBody, StopsInHead}
-use Rattle.http_session.specs.Steps.{IsHead, IsReadWhile, IsShort}
+use Rattle.http_session.specs.declared.request.HttpRequest.{HttpRequest}
+use Rattle.http_session.specs.declared.request.Stop.{Stop}
+use Rattle.http_session.specs.declared.request.Stop.TheVariants as stop
+use Rattle.http_session.specs.Steps.{IsAsk, IsHead, IsHeadWait, IsReadWhile, IsShort, IsStopLast}
+use Rattle.ipam_edge.specs.Reading.{GrownByReads, Last, Open, Step}
+use Rattle.ipam_edge.proofs.ReadingLemmas.{read_better, read_open, read_then}
 use Rattle.http_session.proofs.Growth.{read_both, read_weaker}
 use Rattle.http_session.proofs.Lengths.{length_small, never_large_head}
 
@@ -44,6 +49,31 @@ pub body_was_needed : (start mid now got : List ℕ) (kept : Head) (n : ℕ) →
     → IsReadWhile StopsInHead start mid → IsReadWhile (IsShort (kept.len + n)) mid now → IsReadWhile IsUnfinished start now
 body_was_needed start mid now got kept n h e grown head body =
     read_both (IsShort (kept.len + n)) IsUnfinished start mid now got grown (λ more short. inr (stops_in_body mid (mid ++ more) more kept n h e refl short)) (head_was_needed start mid head) body
+
+-- each read of a head was made while the bytes were unfinished
+pub head_reads : {S : Type 0} (step : Step S) (s t : S) (start now : List ℕ) (last : Last) → GrownByReads step StopsInHead s t start now last → GrownByReads step IsUnfinished s t start now last
+head_reads step s t start now last reads = read_better step StopsInHead IsUnfinished s t start now last (λ more h. inl h) reads
+
+-- and each read of a body after it
+pub body_reads : {S : Type 0} (step : Step S) (s m t : S) (start mid now : List ℕ) (open_ last : Last) (kept : Head) (n : ℕ) → IsHead mid kept → kept.length ≡ Ok n
+    → open_ ≡ Open → GrownByReads step StopsInHead s m start mid open_ → GrownByReads step (IsShort (kept.len + n)) m t mid now last → GrownByReads step IsUnfinished s t start now last
+body_reads step s m t start mid now open_ last kept n h e is_open head body =
+    read_then step IsUnfinished s m t start mid now last
+    (head_reads step s m start mid Open (read_open step StopsInHead s m start mid open_ is_open head))
+    (read_better step (IsShort (kept.len + n)) IsUnfinished m t mid now last (λ more short. inr (stops_in_body mid (mid ++ more) more kept n h e refl short)) body)
+
+-- a wait for a head that stopped is one for a request
+pub head_stops : (n : ℕ) (e : Stop) (bytes : List ℕ) (left : Option (List ℕ)) → IsHeadWait bytes left (Err e) → IsAsk n bytes left (Err e) bytes
+head_stops n (stop.Bad fault) bytes left h = h
+head_stops n stop.End bytes left h = (h.0, h.1, h.1)
+head_stops n stop.SourceFault bytes left h = (inl h, refl)
+head_stops n stop.Memory bytes left h = refl
+
+pub head_last : (e : Stop) (last : Last) → IsStopLast {T = Head} (Err e) last → IsStopLast {T = HttpRequest} (Err e) last
+head_last (stop.Bad fault) last h = h
+head_last stop.End last h = h
+head_last stop.SourceFault last h = h
+head_last stop.Memory last h = h
 
 -- what follows the head, in two ways
 rest_is : (old new more after : List ℕ) (n : ℕ) → n ≤ length old → new ≡ old ++ more → new ≡ take n new ++ after → drop n old ++ more ≡ after

@@ -7,6 +7,7 @@ pub mod Items
 pub mod Lengths
 pub mod ListLemmas
 pub mod PenLemmas
+pub mod Pieces
 pub mod Talks
 pub mod Texts
 pub mod Unique

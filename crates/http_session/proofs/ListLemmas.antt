@@ -6,7 +6,7 @@ use Rattle.httparse.specs.Grammar.{RequestHead, IsRequestHead, crlf, print_reque
 use Rattle.http_session.specs.declared.request.Fault.{Fault}
 use Rattle.http_session.specs.declared.request.Fault.TheVariants.{BadHead, LargeHead, LargeBody, Coding}
 use Rattle.http_session.specs.Requests.{AreItems, EndsClosed, HasHead, IsItem, IsRefused, Item, Asks, Refuses, NeverHead, closes}
-use Rattle.http_session.specs.Laws.{HasCorner, IsCorner}
+use Rattle.http_session.specs.Laws.{AreTwoRefusals, DifferInCorner, IsCorner}
 use Rattle.http_session.proofs.Unique.{one_reading}
 
 -- a head has some bytes
@@ -70,17 +70,45 @@ none_stops n bytes E item rest mid (inr e) same q = no_item n E item mid (subst 
 
 -- the rest of two lists whose first items are one
 abbrev OneFrom : ℕ → List ℕ → Type 0 → List Item → List Item → Type 0
-OneFrom n bytes E items others = (items ≡ others) ⊎ HasCorner n bytes E
+OneFrom n bytes E items others = (items ≡ others) ⊎ DifferInCorner n bytes E items others
 
 behind : (n : ℕ) (bytes mid : List ℕ) (E : Type 0) (item : Item) (items others : List Item) → closes item ≡ false → IsItem n bytes E item mid → OneFrom (n + 1) mid E items others
     → OneFrom n bytes E (item ∷ items) (item ∷ others)
 behind n bytes mid E item items others open_ q (inl e) = inl (ap (λ l. item ∷ l) e)
-behind n bytes mid E item items others open_ q (inr (is, rest, are, corner)) = inr (item ∷ is, rest, (mid, q, (λ c. cc (c, open_)), are), corner)
+behind n bytes mid E item items others open_ q (inr d) =
+    inr (record {
+      same = item ∷ d.same;
+      rest = d.rest;
+      item = d.item;
+      other = d.other;
+      same_are = (mid, q, (λ c. cc (c, open_)), d.same_are);
+      corner = d.corner;
+      refusals = d.refusals;
+      first = ap (λ l. item ∷ l) d.first;
+      second = ap (λ l. item ∷ l) d.second;
+    })
+
+-- both refusals close
+two_close : (item other : Item) → AreTwoRefusals item other → (closes item ≡ true) × (closes other ≡ true)
+two_close item other (inl (e, f)) = (ap closes e, ap closes f)
+two_close item other (inr (e, f)) = (ap closes e, ap closes f)
 
 by_first : (n : ℕ) (bytes mid other : List ℕ) (E : Type 0) (i j : Item) (is js : List Item) (q : List ℕ) → IsItem n bytes E i mid → (closes i ≡ true → is ≡ []) → (closes j ≡ true → js ≡ [])
     → AreItems (n + 1) other E js q → (closes i ≡ false → closes j ≡ false → AreItems (n + 1) mid E js q → OneFrom (n + 1) mid E is js)
-    → ((i ≡ j) × (mid ≡ other)) ⊎ IsCorner bytes → (c : Bool) → closes i ≡ c → OneFrom n bytes E (i ∷ is) (j ∷ js)
-by_first n bytes mid other E i j is js q item none none_too are later (inr corner) c e = inr ([], bytes, refl, corner)
+    → ((i ≡ j) × (mid ≡ other)) ⊎ (IsCorner bytes × AreTwoRefusals i j) → (c : Bool) → closes i ≡ c → OneFrom n bytes E (i ∷ is) (j ∷ js)
+by_first n bytes mid other E i j is js q item none none_too are later (inr (corner, two)) c e =
+    let close = two_close i j two in
+    inr (record {
+      same = [];
+      rest = bytes;
+      item = i;
+      other = j;
+      same_are = refl;
+      corner = corner;
+      refusals = two;
+      first = ap (λ l. i ∷ l) (none close.0);
+      second = ap (λ l. j ∷ l) (none_too close.1);
+    })
 by_first n bytes mid other E i j is js q item none none_too are later (inl same) true e =
     let first : is ≡ [] = none e in
     let second : js ≡ [] = none_too (ap closes (sym same.0) ∙ e) in

@@ -3,8 +3,8 @@ use Rattle.std.proofs.Common.{◌≡◌, ◌∙◌, ◌≤◌, ℕ, List, [], �
 use Rattle.std.specs.Io.KnownBytes.{Appends}
 use Rattle.std.proofs.KnownBytes.{Appends-trans}
 use Rattle.ipam_edge.specs.Faults.{Rose}
-use Rattle.ipam_edge.specs.Writing.{AppendsFront}
-use Rattle.ipam_edge.proofs.WritingLemmas.{appends_front_after}
+use Rattle.ipam_edge.specs.Writing.{AppendsLess}
+use Rattle.ipam_edge.proofs.WritingLemmas.{appends_less_after}
 use Rattle.http_session.specs.declared.answer.PutEnd.{PutEnd}
 use Rattle.http_session.specs.declared.answer.PutEnd.TheVariants.{Whole, SinkFault}
 use Rattle.http_session.specs.Answers.{HasPutCause, IsGathered, IsPutEnd}
@@ -17,14 +17,14 @@ gathered_after start mid new Whole before sent gathered bytes left said split pu
     (sent ++ (gathered ++ bytes), Appends-trans start mid new sent (gathered ++ bytes) said put, joined ∙ sym (ap (λ l. (sent ++ (gathered ++ bytes)) ++ l) none ∙ append-nil (sent ++ (gathered ++ bytes))))
 gathered_after start mid new SinkFault before sent gathered bytes left said split put none =
     let joined : before ++ bytes ≡ sent ++ (gathered ++ bytes) = ap (λ l. l ++ bytes) split ∙ append_assoc sent gathered bytes in
-    subst (AppendsFront start new) (sym joined) (appends_front_after start mid new sent (gathered ++ bytes) said put)
+    subst (AppendsLess start new) (sym joined) (appends_less_after start mid new sent (gathered ++ bytes) said put)
 
 -- what was gathered was written
 pub all_written : (start mid new : Option (List ℕ)) (end : PutEnd) (text sent gathered : List ℕ) → Appends start mid sent → text ≡ sent ++ gathered → IsPutEnd mid new end (gathered ++ []) → IsPutEnd start new end text
 all_written start mid new Whole text sent gathered said split put =
     subst (Appends start new) (sym (split ∙ ap (λ l. sent ++ l) (sym (append-nil gathered)))) (Appends-trans start mid new sent (gathered ++ []) said put)
 all_written start mid new SinkFault text sent gathered said split put =
-    subst (AppendsFront start new) (sym (split ∙ ap (λ l. sent ++ l) (sym (append-nil gathered)))) (appends_front_after start mid new sent (gathered ++ []) said put)
+    subst (AppendsLess start new) (sym (split ∙ ap (λ l. sent ++ l) (sym (append-nil gathered)))) (appends_less_after start mid new sent (gathered ++ []) said put)
 
 rose_before : (start old new : ℕ) → start ≤ old → Rose old new → Rose start new
 rose_before start old new l (inl h) = inl (omega arith)

@@ -1,20 +1,23 @@
 -- How a talk goes on, and how it ends.
 use Rattle.std.proofs.Common.{◌≡◌, ◌∙◌, ◌+◌, ◌≤◌, ◌⊎◌, ◌||◌, nat_le, None, ℕ, Bool, true, false, List, [], ◌∷◌, ◌++◌, length, Option, inl, inr, refl, sym, ap, subst, arith, append_assoc, append-nil, zero-add, length-append}
 use Rattle.std.proofs.lemmas.List.{append_cancel_left}
-use Rattle.std.specs.Io.KnownBytes.{Appends}
+use Rattle.std.specs.Io.KnownBytes.{Appends, Consumes}
 use Rattle.std.proofs.KnownBytes.{Appends-trans, Consumes-trans}
-use Rattle.ipam_edge.specs.Writing.{AppendsFront}
+use Rattle.ipam_edge.specs.Reading.{GrownByReads, Last, Open, Step, joined}
+use Rattle.ipam_edge.specs.Writing.{AppendsLess}
+use Rattle.ipam_edge.proofs.ReadingLemmas.{read_as, read_then}
 use Rattle.http_session.specs.Requests.{AreItems, Framed, IsItem, IsRequest, IsUnfinished, Item, Asks, Refuses, closes}
 use Rattle.http_session.specs.Fields.{asks_close}
 use Rattle.http_session.specs.declared.request.Fault.{Fault}
+use Rattle.http_session.specs.declared.session.SessionEnd.{SessionEnd}
 use Rattle.http_session.specs.Answers.{answer_text}
 use Rattle.http_session.specs.declared.reply.Reply.{Reply}
 use Rattle.http_session.specs.Replies.{answer_of, body_bytes}
 use Rattle.std.proofs.lemmas.Bool.Decides.{nat_tests}
 use Rattle.http_session.specs.Steps.{Grown, IsReadWhile, next_number}
 use Rattle.http_session.proofs.ItemLemmas.{all_open_more, ends_closed, items_more, items_wait}
-use Rattle.http_session.specs.Talk.{Answer, Answered, May, Run, texts, refusal_answer, refusal_body, refusal_status, text_of}
-use Rattle.http_session.specs.Ends.{IsBetween, IsLeft, IsLost, IsReadAsNeeded, IsClosed, IsCutShort, IsStarved, IsTalk, IsUnsaid}
+use Rattle.http_session.specs.Talk.{Answer, Answered, May, Run, is_head, texts, refusal_answer, refusal_body, refusal_status, text_of}
+use Rattle.http_session.specs.Ends.{HasNoNext, IsBetween, IsEnd, IsLastRead, IsLeft, IsLost, IsReadAsNeeded, IsClosed, IsCutShort, IsSession, IsStarved, IsTalk, IsUnsaid}
 
 run_more : {S : Type 0} (may : May S) (s : S) (items : List Item) (answers : List Answer) (t : S) (item : Item) (a : Answer) (u : S) → Run may s items answers t → Answered may t item a u → Run may s (items ++ item ∷ []) (answers ++ a ∷ []) u
 run_more may s [] [] t item a u run h = (u, subst (λ x. Answered may x item a u) run h, refl)
@@ -22,11 +25,11 @@ run_more may s [] (b ∷ bs) t item a u run h = absurd run
 run_more may s (i ∷ is) [] t item a u run h = absurd run
 run_more may s (i ∷ is) (b ∷ bs) t item a u run h = (run.0, run.1, run_more may run.0 is bs t item a u run.2 h)
 
-texts_more : {S : Type 0} (may : May S) (s : S) (items : List Item) (answers : List Answer) (t : S) (item : Item) (a : Answer) → Run may s items answers t → texts (items ++ item ∷ []) (answers ++ a ∷ []) ≡ texts items answers ++ text_of a (closes item)
-texts_more may s [] [] t item a run = append-nil (text_of a (closes item))
+texts_more : {S : Type 0} (may : May S) (s : S) (items : List Item) (answers : List Answer) (t : S) (item : Item) (a : Answer) → Run may s items answers t → texts (items ++ item ∷ []) (answers ++ a ∷ []) ≡ texts items answers ++ text_of a item
+texts_more may s [] [] t item a run = append-nil (text_of a item)
 texts_more may s [] (b ∷ bs) t item a run = absurd run
 texts_more may s (i ∷ is) [] t item a run = absurd run
-texts_more may s (i ∷ is) (b ∷ bs) t item a run = ap (λ l. text_of b (closes i) ++ l) (texts_more may run.0 is bs t item a run.2) ∙ sym (append_assoc (text_of b (closes i)) (texts is bs) (text_of a (closes item)))
+texts_more may s (i ∷ is) (b ∷ bs) t item a run = ap (λ l. text_of b i ++ l) (texts_more may run.0 is bs t item a run.2) ∙ sym (append_assoc (text_of b i) (texts is bs) (text_of a item))
 
 -- a request depends on no end
 open_any : (n : ℕ) (bytes : List ℕ) (E F : Type 0) (item : Item) (rest : List ℕ) → closes item ≡ false → IsItem n bytes E item rest → IsItem n bytes F item rest
@@ -34,10 +37,11 @@ open_any n bytes E F (Asks r) rest o q = q
 open_any n bytes E F (Refuses fault) rest o q = cc o
 
 -- a reply in its frame
-pub reply_text : (reply : Reply) (body : List ℕ) (close : Bool) → body ≡ body_bytes reply.body → answer_text reply.status reply.allow.now reply.place close body ≡ text_of (answer_of reply) close
-reply_text reply body close e = rw e refl
+pub reply_text : (reply : Reply) (body : List ℕ) (request : Framed) (bare : Bool) → body ≡ body_bytes reply.body → bare ≡ is_head request.method
+    → answer_text reply.status reply.allow.now reply.place request.close bare body ≡ text_of (answer_of reply) (Asks request)
+reply_text reply body request bare e h = rw (e, h) refl
 
-pub refused_text : (fault : Fault) (status : ℕ) (body : List ℕ) → status ≡ refusal_status fault → body ≡ refusal_body fault → answer_text status [] None true body ≡ text_of (refusal_answer fault) true
+pub refused_text : (fault : Fault) (status : ℕ) (body : List ℕ) → status ≡ refusal_status fault → body ≡ refusal_body fault → answer_text status [] None true false body ≡ text_of (refusal_answer fault) (Refuses fault)
 refused_text fault status body hs hb = rw (hs, hb) refl
 
 -- an item that leaves the connection open is not the 1,000th
@@ -73,7 +77,7 @@ module _ {S : Type 0} (may : May S) (s t : S) (old now : Option (List ℕ)) (byt
   counted : (item : Item) → n + 1 ≡ length (so_far.items ++ item ∷ [])
   counted item = omega (arith, so_far.count, length-append so_far.items (item ∷ []))
 
-  talked : (item : Item) (a : Answer) (u : S) (new : Option (List ℕ)) (text : List ℕ) → Appends now new text → text ≡ text_of a (closes item) → Answered may t item a u → IsTalk may s u old new (so_far.items ++ item ∷ [])
+  talked : (item : Item) (a : Answer) (u : S) (new : Option (List ℕ)) (text : List ℕ) → Appends now new text → text ≡ text_of a item → Answered may t item a u → IsTalk may s u old new (so_far.items ++ item ∷ [])
   talked item a u new text said e h =
       record {
         answers = so_far.talk.answers ++ a ∷ [];
@@ -100,9 +104,35 @@ module _ {S : Type 0} (may : May S) (s t : S) (old now : Option (List ℕ)) (byt
         unfinished = h.before;
       })
 
+  -- what is unfinished behind these items is no whole next item
+  no_next : (more : List ℕ) → IsUnfinished (rest ++ more) → HasNoNext (bytes ++ more)
+  no_next more h =
+      record { items = so_far.items; rest = rest ++ more; items_are = items_wait 0 bytes more rest ⊥ ⊥ so_far.items so_far.open_ so_far.items_are; open_ = so_far.open_; unfinished = h }
+
+  -- each read was made while the bytes so far had no whole next item
+  pub still_no_next : {R : Type 0} (step : Step R) (from mid to : R) (last : Last) → GrownByReads step HasNoNext from mid [] bytes Open → GrownByReads step IsUnfinished mid to rest all last → GrownByReads step HasNoNext from to [] (bytes ++ got) last
+  still_no_next step from mid to last before reads =
+      let same = append_cancel_left rest got (joined reads.pieces) (sym is_all ∙ reads.grown) in
+      read_then step HasNoNext from mid to [] bytes (bytes ++ got) last before (read_as step IsUnfinished HasNoNext mid to rest bytes all got last (λ more h. no_next more h) reads same)
+
+  -- the session ends here
+  pub session_of : {R : Type 0} (step : Step R) (from mid to : R) (left_old left_mid left_new new : Option (List ℕ)) (u : S) (end_ : SessionEnd) (last : Last) → Grown left_old left_mid [] bytes → Consumes left_mid left_new got
+      → IsReadAsNeeded bytes → IsReadWhile IsUnfinished rest all → GrownByReads step HasNoNext from mid [] bytes Open → GrownByReads step IsUnfinished mid to rest all last → IsLastRead end_ last
+      → IsEnd may s u old new (bytes ++ got) left_new end_ → IsSession may step s u from to left_old left_new old new end_
+  session_of step from mid to left_old left_mid left_new new u end_ last first more needed was before reads said ends =
+      record {
+        bytes = bytes ++ got;
+        grown = record { got = first.got ++ got; consumes = Consumes-trans left_old left_mid left_new first.got got first.consumes more; grown = ap (λ l. l ++ got) first.grown };
+        ends = ends;
+        needed = still_needed needed was;
+        last = last;
+        last_is = said;
+        reads = still_no_next step from mid to last before reads;
+      }
+
   -- the next item was answered, and the connection stays open
   pub goes_on : (E : Type 0) (item : Item) (kept : List ℕ) (a : Answer) (u : S) (new : Option (List ℕ)) (text : List ℕ) → IsItem n all E item kept → closes item ≡ false → n + 1 ≤ 999
-      → Appends now new text → text ≡ text_of a (closes item) → Answered may t item a u → IsBetween may s u old new (bytes ++ got) kept (n + 1)
+      → Appends now new text → text ≡ text_of a item → Answered may t item a u → IsBetween may s u old new (bytes ++ got) kept (n + 1)
   goes_on E item kept a u new text q o few said e h =
       record {
         items = so_far.items ++ item ∷ [];
@@ -115,7 +145,7 @@ module _ {S : Type 0} (may : May S) (s t : S) (old now : Option (List ℕ)) (byt
 
   -- it closes the connection
   pub closes_now : (E : Type 0) (item : Item) (kept : List ℕ) (a : Answer) (u : S) (new : Option (List ℕ)) (text : List ℕ) → IsItem n all E item kept → closes item ≡ true
-      → Appends now new text → text ≡ text_of a (closes item) → Answered may t item a u → IsClosed may s u old new (bytes ++ got) E (n + 1)
+      → Appends now new text → text ≡ text_of a item → Answered may t item a u → IsClosed may s u old new (bytes ++ got) E (n + 1)
   closes_now E item kept a u new text q c said e h =
       record {
         items = so_far.items ++ item ∷ [];
@@ -126,7 +156,7 @@ module _ {S : Type 0} (may : May S) (s t : S) (old now : Option (List ℕ)) (byt
 
   -- its answer could not be written
   pub unsaid : (E : Type 0) (item : Item) (kept : List ℕ) (a : Answer) (u : S) (new : Option (List ℕ)) (text : List ℕ) → IsItem n all E item kept
-      → AppendsFront now new text → text ≡ text_of a (closes item) → Answered may t item a u → IsUnsaid may s u old new (bytes ++ got) E
+      → AppendsLess now new text → text ≡ text_of a item → Answered may t item a u → IsUnsaid may s u old new (bytes ++ got) E
   unsaid E item kept a u new text q said e h =
       record {
         items = so_far.items;
@@ -138,7 +168,7 @@ module _ {S : Type 0} (may : May S) (s t : S) (old now : Option (List ℕ)) (byt
         items_are = next_items E item kept q;
         talk = so_far.talk;
         answered = h;
-        front = subst (AppendsFront now new) e said;
+        front = subst (AppendsLess now new) e said;
       }
 
   -- the input ended
@@ -147,11 +177,11 @@ module _ {S : Type 0} (may : May S) (s t : S) (old now : Option (List ℕ)) (byt
 
   -- the source failed
   pub cut_short : IsUnfinished all → IsCutShort may s t old now (bytes ++ got)
-  cut_short u = record { items = so_far.items; rest = all; items_are = waiting ⊥; unfinished = u; talk = so_far.talk }
+  cut_short u = record { items = so_far.items; rest = all; items_are = waiting ⊥; open_ = so_far.open_; unfinished = u; talk = so_far.talk }
 
   -- memory was wanting
   pub starved : (u : S) → u ≡ t → IsStarved may s u old now (bytes ++ got)
-  starved u e = record { items = so_far.items; rest = all; items_are = waiting ⊥; talk = subst (λ x. IsTalk may s x old now so_far.items) (sym e) so_far.talk }
+  starved u e = record { items = so_far.items; rest = all; items_are = waiting ⊥; open_ = so_far.open_; talk = subst (λ x. IsTalk may s x old now so_far.items) (sym e) so_far.talk }
 
   -- memory was wanting at a request
   pub starved_at : (E : Type 0) (r : Framed) (kept : List ℕ) (u : S) → IsItem n all E (Asks r) kept → IsLeft may t r u → IsStarved may s u old now (bytes ++ got) ⊎ IsLost may s u old now (bytes ++ got) E

@@ -6,7 +6,7 @@ use Rattle.httparse.specs.Grammar.{RequestHead, print_request}
 use Rattle.httparse.proofs.GrammarLemmas.{request_unique}
 use Rattle.http_session.specs.declared.request.Fault.{Fault}
 use Rattle.http_session.specs.declared.request.Fault.TheVariants.{BadHead, LargeHead, LargeBody, Coding}
-use Rattle.http_session.specs.Laws.{IsCorner}
+use Rattle.http_session.specs.Laws.{AreTwoRefusals, IsCorner}
 use Rattle.http_session.specs.Fields.{asks_close, length_of}
 use Rattle.http_session.specs.Requests.{BeginsWithHead, Framed, HasHead, HasLength, IsItem, IsRefused, IsRequest, Item, Asks, Refuses, MayBecomeHead, NeverHead, StopsShort, front}
 
@@ -66,12 +66,12 @@ bad_or_large bytes E (inr (inr (e, inr (k, q, y, few)))) (full, may) = absurd (m
 large_beside : (bytes : List ℕ) (f : Fault) (r : List ℕ) → MayBecomeHead (front bytes) → HasLength bytes (Err f) r → ⊥
 large_beside bytes f r may y = may_has bytes y.0 r may y.1
 
-one_refusal : (bytes : List ℕ) (E : Type 0) (f g : Fault) → IsRefused bytes E f → IsRefused bytes E g → (f ≡ g) ⊎ IsCorner bytes
+one_refusal : (bytes : List ℕ) (E : Type 0) (f g : Fault) → IsRefused bytes E f → IsRefused bytes E g → (f ≡ g) ⊎ (IsCorner bytes × AreTwoRefusals (Refuses f) (Refuses g))
 one_refusal bytes E BadHead BadHead x y = inl refl
-one_refusal bytes E BadHead LargeHead x y = inr (bad_or_large bytes E x y)
+one_refusal bytes E BadHead LargeHead x y = inr (bad_or_large bytes E x y, inl (refl, refl))
 one_refusal bytes E BadHead LargeBody x y = inl (bad_beside bytes E LargeBody y.0 x y.1)
 one_refusal bytes E BadHead Coding x y = inl (bad_beside bytes E Coding y.0 x y.1)
-one_refusal bytes E LargeHead BadHead x y = inr (bad_or_large bytes E y x)
+one_refusal bytes E LargeHead BadHead x y = inr (bad_or_large bytes E y x, inr (refl, refl))
 one_refusal bytes E LargeHead LargeHead x y = inl refl
 one_refusal bytes E LargeHead LargeBody x y = absurd (large_beside bytes LargeBody y.0 x.1 y.1)
 one_refusal bytes E LargeHead Coding x y = absurd (large_beside bytes Coding y.0 x.1 y.1)
@@ -106,11 +106,11 @@ one_request n bytes p q r s x y =
     let ends : p.close ≡ q.close = x.close ∙ ap (λ h. asks_close h || nat_le 999 n) one.0 ∙ sym y.close in
     (same_framed p.method p.target p.body p.close q.method q.target q.body q.close methods targets bodies.0 ends, bodies.1)
 
-pub one_reading : (n : ℕ) (bytes : List ℕ) (E : Type 0) (item other : Item) (r q : List ℕ) → IsItem n bytes E item r → IsItem n bytes E other q → ((item ≡ other) × (r ≡ q)) ⊎ IsCorner bytes
+pub one_reading : (n : ℕ) (bytes : List ℕ) (E : Type 0) (item other : Item) (r q : List ℕ) → IsItem n bytes E item r → IsItem n bytes E other q → ((item ≡ other) × (r ≡ q)) ⊎ (IsCorner bytes × AreTwoRefusals item other)
 one_reading n bytes E (Asks a) (Asks b) r q x y = let one = one_request n bytes a b r q x y in inl (ap Asks one.0, one.1)
 one_reading n bytes E (Asks a) (Refuses f) r q x y = absurd (no_refusal bytes E (length a.body) (a.body ++ r) f (x.head, x.has, x.said) (long_rest a.body r) y.0)
 one_reading n bytes E (Refuses f) (Asks b) r q x y = absurd (no_refusal bytes E (length b.body) (b.body ++ q) f (y.head, y.has, y.said) (long_rest b.body q) x.0)
-one_reading n bytes E (Refuses f) (Refuses g) r q x y = elim (one_refusal bytes E f g x.0 y.0) as (λ _. ((Refuses f ≡ Refuses g) × (r ≡ q)) ⊎ IsCorner bytes) [
+one_reading n bytes E (Refuses f) (Refuses g) r q x y = elim (one_refusal bytes E f g x.0 y.0) as (λ _. ((Refuses f ≡ Refuses g) × (r ≡ q)) ⊎ (IsCorner bytes × AreTwoRefusals (Refuses f) (Refuses g))) [
   | inl e ↦ inl (ap Refuses e, x.1 ∙ sym y.1)
   | inr c ↦ inr c
 ]

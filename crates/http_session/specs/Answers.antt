@@ -2,7 +2,7 @@
 use Rattle.std.specs.Prelude.{◌≡◌, ◌++◌, ℕ, Bool, List, [], Option, Some, None, if◌then◌else◌, codes, decimal, length, nat_lt, ◌≤◌, unwrap_or}
 use Rattle.http.specs.StatusCode.{code_digits, reason_phrase}
 use Rattle.std.specs.Io.KnownBytes.{Appends}
-use Rattle.ipam_edge.specs.Writing.{AppendsFront}
+use Rattle.ipam_edge.specs.Writing.{AppendsLess}
 use Rattle.ipam_edge.specs.Faults.{Rose}
 use Rattle.http_session.specs.declared.answer.PutEnd.{PutEnd}
 use Rattle.http_session.specs.declared.answer.PutEnd.TheVariants.{Whole, SinkFault}
@@ -24,26 +24,34 @@ abbrev pub place_line : Option ℕ → List ℕ
 place_line None = []
 place_line (Some n) = codes "Ipam-Place: " ++ decimal n ++ codes "\r\n"
 
--- an answer: status line, fields, empty line, body
-unfoldable pub answer_text : ℕ → List ℕ → Option ℕ → Bool → List ℕ → List ℕ
-answer_text status allow place close body =
+-- the head of an answer: status line, fields (two of them tell of the body, sent or not), and the empty line
+unfoldable pub head_text : ℕ → List ℕ → Option ℕ → Bool → List ℕ → List ℕ
+head_text status allow place close body =
     codes "HTTP/1.1 " ++ code_digits status ++ codes " " ++ phrase_of status ++ codes "\r\n"
     ++ line_where (is_there body) (codes "Content-Type: ") (codes "application/json")
     ++ line_where (is_there body) (codes "Content-Length: ") (decimal (length body))
     ++ line_where (is_there allow) (codes "Allow: ") allow
     ++ place_line place
     ++ line_where close (codes "Connection: ") (codes "close")
-    ++ codes "\r\n" ++ body
+    ++ codes "\r\n"
 
--- a whole answer was written, or a front of it
+-- what is sent of a body: nothing in a bare answer
+abbrev pub sent_body : Bool → List ℕ → List ℕ
+sent_body bare body = if bare then [] else body
+
+-- an answer: the same head, whether it is bare or not, and the body where it is not
+abbrev pub answer_text : ℕ → List ℕ → Option ℕ → Bool → Bool → List ℕ → List ℕ
+answer_text status allow place close bare body = head_text status allow place close body ++ sent_body bare body
+
+-- a whole answer was written, or a front of it that is shorter
 abbrev pub IsPutEnd : Option (List ℕ) → Option (List ℕ) → PutEnd → List ℕ → Type 0
 IsPutEnd old new Whole text = Appends old new text
-IsPutEnd old new SinkFault text = AppendsFront old new text
+IsPutEnd old new SinkFault text = AppendsLess old new text
 
--- a part of the text was written, and the rest of it is gathered; after a fault a front of it was written
+-- a part of the text was written, and the rest of it is gathered; after a fault a shorter front of it was written
 abbrev pub IsGathered : Option (List ℕ) → Option (List ℕ) → PutEnd → List ℕ → List ℕ → Type 0
 IsGathered start now Whole gathered text = (sent : List ℕ) × Appends start now sent × (text ≡ sent ++ gathered)
-IsGathered start now SinkFault gathered text = AppendsFront start now text
+IsGathered start now SinkFault gathered text = AppendsLess start now text
 
 -- a fault comes only where the sink's count rose, and the count never falls
 abbrev pub HasPutCause : ℕ → ℕ → PutEnd → Type 0

@@ -1,7 +1,8 @@
 -- Laws of the items of a connection: more bytes change none, the cuts do not matter, and there is
 -- one list.
-use Rattle.std.specs.Prelude.{◌≡◌, ◌≤◌, ◌⊎◌, List, ◌++◌, ℕ, [], length}
-use Rattle.http_session.specs.Requests.{AreAllItems, AreItems, IsItem, Item, MayBecomeHead, NeverHead, front}
+use Rattle.std.specs.Prelude.{◌≡◌, ◌≤◌, ◌⊎◌, List, ◌∷◌, ◌++◌, ℕ, [], length}
+use Rattle.http_session.specs.declared.request.Fault.TheVariants.{BadHead, LargeHead}
+use Rattle.http_session.specs.Requests.{AreAllItems, AreItems, IsItem, Item, Refuses, MayBecomeHead, NeverHead, front}
 
 -- an item that was given stays as more bytes come, and what follows it grows
 abbrev pub MoreBytes : Type 0
@@ -15,15 +16,27 @@ CutAnywhere = (taken left : List ℕ) (items : List Item) → AreAllItems taken 
 abbrev pub IsCorner : List ℕ → Type 0
 IsCorner bytes = (16384 ≤ length bytes) × NeverHead (front bytes) × MayBecomeHead (front bytes)
 
--- the bytes have one next item, and one rest, but for the corner, where both refusals of a head are right
+-- the two refusals of a head that both are right in the corner: it never becomes one, or it is too large
+abbrev pub AreTwoRefusals : Item → Item → Type 0
+AreTwoRefusals item other = ((item ≡ Refuses BadHead) × (other ≡ Refuses LargeHead)) ⊎ ((item ≡ Refuses LargeHead) × (other ≡ Refuses BadHead))
+
+-- the bytes have one next item, and one rest, but for the corner, where they may be refused in two ways
 abbrev pub OneReading : Type 0 → Type 0
 OneReading ended = (n : ℕ) (bytes : List ℕ) (item other : Item) (rest rest_too : List ℕ) → IsItem n bytes ended item rest → IsItem n bytes ended other rest_too
-    → ((item ≡ other) × (rest ≡ rest_too)) ⊎ IsCorner bytes
+    → ((item ≡ other) × (rest ≡ rest_too)) ⊎ (IsCorner bytes × AreTwoRefusals item other)
 
--- some items stand there, one after another, and then the corner
-abbrev pub HasCorner : ℕ → List ℕ → Type 0 → Type 0
-HasCorner n bytes ended = (items : List Item) × (rest : List ℕ) × AreItems n bytes ended items rest × IsCorner rest
+-- the lists are one up to the corner, and end there, in each of the two refusals
+pub record DifferInCorner (n : ℕ) (bytes : List ℕ) (ended : Type 0) (items others : List Item) : Type 0 where
+  pub same : List Item
+  pub rest : List ℕ
+  pub item : Item
+  pub other : Item
+  pub same_are : AreItems n bytes ended same rest
+  pub corner : IsCorner rest
+  pub refusals : AreTwoRefusals item other
+  pub first : items ≡ same ++ item ∷ []
+  pub second : others ≡ same ++ other ∷ []
 
--- the bytes have one list of all their items, unless it comes to the corner
+-- the bytes have one list of all their items, unless they come to the corner, where two lists differ in their last refusal alone
 abbrev pub OneList : Type 0 → Type 0
-OneList ended = (bytes : List ℕ) (items others : List Item) → AreAllItems bytes ended items → AreAllItems bytes ended others → (items ≡ others) ⊎ HasCorner 0 bytes ended
+OneList ended = (bytes : List ℕ) (items others : List Item) → AreAllItems bytes ended items → AreAllItems bytes ended others → (items ≡ others) ⊎ DifferInCorner 0 bytes ended items others

@@ -1,7 +1,8 @@
 -- What the steps of reading leave.
-use Rattle.std.specs.Prelude.{◌⊎◌, ◌≡◌, ℕ, ◌+◌, ◌<◌, ◌≤◌, List, [], ◌++◌, length, min, ◌-◌, ◌^◌, drop, Result, Ok, Err, Option}
+use Rattle.std.specs.Prelude.{◌⊎◌, ◌≡◌, ℕ, ◌+◌, ◌<◌, ◌≤◌, List, [], ◌++◌, length, min, ◌-◌, ◌^◌, drop, Result, Ok, Err, Option, Some, None}
 use Rattle.std.specs.Io.KnownBytes.{Consumes, IsAtEnd}
 use Rattle.ipam_edge.specs.Faults.{Rose}
+use Rattle.ipam_edge.specs.Reading.{GrownByReads, Last, Open, Told, Failed, Step}
 use Rattle.httparse.specs.Grammar.{RequestHead}
 use Rattle.http_session.specs.declared.head.Head.{Head}
 use Rattle.http_session.specs.declared.head.HeadAnswer.{HeadAnswer}
@@ -49,6 +50,40 @@ IsPiece old new left (Ok x) = length old < length new
 IsPiece old new left (Err short.End) = (new ≡ old) × IsAtEnd left
 IsPiece old new left (Err short.SourceFault) = new ≡ old
 IsPiece old new left (Err short.Memory) = new ≡ old
+
+-- a read that added a piece, or said the end, or failed; or none was made
+abbrev pub IsPieceRead : {S : Type 0} → Step S → S → S → List ℕ → List ℕ → Result (Unit {0}) Short → Type 0
+IsPieceRead step s t old new (Ok x) = (piece : List ℕ) × (0 < length piece) × step s (Some piece) t × (new ≡ old ++ piece)
+IsPieceRead step s t old new (Err short.End) = step s (Some []) t × (new ≡ old)
+IsPieceRead step s t old new (Err short.SourceFault) = step s None t × (new ≡ old)
+IsPieceRead step s t old new (Err short.Memory) = (t ≡ s) × (new ≡ old)
+
+-- what the last read said, by how the wait for bytes ended
+abbrev pub IsShortLast : Result (Unit {0}) Short → Last → Type 0
+IsShortLast (Ok x) last = last ≡ Open
+IsShortLast (Err short.End) last = last ≡ Told
+IsShortLast (Err short.SourceFault) last = last ≡ Failed
+IsShortLast (Err short.Memory) last = last ≡ Open
+
+-- what the last read said, by how the wait for a request ended
+abbrev pub IsStopLast : {T : Type 0} → Result T Stop → Last → Type 0
+IsStopLast (Ok x) last = last ≡ Open
+IsStopLast (Err (stop.Bad fault)) last = (last ≡ Open) ⊎ (last ≡ Told)
+IsStopLast (Err stop.End) last = last ≡ Told
+IsStopLast (Err stop.SourceFault) last = last ≡ Failed
+IsStopLast (Err stop.Memory) last = last ≡ Open
+
+-- what the last read said, by what stands next
+abbrev pub IsAskedLast : Asked → Last → Type 0
+IsAskedLast (asked.Request r) last = last ≡ Open
+IsAskedLast (asked.Bad fault) last = (last ≡ Open) ⊎ (last ≡ Told)
+IsAskedLast asked.End last = last ≡ Told
+IsAskedLast asked.SourceFault last = last ≡ Failed
+IsAskedLast asked.Memory last = last ≡ Open
+
+-- the bytes grew by reads, each made while P held of those so far, and the last of them said what it had to
+abbrev pub IsReadUntil : {S : Type 0} → Step S → (List ℕ → Type 0) → S → S → List ℕ → List ℕ → (Last → Type 0) → Type 0
+IsReadUntil step P s t old new Said = (last : Last) × Said last × GrownByReads step P s t old new last
 
 -- what is kept of a head
 pub record IsHead (bytes : List ℕ) (kept : Head) : Type 0 where

@@ -1,5 +1,6 @@
 -- What is answered to the items of a connection, one after another, and the text of it.
-use Rattle.std.specs.Prelude.{◌≡◌, ℕ, Bool, List, [], ◌∷◌, ◌++◌, Option, None, codes}
+use Rattle.std.specs.Prelude.{◌≡◌, ℕ, Bool, false, List, [], ◌∷◌, ◌++◌, Option, None, codes}
+use Rattle.std.specs.Str.{bytes_eq}
 use Rattle.http_session.specs.declared.request.Fault.{Fault}
 use Rattle.http_session.specs.declared.request.Fault.TheVariants.{BadHead, LargeHead, LargeBody, Coding}
 use Rattle.http_session.specs.Requests.{Framed, Item, Asks, Refuses, closes}
@@ -12,9 +13,19 @@ pub record Answer : Type 0 where
   pub place : Option ℕ
   pub body : List ℕ
 
--- its bytes
-abbrev pub text_of : Answer → Bool → List ℕ
-text_of a close = answer_text a.status a.allow a.place close a.body
+-- the method HEAD, in this case alone (RFC 9110, section 9.1)
+abbrev pub is_head : List ℕ → Bool
+is_head method = bytes_eq method (codes "HEAD")
+
+-- a HEAD request is answered with the head of the answer, its length too, and no byte of the body behind it (RFC 9110, section 9.3.2;
+-- RFC 9112, section 6.3); a refusal has its body, whatever was asked, since no answer follows it
+abbrev pub is_bare : Item → Bool
+is_bare (Asks r) = is_head r.method
+is_bare (Refuses fault) = false
+
+-- the bytes of the answer to an item
+abbrev pub text_of : Answer → Item → List ℕ
+text_of a item = answer_text a.status a.allow a.place (closes item) (is_bare item) a.body
 
 -- the status of a refusal of the bytes
 abbrev pub refusal_status : Fault → ℕ
@@ -54,4 +65,4 @@ Run may s (item ∷ items) [] t = ⊥
 abbrev pub texts : List Item → List Answer → List ℕ
 texts [] answers = []
 texts (item ∷ items) [] = []
-texts (item ∷ items) (a ∷ answers) = text_of a (closes item) ++ texts items answers
+texts (item ∷ items) (a ∷ answers) = text_of a item ++ texts items answers

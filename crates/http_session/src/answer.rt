@@ -1,6 +1,6 @@
 //! The text of an answer, written to a sink. It takes no memory.
 ghost use Rattle.std.specs.Prelude.{◌≡◌, Bool, [], if◌then◌else◌, length, codes, ℕ, List, Option, ◌≤◌, ◌++◌};
-ghost use Rattle.http_session.specs.Answers.{HasPutCause, IsPutEnd, answer_text, phrase_of};
+ghost use Rattle.http_session.specs.Answers.{HasPutCause, IsPutEnd, answer_text, phrase_of, sent_body};
 
 use crate::pen::Pen;
 use http::StatusCode;
@@ -25,19 +25,28 @@ fn phrase(status: StatusCode) -> &'static [u8]
     }
 }
 
+/// What is sent of a body: nothing in a bare answer.
+fn sent_body(bare: bool, body: &[u8]) -> &[u8]
+    ensures { result.now ≡ sent_body bare body.now }
+{
+    if bare { b"" } else { body }
+}
+
 /// Writes an answer: the status line, then `Content-Type` and `Content-Length` where there is a
 /// body, `Allow` where there are methods, `Ipam-Place` where there is a place and `Connection:
-/// close` where the connection closes, and then the body. `SinkFault` comes where a write failed,
-/// and then a front of the answer was written.
+/// close` where the connection closes, and then the body. A bare answer, to a HEAD request, has the
+/// same head and no body behind it. `SinkFault` comes where a write failed, and then a front of the
+/// answer was written.
 pub fn put_answer<S: Sink>(
     sink: &mut S,
     status: StatusCode,
     allow: &[u8],
     place: Option<u64>,
     close: bool,
+    bare: bool,
     body: &[u8],
 ) -> PutEnd
-    ensures told { IsPutEnd (S.written sink.old) (S.written sink.new) result (answer_text status allow.now place close body.now) }
+    ensures told { IsPutEnd (S.written sink.old) (S.written sink.new) result (answer_text status allow.now place close bare body.now) }
     ensures cause { HasPutCause (S.faults sink.old) (S.faults sink.new) result }
 {
     let mut room = Buffer::new();
@@ -54,6 +63,6 @@ pub fn put_answer<S: Sink>(
     pen.put_line(sink, place.is_some(), b"Ipam-Place: ", number);
     pen.put_line(sink, close, b"Connection: ", b"close");
     pen.put(sink, b"\r\n");
-    pen.put(sink, body);
+    pen.put(sink, sent_body(bare, body));
     pen.finish(sink)
 }

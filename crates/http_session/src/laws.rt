@@ -12,12 +12,14 @@ pub fn cut_anywhere()
     ensures { CutAnywhere }
 {}
 
-/// The bytes have one next item, but for the corner that the parser leaves open.
+/// The bytes have one next item, but for the corner that the parser leaves open, where two refusals
+/// are right.
 pub fn one_reading()
     ensures { OneReading (Unit {0}) × OneReading ⊥ }
 {}
 
-/// The bytes have one list of all their items, but for that corner.
+/// The bytes have one list of all their items. Where they come to that corner two lists agree up to
+/// it, and differ there in that one refusal alone.
 pub fn one_list()
     ensures { OneList (Unit {0}) × OneList ⊥ }
 {}

@@ -3,7 +3,7 @@ ghost use Rattle.std.specs.Prelude.{◌≡◌, ◌<◌, ◌≤◌, ◌+◌, ◌-
 ghost use Rattle.std.specs.Io.KnownBytes.{IsAtEnd};
 ghost use Rattle.ipam_edge.specs.Faults.{Rose};
 ghost use Rattle.http_session.specs.Requests.{InboxView, IsUnfinished};
-ghost use Rattle.http_session.specs.Steps.{Grown, HasCauseOf, IsAsk, IsAsked, IsReadWhile};
+ghost use Rattle.http_session.specs.Steps.{Grown, HasCauseOf, IsAsk, IsAsked, IsAskedLast, IsReadUntil, IsReadWhile, IsStopLast};
 
 use crate::head::Head;
 use crate::wait::{Short, wait_for_body, wait_for_head};
@@ -147,7 +147,8 @@ fn ask<S: Source>(
     bytes: &mut Vec<u8>,
     number: u32,
 ) -> Result<HttpRequest, Stop>
-    ensures item { (all : List ℕ) × Grown (S.left source.old) (S.left source.new) bytes.old.items all × IsAsk number all (S.left source.new) result bytes.new.items × IsReadWhile IsUnfinished bytes.old.items all }
+    ensures item { (all : List ℕ) × Grown (S.left source.old) (S.left source.new) bytes.old.items all × IsAsk number all (S.left source.new) result bytes.new.items × IsReadWhile IsUnfinished bytes.old.items all
+        × IsReadUntil S.reads IsUnfinished source.old source.new bytes.old.items all (λ last. IsStopLast result last) }
     ensures cause { HasCauseOf Stop.SourceFault (S.faults source.old) (S.faults source.new) result }
 {
     let head = wait_for_head(alloc, source, bytes)?;
@@ -171,7 +172,8 @@ fn ask<S: Source>(
 /// between two requests. `SourceFault` comes where a read failed while more bytes were needed,
 /// `Memory` where memory was wanting; after both no byte is lost, and the call may be made again.
 pub fn next_request<S: Source>(alloc: Global, source: &mut S, inbox: &mut Inbox) -> Asked
-    ensures item { (all : List ℕ) × Grown (S.left source.old) (S.left source.new) inbox.old.bytes all × IsAsked inbox.old.number all (S.left source.new) result inbox.new × IsReadWhile IsUnfinished inbox.old.bytes all }
+    ensures item { (all : List ℕ) × Grown (S.left source.old) (S.left source.new) inbox.old.bytes all × IsAsked inbox.old.number all (S.left source.new) result inbox.new × IsReadWhile IsUnfinished inbox.old.bytes all
+        × IsReadUntil S.reads IsUnfinished source.old source.new inbox.old.bytes all (λ last. IsAskedLast result last) }
     ensures later { S.faults source.old ≤ S.faults source.new }
     ensures cause { result ≡ Asked.SourceFault → Rose (S.faults source.old) (S.faults source.new) }
 {

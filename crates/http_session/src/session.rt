@@ -2,9 +2,9 @@
 ghost use Rattle.std.specs.Prelude.{◌≡◌, ◌≤◌, ◌<◌, ℕ, List, [], Option, IfOk, OnErr};
 ghost use Rattle.ipam_edge.specs.Faults.{Rose};
 ghost use Rattle.http_session.specs.Requests.{Framed};
-ghost use Rattle.http_session.specs.Steps.{Grown, framed};
-ghost use Rattle.http_session.specs.Talk.{Answer, refusal_status, refusal_body};
-ghost use Rattle.http_session.specs.Ends.{IsEnd, IsLeft, IsReadAsNeeded};
+ghost use Rattle.http_session.specs.Steps.{framed};
+ghost use Rattle.http_session.specs.Talk.{Answer, is_head, refusal_status, refusal_body};
+ghost use Rattle.http_session.specs.Ends.{IsLeft, IsSession};
 ghost use Rattle.http_session.specs.Replies.{answer_of};
 
 use crate::{Asked, Fault, HttpRequest, Inbox, PutEnd, Reply, next_request, put_answer};
@@ -72,8 +72,15 @@ fn body_of(fault: Fault) -> &'static [u8]
     }
 }
 
+/// Whether the method is HEAD, whose answers have no byte behind their head.
+fn is_head(method: &[u8]) -> bool
+    ensures { result ≡ is_head method.now }
+{
+    method == b"HEAD".as_slice()
+}
+
 /// Serves one connection to its end: answers its requests in order, until one closes, or the bytes
-/// are refused, or the input ends. `SourceFault` comes where a read failed, with all requests that
+/// are refused, or the input ends. The answer to HEAD is the head alone. `SourceFault` comes where a read failed, with all requests that
 /// lay whole in the bytes read answered; `SinkFault` where a write failed, with a front of the last
 /// answer written; `Memory` where memory was wanting.
 pub fn serve<D: Desk, R: Source, W: Sink>(
@@ -83,9 +90,7 @@ pub fn serve<D: Desk, R: Source, W: Sink>(
     source: &mut R,
     sink: &mut W,
 ) -> (D::Seat, SessionEnd)
-    ensures talk { (bytes : List ℕ) × Grown (R.left source.old) (R.left source.new) [] bytes
-        × IsEnd D.may (D.view seat) (D.view result.0) (W.written sink.old) (W.written sink.new) bytes (R.left source.new) result.1
-        × IsReadAsNeeded bytes }
+    ensures session { IsSession D.may R.reads (D.view seat) (D.view result.0) source.old source.new (R.left source.old) (R.left source.new) (W.written sink.old) (W.written sink.new) result.1 }
     ensures source_later { R.faults source.old ≤ R.faults source.new }
     ensures source { result.1 ≡ SessionEnd.SourceFault → Rose (R.faults source.old) (R.faults source.new) }
     ensures sink_later { W.faults sink.old ≤ W.faults sink.new }
@@ -107,6 +112,7 @@ pub fn serve<D: Desk, R: Source, W: Sink>(
                     reply.allow,
                     reply.place,
                     request.close,
+                    is_head(&request.method),
                     reply.body.bytes(),
                 ) {
                     PutEnd::SinkFault => return (seat, SessionEnd::SinkFault),
@@ -117,7 +123,15 @@ pub fn serve<D: Desk, R: Source, W: Sink>(
                 }
             }
             Asked::Bad(fault) => {
-                match put_answer(sink, status_of(fault), b"", None, true, body_of(fault)) {
+                match put_answer(
+                    sink,
+                    status_of(fault),
+                    b"",
+                    None,
+                    true,
+                    false,
+                    body_of(fault),
+                ) {
                     PutEnd::SinkFault => return (seat, SessionEnd::SinkFault),
                     PutEnd::Whole => return (seat, SessionEnd::Closed(inbox.number())),
                 }

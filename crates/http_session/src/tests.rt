@@ -112,8 +112,18 @@ fn expect<R: Abort + AllocGlobal>(
 
 #[test]
 fn requests_are_answered_in_order(rt: HostRuntime) -> Result<(), Fail> {
-    let cases: [(&str, &str, u32); 12] = [
+    let cases: [(&str, &str, u32); 14] = [
         ("", "", 0),
+        (
+            "HEAD /a HTTP/1.1\r\n\r\nGET /a HTTP/1.1\r\n\r\n",
+            "HTTP/1.1 405 Method Not Allowed\r\nContent-Type: application/json\r\nContent-Length: 2\r\nAllow: GET, POST\r\n\r\nHTTP/1.1 200 OK\r\nContent-Type: application/json\r\nContent-Length: 2\r\nIpam-Place: 0\r\n\r\n/a",
+            2,
+        ),
+        (
+            "HEAD /a HTTP/1.0\r\n\r\n",
+            "HTTP/1.1 405 Method Not Allowed\r\nContent-Type: application/json\r\nContent-Length: 2\r\nAllow: GET, POST\r\nConnection: close\r\n\r\n",
+            1,
+        ),
         (
             "GET /a HTTP/1.1\r\n\r\n",
             "HTTP/1.1 200 OK\r\nContent-Type: application/json\r\nContent-Length: 2\r\nIpam-Place: 0\r\n\r\n/a",
@@ -178,8 +188,14 @@ fn requests_are_answered_in_order(rt: HostRuntime) -> Result<(), Fail> {
 
 #[test]
 fn bytes_that_are_no_request_are_refused(rt: HostRuntime) -> Result<(), Fail> {
-    let cases: [(&str, &str, &str, u32); 14] = [
+    let cases: [(&str, &str, &str, u32); 15] = [
         ("GET / HTTP/1.1\r\nHost", "", BAD_HEAD, 1),
+        (
+            "HEAD / HTTP/1.1\r\nContent-Length: +5\r\n\r\n",
+            "",
+            BAD_HEAD,
+            1,
+        ),
         (
             "GET /a HTTP/1.1\r\n\r\n\r\n",
             "HTTP/1.1 200 OK\r\nContent-Type: application/json\r\nContent-Length: 2\r\nIpam-Place: 0\r\n\r\n/a",

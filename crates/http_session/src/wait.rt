@@ -1,7 +1,7 @@
 //! Waiting for bytes.
 ghost use Rattle.std.specs.Prelude.{◌≡◌, ◌<◌, ◌≤◌, ◌+◌, ◌++◌, ℕ, List, length};
 ghost use Rattle.http_session.specs.Requests.{StopsInHead};
-ghost use Rattle.http_session.specs.Steps.{Grown, HasCauseOf, IsPiece, IsReadWhile, IsShort, IsHeadWait, IsBodyWait};
+ghost use Rattle.http_session.specs.Steps.{Grown, HasCauseOf, IsPiece, IsPieceRead, IsReadUntil, IsReadWhile, IsShort, IsShortLast, IsStopLast, IsHeadWait, IsBodyWait};
 
 use crate::Fault;
 use crate::head::{HEAD_LIMIT, Head, HeadAnswer, look};
@@ -32,6 +32,7 @@ fn read_piece<S: Source>(source: &mut S, bytes: &mut Vec<u8>) -> Result<(), Shor
     ensures grown { Grown (S.left source.old) (S.left source.new) bytes.old.items bytes.new.items }
     ensures most { length bytes.new.items ≤ length bytes.old.items + 4096 }
     ensures piece { IsPiece bytes.old.items bytes.new.items (S.left source.new) result }
+    ensures read { IsPieceRead S.reads source.old source.new bytes.old.items bytes.new.items result }
     ensures cause { HasCauseOf Short.SourceFault (S.faults source.old) (S.faults source.new) result }
 {
     let mut piece = [0u8; 4096];
@@ -55,6 +56,7 @@ pub fn wait_for_head<S: Source>(
 ) -> Result<Head, Stop>
     ensures grown { Grown (S.left source.old) (S.left source.new) bytes.old.items bytes.new.items }
     ensures needed { IsReadWhile StopsInHead bytes.old.items bytes.new.items }
+    ensures reads { IsReadUntil S.reads StopsInHead source.old source.new bytes.old.items bytes.new.items (λ last. IsStopLast result last) }
     ensures head { IsHeadWait bytes.new.items (S.left source.new) result }
     ensures cause { HasCauseOf Stop.SourceFault (S.faults source.old) (S.faults source.new) result }
 {
@@ -90,6 +92,7 @@ pub fn wait_for_body<S: Source>(
 ) -> Result<(), Short>
     ensures grown { Grown (S.left source.old) (S.left source.new) bytes.old.items bytes.new.items }
     ensures needed { IsReadWhile (IsShort needed) bytes.old.items bytes.new.items }
+    ensures reads { IsReadUntil S.reads (IsShort needed) source.old source.new bytes.old.items bytes.new.items (λ last. IsShortLast result last) }
     ensures body { IsBodyWait needed bytes.new.items (S.left source.new) result }
     ensures cause { HasCauseOf Short.SourceFault (S.faults source.old) (S.faults source.new) result }
 {

@@ -1,8 +1,8 @@
 -- What a writer's sink gained, step by step.
-use Rattle.std.proofs.Common.{◌∙◌, List, ◌++◌, ℕ, Option, Result, Ok, Err, IsErr, sym, ap, append_assoc}
+use Rattle.std.proofs.Common.{◌∙◌, arith, length-append, List, ◌++◌, ℕ, Option, Result, Ok, Err, IsErr, sym, ap, append_assoc}
 use Rattle.std.specs.Io.KnownBytes.{Appends}
 use Rattle.std.proofs.KnownBytes.{Appends-trans}
-use Rattle.ipam_edge.specs.Writing.{AppendsFront, IsFrontOf, WritesAll}
+use Rattle.ipam_edge.specs.Writing.{AppendsFront, AppendsLess, IsFrontOf, WritesAll}
 
 pub writes_at_err : {E : Type 0} (old new : Option (List ℕ)) (r : Result (Unit {0}) E) (text : List ℕ) → IsErr r → AppendsFront old new text → WritesAll old new r text
 writes_at_err old new (Ok x) text h f = cc h
@@ -21,3 +21,25 @@ appends_front_longer old new text more h = (h.0, front_longer h.0 text more h.1,
 -- some text was written, and then a front of the next
 pub appends_front_after : (old mid new : Option (List ℕ)) (before text : List ℕ) → Appends old mid before → AppendsFront mid new text → AppendsFront old new (before ++ text)
 appends_front_after old mid new before text h f = (before ++ f.0, front_after before f.0 text f.1, Appends-trans _ _ _ _ _ h f.2)
+
+-- a shorter front of the text is one of a longer text
+pub appends_less_longer : (old new : Option (List ℕ)) (text more : List ℕ) → AppendsLess old new text → AppendsLess old new (text ++ more)
+appends_less_longer old new text more h =
+    record {
+      front = h.front;
+      rest = h.rest ++ more;
+      parts = ap (λ t. t ++ more) h.parts ∙ append_assoc h.front h.rest more;
+      some = omega (arith, h.some, length-append h.rest more);
+      appended = h.appended;
+    }
+
+-- some text was written, and then a shorter front of the next
+pub appends_less_after : (old mid new : Option (List ℕ)) (before text : List ℕ) → Appends old mid before → AppendsLess mid new text → AppendsLess old new (before ++ text)
+appends_less_after old mid new before text h f =
+    record {
+      front = before ++ f.front;
+      rest = f.rest;
+      parts = ap (λ t. before ++ t) f.parts ∙ sym (append_assoc before f.front f.rest);
+      some = f.some;
+      appended = Appends-trans _ _ _ _ _ h f.appended;
+    }

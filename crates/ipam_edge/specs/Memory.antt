@@ -1,5 +1,5 @@
 -- What the source and the sink in memory hold.
-use Rattle.std.specs.Prelude.{◌≡◌, ℕ, List, drop}
+use Rattle.std.specs.Prelude.{◌≡◌, ◌+◌, ◌-◌, ◌^◌, ◌++◌, ◌↔◌, min, ℕ, List, [], drop, Option, IsNone, Contains, unwrap_or}
 use Rattle.ipam_edge.specs.declared.memory.BytesSource.{BytesSource}
 use Rattle.ipam_edge.specs.declared.memory.BytesSink.{BytesSink}
 
@@ -27,6 +27,13 @@ source_faults s = s.faults
 pub record KeepsSource (old new : BytesSource) : Type 0 where
   pub fails : source_fails new ≡ source_fails old
   pub piece : source_piece new ≡ source_piece old
+
+-- a read: the next call has the next number, it fails exactly where its own number is among those given, and what it gives is taken off
+pub record IsSourceRead (old : BytesSource) (given : Option (List ℕ)) (new : BytesSource) : Type 0 where
+  pub number : source_calls new ≡ min (source_calls old + 1) (2 ^ 64 - 1)
+  pub fails : IsNone given ↔ Contains (source_fails old) (source_calls old)
+  pub left : source_left old ≡ unwrap_or given [] ++ source_left new
+  pub kept : KeepsSource old new
 
 -- the bytes that were written
 abbrev pub sink_bytes : BytesSink → List ℕ

@@ -7,10 +7,11 @@ mod streams;
 #[cfg(test)]
 mod tests;
 
-ghost use Rattle.std.specs.Prelude.{◌≡◌, ◌<◌, ◌≤◌, ℕ, List, Option, IfOk, length};
+ghost use Rattle.std.specs.Prelude.{◌≡◌, ◌<◌, ◌≤◌, ℕ, List, Option, IfOk, OnErr, length};
 ghost use Rattle.std.specs.Io.KnownBytes.{ReadConsumes, WriteAppends};
 ghost use Rattle.ipam_edge.specs.Faults.{HasCause};
-ghost use Rattle.ipam_edge.specs.Writing.{WritesAll};
+ghost use Rattle.ipam_edge.specs.Reading.{given};
+ghost use Rattle.ipam_edge.specs.Writing.{AppendsLess, WritesAll};
 
 pub use memory::{BytesSink, BytesSource};
 pub use streams::{StdSink, StdSource, standard_error, standard_input, standard_output};
@@ -28,12 +29,17 @@ pub trait Source {
     /// How often it has failed so far: a count that never falls.
     ghost faults: { Self → ℕ };
 
+    /// Which reads the object admits: from one state, with the bytes that are given (`None` where it
+    /// fails), to the next. So what stands on a source can say how often it reads, and when.
+    ghost reads: { Self → Option (List ℕ) → Self → Type 0 } = { λ _ _ _. Unit {0} };
+
     /// Reads the next bytes into the front of the piece, and says how many. Into a piece that is
     /// not empty, 0 says that the input has ended, and at the end of a told input the answer is 0.
     /// After `Failed` no told byte is lost; what the piece holds then is open.
     fn read(&mut self, into: &mut [u8]) -> Result<usize, Failed>
         ensures most { IfOk result (λ n. n ≤ length into.new) }
         ensures took { ReadConsumes (left self.old) (left self.new) result into.new }
+        ensures step { reads self.old (given result into.new) self.new }
         ensures cause { HasCause (faults self.old) (faults self.new) result };
 }
 
@@ -56,9 +62,10 @@ pub trait Sink {
 }
 
 /// Writes all of the bytes. `Failed` comes where a write failed, and then a front of the bytes was
-/// written, which may be empty.
+/// written, which may be empty and is never the whole.
 pub fn write_all<S: Sink>(sink: &mut S, bytes: &[u8]) -> Result<(), Failed>
     ensures told { WritesAll (S.written sink.old) (S.written sink.new) result bytes.now }
+    ensures less { OnErr result (AppendsLess (S.written sink.old) (S.written sink.new) bytes.now) }
     ensures cause { HasCause (S.faults sink.old) (S.faults sink.new) result }
 {
     let mut done = 0;

@@ -65,15 +65,19 @@ impl BytesSource {
 }
 
 impl Source for BytesSource {
-    ghost use Rattle.ipam_edge.specs.Memory.{source_left, source_fails, source_piece, source_calls, source_faults, KeepsSource};
+    ghost use Rattle.ipam_edge.specs.Memory.{source_left, source_fails, source_piece, source_calls, source_faults, IsSourceRead, KeepsSource};
+    ghost use Rattle.ipam_edge.specs.Reading.{given};
 
     ghost left = { λ s. Some (source_left s) };
 
     ghost faults = { λ s. source_faults s };
 
+    ghost reads = { λ s bytes t. IsSourceRead s bytes t };
+
     fn read(&mut self, into: &mut [u8]) -> Result<usize, Failed>
         ensures most { IfOk result (λ n. n ≤ length into.new) }
         ensures took { ReadConsumes (Some (source_left self.old)) (Some (source_left self.new)) result into.new }
+        ensures step { IsSourceRead self.old (given result into.new) self.new }
         ensures cause { HasCause (source_faults self.old) (source_faults self.new) result }
 
         // The call fails exactly where its number is one of those given.

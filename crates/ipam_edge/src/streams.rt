@@ -1,10 +1,13 @@
 //! Streams, as the standard ones. They count their faults, and tell what the stream itself tells:
 //! the standard streams tell nothing.
-ghost use Rattle.std.specs.Prelude.{◌≡◌, ◌<◌, ◌≤◌, IfOk, length};
+ghost use Rattle.std.specs.Prelude.{◌≡◌, ◌<◌, ◌≤◌, ◌+◌, min, IfOk, None, is_err, if◌then◌else◌, length};
+ghost use Rattle.std.specs.Io.KnownBytes.{ReadConsumes, WriteAppends};
+ghost use Rattle.ipam_edge.specs.Faults.{HasCause};
+ghost use Rattle.ipam_edge.specs.Streams.{source_stream_faults, sink_stream_faults};
 
 use crate::{Failed, Sink, Source};
 use std::io;
-use std::io::{Input, Print, Printer, Read, Stderr, Write};
+use std::io::{Input, Print, Printer, Read, Stderr, StdinLock, Write};
 
 /// A stream that bytes are read from, as standard input, in pieces as large as the reader's.
 #[derive(Drop)]
@@ -30,7 +33,15 @@ impl<R: Read> Source for StdSource<R> {
 
     ghost faults = { λ s. s.faults };
 
-    fn read(&mut self, into: &mut [u8]) -> Result<usize, Failed> {
+    fn read(&mut self, into: &mut [u8]) -> Result<usize, Failed>
+        ensures most { IfOk result (λ n. n ≤ length into.new) }
+        ensures took { ReadConsumes (R.remaining self.old.stream) (R.remaining self.new.stream) result into.new }
+        ensures step { Unit {0} }
+        ensures cause { HasCause self.old.faults self.new.faults result }
+
+        // The count rises exactly where the call fails.
+        ensures counted { self.new.faults ≡ (if is_err result then min (self.old.faults + 1) u64.MAX else self.old.faults) }
+    {
         match self.stream.read(into) {
             Ok(n) => Ok(n),
             Err(_) => {
@@ -66,7 +77,15 @@ impl<W: Write> Sink for StdSink<W> {
 
     ghost faults = { λ s. s.faults };
 
-    fn write(&mut self, from: &[u8]) -> Result<usize, Failed> {
+    fn write(&mut self, from: &[u8]) -> Result<usize, Failed>
+        ensures most { IfOk result (λ n. n ≤ length from.now) }
+        ensures some { IfOk result (λ n. 0 < length from.now → 0 < n) }
+        ensures gave { WriteAppends (W.contents self.old.stream) (W.contents self.new.stream) result from.now }
+        ensures cause { HasCause self.old.faults self.new.faults result }
+
+        // The count rises exactly where the call fails.
+        ensures counted { self.new.faults ≡ (if is_err result then min (self.old.faults + 1) u64.MAX else self.old.faults) }
+    {
         if from.is_empty() {
             return Ok(0);
         }
@@ -80,17 +99,28 @@ impl<W: Write> Sink for StdSink<W> {
     }
 }
 
-/// Standard input, as the runtime gives it.
-pub fn standard_input<R: Input>(rt: &R) -> StdSource<R::Reader> {
+/// Standard input, as the runtime gives it. It has failed never so far, and does not tell what is left.
+pub fn standard_input(rt: &HostRuntime) -> StdSource<StdinLock<'static>>
+    ensures faults { source_stream_faults result ≡ 0 }
+    ensures left { ⟦<StdSource<StdinLock<'static>> as Source>⟧.left result ≡ None }
+{
     StdSource::new(rt.reader())
 }
 
-/// Standard output, as the runtime gives it.
-pub fn standard_output<P: Print>(rt: &P) -> StdSink<Printer<'_, P>> {
+/// Standard output, as the runtime gives it. It has failed never so far, and does not tell what was
+/// written.
+pub fn standard_output<P: Print>(rt: &P) -> StdSink<Printer<'_, P>>
+    ensures faults { sink_stream_faults result ≡ 0 }
+    ensures written { ⟦<StdSink<Printer<'static, P>> as Sink>⟧.written result ≡ None }
+{
     StdSink::new(io::writer(rt))
 }
 
-/// Standard error, as the runtime gives it.
-pub fn standard_error(rt: &HostRuntime) -> StdSink<Stderr> {
+/// Standard error, as the runtime gives it. It has failed never so far, and does not tell what was
+/// written.
+pub fn standard_error(rt: &HostRuntime) -> StdSink<Stderr>
+    ensures faults { sink_stream_faults result ≡ 0 }
+    ensures written { ⟦<StdSink<Stderr> as Sink>⟧.written result ≡ None }
+{
     StdSink::new(rt.stderr())
 }

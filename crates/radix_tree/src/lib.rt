@@ -2,11 +2,11 @@
 //! bits, however many blocks there are, and a first fit is one descent: it visits at most four nodes for each bit, and eight.
 #![tactic(auto)]
 
-ghost use Rattle.std.specs.Prelude.{◌≡◌, ℕ, ◌+◌, ◌*◌, IfOk};
+ghost use Rattle.std.specs.Prelude.{◌≡◌, ℕ, ◌+◌, ◌*◌, ◌^◌, ◌<◌, ◌≤◌, max, length, IfOk, OnOk, OnErr};
 ghost use Rattle.inet_num.specs.Net.{width_of};
 ghost use Rattle.radix_tree.specs.Shape.{child, HasOneEach};
 ghost use Rattle.radix_tree.specs.Listed.{blocks_of};
-ghost use Rattle.radix_tree.specs.Lent.{HasLiveChildren, HasTwoChildren};
+ghost use Rattle.radix_tree.specs.Lent.{HasLiveChildren, HasTwoChildren, IsShaped};
 ghost use Rattle.radix_tree.specs.Frees.{HasLeastFrees};
 ghost use Rattle.radix_tree.specs.Covering.{ListsCovering};
 ghost use Rattle.radix_tree.specs.Inside.{ListsInside};
@@ -90,12 +90,14 @@ impl Model for Tree {
 impl Tree {
     /// The nodes. They have exactly the blocks of the tree, each as often as its node's count; no two have one block, the id of
     /// each child has a node, a node without a count has two children, and each says the least length of a free block inside it.
+    /// All hang together under one, and a child's block lies in the half of its parent's block on its side.
     pub fn nodes(&self) -> &Pool<Node>
         ensures blocks { blocks_of result.now ≡ self.now.blocks }
         ensures one_each { HasOneEach result.now }
         ensures live { HasLiveChildren result.now }
         ensures two { HasTwoChildren result.now }
         ensures frees { HasLeastFrees result.now }
+        ensures shape { IsShaped result.now }
     {
         &self.linked.pool
     }
@@ -149,7 +151,18 @@ impl Space for Tree {
         self.linked.pool.spare() / 2
     }
 
-    fn reserve(&mut self, n: u32) -> Result<(), AllocError> {
+    fn reserve(&mut self, n: u32) -> Result<(), AllocError>
+        requires { length self.old.blocks + n < 2 ^ 30 }
+        ensures ok { OnOk result (n ≤ self.new.spare) }
+        ensures kept { self.old.spare ≤ self.new.spare }
+        ensures err { OnErr result (self.new.spare ≡ self.old.spare) }
+        ensures same { self.new.blocks ≡ self.old.blocks }
+        ensures family { self.new.family ≡ self.old.family }
+        ensures reach { 4 * width_of self.new.family + 8 ≡ 4 * width_of self.old.family + 8 }
+
+        // The room is at most the greater of n and what it was.
+        ensures most { self.new.spare ≤ max self.old.spare n }
+    {
         self.linked.pool.reserve(2 * n)
     }
 

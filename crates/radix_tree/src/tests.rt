@@ -21,7 +21,7 @@ fn block(family: Family, first: u128, len: u8) -> Option<Block>
     Block::of(Addr::of(family, first)?, len)
 }
 
-/// Puts a block in or takes it out, if it is one of the family.
+/// Puts a block in or takes it out. What is no block of the family fails, as for want of memory.
 fn apply(tree: &mut Tree, change: Change) -> Result<(), AllocError>
     requires { length tree.old.blocks < 1000 }
     ensures family { tree.new.family ≡ tree.old.family }
@@ -30,7 +30,7 @@ fn apply(tree: &mut Tree, change: Change) -> Result<(), AllocError>
     match change {
         Insert(first, len) => {
             let Some(block) = block(tree.family(), first, len) else {
-                return Ok(());
+                return Err(AllocError);
             };
             tree.reserve(1)?;
             tree.insert(block);
@@ -38,7 +38,7 @@ fn apply(tree: &mut Tree, change: Change) -> Result<(), AllocError>
         }
         Remove(first, len) => {
             let Some(block) = block(tree.family(), first, len) else {
-                return Ok(());
+                return Err(AllocError);
             };
             tree.remove(block);
             Ok(())
@@ -166,7 +166,8 @@ fn blocks_are_kept(rt: HostRuntime) -> Result<(), AllocError> {
     for (family, changes, asked, times, want) in table {
         let tree = changed(alloc, family, changes)?;
         let Some(block) = block(family, asked.0, asked.1) else {
-            continue;
+            assert!(rt; false, "no block in {changes:?}");
+            return Ok(());
         };
         assert!(rt; tree.times(block) == times, "{changes:?}");
         let got = listed(alloc, &tree.covering(block)?)?;
@@ -210,12 +211,12 @@ fn addresses_are_covered(rt: HostRuntime) -> Result<(), AllocError> {
     for (family, changes, asked, all, strict) in table {
         let tree = changed(alloc, family, changes)?;
         let Some(block) = block(family, asked.0, asked.1) else {
-            continue;
+            assert!(rt; false, "no block in {changes:?}");
+            return Ok(());
         };
-        if block.len() > 0 {
-            assert!(rt; tree.covered(block, false) == all, "{changes:?}");
-            assert!(rt; tree.covered(block, true) == strict, "{changes:?}");
-        }
+        assert!(rt; block.len() > 0, "{changes:?}");
+        assert!(rt; tree.covered(block, false) == all, "{changes:?}");
+        assert!(rt; tree.covered(block, true) == strict, "{changes:?}");
     }
     Ok(())
 }
@@ -264,7 +265,8 @@ fn blocks_inside_are_listed(rt: HostRuntime) -> Result<(), AllocError> {
     for (family, changes, asked, want) in table {
         let tree = changed(alloc, family, changes)?;
         let Some(block) = block(family, asked.0, asked.1) else {
-            continue;
+            assert!(rt; false, "no block in {changes:?}");
+            return Ok(());
         };
         let got = counted(alloc, tree.inside(block))?;
         assert!(rt; got.as_slice() == want, "{changes:?}");

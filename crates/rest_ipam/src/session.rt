@@ -3,7 +3,7 @@
 ghost use Rattle.std.specs.Prelude.{◌≡◌, ◌≢◌, ◌≤◌, ℕ, List, [], IfOk, OnErr, MatchBool};
 ghost use Rattle.ipam_edge.specs.Faults.{Rose};
 ghost use Rattle.http_session.specs.Steps.{Grown, framed};
-ghost use Rattle.http_session.specs.Ends.{IsEnd, IsLeft, IsReadAsNeeded};
+ghost use Rattle.http_session.specs.Ends.{IsEnd, IsLeft, IsReadAsNeeded, IsSession};
 ghost use Rattle.http_session.specs.Replies.{answer_of};
 ghost use Rattle.rest_routes.specs.Answers.{IsRefusedAnswer};
 ghost use Rattle.register_core.specs.Kept.{Kept};
@@ -109,6 +109,7 @@ pub fn serve_session<So: Source, Si: Sink>(
     ensures talk { (bytes : List ℕ) × Grown (So.left source.old) (So.left source.new) [] bytes
         × IsEnd answers_plainly register.old register.new (Si.written sink.old) (Si.written sink.new) bytes (So.left source.new) result
         × IsReadAsNeeded bytes }
+    ensures session { IsSession answers_plainly So.reads register.old register.new source.old source.new (So.left source.old) (So.left source.new) (Si.written sink.old) (Si.written sink.new) result }
     ensures source_later { So.faults source.old ≤ So.faults source.new }
     ensures source { result ≡ SessionEnd.SourceFault → Rose (So.faults source.old) (So.faults source.new) }
     ensures sink_later { Si.faults sink.old ≤ Si.faults sink.new }

@@ -30,7 +30,7 @@ fn block(family: Family, first: u128, len: u8) -> Option<Block>
     Block::of(Addr::of(family, first)?, len)
 }
 
-/// Puts a block in or takes it out, if it is one of the family.
+/// Puts a block in or takes it out. What is no block of the family fails, as for want of memory.
 fn apply<S: Space + Drop>(space: &mut S, change: Change) -> Result<(), AllocError>
     requires { length (S.held space.old) < 1000 }
     ensures family { S.family_of space.new ≡ S.family_of space.old }
@@ -39,7 +39,7 @@ fn apply<S: Space + Drop>(space: &mut S, change: Change) -> Result<(), AllocErro
     match change {
         Insert(first, len) => {
             let Some(block) = block(space.family(), first, len) else {
-                return Ok(());
+                return Err(AllocError);
             };
             space.reserve(1)?;
             space.insert(block);
@@ -47,7 +47,7 @@ fn apply<S: Space + Drop>(space: &mut S, change: Change) -> Result<(), AllocErro
         }
         Remove(first, len) => {
             let Some(block) = block(space.family(), first, len) else {
-                return Ok(());
+                return Err(AllocError);
             };
             space.remove(block);
             Ok(())
@@ -436,13 +436,14 @@ fn change_of(word: &str) -> Option<Change> {
     }
 }
 
-/// The changes of words with a space between them.
+/// The changes of words with a space between them. A word that is no change fails, as for want of memory.
 fn changes_of(alloc: Global, words: &str) -> Result<Vec<Change>, AllocError> {
     let mut out = Vec::new(alloc);
     for word in words.split(' ') {
-        if let Some(change) = change_of(word) {
-            out.push(change)?;
-        }
+        let Some(change) = change_of(word) else {
+            return Err(AllocError);
+        };
+        out.push(change)?;
     }
     Ok(out)
 }
@@ -478,7 +479,8 @@ fn text_of(alloc: Global, block: Option<Block>) -> Result<Vec<u8>, AllocError> {
 }
 
 /// What a space says of a block: how often it is there (`times`), how many of its addresses are covered (`covered`), or its
-/// first free block of a length (`fit 24`), also beside those strictly inside it alone (`strict 24`).
+/// first free block of a length (`fit 24`), also beside those strictly inside it alone (`strict 24`). Of another question it says
+/// nothing.
 fn said<S: Space>(
     alloc: Global,
     space: &S,
@@ -490,15 +492,18 @@ fn said<S: Space>(
     if question == "times" {
         return Ok(format!(in alloc; "{}", space.times(within))?.into_bytes());
     }
+    if question == "covered" && within.len() >= 1 {
+        return Ok(format!(in alloc; "{}", space.covered(within, false))?.into_bytes());
+    }
     let Some((kind, len)) = question.split_once(' ') else {
-        let covered = if within.len() >= 1 {
-            space.covered(within, false)
-        } else {
-            0
-        };
-        return Ok(format!(in alloc; "{covered}")?.into_bytes());
+        return Ok(Vec::new(alloc));
     };
-    let len: u8 = len.parse().unwrap_or(0);
+    if kind != "fit" && kind != "strict" {
+        return Ok(Vec::new(alloc));
+    }
+    let Ok(len) = len.parse::<u8>() else {
+        return Ok(Vec::new(alloc));
+    };
     let fit = fit_of::<S, Brand>(space, within, len, kind == "strict", Blank::new(1));
     text_of(alloc, fit)
 }
@@ -521,7 +526,7 @@ fn is_met<S: Space + Drop>(alloc: Global, line: &str) -> Result<bool, AllocError
     };
     let space: S = changed(alloc, within.family(), &changes)?;
     let text = said(alloc, &space, within, columns.next().unwrap_or(""))?;
-    Ok(columns.next().unwrap_or("").as_bytes() == text.as_slice())
+    Ok(!text.is_empty() && columns.next().unwrap_or("").as_bytes() == text.as_slice())
 }
 
 #[test]

@@ -35,7 +35,7 @@ fn span(family: Family, first: u128, last: u128) -> Option<Span>
     Some(Span { first, last })
 }
 
-/// The empty set with these changes.
+/// The empty set with these changes. What is no span of the family fails, as for want of memory.
 fn changed(alloc: Global, family: Family, changes: &[Change]) -> Result<SpanSet, AllocError>
     ensures { IfOk result (λ set. set.family ≡ family) }
 {
@@ -43,14 +43,16 @@ fn changed(alloc: Global, family: Family, changes: &[Change]) -> Result<SpanSet,
     'changes: for change in changes {
         match *change {
             Add(first, last) => {
-                if let Some(span) = span(family, first, last) {
-                    set.add(span)?;
-                }
+                let Some(span) = span(family, first, last) else {
+                    return Err(AllocError);
+                };
+                set.add(span)?;
             }
             Subtract(first, last) => {
-                if let Some(span) = span(family, first, last) {
-                    set.subtract(span)?;
-                }
+                let Some(span) = span(family, first, last) else {
+                    return Err(AllocError);
+                };
+                set.subtract(span)?;
             }
         }
     }
@@ -152,12 +154,12 @@ fn addresses_are_counted(rt: HostRuntime) -> Result<(), AllocError> {
     for (changes, within, want) in table {
         let set = changed(alloc, Family::V6, changes)?;
         let Some(within) = block(Family::V6, within.0, within.1) else {
-            continue;
+            assert!(rt; false, "no block beside {changes:?}");
+            return Ok(());
         };
-        if within.len() > 0 {
-            let got = set.count(within);
-            assert!(rt; got == want, "{changes:?}: {got}");
-        }
+        assert!(rt; within.len() > 0, "{changes:?}");
+        let got = set.count(within);
+        assert!(rt; got == want, "{changes:?}: {got}");
     }
     Ok(())
 }
@@ -174,10 +176,11 @@ fn agrees(alloc: Global, len: u8, children: &[(u128, u8)]) -> Result<bool, Alloc
     let mut set = SpanSet::new(alloc, Family::V4);
     set.add(span_of(&within))?;
     'children: for child in children {
-        if let Some(child) = block(Family::V4, child.0, child.1) {
-            set.subtract(span_of(&child))?;
-            taken.push(child)?;
-        }
+        let Some(child) = block(Family::V4, child.0, child.1) else {
+            return Ok(false);
+        };
+        set.subtract(span_of(&child))?;
+        taken.push(child)?;
     }
     let got = listed(alloc, &set.blocks()?)?;
     let want = listed(alloc, &available_blocks(alloc, &within, &taken)?)?;

@@ -18,8 +18,8 @@ returns-clause-told g c =
     let h8 = c.put_line-6.ensures.told w _ h7 in
     let h9 = c.put-3.ensures.told w _ h8 in
     let h10 = c.put-4.ensures.told w _ h9 in
-    let e = text_is c.args.status c.args.allow.now c.args.place c.args.close c.args.body.now c.as_bytes.result.now c.phrase.result.now c.as_bytes-length.result.now c.as_bytes-number.result.now _ _ _
-    (search rules) (search rules) (search rules) (search rules) (search rules) (search rules) (search rules) in
+    let e = text_is c.args.status c.args.allow.now c.args.place c.args.close c.args.bare c.args.body.now c.sent_body.result.now c.as_bytes.result.now c.phrase.result.now c.as_bytes-length.result.now c.as_bytes-number.result.now _ _ _
+    (search rules) (search rules) (search rules) (search rules) (search rules) (search rules) (search rules) c.sent_body.ensures in
     put_text w (g.S.Sink.written c.finish.new.sink) c.finish.result _ _ e (c.finish.ensures.told w _ h10)
 
 pub returns-clause-cause : goal.returns-clause-cause

@@ -1,7 +1,9 @@
 use Rattle.std.proofs.Common.{rules, inl, inr, subst, refl, arith}
+use Rattle.ipam_edge.specs.Reading.{Told, Failed}
 use Rattle.http_session.specs.Requests.{NeverHead, StopsInHead, front}
 use Rattle.http_session.proofs.Growth.{Grown-trans, read_none, read_on}
 use Rattle.http_session.proofs.Heads.{stops_in_head}
+use Rattle.http_session.proofs.Pieces.{one_more, the_end, the_fault}
 use Rattle.http_session.proofs.wait.wait_for_head.Goals as goal
 
 pub returns-in-Bad-clause-head : goal.returns-in-Bad-clause-head
@@ -13,6 +15,7 @@ loop-head-preserved g c = (
   omega (arith, c.loop-head.invariant.1, c.read_piece.ensures.cause.later),
   read_on StopsInHead _ _ _ c.loop-head.invariant.0.got c.read_piece.ensures.grown.got c.loop-head.invariant.0.grown c.read_piece.ensures.grown.grown c.read_piece.ensures.most
       (stops_in_head _ _ _ c.as_slice.ensures.value refl (search rules) c.in-More.ensures),
+  one_more _ StopsInHead _ _ _ _ _ _ c.loop-head.invariant.3 (stops_in_head _ _ _ c.as_slice.ensures.value refl (search rules) c.in-More.ensures) c.in-Ok.ensures.read,
 )
 
 pub returns-in-Err-End-clause-grown : goal.returns-in-Err-End-clause-grown
@@ -40,3 +43,15 @@ returns-in-Err-SourceFault-clause-needed g c = read_none StopsInHead _ _ _ (rw c
 
 pub returns-in-Err-Memory-clause-needed : goal.returns-in-Err-Memory-clause-needed
 returns-in-Err-Memory-clause-needed g c = read_none StopsInHead _ _ _ (rw c.in-Err-Memory.field-0-is at c.in-Err-Memory.ensures.piece) c.loop-head.invariant.2
+
+pub returns-then-is_empty-clause-reads : goal.returns-then-is_empty-clause-reads
+returns-then-is_empty-clause-reads g c =
+    (Told, refl, the_end _ StopsInHead _ _ _ _ _ _ c.loop-head.invariant.3 (stops_in_head _ _ _ c.as_slice.ensures.value refl (search rules) c.in-More.ensures) (rw c.in-Err-End.field-0-is at c.in-Err-End.ensures.read))
+
+pub returns-in-Err-End-clause-reads : goal.returns-in-Err-End-clause-reads
+returns-in-Err-End-clause-reads g c =
+    (Told, inr refl, the_end _ StopsInHead _ _ _ _ _ _ c.loop-head.invariant.3 (stops_in_head _ _ _ c.as_slice.ensures.value refl (search rules) c.in-More.ensures) (rw c.in-Err-End.field-0-is at c.in-Err-End.ensures.read))
+
+pub returns-in-Err-SourceFault-clause-reads : goal.returns-in-Err-SourceFault-clause-reads
+returns-in-Err-SourceFault-clause-reads g c =
+    (Failed, refl, the_fault _ StopsInHead _ _ _ _ _ _ c.loop-head.invariant.3 (stops_in_head _ _ _ c.as_slice.ensures.value refl (search rules) c.in-More.ensures) (rw c.in-Err-SourceFault.field-0-is at c.in-Err-SourceFault.ensures.read))

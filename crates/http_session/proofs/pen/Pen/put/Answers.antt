@@ -1,10 +1,10 @@
 use Rattle.std.proofs.Common.{◌≡◌, ◌∙◌, ◌++◌, sym, ap, append_assoc}
-use Rattle.ipam_edge.proofs.WritingLemmas.{appends_front_longer}
+use Rattle.ipam_edge.proofs.WritingLemmas.{appends_less_longer}
 use Rattle.http_session.proofs.PenLemmas.{gathered_after}
 use Rattle.http_session.proofs.pen.Pen.put.Goals as goal
 
 pub returns-in-SinkFault-clause-told : goal.returns-in-SinkFault-clause-told
-returns-in-SinkFault-clause-told g c = λ start before h. rw c.in-SinkFault.is (appends_front_longer _ _ before c.args.bytes.now (rw c.in-SinkFault.is at h))
+returns-in-SinkFault-clause-told g c = λ start before h. rw c.in-SinkFault.is (appends_less_longer _ _ before c.args.bytes.now (rw c.in-SinkFault.is at h))
 
 pub returns-in-Ok-clause-told : goal.returns-in-Ok-clause-told
 returns-in-Ok-clause-told g c = λ start before h.

@@ -18,3 +18,13 @@ returns-clause-took c =
     let copy : copied ≡ take n (drop at bytes) = search rules in
     let len : length copied ≡ n = search rules in
     (splits bytes copied _ at n copy len, λ z some. drop_of_length-le bytes (search rules))
+
+pub returns-clause-step : goal.returns-clause-step
+returns-clause-step c =
+    let bytes = c.args.self.now.bytes.items in
+    let at = c.args.self.now.at in
+    let n = c.min-n.result in
+    let copied = c.copy_from_slice.new.self in
+    let copy : copied ≡ take n (drop at bytes) = search rules in
+    let len : length copied ≡ n = search rules in
+    record { number = search rules; fails = search rules; left = splits bytes copied _ at n copy len; kept = record { fails = search rules; piece = search rules } }
