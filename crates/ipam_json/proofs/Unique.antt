@@ -6,12 +6,14 @@ use Rattle.inet_num.specs.Net.{Cidr}
 use Rattle.inet_num.proofs.Readings.{reading_is_one}
 use Rattle.ipam_data.specs.Texts.{is_control}
 use Rattle.ipam_data.specs.declared.kinds.Kind.{Kind}
-use Rattle.ipam_data.specs.declared.kinds.Kind.TheVariants.{Vrfs, Roles, Prefixes}
+use Rattle.ipam_data.specs.declared.kinds.Kind.TheVariants.{Vrfs, Rirs, Roles, Aggregates, Prefixes, Ranges, Addresses}
 use Rattle.ipam_data.specs.declared.calls.Draft.{Draft}
 use Rattle.ipam_data.specs.declared.replies.Refusal.{Refusal}
 use Rattle.serde_json.specs.Data.{Data}
 use Rattle.serde_json.specs.Find.{as_str}
-use Rattle.ipam_json.specs.Bodies.{IsObjectText, IsObjectOf, IsBlockReading, IsBlockValue, IsBlockMember, block_refusal, prefix_body}
+use Rattle.ipam_json.specs.Bodies.{IsObjectText, IsObjectOf}
+use Rattle.ipam_json.specs.Blocks.{IsBlockReading, IsBlockValue, IsBlockMember, block_refusal}
+use Rattle.ipam_json.specs.Prefixes.{prefix_draft}
 use Rattle.ipam_json.specs.Laws.{BodyIsOne, BoundsAreThose}
 
 one_block : (text : List ℕ) (a b : Result Cidr Refusal) → IsBlockReading text a → IsBlockReading text b → a ≡ b
@@ -30,8 +32,12 @@ one_member (Some d) a b h k = one_value (as_str d) a b h k
 
 one_object : (kind : Kind) (d : Data) (a b : Result Draft Refusal) → IsObjectOf kind d a → IsObjectOf kind d b → a ≡ b
 one_object Vrfs d a b h k = h ∙ sym k
+one_object Rirs d a b h k = h ∙ sym k
 one_object Roles d a b h k = h ∙ sym k
-one_object Prefixes d a b h k = h.2 ∙ ap (λ (block : Result Cidr Refusal). prefix_body block d) (one_member _ h.0 k.0 h.1 k.1) ∙ sym k.2
+one_object Aggregates d a b h k = h ∙ sym k
+one_object Prefixes d a b h k = h.2 ∙ ap (λ (block : Result Cidr Refusal). prefix_draft block d) (one_member _ h.0 k.0 h.1 k.1) ∙ sym k.2
+one_object Ranges d a b h k = h ∙ sym k
+one_object Addresses d a b h k = h ∙ sym k
 
 same_data : (body : List ℕ) (d e : Data) → IsObjectText body d → IsObjectText body e → d ≡ e
 same_data body d e h k = let same : Some d ≡ Some e = sym h.value ∙ k.value in cc

@@ -3,11 +3,16 @@
 
 mod bodies;
 mod details;
+mod drafts;
 mod laws;
 mod members;
 mod replies;
+mod rows;
 #[cfg(test)]
 mod tests;
+mod texts;
+mod words;
+mod writing;
 
 pub use bodies::read_body;
 pub use laws::{body_is_one, bounds_are_those, rows_are_in_order};

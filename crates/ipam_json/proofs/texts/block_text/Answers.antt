@@ -1,7 +1,7 @@
 use Rattle.std.proofs.Common.{◌≡◌, sym, subst, IsUtf8}
 use Rattle.ipam_json.proofs.Ascii.{block_is_text}
 use Rattle.inet_num.specs.Text.{block_text_of}
-use Rattle.ipam_json.proofs.details.block_text.Goals as goal
+use Rattle.ipam_json.proofs.texts.block_text.Goals as goal
 
 pub unreachable-requires : goal.unreachable-requires
 unreachable-requires c =
