@@ -2,7 +2,7 @@
 -- target (RFC 9112 3.2.1): nothing is decoded, and a query, a missing slash or a leading zero makes another target.
 use Rattle.std.specs.Prelude.{◌≡◌, ℕ, ◌^◌, ◌<◌, ◌≤◌, List, [], ◌++◌, codes, decimal, bytes_eq, Option, Some, None, if◌then◌else◌}
 use Rattle.ipam_data.specs.declared.kinds.Kind.{Kind}
-use Rattle.ipam_data.specs.declared.kinds.Kind.TheVariants.{Vrfs, Roles, Prefixes}
+use Rattle.ipam_data.specs.declared.kinds.Kind.TheVariants.{Vrfs, Rirs, Roles, Aggregates, Prefixes, Ranges, Addresses}
 use Rattle.ipam_data.specs.Answers.{kind_text}
 use Rattle.rest_routes.specs.declared.route.Route.{Route}
 use Rattle.rest_routes.specs.declared.route.Route.TheVariants.{Many, Single}
@@ -25,8 +25,12 @@ path_of (Single kind id) = rows_path kind ++ row_end id
 -- the kinds that are served
 abbrev pub IsServed : Kind → Type 0
 IsServed Vrfs = Unit {0}
+IsServed Rirs = ⊥
 IsServed Roles = ⊥
+IsServed Aggregates = ⊥
 IsServed Prefixes = Unit {0}
+IsServed Ranges = ⊥
+IsServed Addresses = ⊥
 
 -- a route is of a kind that is served, and an id is a number from 1 to 4294967295
 abbrev pub IsRoute : Route → Type 0

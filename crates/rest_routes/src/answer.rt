@@ -26,8 +26,12 @@ fn refusal_status(refusal: &Refusal) -> StatusCode
         Refusal::Field(_) => StatusCode::BAD_REQUEST,
         Refusal::NotFound(_, _) => StatusCode::NOT_FOUND,
         Refusal::Rule(_) => StatusCode::BAD_REQUEST,
+        Refusal::InUse(_, _) => StatusCode::CONFLICT,
+        Refusal::NoSpace(_) => StatusCode::CONFLICT,
         Refusal::Limit(_, _) => StatusCode::INSUFFICIENT_STORAGE,
+        Refusal::Keeper => StatusCode::SERVICE_UNAVAILABLE,
         Refusal::Memory => StatusCode::INTERNAL_SERVER_ERROR,
+        Refusal::Row(_, _) => StatusCode::BAD_REQUEST,
     }
 }
 
@@ -37,8 +41,15 @@ fn reply_status(reply: &Reply) -> StatusCode
 {
     match reply {
         Reply::Made(_) => StatusCode::CREATED,
+        Reply::MadeMany(_) => StatusCode::CREATED,
+        Reply::Changed(_) => StatusCode::OK,
+        Reply::Gone => StatusCode::NO_CONTENT,
+        Reply::Imported { .. } => StatusCode::OK,
         Reply::One(_) => StatusCode::OK,
         Reply::Page { .. } => StatusCode::OK,
+        Reply::Blocks { .. } => StatusCode::OK,
+        Reply::Addrs { .. } => StatusCode::OK,
+        Reply::Percent(_) => StatusCode::OK,
         Reply::Refused(refusal) => refusal_status(refusal),
     }
 }

@@ -1,9 +1,8 @@
 //! The call that a request asks for.
 
 ghost use Rattle.std.specs.Prelude.{◌≡◌, ℕ, List, IfOk};
-ghost use Rattle.ipam_data.specs.Steps.{IsWellMade};
 ghost use Rattle.ipam_json.specs.Bodies.{OrMemory};
-ghost use Rattle.rest_routes.specs.Requests.{IsAskedOf, IsRequest, all_of};
+ghost use Rattle.rest_routes.specs.Requests.{IsAskedOf, IsRequest, IsWellMade, all_of, kind_of};
 ghost use Rattle.rest_routes.specs.Requests as spec;
 
 use crate::route::{Method, Route, route_of};
@@ -18,12 +17,51 @@ const ROWS: u32 = 50;
 
 /// All rows of a kind.
 fn all_rows(kind: Kind) -> Filter
-    ensures { result ≡ all_of kind }
+    ensures all { result ≡ all_of kind }
+    ensures kind { kind_of result ≡ kind }
 {
     match kind {
-        Kind::Vrfs => Filter::Vrfs,
-        Kind::Roles => Filter::Roles,
-        Kind::Prefixes => Filter::Prefixes,
+        Kind::Vrfs => Filter::Vrfs {
+            name: None,
+            rd: None,
+        },
+        Kind::Rirs => Filter::Rirs {
+            name: None,
+            slug: None,
+        },
+        Kind::Roles => Filter::Roles {
+            name: None,
+            slug: None,
+        },
+        Kind::Aggregates => Filter::Aggregates {
+            family: None,
+            rir_id: None,
+        },
+        Kind::Prefixes => Filter::Prefixes {
+            family: None,
+            vrf_id: None,
+            status: None,
+            role_id: None,
+            prefix: None,
+            within: None,
+            within_include: None,
+            contains: None,
+        },
+        Kind::Ranges => Filter::Ranges {
+            family: None,
+            vrf_id: None,
+            status: None,
+            role_id: None,
+            contains: None,
+        },
+        Kind::Addresses => Filter::Addresses {
+            family: None,
+            vrf_id: None,
+            status: None,
+            role: None,
+            parent: None,
+            dns_name: None,
+        },
     }
 }
 
@@ -45,7 +83,8 @@ fn call_of_rows(
     method: Option<Method>,
     body: &[u8],
 ) -> Result<(Call, Links), Refusal>
-    ensures { OrMemory (IsAskedOf (Route.Many kind) method body.now) result }
+    ensures asked { OrMemory (IsAskedOf (Route.Many kind) method body.now) result }
+    ensures well_made { IfOk result (λ asked. IsWellMade asked.0) }
 {
     match method {
         Some(Method::Get) => Ok(asks(Call::List {
