@@ -11,6 +11,7 @@ use Rattle.ipam_data.specs.declared.replies.Refusal.{Refusal}
 use Rattle.ipam_data.specs.declared.replies.Refusal.TheVariants.{Field, Rule as Breaks}
 use Rattle.serde_json.specs.Data.{Data}
 use Rattle.serde_json.specs.Find.{as_str}
+use Rattle.ipam_json.specs.Outcomes.{IsGiven}
 
 -- what a faulty text of a block is answered
 abbrev pub block_refusal : TextFault → Refusal
@@ -34,3 +35,8 @@ IsBlockValue (Some text) block = IsBlockReading text block
 abbrev pub IsBlockMember : Option Data → Result Cidr Refusal → Type 0
 IsBlockMember None block = block ≡ Err (Field PrefixField)
 IsBlockMember (Some d) block = IsBlockValue (as_str d) block
+
+-- in an edit the member may be absent, which leaves the block
+abbrev pub IsBlockEdit : Option Data → Result (Option Cidr) Refusal → Type 0
+IsBlockEdit None block = block ≡ Ok None
+IsBlockEdit (Some d) block = IsGiven (IsBlockMember (Some d)) block

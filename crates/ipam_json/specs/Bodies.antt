@@ -1,10 +1,11 @@
--- What the body of a Create asks for: a draft of its kind, or the refusal that is answered. The body is one JSON text (RFC 8259),
+-- What the body of a Create asks for, a draft of its kind, and that of a Change, an edit; or the refusal that is answered. The body is one JSON text (RFC 8259),
 -- read by the definition of serde_json: at most 127 levels deep, in UTF-8.
-use Rattle.std.specs.Prelude.{◌≡◌, ◌⊎◌, ℕ, List, Some, Result, Err, IsUtf8, is_some, IsTrue}
+use Rattle.std.specs.Prelude.{◌≡◌, ◌⊎◌, ℕ, List, Option, Some, Result, Err, IsUtf8, is_some, IsTrue}
 use Rattle.inet_num.specs.Net.{Cidr}
 use Rattle.ipam_data.specs.declared.kinds.Kind.{Kind}
 use Rattle.ipam_data.specs.declared.kinds.Kind.TheVariants.{Vrfs, Rirs, Roles, Aggregates, Prefixes, Ranges, Addresses}
 use Rattle.ipam_data.specs.declared.calls.Draft.{Draft}
+use Rattle.ipam_data.specs.declared.calls.Edit.{Edit}
 use Rattle.ipam_data.specs.declared.replies.FieldName.TheVariants.{Prefix as PrefixField}
 use Rattle.ipam_data.specs.declared.replies.Refusal.{Refusal}
 use Rattle.ipam_data.specs.declared.replies.Refusal.TheVariants.{NoRoute, BadJson}
@@ -13,9 +14,9 @@ use Rattle.serde_json.specs.Find.{as_object}
 use Rattle.serde_json.specs.Read.{read}
 pub use Rattle.ipam_json.specs.Outcomes.{OrMemory}
 use Rattle.ipam_json.specs.Outcomes.{value_of}
-use Rattle.ipam_json.specs.Blocks.{IsBlockMember}
-use Rattle.ipam_json.specs.Vrfs.{vrf_draft}
-use Rattle.ipam_json.specs.Prefixes.{prefix_draft}
+use Rattle.ipam_json.specs.Blocks.{IsBlockMember, IsBlockEdit}
+use Rattle.ipam_json.specs.Vrfs.{vrf_draft, vrf_edit}
+use Rattle.ipam_json.specs.Prefixes.{prefix_draft, prefix_edit}
 
 -- the bytes are a JSON text, and its value is this object
 pub record IsObjectText (body : List ℕ) (d : Data) : Type 0 where
@@ -38,7 +39,26 @@ IsObjectOf Prefixes d answer =
 IsObjectOf Ranges d answer = answer ≡ Err NoRoute
 IsObjectOf Addresses d answer = answer ≡ Err NoRoute
 
+-- what the object of an edit asks for likewise
+abbrev pub IsEditObjectOf : Kind → Data → Result Edit Refusal → Type 0
+IsEditObjectOf Vrfs d answer = answer ≡ vrf_edit d
+IsEditObjectOf Rirs d answer = answer ≡ Err NoRoute
+IsEditObjectOf Roles d answer = answer ≡ Err NoRoute
+IsEditObjectOf Aggregates d answer = answer ≡ Err NoRoute
+IsEditObjectOf Prefixes d answer =
+    (block : Result (Option Cidr) Refusal) × IsBlockEdit (value_of PrefixField d) block × (answer ≡ prefix_edit block d)
+IsEditObjectOf Ranges d answer = answer ≡ Err NoRoute
+IsEditObjectOf Addresses d answer = answer ≡ Err NoRoute
+
+-- what a body asks for whose object asks for this; other bodies are refused
+abbrev pub IsTextOf : {A : Type 0} → (Data → Result A Refusal → Type 0) → List ℕ → Result A Refusal → Type 0
+IsTextOf IsObject body answer =
+    ((d : Data) × IsObjectText body d × IsObject d answer) ⊎ (IsNoObjectText body × (answer ≡ Err BadJson))
+
 -- what the body of a Create asks for
 abbrev pub IsBodyOf : Kind → List ℕ → Result Draft Refusal → Type 0
-IsBodyOf kind body answer =
-    ((d : Data) × IsObjectText body d × IsObjectOf kind d answer) ⊎ (IsNoObjectText body × (answer ≡ Err BadJson))
+IsBodyOf kind body answer = IsTextOf (IsObjectOf kind) body answer
+
+-- what the body of a Change asks for
+abbrev pub IsEditOf : Kind → List ℕ → Result Edit Refusal → Type 0
+IsEditOf kind body answer = IsTextOf (IsEditObjectOf kind) body answer

@@ -3,6 +3,7 @@ use Rattle.std.specs.Prelude.{◌≡◌, ◌↔◌, ℕ, List, [], ◌∷◌, Re
 use Rattle.ipam_data.specs.Texts.{IsPlain}
 use Rattle.ipam_data.specs.declared.kinds.Kind.{Kind}
 use Rattle.ipam_data.specs.declared.calls.Draft.{Draft}
+use Rattle.ipam_data.specs.declared.calls.Edit.{Edit}
 use Rattle.ipam_data.specs.declared.replies.Refusal.{Refusal}
 use Rattle.ipam_data.specs.declared.vrf.Vrf.{Vrf}
 use Rattle.ipam_data.specs.declared.rir.Rir.{Rir}
@@ -21,11 +22,15 @@ use Rattle.ipam_json.specs.Aggregates.{aggregate_members}
 use Rattle.ipam_json.specs.Prefixes.{prefix_members}
 use Rattle.ipam_json.specs.Ranges.{range_members}
 use Rattle.ipam_json.specs.Addresses.{address_members}
-use Rattle.ipam_json.specs.Bodies.{IsBodyOf}
+use Rattle.ipam_json.specs.Bodies.{IsBodyOf, IsEditOf}
 
 -- a body asks for one thing
 abbrev pub BodyIsOne : Type 0
 BodyIsOne = (kind : Kind) (body : List ℕ) (a b : Result Draft Refusal) → IsBodyOf kind body a → IsBodyOf kind body b → a ≡ b
+
+-- and so does the body of an edit
+abbrev pub EditIsOne : Type 0
+EditIsOne = (kind : Kind) (body : List ℕ) (a b : Result Edit Refusal) → IsEditOf kind body a → IsEditOf kind body b → a ≡ b
 
 -- the texts of a body have the bounds of the texts of rows
 abbrev pub BoundsAreThose : Type 0

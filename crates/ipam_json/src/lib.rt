@@ -4,6 +4,8 @@
 mod bodies;
 mod details;
 mod drafts;
+mod edits;
+mod given;
 mod laws;
 mod members;
 mod replies;
@@ -14,6 +16,6 @@ mod texts;
 mod words;
 mod writing;
 
-pub use bodies::read_body;
-pub use laws::{body_is_one, bounds_are_those, rows_are_in_order};
+pub use bodies::{read_body, read_edit};
+pub use laws::{body_is_one, bounds_are_those, edit_is_one, rows_are_in_order};
 pub use replies::{Links, refusal_bytes, reply_bytes, write_reply};

@@ -19,7 +19,7 @@ use serde_json::Value;
 use std::alloc::{AllocError, Global};
 
 /// The value of a member, where the object has it.
-fn member(body: &Value, name: FieldName) -> Option<&Value>
+pub(crate) fn member(body: &Value, name: FieldName) -> Option<&Value>
     ensures { option_map (λ v. view v.now) result ≡ value_of name (view body.now) }
 {
     body.get(field_name(name))
@@ -128,6 +128,18 @@ fn id_of_number(number: u64) -> Option<u32>
     }
 }
 
+/// The id that a value is; null is none.
+pub(crate) fn id_of_value(value: &Value) -> Option<Option<u32>>
+    ensures { result ≡ id_of (Some (view value.now)) }
+{
+    if value.is_null() {
+        return Some(None);
+    }
+    let number = value.as_u64()?;
+    let id = id_of_number(number)?;
+    Some(Some(id))
+}
+
 /// The id of another row, which may be absent or null.
 pub(crate) fn id(body: &Value, name: FieldName) -> Result<Option<u32>, Refusal>
     ensures { read_member name id_of (view body.now) ≡ result }
@@ -135,14 +147,8 @@ pub(crate) fn id(body: &Value, name: FieldName) -> Result<Option<u32>, Refusal>
     let Some(value) = member(body, name) else {
         return Ok(None);
     };
-    if value.is_null() {
-        return Ok(None);
-    }
-    let Some(number) = value.as_u64() else {
-        return Err(Refusal::Field(name));
-    };
-    match id_of_number(number) {
-        Some(id) => Ok(Some(id)),
+    match id_of_value(value) {
+        Some(id) => Ok(id),
         None => Err(Refusal::Field(name)),
     }
 }
@@ -161,7 +167,7 @@ pub(crate) fn prefix_status(body: &Value) -> Result<PrefixStatus, Refusal>
 }
 
 /// What a faulty text of a block is answered.
-fn refusal_of(fault: TextFault) -> Refusal
+pub(crate) fn refusal_of(fault: TextFault) -> Refusal
     ensures { result ≡ block_refusal fault }
 {
     match fault {

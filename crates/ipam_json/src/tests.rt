@@ -1,6 +1,6 @@
 //! Bodies and replies byte for byte, a case to a line.
 
-use crate::{Links, read_body, refusal_bytes, reply_bytes, write_reply};
+use crate::{Links, read_body, read_edit, refusal_bytes, reply_bytes, write_reply};
 use inet_num::{read_addr, read_block};
 use ipam_data::address::{AddressRole, AddressStatus, IpAddress};
 use ipam_data::aggregate::Aggregate;
@@ -76,7 +76,31 @@ p{\"prefix\":\"10.0.0.0/24\",\"status\":\"dhcp\",\"role\":0}
 = {\"code\":\"field\",\"detail\":\"role is missing or malformed\"}
 p{\"prefix\":\"10.0.0.0/24\",\"role\":\"\",\"is_pool\":0}
 = {\"code\":\"field\",\"detail\":\"is_pool is missing or malformed\"}
-p{\"prefix\":\"10.0.0.0/24\",\"mark_utilized\":0,\"is_pool\":null}";
+p{\"prefix\":\"10.0.0.0/24\",\"mark_utilized\":0,\"is_pool\":null}
+= Vrf { name: None, rd: None, enforce_unique: None, description: None }
+V{\"id\":7}
+= Vrf { name: Some(Name { string: \"red\" }), rd: Some(None), enforce_unique: Some(true), description: Some(Description { string: \"\" }) }
+V{\"name\":\"red\",\"rd\":null,\"enforce_unique\":true,\"description\":\"\"}
+V{\"name\":\"red\",\"rd\":\"\",\"enforce_unique\":true,\"description\":\"\"}
+= Prefix { block: None, vrf: Some(None), status: None, role: Some(Some(4)), is_pool: None, mark_utilized: Some(true), description: None }
+P{\"vrf\":null,\"role\":4,\"mark_utilized\":true}
+= Prefix { block: Some(Block { first: 167772160, family: V4, len: 8 }), vrf: Some(Some(1)), status: Some(Deprecated), role: Some(None), is_pool: Some(false), mark_utilized: None, description: None }
+P{\"status\":\"deprecated\",\"prefix\":\"10.0.0.0/8\",\"vrf\":1,\"role\":null,\"is_pool\":false}
+= {\"code\":\"bad_json\",\"detail\":\"the body is not the JSON that is asked for\"}
+Vnull
+P[]
+= {\"code\":\"field\",\"detail\":\"name is missing or malformed\"}
+V{\"rd\":5,\"name\":null}
+= {\"code\":\"field\",\"detail\":\"description is missing or malformed\"}
+V{\"description\":null}
+= {\"code\":\"host_bits\",\"detail\":\"host bits are set, the prefix is 10.0.0.0/24\"}
+P{\"prefix\":\"10.0.0.1/24\",\"vrf\":0}
+= {\"code\":\"field\",\"detail\":\"prefix is missing or malformed\"}
+P{\"prefix\":null}
+= {\"code\":\"field\",\"detail\":\"vrf is missing or malformed\"}
+P{\"vrf\":\"\"}
+= {\"code\":\"no_route\",\"detail\":\"no such path\"}
+r{}";
 
 /// What a body of a kind asks for, in words.
 fn told(alloc: Global, kind: Kind, body: &[u8]) -> Result<Vec<u8>, AllocError> {
@@ -86,14 +110,29 @@ fn told(alloc: Global, kind: Kind, body: &[u8]) -> Result<Vec<u8>, AllocError> {
     }
 }
 
+/// What the body of an edit asks for, in words.
+fn edit_told(alloc: Global, kind: Kind, body: &[u8]) -> Result<Vec<u8>, AllocError> {
+    match read_edit(alloc, kind, body) {
+        Ok(edit) => Ok(format!(in alloc; "{edit:?}")?.into_bytes()),
+        Err(refusal) => refusal_bytes(alloc, &refusal),
+    }
+}
+
+/// What the body of a line asks for: a draft behind a small letter, an edit behind a capital one.
+fn line_told(alloc: Global, line: &[u8]) -> Result<Vec<u8>, AllocError> {
+    match line {
+        [b'v', body @ ..] => told(alloc, Kind::Vrfs, body),
+        [b'p', body @ ..] => told(alloc, Kind::Prefixes, body),
+        [b'V', body @ ..] => edit_told(alloc, Kind::Vrfs, body),
+        [b'P', body @ ..] => edit_told(alloc, Kind::Prefixes, body),
+        [b'r', body @ ..] => told(alloc, Kind::Roles, body),
+        _ => Ok(Vec::new(alloc)),
+    }
+}
+
 /// Sees that the body of a line is told this.
 fn check(rt: &impl Abort, alloc: Global, line: &[u8], want: &[u8]) -> Result<(), AllocError> {
-    let (kind, body) = match line {
-        [b'v', body @ ..] => (Kind::Vrfs, body),
-        [b'p', body @ ..] => (Kind::Prefixes, body),
-        _ => (Kind::Roles, line),
-    };
-    let text = told(alloc, kind, body)?;
+    let text = line_told(alloc, line)?;
     assert_eq!(rt; text.as_slice(), want);
     Ok(())
 }

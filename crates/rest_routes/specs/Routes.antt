@@ -7,7 +7,7 @@ use Rattle.ipam_data.specs.Answers.{kind_text}
 use Rattle.rest_routes.specs.declared.route.Route.{Route}
 use Rattle.rest_routes.specs.declared.route.Route.TheVariants.{Many, Single}
 use Rattle.rest_routes.specs.declared.route.Method.{Method}
-use Rattle.rest_routes.specs.declared.route.Method.TheVariants.{Get, Post}
+use Rattle.rest_routes.specs.declared.route.Method.TheVariants.{Get, Post, Patch, Delete}
 
 -- the path of the rows of a kind
 abbrev pub rows_path : Kind → List ℕ
@@ -60,9 +60,12 @@ HasEnd kind rest None = (route : Route) → ¬ IsEnd kind rest route
 -- a method by its name, in upper case (RFC 9110 9.1)
 abbrev pub method_named : List ℕ → Option Method
 method_named name =
-    if bytes_eq name (codes "GET") then Some Get else (if bytes_eq name (codes "POST") then Some Post else None)
+    if bytes_eq name (codes "GET") then Some Get
+    else (if bytes_eq name (codes "POST") then Some Post
+    else (if bytes_eq name (codes "PATCH") then Some Patch
+    else (if bytes_eq name (codes "DELETE") then Some Delete else None)))
 
 -- the methods of a route, as they are printed
 abbrev pub methods_text : Route → List ℕ
 methods_text (Many kind) = codes "GET, POST"
-methods_text (Single kind id) = codes "GET"
+methods_text (Single kind id) = codes "GET, PATCH, DELETE"

@@ -9,7 +9,7 @@ use crate::route::{Method, Route, route_of};
 use ipam_data::calls::{Call, Filter};
 use ipam_data::kinds::Kind;
 use ipam_data::replies::Refusal;
-use ipam_json::{Links, read_body};
+use ipam_json::{Links, read_body, read_edit};
 use std::alloc::Global;
 
 /// How many rows a list has at most.
@@ -97,24 +97,38 @@ fn call_of_rows(
             let draft = read_body(alloc, kind, body)?;
             Ok(asks(Call::Create { draft }))
         }
+        Some(Method::Patch) => Err(Refusal::Method),
+        Some(Method::Delete) => Err(Refusal::Method),
         None => Err(Refusal::Method),
     }
 }
 
 /// What a method asks of a row.
-fn call_of_row(kind: Kind, id: u32, method: Option<Method>) -> Result<(Call, Links), Refusal>
-    ensures asked { (body : List ℕ) → IsAskedOf (Route.Single kind id) method body result }
+fn call_of_row(
+    alloc: Global,
+    kind: Kind,
+    id: u32,
+    method: Option<Method>,
+    body: &[u8],
+) -> Result<(Call, Links), Refusal>
+    ensures asked { OrMemory (IsAskedOf (Route.Single kind id) method body.now) result }
     ensures well_made { IfOk result (λ asked. IsWellMade asked.0) }
 {
     match method {
         Some(Method::Get) => Ok(asks(Call::Get { kind, id })),
         Some(Method::Post) => Err(Refusal::Method),
+        Some(Method::Patch) => {
+            let edit = read_edit(alloc, kind, body)?;
+            Ok(asks(Call::Change { id, edit }))
+        }
+        Some(Method::Delete) => Ok(asks(Call::Delete { kind, id })),
         None => Err(Refusal::Method),
     }
 }
 
 /// What a request asks of the register. `NoRoute` comes where the target has no route, then `Method` where the route does not
-/// have the method, and then the refusals of a body; `Memory` may come in place of any answer. The body of a GET is ignored.
+/// have the method, and then the refusals of a body; `Memory` may come in place of any answer. The body of a GET or a DELETE is
+/// ignored.
 pub fn read_call(
     alloc: Global,
     method: &[u8],
@@ -127,6 +141,8 @@ pub fn read_call(
     match route_of(target) {
         None => Err(Refusal::NoRoute),
         Some(Route::Many(kind)) => call_of_rows(alloc, kind, Method::named(method), body),
-        Some(Route::Single(kind, id)) => call_of_row(kind, id, Method::named(method)),
+        Some(Route::Single(kind, id)) => {
+            call_of_row(alloc, kind, id, Method::named(method), body)
+        }
     }
 }

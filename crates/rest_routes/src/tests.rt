@@ -10,7 +10,8 @@ use std::test::Fail;
 
 /// Requests: a method, a target, ` = `, and the call or the status of the refusal with its `Allow`. Each has one body, that of
 /// a VRF.
-const REQUESTS: &[u8] = b"GET /api/ipam/vrfs/ = List { kind: Vrfs, filter: Vrfs { name: None, rd: None }, limit: 50, offset: 0 }
+const REQUESTS: &[u8] =
+    b"GET /api/ipam/vrfs/ = List { kind: Vrfs, filter: Vrfs { name: None, rd: None }, limit: 50, offset: 0 }
 GET /api/ipam/prefixes/ = List { kind: Prefixes, filter: Prefixes { family: None, vrf_id: None, status: None, role_id: None, prefix: None, within: None, within_include: None, contains: None }, limit: 50, offset: 0 }
 POST /api/ipam/vrfs/ = Create { draft: Vrf { name: Name { string: \"red\" }, rd: None, enforce_unique: true, description: Description { string: \"\" } } }
 POST /api/ipam/prefixes/ = 400 
@@ -18,9 +19,13 @@ GET /api/ipam/vrfs/1/ = Get { kind: Vrfs, id: 1 }
 GET /api/ipam/prefixes/4294967295/ = Get { kind: Prefixes, id: 4294967295 }
 PUT /api/ipam/vrfs/ = 405 GET, POST
 get /api/ipam/prefixes/ = 405 GET, POST
-HEAD /api/ipam/prefixes/7/ = 405 GET
-POST /api/ipam/prefixes/7/ = 405 GET
-DELETE /api/ipam/vrfs/7/ = 405 GET
+PATCH /api/ipam/vrfs/ = 405 GET, POST
+HEAD /api/ipam/prefixes/7/ = 405 GET, PATCH, DELETE
+POST /api/ipam/prefixes/7/ = 405 GET, PATCH, DELETE
+DELETE /api/ipam/vrfs/7/ = Delete { kind: Vrfs, id: 7 }
+PATCH /api/ipam/vrfs/7/ = Change { id: 7, edit: Vrf { name: Some(Name { string: \"red\" }), rd: None, enforce_unique: None, description: None } }
+PATCH /api/ipam/prefixes/7/ = Change { id: 7, edit: Prefix { block: None, vrf: None, status: None, role: None, is_pool: None, mark_utilized: None, description: None } }
+PATCH /api/ipam/rirs/7/ = 404 
 GET /api/ipam/vrfs = 404 
 GET /api/ipam/vrfs/7 = 404 
 GET /api/ipam/vrfs// = 404 
