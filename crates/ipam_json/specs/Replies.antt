@@ -14,7 +14,7 @@ use Rattle.serde_json.specs.Data.{Data, string, array, object}
 use Rattle.serde_json.specs.View.{items_of}
 use Rattle.serde_json.specs.Written.{compact_text}
 use Rattle.ipam_json.specs.declared.replies.Links.{Links}
-use Rattle.ipam_json.specs.Values.{members, number_data, link_data, host_text, text_named, reference_named, family_named}
+use Rattle.ipam_json.specs.Values.{members, number_data, text_data, host_text, text_named, reference_named, family_named}
 use Rattle.ipam_json.specs.Vrfs.{vrf_data}
 use Rattle.ipam_json.specs.Rirs.{rir_data}
 use Rattle.ipam_json.specs.Roles.{role_data}
@@ -39,8 +39,8 @@ views_data views = array (items_of (map view_data views))
 abbrev pub page_data : ℕ → List View → Links → Data
 page_data count views links = object (members (
     (codes "count", number_data count)
-    ∷ (codes "next", link_data links.next)
-    ∷ (codes "previous", link_data links.previous)
+    ∷ (codes "next", text_data links.next)
+    ∷ (codes "previous", text_data links.previous)
     ∷ (codes "results", views_data views) ∷ []))
 
 -- an available block of the table of this VRF, or of the global one

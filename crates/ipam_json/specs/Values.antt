@@ -1,6 +1,5 @@
 -- JSON values that rows are made of. An object has its members in the byte order of their names.
-use Rattle.std.specs.Prelude.{ℕ, List, [], ◌∷◌, ◌++◌, codes, decimal, Bool, Option, Some, None, String, string_bytes}
-use Rattle.std.specs.declared.alloc.Global.{Global}
+use Rattle.std.specs.Prelude.{ℕ, List, [], ◌∷◌, ◌++◌, codes, decimal, Bool, Option, Some, None}
 use Rattle.inet_num.specs.Net.{Address}
 use Rattle.inet_num.specs.declared.Family.{Family}
 use Rattle.inet_num.specs.declared.Family.TheVariants.{V4, V6}
@@ -27,11 +26,6 @@ id_data (Some n) = number_data n
 abbrev pub text_data : Option (List ℕ) → Data
 text_data None = null
 text_data (Some text) = string text
-
--- a link, or null where there is none
-abbrev pub link_data : Option (String Global) → Data
-link_data None = null
-link_data (Some link) = string (string_bytes link)
 
 -- a family is the number of its version
 abbrev pub version_of : Family → ℕ

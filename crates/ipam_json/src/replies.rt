@@ -9,14 +9,16 @@ use crate::details::{code, detail};
 use crate::rows::{put_rows, put_view};
 use crate::writing::{put_link, put_number};
 use ipam_data::replies::{Refusal, Reply, View};
+use ipam_data::text::Text;
 use json::Writer;
 use std::alloc::{AllocError, Global};
+use std::marker::Model;
 
 /// The targets of the pages after and before a page, where there are such pages.
 #[derive(Debug, Drop)]
 pub struct Links {
-    pub next: Option<String>,
-    pub previous: Option<String>,
+    pub next: Option<Text>,
+    pub previous: Option<Text>,
 }
 
 /// Writes rows as an array.

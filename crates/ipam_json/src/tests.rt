@@ -11,7 +11,7 @@ use ipam_data::range::{IpRange, RangeStatus};
 use ipam_data::replies::{FieldName, Part, Refusal, Reply, RowFault, Rule, View, Views, Which};
 use ipam_data::rir::Rir;
 use ipam_data::role::Role;
-use ipam_data::text::{Description, Distinguisher, DnsText, Name, Slug, Weight};
+use ipam_data::text::{Description, Distinguisher, DnsText, Name, Slug, Text, Weight};
 use ipam_data::vrf::Vrf;
 use std::alloc::{AllocError, Global};
 use std::process::Abort;
@@ -277,7 +277,7 @@ fn rows(rt: &impl Abort, alloc: Global) -> Result<Views, AllocError> {
 /// Sees that the text of a reply is the next line.
 fn is_next(rt: &impl Abort, alloc: Global, reply: &Reply, want: &str) -> Result<(), AllocError> {
     let links = Links {
-        next: Some(String::from_str(alloc, "/x/?limit=2&offset=2")?),
+        next: Some(Text::of(String::from_str(alloc, "/x/?limit=2&offset=2")?)),
         previous: None,
     };
     let text = reply_bytes(alloc, reply, &links)?;

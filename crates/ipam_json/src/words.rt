@@ -11,7 +11,7 @@ use ipam_data::range::RangeStatus;
 use ipam_data::replies::FieldName;
 
 /// A kind by its name in a path.
-pub(crate) fn kind_name(kind: Kind) -> &'static str
+pub fn kind_name(kind: Kind) -> &'static str
     ensures { result.now ≡ kind_text kind }
 {
     match kind {
@@ -26,7 +26,7 @@ pub(crate) fn kind_name(kind: Kind) -> &'static str
 }
 
 /// A member or a parameter by its printed name.
-pub(crate) fn field_name(field: FieldName) -> &'static str
+pub fn field_name(field: FieldName) -> &'static str
     ensures { result.now ≡ field_text field }
 {
     match field {
@@ -170,7 +170,7 @@ pub(crate) fn address_role_label(word: AddressRole) -> &'static str
 }
 
 /// The status of a prefix that a word names.
-pub(crate) fn prefix_status_named(word: &str) -> Option<PrefixStatus>
+pub fn prefix_status_named(word: &str) -> Option<PrefixStatus>
     ensures { result ≡ spec.prefix_status_named word.now }
 {
     match word {

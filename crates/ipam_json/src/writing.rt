@@ -3,13 +3,14 @@
 ghost use Rattle.std.specs.Prelude.{◌≡◌, ◌∷◌, [], codes, decimal};
 ghost use Rattle.json.specs.Token.{Token};
 ghost use Rattle.ipam_data.specs.Answers.{field_text};
-ghost use Rattle.ipam_json.specs.Values.{id_data, link_data, choice_data, version_of};
+ghost use Rattle.ipam_json.specs.Values.{id_data, text_data, choice_data, version_of};
 ghost use Rattle.ipam_json.specs.Written.{Puts, pieces_of};
 ghost use Rattle.ipam_data.specs.declared.replies.FieldName.TheVariants.{Family as FamilyField};
 
 use crate::words::field_name;
 use inet_num::Family;
 use ipam_data::replies::FieldName;
+use ipam_data::text::Text;
 use json::Writer;
 use std::alloc::AllocError;
 
@@ -78,9 +79,9 @@ pub(crate) fn put_reference(
 pub(crate) fn put_link(
     writer: &mut Writer,
     name: &str,
-    link: &Option<String>,
+    link: &Option<Text>,
 ) -> Result<(), AllocError>
-    ensures { Puts result writer.old writer.new (Token.key name.now ∷ pieces_of (link_data link.now)) }
+    ensures { Puts result writer.old writer.new (Token.key name.now ∷ pieces_of (text_data link.now)) }
 {
     writer.key(name)?;
     match link {
