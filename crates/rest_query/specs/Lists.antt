@@ -4,6 +4,7 @@ use Rattle.form_urlencoded.specs.Form.{append_pair}
 use Rattle.ipam_data.specs.declared.kinds.Kind.{Kind}
 use Rattle.ipam_data.specs.declared.kinds.Kind.TheVariants.{Vrfs, Rirs, Roles, Aggregates, Prefixes, Ranges, Addresses}
 use Rattle.ipam_data.specs.declared.calls.Filter.{Filter}
+use Rattle.ipam_data.specs.declared.calls.Filter.TheVariants.{Vrfs as SomeVrfs, Rirs as SomeRirs, Roles as SomeRoles, Aggregates as SomeAggregates, Prefixes as SomePrefixes, Ranges as SomeRanges, Addresses as SomeAddresses}
 use Rattle.ipam_data.specs.declared.replies.FieldName.TheVariants.{Limit, Offset}
 use Rattle.ipam_data.specs.declared.replies.Refusal.{Refusal}
 use Rattle.ipam_data.specs.declared.replies.Refusal.TheVariants.{NoRoute}
@@ -58,3 +59,13 @@ with_filters Addresses query form = form
 abbrev pub link_query : Kind → List ℕ → ℕ → ℕ → List ℕ
 link_query kind query limit offset =
     append_pair (append_pair (with_filters kind query []) (field_text Limit) (decimal limit)) (field_text Offset) (decimal offset)
+
+-- the kind of a filter
+abbrev pub kind_of : Filter → Kind
+kind_of (SomeVrfs name rd) = Vrfs
+kind_of (SomeRirs name slug) = Rirs
+kind_of (SomeRoles name slug) = Roles
+kind_of (SomeAggregates family rir_id) = Aggregates
+kind_of (SomePrefixes family vrf_id status role_id prefix within within_include contains) = Prefixes
+kind_of (SomeRanges family vrf_id status role_id contains) = Ranges
+kind_of (SomeAddresses family vrf_id status role parent dns_name) = Addresses

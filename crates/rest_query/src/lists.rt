@@ -5,7 +5,7 @@ ghost use Rattle.ipam_json.specs.Outcomes.{OrMemory};
 ghost use Rattle.ipam_data.specs.declared.replies.FieldName.TheVariants.{Limit, Offset};
 ghost use Rattle.rest_query.specs.Query.{value_in};
 ghost use Rattle.rest_query.specs.Readings.{IsLimit, IsOffset};
-ghost use Rattle.rest_query.specs.Lists.{IsFilterOf, IsListing, listing_of, with_filters};
+ghost use Rattle.rest_query.specs.Lists.{IsFilterOf, IsListing, listing_of, kind_of, with_filters};
 ghost use Rattle.rest_query.specs.Lists as spec;
 
 use crate::asked::Listing;
@@ -23,7 +23,8 @@ use std::alloc::{AllocError, Global};
 
 /// The filter of a kind.
 fn filter_of(alloc: Global, kind: Kind, query: &[u8]) -> Result<Filter, Refusal>
-    ensures { OrMemory (IsFilterOf kind query.now) result }
+    ensures filter { OrMemory (IsFilterOf kind query.now) result }
+    ensures kind { IfOk result (λ f. kind_of f ≡ kind) }
 {
     match kind {
         Kind::Vrfs => match vrf_filter(alloc, query) {
@@ -57,7 +58,8 @@ fn offset_in(alloc: Global, query: &[u8]) -> Result<Option<u32>, AllocError>
 
 /// A filter with a limit and an offset.
 fn listed(filter: Filter, limit: Option<u32>, offset: Option<u32>) -> Result<Listing, Refusal>
-    ensures { listing_of (Ok filter) limit offset ≡ result }
+    ensures listing { listing_of (Ok filter) limit offset ≡ result }
+    ensures filter { IfOk result (λ l. l.filter ≡ filter) }
 {
     let Some(limit) = limit else {
         return Err(Refusal::Field(FieldName::Limit));
@@ -75,7 +77,8 @@ fn listed(filter: Filter, limit: Option<u32>, offset: Option<u32>) -> Result<Lis
 /// What the query of a list asks for. `Field` names the first parameter that is malformed, in the order of the kind's filters,
 /// then limit, then offset; `NoRoute` comes for a kind without filters, and `Memory` may come in place of any answer.
 pub fn read_listing(alloc: Global, kind: Kind, query: &[u8]) -> Result<Listing, Refusal>
-    ensures { OrMemory (IsListing kind query.now) result }
+    ensures listing { OrMemory (IsListing kind query.now) result }
+    ensures kind { IfOk result (λ l. kind_of l.filter ≡ kind) }
 {
     let Ok(limit) = limit_in(alloc, query) else {
         return Err(Refusal::Memory);

@@ -5,7 +5,7 @@ ghost use Rattle.ipam_json.specs.Outcomes.{OrMemory};
 ghost use Rattle.ipam_json.specs.Words as words;
 ghost use Rattle.rest_query.specs.Prefixes.{ArePrefixTests, with_prefix_filters};
 ghost use Rattle.rest_query.specs.Prefixes as spec;
-ghost use Rattle.rest_query.specs.Lists.{IsFilterOf};
+ghost use Rattle.rest_query.specs.Lists.{IsFilterOf, kind_of};
 ghost use Rattle.ipam_data.specs.declared.kinds.Kind.TheVariants.{Prefixes};
 ghost use Rattle.rest_query.specs.Readings.{test_of};
 
@@ -48,7 +48,8 @@ fn prefix_tests(alloc: Global, query: &[u8]) -> Result<PrefixTests, AllocError>
 
 /// The filter that these parameters are.
 fn tested(tests: &PrefixTests) -> Result<Filter, Refusal>
-    ensures { spec.prefix_filter tests.now ≡ result }
+    ensures filter { spec.prefix_filter tests.now ≡ result }
+    ensures kind { IfOk result (λ f. kind_of f ≡ Prefixes) }
 {
     let Some(family) = tests.family else {
         return Err(Refusal::Field(FieldName::Family));
@@ -88,7 +89,8 @@ fn tested(tests: &PrefixTests) -> Result<Filter, Refusal>
 
 /// The filter of a list of prefixes.
 pub(crate) fn prefix_filter(alloc: Global, query: &[u8]) -> Result<Filter, Refusal>
-    ensures { OrMemory (IsFilterOf Prefixes query.now) result }
+    ensures filter { OrMemory (IsFilterOf Prefixes query.now) result }
+    ensures kind { IfOk result (λ f. kind_of f ≡ Prefixes) }
 {
     match prefix_tests(alloc, query) {
         Ok(tests) => tested(&tests),

@@ -3,6 +3,8 @@
 ghost use Rattle.std.specs.Prelude.{◌≡◌, IfOk, OnOk};
 ghost use Rattle.rest_query.specs.Vrfs.{with_vrf_filters};
 ghost use Rattle.rest_query.specs.Vrfs as spec;
+ghost use Rattle.rest_query.specs.Lists.{kind_of};
+ghost use Rattle.ipam_data.specs.declared.kinds.Kind.TheVariants.{Vrfs};
 
 use crate::query::{add_value, value};
 use form_urlencoded::Serializer;
@@ -12,7 +14,8 @@ use std::alloc::{AllocError, Global};
 
 /// The filter of a list of VRFs.
 pub(crate) fn vrf_filter(alloc: Global, query: &[u8]) -> Result<Filter, AllocError>
-    ensures { IfOk result (λ f. f ≡ spec.vrf_filter query.now) }
+    ensures filter { IfOk result (λ f. f ≡ spec.vrf_filter query.now) }
+    ensures kind { IfOk result (λ f. kind_of f ≡ Vrfs) }
 {
     let name = value(alloc, query, FieldName::Name)?;
     let rd = value(alloc, query, FieldName::Rd)?;

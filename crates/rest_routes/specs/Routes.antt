@@ -1,5 +1,5 @@
 -- Routes: which targets name something, and by which methods. A route is told by its whole path, compared byte by byte with the
--- target (RFC 9112 3.2.1): nothing is decoded, and a query, a missing slash or a leading zero makes another target.
+-- path of the target (RFC 3986 3.3): nothing is decoded, and a missing slash or a leading zero makes another path.
 use Rattle.std.specs.Prelude.{◌≡◌, ℕ, ◌^◌, ◌<◌, ◌≤◌, List, [], ◌++◌, codes, decimal, bytes_eq, Option, Some, None, if◌then◌else◌}
 use Rattle.ipam_data.specs.declared.kinds.Kind.{Kind}
 use Rattle.ipam_data.specs.declared.kinds.Kind.TheVariants.{Vrfs, Rirs, Roles, Aggregates, Prefixes, Ranges, Addresses}

@@ -36,7 +36,7 @@ GET /api/ipam/vrfs/4294967296/ = 404
 GET /api/ipam/vrfs/99999999999999999999/ = 404 
 GET /api/ipam/vrfs/\xff/ = 404 
 GET /api/ipam/vrfs/1/x/ = 404 
-GET /api/ipam/vrfs/?limit=2 = 404 
+GET /api/ipam/vrfs?limit=2 = 404 
 GET /api/ipam/%76rfs/ = 404 
 GET http://x/api/ipam/vrfs/ = 404 
 OPTIONS * = 404 
