@@ -11,9 +11,11 @@ use Rattle.serde_json.specs.Data.{Data, object, number, unsigned, string, null, 
 use Rattle.serde_json.specs.Read.{read}
 use Rattle.serde_json.proofs.OnLiterals.{serde_json_on_literals}
 use Rattle.ipam_json.specs.declared.replies.Links.{Links}
-use Rattle.ipam_json.specs.Members.{rd_of, flag_of, id_of, status_of}
-use Rattle.ipam_json.specs.Bodies.{vrf_body, prefix_body}
-use Rattle.ipam_json.specs.Replies.{reply_text, members}
+use Rattle.ipam_json.specs.Members.{rd_of, flag_of, id_of, prefix_status_of}
+use Rattle.ipam_json.specs.Vrfs.{vrf_draft}
+use Rattle.ipam_json.specs.Prefixes.{prefix_draft}
+use Rattle.ipam_json.specs.Values.{members}
+use Rattle.ipam_json.specs.Replies.{reply_text}
 
 abbrev no_links : Links
 no_links = record { next = None; previous = None }
@@ -62,7 +64,7 @@ id_is_small = refl
 last_id : id_of (Some (number (unsigned 4294967295))) ≡ Some (Some 4294967295)
 last_id = refl
 
-status_in_lower_case : status_of (Some (string (codes "Active"))) ≡ None
+status_in_lower_case : prefix_status_of (Some (string (codes "Active"))) ≡ None
 status_in_lower_case = refl
 
 no_rd : rd_of (Some (string [])) ≡ Some None
@@ -72,8 +74,8 @@ null_is_no_flag : flag_of true (Some null) ≡ None
 null_is_no_flag = refl
 
 -- the first bad member in the order of the kind, and not of the text
-name_first : vrf_body (object (members ((codes "description", null) ∷ (codes "rd", number (unsigned 5)) ∷ []))) ≡ Err (Field Name)
+name_first : vrf_draft (object (members ((codes "description", null) ∷ (codes "rd", number (unsigned 5)) ∷ []))) ≡ Err (Field Name)
 name_first = refl
 
-vrf_before_status : prefix_body (Ok (record { family = V4; first = 0; len = 8 })) (object (members ((codes "status", null) ∷ (codes "vrf", number (unsigned 0)) ∷ []))) ≡ Err (Field VrfField)
+vrf_before_status : prefix_draft (Ok (record { family = V4; first = 0; len = 8 })) (object (members ((codes "status", null) ∷ (codes "vrf", number (unsigned 0)) ∷ []))) ≡ Err (Field VrfField)
 vrf_before_status = refl

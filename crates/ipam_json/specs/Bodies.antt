@@ -1,24 +1,22 @@
--- What the body of a Create asks for: a draft of its kind, or the refusal that is answered. The body is one JSON text (RFC 8259),
+-- What the body of a Create asks for, a draft of its kind, and that of a Change, an edit; or the refusal that is answered. The body is one JSON text (RFC 8259),
 -- read by the definition of serde_json: at most 127 levels deep, in UTF-8.
-use Rattle.std.specs.Prelude.{◌≡◌, ◌⊎◌, ℕ, true, false, List, codes, Option, Some, None, ok_or, Result, Ok, Err, IsUtf8, is_some, IsTrue}
+use Rattle.std.specs.Prelude.{◌≡◌, ◌⊎◌, ℕ, List, Option, Some, Result, Err, IsUtf8, is_some, IsTrue}
 use Rattle.inet_num.specs.Net.{Cidr}
-use Rattle.inet_num.specs.Text.{IsBlockText}
-use Rattle.inet_num.specs.Fault.{IsBlockFault}
-use Rattle.inet_num.specs.declared.text.TextFault.{TextFault}
-use Rattle.inet_num.specs.declared.text.TextFault.TheVariants.{Octet, Group, Shape, Length, HostBits as HasHostBits}
 use Rattle.ipam_data.specs.declared.kinds.Kind.{Kind}
-use Rattle.ipam_data.specs.declared.kinds.Kind.TheVariants.{Vrfs, Roles, Prefixes}
+use Rattle.ipam_data.specs.declared.kinds.Kind.TheVariants.{Vrfs, Rirs, Roles, Aggregates, Prefixes, Ranges, Addresses}
 use Rattle.ipam_data.specs.declared.calls.Draft.{Draft}
-use Rattle.ipam_data.specs.declared.calls.Draft.TheVariants.{Vrf as VrfDraft, Prefix as PrefixDraft}
-use Rattle.ipam_data.specs.declared.replies.FieldName.{FieldName}
-use Rattle.ipam_data.specs.declared.replies.FieldName.TheVariants.{Description, EnforceUnique, IsPool, MarkUtilized, Name, Prefix as PrefixField, Rd, Role as RoleField, Status, Vrf as VrfField}
-use Rattle.ipam_data.specs.declared.replies.Rule.TheVariants.{HostBits}
+use Rattle.ipam_data.specs.declared.calls.Edit.{Edit}
+use Rattle.ipam_data.specs.declared.replies.FieldName.TheVariants.{Prefix as PrefixField}
 use Rattle.ipam_data.specs.declared.replies.Refusal.{Refusal}
-use Rattle.ipam_data.specs.declared.replies.Refusal.TheVariants.{NoRoute, BadJson, Field, Rule as Breaks, Memory}
+use Rattle.ipam_data.specs.declared.replies.Refusal.TheVariants.{NoRoute, BadJson}
 use Rattle.serde_json.specs.Data.{Data}
-use Rattle.serde_json.specs.Find.{get, as_object, as_str}
+use Rattle.serde_json.specs.Find.{as_object}
 use Rattle.serde_json.specs.Read.{read}
-use Rattle.ipam_json.specs.Members.{name_of, description_of, rd_of, flag_of, id_of, status_of}
+pub use Rattle.ipam_json.specs.Outcomes.{OrMemory}
+use Rattle.ipam_json.specs.Outcomes.{value_of}
+use Rattle.ipam_json.specs.Blocks.{IsBlockMember, IsBlockEdit}
+use Rattle.ipam_json.specs.Vrfs.{vrf_draft, vrf_edit}
+use Rattle.ipam_json.specs.Prefixes.{prefix_draft, prefix_edit}
 
 -- the bytes are a JSON text, and its value is this object
 pub record IsObjectText (body : List ℕ) (d : Data) : Type 0 where
@@ -30,72 +28,37 @@ pub record IsObjectText (body : List ℕ) (d : Data) : Type 0 where
 abbrev pub IsNoObjectText : List ℕ → Type 0
 IsNoObjectText body = (d : Data) → ¬ IsObjectText body d
 
--- what comes next of a good value; a refusal stands
-abbrev pub then : {A B : Type 0} → Result A Refusal → (A → Result B Refusal) → Result B Refusal
-then (Ok a) next = next a
-then (Err refusal) next = Err refusal
-
--- a member that is malformed or missing is answered by its name
-abbrev pub field : {A : Type 0} → FieldName → Option A → Result A Refusal
-field name value = ok_or value (Field name)
-
--- the body of a VRF: its members in this order, and the first that is malformed or missing is answered
-abbrev pub vrf_body : Data → Result Draft Refusal
-vrf_body d =
-    then (field Name (name_of (get (codes "name") d))) λ name.
-    then (field Rd (rd_of (get (codes "rd") d))) λ rd.
-    then (field EnforceUnique (flag_of true (get (codes "enforce_unique") d))) λ enforce_unique.
-    then (field Description (description_of (get (codes "description") d))) λ description.
-    Ok (VrfDraft name rd enforce_unique description)
-
--- what a faulty text of a block is answered
-abbrev pub block_refusal : TextFault → Refusal
-block_refusal Shape = Field PrefixField
-block_refusal Octet = Field PrefixField
-block_refusal Group = Field PrefixField
-block_refusal Length = Field PrefixField
-block_refusal (HasHostBits block) = Breaks (HostBits block)
-
--- a text is that of a block, or has a fault
-abbrev pub IsBlockReading : List ℕ → Result Cidr Refusal → Type 0
-IsBlockReading text (Ok block) = IsBlockText text block
-IsBlockReading text (Err refusal) = (fault : TextFault) × IsBlockFault text fault × (refusal ≡ block_refusal fault)
-
--- a text is wanted
-abbrev pub IsBlockValue : Option (List ℕ) → Result Cidr Refusal → Type 0
-IsBlockValue None block = block ≡ Err (Field PrefixField)
-IsBlockValue (Some text) block = IsBlockReading text block
-
--- the member is required
-abbrev pub IsBlockMember : Option Data → Result Cidr Refusal → Type 0
-IsBlockMember None block = block ≡ Err (Field PrefixField)
-IsBlockMember (Some d) block = IsBlockValue (as_str d) block
-
--- the body of a prefix, whose member `prefix` comes first and gives this block or refusal
-abbrev pub prefix_body : Result Cidr Refusal → Data → Result Draft Refusal
-prefix_body block d =
-    then block λ block.
-    then (field VrfField (id_of (get (codes "vrf") d))) λ vrf.
-    then (field Status (status_of (get (codes "status") d))) λ status.
-    then (field RoleField (id_of (get (codes "role") d))) λ role.
-    then (field IsPool (flag_of false (get (codes "is_pool") d))) λ is_pool.
-    then (field MarkUtilized (flag_of false (get (codes "mark_utilized") d))) λ mark_utilized.
-    then (field Description (description_of (get (codes "description") d))) λ description.
-    Ok (PrefixDraft block vrf status role is_pool mark_utilized description)
-
 -- what the object asks for; the rows of a kind without drafts have no route
 abbrev pub IsObjectOf : Kind → Data → Result Draft Refusal → Type 0
-IsObjectOf Vrfs d answer = answer ≡ vrf_body d
+IsObjectOf Vrfs d answer = answer ≡ vrf_draft d
+IsObjectOf Rirs d answer = answer ≡ Err NoRoute
 IsObjectOf Roles d answer = answer ≡ Err NoRoute
+IsObjectOf Aggregates d answer = answer ≡ Err NoRoute
 IsObjectOf Prefixes d answer =
-    (block : Result Cidr Refusal) × IsBlockMember (get (codes "prefix") d) block × (answer ≡ prefix_body block d)
+    (block : Result Cidr Refusal) × IsBlockMember (value_of PrefixField d) block × (answer ≡ prefix_draft block d)
+IsObjectOf Ranges d answer = answer ≡ Err NoRoute
+IsObjectOf Addresses d answer = answer ≡ Err NoRoute
+
+-- what the object of an edit asks for likewise
+abbrev pub IsEditObjectOf : Kind → Data → Result Edit Refusal → Type 0
+IsEditObjectOf Vrfs d answer = answer ≡ vrf_edit d
+IsEditObjectOf Rirs d answer = answer ≡ Err NoRoute
+IsEditObjectOf Roles d answer = answer ≡ Err NoRoute
+IsEditObjectOf Aggregates d answer = answer ≡ Err NoRoute
+IsEditObjectOf Prefixes d answer =
+    (block : Result (Option Cidr) Refusal) × IsBlockEdit (value_of PrefixField d) block × (answer ≡ prefix_edit block d)
+IsEditObjectOf Ranges d answer = answer ≡ Err NoRoute
+IsEditObjectOf Addresses d answer = answer ≡ Err NoRoute
+
+-- what a body asks for whose object asks for this; other bodies are refused
+abbrev pub IsTextOf : {A : Type 0} → (Data → Result A Refusal → Type 0) → List ℕ → Result A Refusal → Type 0
+IsTextOf IsObject body answer =
+    ((d : Data) × IsObjectText body d × IsObject d answer) ⊎ (IsNoObjectText body × (answer ≡ Err BadJson))
 
 -- what the body of a Create asks for
 abbrev pub IsBodyOf : Kind → List ℕ → Result Draft Refusal → Type 0
-IsBodyOf kind body answer =
-    ((d : Data) × IsObjectText body d × IsObjectOf kind d answer) ⊎ (IsNoObjectText body × (answer ≡ Err BadJson))
+IsBodyOf kind body answer = IsTextOf (IsObjectOf kind) body answer
 
--- the answer is as it should be, or want of memory
-abbrev pub OrMemory : {A : Type 0} → (Result A Refusal → Type 0) → Result A Refusal → Type 0
-OrMemory IsRight (Ok a) = IsRight (Ok a)
-OrMemory IsRight (Err refusal) = (refusal ≡ Memory) ⊎ IsRight (Err refusal)
+-- what the body of a Change asks for
+abbrev pub IsEditOf : Kind → List ℕ → Result Edit Refusal → Type 0
+IsEditOf kind body answer = IsTextOf (IsEditObjectOf kind) body answer

@@ -1,10 +1,11 @@
 -- Members of the object that a body is: which field each of them gives. `None` is a member that is malformed, or absent where
 -- it is required. A member is looked up by `get` of serde_json, which knows the last of two with one name, and no order.
-use Rattle.std.specs.Prelude.{ℕ, nat_le, Bool, not, ◌&&◌, ◌==◌, List, [], length, chars, codes, bytes_eq, Option, Some, None, option_map, option_and_then, is_some, if◌then◌else◌}
+use Rattle.std.specs.Prelude.{ℕ, nat_le, Bool, not, ◌&&◌, ◌==◌, List, [], length, chars, Option, Some, None, option_map, option_and_then, is_some, if◌then◌else◌}
 use Rattle.std.specs.List.{list_any}
 use Rattle.ipam_data.specs.Texts.{is_control}
 use Rattle.ipam_data.specs.declared.prefix.PrefixStatus.{PrefixStatus}
-use Rattle.ipam_data.specs.declared.prefix.PrefixStatus.TheVariants.{Container, Active, Reserved, Deprecated}
+use Rattle.ipam_data.specs.declared.prefix.PrefixStatus.TheVariants.{Active as ActivePrefix}
+use Rattle.ipam_json.specs.Words.{prefix_status_named}
 use Rattle.serde_json.specs.Data.{Data}
 use Rattle.serde_json.specs.Find.{as_null, as_bool, as_number, as_str, as_u64}
 
@@ -52,15 +53,7 @@ id_of (Some d) =
     if is_some (as_null d) then Some None
     else option_map Some (option_and_then id_within (option_and_then as_u64 (as_number d)))
 
--- the status that a word names
-abbrev pub status_named : List ℕ → Option PrefixStatus
-status_named text =
-    if bytes_eq text (codes "container") then Some Container
-    else (if bytes_eq text (codes "active") then Some Active
-    else (if bytes_eq text (codes "reserved") then Some Reserved
-    else (if bytes_eq text (codes "deprecated") then Some Deprecated else None)))
-
--- a status is one of four words; an absent one is active
-abbrev pub status_of : Option Data → Option PrefixStatus
-status_of None = Some Active
-status_of (Some d) = option_and_then status_named (as_str d)
+-- the status of a prefix is one of four words; an absent one is active
+abbrev pub prefix_status_of : Option Data → Option PrefixStatus
+prefix_status_of None = Some ActivePrefix
+prefix_status_of (Some d) = option_and_then prefix_status_named (as_str d)

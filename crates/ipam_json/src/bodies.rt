@@ -1,15 +1,16 @@
-//! The body of a Create.
+//! The bodies of a Create and of a Change.
 
 ghost use Rattle.std.specs.Prelude.{◌≡◌, ◌⊎◌, IfOk, IfErr};
 ghost use Rattle.serde_json.specs.View.{view};
 ghost use Rattle.ipam_data.specs.declared.replies.Refusal.TheVariants.{BadJson, Memory};
-ghost use Rattle.ipam_data.specs.declared.kinds.Kind.TheVariants.{Prefixes};
-ghost use Rattle.ipam_json.specs.Bodies.{OrMemory, IsObjectText, IsNoObjectText, IsObjectOf, IsBodyOf, vrf_body};
+ghost use Rattle.ipam_json.specs.Outcomes.{OrMemory};
+ghost use Rattle.ipam_json.specs.Bodies.{IsObjectText, IsNoObjectText, IsBodyOf, IsEditOf};
 
-use crate::members::{block, description, flag, id, name, rd, status};
-use ipam_data::calls::Draft;
+use crate::drafts::{prefix_draft, vrf_draft};
+use crate::edits::{prefix_edit, vrf_edit};
+use ipam_data::calls::{Draft, Edit};
 use ipam_data::kinds::Kind;
-use ipam_data::replies::{FieldName, Refusal};
+use ipam_data::replies::Refusal;
 use serde_json::Value;
 use std::alloc::Global;
 
@@ -25,44 +26,6 @@ fn read_object(alloc: Global, body: &[u8]) -> Result<Value, Refusal>
     }
 }
 
-/// The draft of a VRF.
-fn vrf_draft(alloc: Global, body: &Value) -> Result<Draft, Refusal>
-    ensures { OrMemory (λ r. vrf_body (view body.now) ≡ r) result }
-{
-    let name = name(alloc, body)?;
-    let rd = rd(alloc, body)?;
-    let enforce_unique = flag(body, "enforce_unique", FieldName::EnforceUnique, true)?;
-    let description = description(alloc, body)?;
-    Ok(Draft::Vrf {
-        name,
-        rd,
-        enforce_unique,
-        description,
-    })
-}
-
-/// The draft of a prefix.
-fn prefix_draft(alloc: Global, body: &Value) -> Result<Draft, Refusal>
-    ensures { OrMemory (IsObjectOf Prefixes (view body.now)) result }
-{
-    let block = block(body)?;
-    let vrf = id(body, "vrf", FieldName::Vrf)?;
-    let status = status(body)?;
-    let role = id(body, "role", FieldName::Role)?;
-    let is_pool = flag(body, "is_pool", FieldName::IsPool, false)?;
-    let mark_utilized = flag(body, "mark_utilized", FieldName::MarkUtilized, false)?;
-    let description = description(alloc, body)?;
-    Ok(Draft::Prefix {
-        block,
-        vrf,
-        status,
-        role,
-        is_pool,
-        mark_utilized,
-        description,
-    })
-}
-
 /// What the body of a Create asks for: a draft of the kind. `BadJson` comes where the body is no JSON text (RFC 8259) or no
 /// object; `Field` where a member is malformed, or required and absent, and names the first such member in the order of the
 /// kind; `HostBits` in the same order for a prefix text with host bits set; `NoRoute` for a kind without drafts; and `Memory`
@@ -73,7 +36,28 @@ pub fn read_body(alloc: Global, kind: Kind, body: &[u8]) -> Result<Draft, Refusa
     let object = read_object(alloc, body)?;
     match kind {
         Kind::Vrfs => vrf_draft(alloc, &object),
+        Kind::Rirs => Err(Refusal::NoRoute),
         Kind::Roles => Err(Refusal::NoRoute),
+        Kind::Aggregates => Err(Refusal::NoRoute),
         Kind::Prefixes => prefix_draft(alloc, &object),
+        Kind::Ranges => Err(Refusal::NoRoute),
+        Kind::Addresses => Err(Refusal::NoRoute),
+    }
+}
+
+/// What the body of a Change asks for: an edit of the kind, in which an absent member leaves its field, and null clears it where
+/// it may be absent. It is refused as the body of a Create is, but no member is required.
+pub fn read_edit(alloc: Global, kind: Kind, body: &[u8]) -> Result<Edit, Refusal>
+    ensures { OrMemory (IsEditOf kind body.now) result }
+{
+    let object = read_object(alloc, body)?;
+    match kind {
+        Kind::Vrfs => vrf_edit(alloc, &object),
+        Kind::Rirs => Err(Refusal::NoRoute),
+        Kind::Roles => Err(Refusal::NoRoute),
+        Kind::Aggregates => Err(Refusal::NoRoute),
+        Kind::Prefixes => prefix_edit(alloc, &object),
+        Kind::Ranges => Err(Refusal::NoRoute),
+        Kind::Addresses => Err(Refusal::NoRoute),
     }
 }

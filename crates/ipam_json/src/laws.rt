@@ -1,10 +1,15 @@
 //! Laws of the definitions: each function is empty, and its contract is the law.
 
-ghost use Rattle.ipam_json.specs.Laws.{BodyIsOne, BoundsAreThose, RowsAreInOrder};
+ghost use Rattle.ipam_json.specs.Laws.{BodyIsOne, EditIsOne, BoundsAreThose, RowsAreInOrder};
 
 /// A body asks for one thing.
 pub fn body_is_one()
     ensures { BodyIsOne }
+{}
+
+/// The body of an edit asks for one thing.
+pub fn edit_is_one()
+    ensures { EditIsOne }
 {}
 
 /// The texts of a body have the bounds of the texts of rows.

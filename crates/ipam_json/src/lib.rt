@@ -3,12 +3,20 @@
 
 mod bodies;
 mod details;
+mod drafts;
+mod edits;
+mod given;
 mod laws;
 mod members;
 mod replies;
+mod rows;
 #[cfg(test)]
 mod tests;
+mod texts;
+mod words;
+mod writing;
 
-pub use bodies::read_body;
-pub use laws::{body_is_one, bounds_are_those, rows_are_in_order};
+pub use bodies::{read_body, read_edit};
+pub use laws::{body_is_one, bounds_are_those, edit_is_one, rows_are_in_order};
 pub use replies::{Links, refusal_bytes, reply_bytes, write_reply};
+pub use words::{field_name, kind_name, prefix_status_named};

@@ -4,17 +4,26 @@ ghost use Rattle.std.specs.Prelude.{◌≡◌, Some, None, IfOk, IfErr, option_a
 ghost use Rattle.ipam_data.specs.declared.replies.Refusal.TheVariants.{Memory};
 ghost use Rattle.serde_json.specs.Find.{get, as_str};
 ghost use Rattle.serde_json.specs.View.{view};
-ghost use Rattle.std.specs.Prelude.{codes};
-ghost use Rattle.ipam_json.specs.Members.{within, name_of, description_of, distinguisher_of, rd_of, flag_of, id_of, id_within, status_named, status_of};
-ghost use Rattle.ipam_json.specs.Bodies.{OrMemory, IsBlockMember, block_refusal, field};
-ghost use Rattle.ipam_data.specs.declared.replies.FieldName.TheVariants.{Description as DescriptionField, Name as NameField, Rd as RdField, Status as StatusField};
+ghost use Rattle.std.specs.Prelude.{option_map};
+ghost use Rattle.ipam_json.specs.Members.{within, name_of, description_of, distinguisher_of, rd_of, flag_of, id_of, id_within, prefix_status_of};
+ghost use Rattle.ipam_json.specs.Blocks.{IsBlockMember, block_refusal};
+ghost use Rattle.ipam_json.specs.Outcomes.{OrMemory, field, value_of, read_member};
+ghost use Rattle.ipam_data.specs.declared.replies.FieldName.TheVariants.{Description as DescriptionField, Name as NameField, Prefix as PrefixField, Rd as RdField, Status as StatusField};
 
+use crate::words::{field_name, prefix_status_named};
 use inet_num::{Block, TextFault, read_block};
 use ipam_data::prefix::PrefixStatus;
 use ipam_data::replies::{FieldName, Refusal, Rule};
 use ipam_data::text::{Description, Distinguisher, Name};
 use serde_json::Value;
 use std::alloc::{AllocError, Global};
+
+/// The value of a member, where the object has it.
+pub(crate) fn member(body: &Value, name: FieldName) -> Option<&Value>
+    ensures { option_map (λ v. view v.now) result ≡ value_of name (view body.now) }
+{
+    body.get(field_name(name))
+}
 
 /// A text of the caller's, or want of memory.
 fn owned(alloc: Global, text: &str) -> Result<String, Refusal>
@@ -29,9 +38,9 @@ fn owned(alloc: Global, text: &str) -> Result<String, Refusal>
 
 /// The name of a VRF.
 pub(crate) fn name(alloc: Global, body: &Value) -> Result<Name, Refusal>
-    ensures { OrMemory (λ r. field NameField (name_of (get (codes "name") (view body.now))) ≡ r) result }
+    ensures { OrMemory (λ r. read_member NameField name_of (view body.now) ≡ r) result }
 {
-    let Some(text) = body.get("name").and_then(Value::as_str) else {
+    let Some(text) = member(body, FieldName::Name).and_then(Value::as_str) else {
         return Err(Refusal::Field(FieldName::Name));
     };
     let text = owned(alloc, text)?;
@@ -55,9 +64,9 @@ fn described(alloc: Global, text: &str) -> Result<Description, Refusal>
 /// The description of a row, which may be absent.
 #[tactic(auto, using(crate::proofs::Fields::empty_is_described))]
 pub(crate) fn description(alloc: Global, body: &Value) -> Result<Description, Refusal>
-    ensures { OrMemory (λ r. field DescriptionField (description_of (get (codes "description") (view body.now))) ≡ r) result }
+    ensures { OrMemory (λ r. read_member DescriptionField description_of (view body.now) ≡ r) result }
 {
-    let Some(value) = body.get("description") else {
+    let Some(value) = member(body, FieldName::Description) else {
         return described(alloc, "");
     };
     match value.as_str() {
@@ -68,9 +77,9 @@ pub(crate) fn description(alloc: Global, body: &Value) -> Result<Description, Re
 
 /// The route distinguisher of a VRF, where it has one.
 pub(crate) fn rd(alloc: Global, body: &Value) -> Result<Option<Distinguisher>, Refusal>
-    ensures { OrMemory (λ r. field RdField (rd_of (get (codes "rd") (view body.now))) ≡ r) result }
+    ensures { OrMemory (λ r. read_member RdField rd_of (view body.now) ≡ r) result }
 {
-    let Some(value) = body.get("rd") else {
+    let Some(value) = member(body, FieldName::Rd) else {
         return Ok(None);
     };
     if value.is_null() {
@@ -97,19 +106,14 @@ fn distinguisher(alloc: Global, text: &str) -> Result<Option<Distinguisher>, Ref
 }
 
 /// A truth value, which may be absent.
-pub(crate) fn flag(
-    body: &Value,
-    name: &str,
-    member: FieldName,
-    default: bool,
-) -> Result<bool, Refusal>
-    ensures { field member (flag_of default (get name.now (view body.now))) ≡ result }
+pub(crate) fn flag(body: &Value, name: FieldName, default: bool) -> Result<bool, Refusal>
+    ensures { read_member name (flag_of default) (view body.now) ≡ result }
 {
-    match body.get(name) {
+    match member(body, name) {
         None => Ok(default),
         Some(value) => match value.as_bool() {
             Some(flag) => Ok(flag),
-            None => Err(Refusal::Field(member)),
+            None => Err(Refusal::Field(name)),
         },
     }
 }
@@ -124,53 +128,46 @@ fn id_of_number(number: u64) -> Option<u32>
     }
 }
 
-/// The id of another row, which may be absent or null.
-pub(crate) fn id(body: &Value, name: &str, member: FieldName) -> Result<Option<u32>, Refusal>
-    ensures { field member (id_of (get name.now (view body.now))) ≡ result }
+/// The id that a value is; null is none.
+pub(crate) fn id_of_value(value: &Value) -> Option<Option<u32>>
+    ensures { result ≡ id_of (Some (view value.now)) }
 {
-    let Some(value) = body.get(name) else {
-        return Ok(None);
-    };
     if value.is_null() {
-        return Ok(None);
+        return Some(None);
     }
-    let Some(number) = value.as_u64() else {
-        return Err(Refusal::Field(member));
-    };
-    match id_of_number(number) {
-        Some(id) => Ok(Some(id)),
-        None => Err(Refusal::Field(member)),
-    }
+    let number = value.as_u64()?;
+    let id = id_of_number(number)?;
+    Some(Some(id))
 }
 
-/// The status that a word names.
-fn status_of_word(word: &str) -> Option<PrefixStatus>
-    ensures { result ≡ status_named word.now }
+/// The id of another row, which may be absent or null.
+pub(crate) fn id(body: &Value, name: FieldName) -> Result<Option<u32>, Refusal>
+    ensures { read_member name id_of (view body.now) ≡ result }
 {
-    match word {
-        "container" => Some(PrefixStatus::Container),
-        "active" => Some(PrefixStatus::Active),
-        "reserved" => Some(PrefixStatus::Reserved),
-        "deprecated" => Some(PrefixStatus::Deprecated),
-        _ => None,
+    let Some(value) = member(body, name) else {
+        return Ok(None);
+    };
+    match id_of_value(value) {
+        Some(id) => Ok(id),
+        None => Err(Refusal::Field(name)),
     }
 }
 
 /// The status of a prefix.
-pub(crate) fn status(body: &Value) -> Result<PrefixStatus, Refusal>
-    ensures { field StatusField (status_of (get (codes "status") (view body.now))) ≡ result }
+pub(crate) fn prefix_status(body: &Value) -> Result<PrefixStatus, Refusal>
+    ensures { read_member StatusField prefix_status_of (view body.now) ≡ result }
 {
-    let Some(value) = body.get("status") else {
+    let Some(value) = member(body, FieldName::Status) else {
         return Ok(PrefixStatus::Active);
     };
-    match value.as_str().and_then(status_of_word) {
+    match value.as_str().and_then(prefix_status_named) {
         Some(status) => Ok(status),
         None => Err(Refusal::Field(FieldName::Status)),
     }
 }
 
 /// What a faulty text of a block is answered.
-fn refusal_of(fault: TextFault) -> Refusal
+pub(crate) fn refusal_of(fault: TextFault) -> Refusal
     ensures { result ≡ block_refusal fault }
 {
     match fault {
@@ -183,9 +180,9 @@ fn refusal_of(fault: TextFault) -> Refusal
 
 /// The block of a prefix.
 pub(crate) fn block(body: &Value) -> Result<Block, Refusal>
-    ensures { IsBlockMember (get (codes "prefix") (view body.now)) result }
+    ensures { IsBlockMember (value_of PrefixField (view body.now)) result }
 {
-    let Some(text) = body.get("prefix").and_then(Value::as_str) else {
+    let Some(text) = member(body, FieldName::Prefix).and_then(Value::as_str) else {
         return Err(Refusal::Field(FieldName::Prefix));
     };
     match read_block(text.as_bytes()) {

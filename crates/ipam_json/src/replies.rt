@@ -1,212 +1,33 @@
 //! The text of a reply.
 
-ghost use Rattle.std.specs.Prelude.{◌≡◌, ◌++◌, ◌∷◌, ℕ, Bool, Some, None, List, [], codes, decimal, map, IfOk, OnOk, OnErr};
-ghost use Rattle.json.specs.Token.{Token};
-ghost use Rattle.serde_json.specs.View.{items_of};
-ghost use Rattle.serde_json.specs.Data.{array};
-ghost use Rattle.ipam_json.specs.Replies.{number_data, id_data, text_data, link_data, status_data, vrf_data, prefix_data, view_data, page_data, refusal_data, reply_data, reply_text, refusal_text};
-ghost use Rattle.ipam_json.specs.Replies as spec;
-ghost use Rattle.ipam_json.specs.Replies.{version_of};
-ghost use Rattle.ipam_json.specs.Written.{Puts, pieces_of, rows_pieces};
-ghost use Rattle.inet_num.specs.Text.{block_text_of};
+ghost use Rattle.std.specs.Prelude.{◌≡◌, ◌++◌, IfOk, OnOk, OnErr};
+ghost use Rattle.ipam_json.specs.Replies.{views_data, page_data, imported_data, percent_data, refusal_data, reply_data, reply_text, refusal_text};
+ghost use Rattle.ipam_json.specs.Written.{Puts, pieces_of, value_pieces};
 ghost use Rattle.ipam_data.specs.Answers.{detail_of};
 
-use crate::details::{block_text, code, detail};
-use inet_num::Family;
-use ipam_data::prefix::{Prefix, PrefixStatus};
+use crate::details::{code, detail};
+use crate::rows::{put_rows, put_view};
+use crate::writing::{put_link, put_number};
 use ipam_data::replies::{Refusal, Reply, View};
-use ipam_data::text::Distinguisher;
-use ipam_data::vrf::Vrf;
+use ipam_data::text::Text;
 use json::Writer;
 use std::alloc::{AllocError, Global};
-use std::mem;
+use std::marker::Model;
 
 /// The targets of the pages after and before a page, where there are such pages.
 #[derive(Debug, Drop)]
 pub struct Links {
-    pub next: Option<String>,
-    pub previous: Option<String>,
+    pub next: Option<Text>,
+    pub previous: Option<Text>,
 }
 
-/// Writes a member that is a number.
-fn put_number(writer: &mut Writer, name: &str, number: u32) -> Result<(), AllocError>
-    ensures { Puts result writer.old writer.new (Token.key name.now ∷ Token.number (decimal number) ∷ []) }
+/// Writes rows as an array.
+fn put_views(alloc: Global, writer: &mut Writer, views: &[View]) -> Result<(), AllocError>
+    ensures { Puts result writer.old writer.new (pieces_of (views_data views.now)) }
 {
-    writer.key(name)?;
-    writer.u64(u64::from(number))
-}
-
-/// Writes a member that is a text.
-fn put_text(writer: &mut Writer, name: &str, text: &str) -> Result<(), AllocError>
-    ensures { Puts result writer.old writer.new (Token.key name.now ∷ Token.string text.now ∷ []) }
-{
-    writer.key(name)?;
-    writer.string(text)
-}
-
-/// Writes a member that is a truth value.
-fn put_flag(writer: &mut Writer, name: &str, flag: bool) -> Result<(), AllocError>
-    ensures { Puts result writer.old writer.new (Token.key name.now ∷ Token.boolean flag ∷ []) }
-{
-    writer.key(name)?;
-    writer.boolean(flag)
-}
-
-/// Writes a member that is an id, or null.
-fn put_id(writer: &mut Writer, name: &str, id: Option<u32>) -> Result<(), AllocError>
-    ensures { Puts result writer.old writer.new (Token.key name.now ∷ pieces_of (id_data id)) }
-{
-    writer.key(name)?;
-    match id {
-        Some(id) => writer.u64(u64::from(id)),
-        None => writer.null(),
-    }
-}
-
-/// Writes a member that is a link, or null.
-fn put_link(writer: &mut Writer, name: &str, link: &Option<String>) -> Result<(), AllocError>
-    ensures { Puts result writer.old writer.new (Token.key name.now ∷ pieces_of (link_data link.now)) }
-{
-    writer.key(name)?;
-    match link {
-        Some(link) => writer.string(link.as_str()),
-        None => writer.null(),
-    }
-}
-
-/// Writes the member of a route distinguisher, which may be null.
-fn put_rd(writer: &mut Writer, rd: &Option<Distinguisher>) -> Result<(), AllocError>
-    ensures { Puts result writer.old writer.new (Token.key (codes "rd") ∷ pieces_of (text_data rd.now)) }
-{
-    writer.key("rd")?;
-    match rd {
-        Some(rd) => writer.string(rd.as_str()),
-        None => writer.null(),
-    }
-}
-
-/// Writes a VRF.
-fn put_vrf(writer: &mut Writer, row: &Vrf) -> Result<(), AllocError>
-    ensures { Puts result writer.old writer.new (pieces_of (vrf_data row.now)) }
-{
-    writer.begin_object()?;
-    put_text(writer, "description", row.description.as_str())?;
-    put_flag(writer, "enforce_unique", row.enforce_unique)?;
-    put_number(writer, "id", row.id)?;
-    put_text(writer, "name", row.name.as_str())?;
-    put_rd(writer, &row.rd)?;
-    writer.end_object()
-}
-
-/// A status by the word that names it.
-fn status_value(status: PrefixStatus) -> &'static str
-    ensures { result.now ≡ spec.status_value status }
-{
-    match status {
-        PrefixStatus::Container => "container",
-        PrefixStatus::Active => "active",
-        PrefixStatus::Reserved => "reserved",
-        PrefixStatus::Deprecated => "deprecated",
-    }
-}
-
-/// A status by the word that is shown.
-fn status_label(status: PrefixStatus) -> &'static str
-    ensures { result.now ≡ spec.status_label status }
-{
-    match status {
-        PrefixStatus::Container => "Container",
-        PrefixStatus::Active => "Active",
-        PrefixStatus::Reserved => "Reserved",
-        PrefixStatus::Deprecated => "Deprecated",
-    }
-}
-
-/// Writes the member of a status.
-fn put_status(writer: &mut Writer, status: PrefixStatus) -> Result<(), AllocError>
-    ensures { Puts result writer.old writer.new (Token.key (codes "status") ∷ pieces_of (status_data status)) }
-{
-    writer.key("status")?;
-    writer.begin_object()?;
-    put_text(writer, "label", status_label(status))?;
-    put_text(writer, "value", status_value(status))?;
-    writer.end_object()
-}
-
-/// The number of the family's version.
-fn version(family: Family) -> u32
-    ensures { result ≡ version_of family }
-{
-    match family {
-        Family::V4 => 4,
-        Family::V6 => 6,
-    }
-}
-
-/// Writes a prefix, whose block has this text.
-fn put_prefix_with(
-    writer: &mut Writer,
-    row: &Prefix,
-    block: &str,
-    depth: u32,
-    children: u32,
-) -> Result<(), AllocError>
-    requires { block.now ≡ block_text_of row.now.block }
-    ensures { Puts result writer.old writer.new (pieces_of (prefix_data row.now depth children)) }
-{
-    writer.begin_object()?;
-    put_number(writer, "children", children)?;
-    put_number(writer, "depth", depth)?;
-    put_text(writer, "description", row.description.as_str())?;
-    put_number(writer, "family", version(row.block.family()))?;
-    put_number(writer, "id", row.id)?;
-    put_flag(writer, "is_pool", row.is_pool)?;
-    put_flag(writer, "mark_utilized", row.mark_utilized)?;
-    put_text(writer, "prefix", block)?;
-    put_id(writer, "role", row.role)?;
-    put_status(writer, row.status)?;
-    put_id(writer, "vrf", row.vrf)?;
-    writer.end_object()
-}
-
-/// Writes a prefix.
-fn put_prefix(
-    alloc: Global,
-    writer: &mut Writer,
-    row: &Prefix,
-    depth: u32,
-    children: u32,
-) -> Result<(), AllocError>
-    ensures { Puts result writer.old writer.new (pieces_of (prefix_data row.now depth children)) }
-{
-    match block_text(alloc, row.block) {
-        Ok(block) => put_prefix_with(writer, row, block.as_str(), depth, children),
-        Err(error) => Err(error),
-    }
-}
-
-/// Writes a row.
-fn put_view(alloc: Global, writer: &mut Writer, view: &View) -> Result<(), AllocError>
-    ensures { Puts result writer.old writer.new (pieces_of (view_data view.now)) }
-{
-    match view {
-        View::Vrf(row) => put_vrf(writer, row),
-        View::Prefix {
-            row,
-            depth,
-            children,
-        } => put_prefix(alloc, writer, row, *depth, *children),
-    }
-}
-
-/// Writes the rows of a page, one after another.
-fn put_rows(alloc: Global, writer: &mut Writer, views: &[View]) -> Result<(), AllocError>
-    ensures { Puts result writer.old writer.new (rows_pieces views.now) }
-{
-    for view in views {
-        put_view(alloc, writer, view)?;
-    }
-    Ok(())
+    writer.begin_array()?;
+    put_rows(alloc, writer, views)?;
+    writer.end_array()
 }
 
 /// Writes a page.
@@ -224,9 +45,26 @@ fn put_page(
     put_link(writer, "next", &links.next)?;
     put_link(writer, "previous", &links.previous)?;
     writer.key("results")?;
-    writer.begin_array()?;
-    put_rows(alloc, writer, views)?;
-    writer.end_array()?;
+    put_views(alloc, writer, views)?;
+    writer.end_object()
+}
+
+/// Writes what an import did.
+fn put_imported(writer: &mut Writer, created: u32, present: u32) -> Result<(), AllocError>
+    ensures { Puts result writer.old writer.new (pieces_of (imported_data created present)) }
+{
+    writer.begin_object()?;
+    put_number(writer, "created", created)?;
+    put_number(writer, "present", present)?;
+    writer.end_object()
+}
+
+/// Writes how much is used.
+fn put_percent(writer: &mut Writer, figure: u8) -> Result<(), AllocError>
+    ensures { Puts result writer.old writer.new (pieces_of (percent_data figure)) }
+{
+    writer.begin_object()?;
+    put_number(writer, "utilization", u32::from(figure))?;
     writer.end_object()
 }
 
@@ -246,30 +84,40 @@ fn put_refusal_with(writer: &mut Writer, refusal: &Refusal, detail: &str) -> Res
     ensures { Puts result writer.old writer.new (pieces_of (refusal_data refusal.now)) }
 {
     writer.begin_object()?;
-    put_text(writer, "code", code(refusal))?;
-    put_text(writer, "detail", detail)?;
+    writer.key("code")?;
+    writer.string(code(refusal))?;
+    writer.key("detail")?;
+    writer.string(detail)?;
     writer.end_object()
 }
 
-/// Writes a reply.
+/// Writes a reply, and nothing where it has no value.
 fn put_reply(
     alloc: Global,
     writer: &mut Writer,
     reply: &Reply,
     links: &Links,
 ) -> Result<(), AllocError>
-    ensures { Puts result writer.old writer.new (pieces_of (reply_data reply.now links.now)) }
+    ensures { Puts result writer.old writer.new (value_pieces (reply_data reply.now links.now)) }
 {
     match reply {
         Reply::Made(view) => put_view(alloc, writer, view),
+        Reply::MadeMany(views) => put_views(alloc, writer, views.as_slice()),
+        Reply::Changed(view) => put_view(alloc, writer, view),
+        Reply::Gone => Ok(()),
+        Reply::Imported { created, present } => put_imported(writer, *created, *present),
         Reply::One(view) => put_view(alloc, writer, view),
         Reply::Page { count, views } => put_page(alloc, writer, *count, views.as_slice(), links),
+        Reply::Percent(figure) => put_percent(writer, *figure),
         Reply::Refused(refusal) => put_refusal(alloc, writer, refusal),
+        // No call has these replies yet, and no function of theirs hands out what they list.
+        Reply::Blocks { .. } => Err(AllocError),
+        Reply::Addrs { .. } => Err(AllocError),
     }
 }
 
-/// The JSON text of a reply: compact, with the members of each object in the byte order of their names. The links are those
-/// of a page; no other reply has any. `Err` is want of memory.
+/// The JSON text of a reply: compact, with the members of each object in the byte order of their names, and no text where a
+/// row is gone. The links are those of a page; no other reply has any. `Err` is want of memory.
 pub fn reply_bytes(alloc: Global, reply: &Reply, links: &Links) -> Result<Vec<u8>, AllocError>
     ensures { IfOk result (λ v. v.items ≡ reply_text reply.now links.now) }
 {

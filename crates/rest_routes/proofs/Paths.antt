@@ -4,7 +4,7 @@ use Rattle.std.proofs.lemmas.Fmt.{decimal_nonempty, decimal_injective, IsAscii-d
 use Rattle.std.proofs.lemmas.List.{append_cancel_left, append_cancel_right}
 use Rattle.std.proofs.lemmas.Str.{IsUtf8-from_ascii}
 use Rattle.ipam_data.specs.declared.kinds.Kind.{Kind}
-use Rattle.ipam_data.specs.declared.kinds.Kind.TheVariants.{Vrfs, Roles, Prefixes}
+use Rattle.ipam_data.specs.declared.kinds.Kind.TheVariants.{Vrfs, Rirs, Roles, Aggregates, Prefixes, Ranges, Addresses}
 use Rattle.rest_routes.specs.declared.route.Route.{Route}
 use Rattle.rest_routes.specs.declared.route.Route.TheVariants.{Many, Single}
 use Rattle.rest_routes.specs.Routes.{rows_path, row_end, path_of, IsServed, IsRoute, IsPathOf, HasRoute, IsEnd, HasEnd}
@@ -38,9 +38,21 @@ same_kind Vrfs Vrfs a b h g e = refl
 same_kind Vrfs Prefixes a b h g e = absurd (vrfs_apart a b e)
 same_kind Prefixes Vrfs a b h g e = absurd (vrfs_apart b a (sym e))
 same_kind Prefixes Prefixes a b h g e = refl
+same_kind Vrfs Rirs a b h g e = absurd g
 same_kind Vrfs Roles a b h g e = absurd g
+same_kind Vrfs Aggregates a b h g e = absurd g
+same_kind Vrfs Ranges a b h g e = absurd g
+same_kind Vrfs Addresses a b h g e = absurd g
+same_kind Prefixes Rirs a b h g e = absurd g
 same_kind Prefixes Roles a b h g e = absurd g
+same_kind Prefixes Aggregates a b h g e = absurd g
+same_kind Prefixes Ranges a b h g e = absurd g
+same_kind Prefixes Addresses a b h g e = absurd g
+same_kind Rirs j a b h g e = absurd h
 same_kind Roles j a b h g e = absurd h
+same_kind Aggregates j a b h g e = absurd h
+same_kind Ranges j a b h g e = absurd h
+same_kind Addresses j a b h g e = absurd h
 
 -- a target is the path of a kind's rows and the end of a route exactly where it is the path of the route
 whole : (kind : Kind) (target rest : List ℕ) (route : Route) → IsServed kind → target ≡ rows_path kind ++ rest → IsEnd kind rest route → IsPathOf target route
@@ -74,7 +86,11 @@ no_path : (target : List ℕ) → ((rest : List ℕ) → target ≢ rows_path Vr
     → (kind : Kind) → IsServed kind → (rest : List ℕ) → target ≢ rows_path kind ++ rest
 no_path target no_vrfs no_prefixes Vrfs served rest = no_vrfs rest
 no_path target no_vrfs no_prefixes Prefixes served rest = no_prefixes rest
+no_path target no_vrfs no_prefixes Rirs served rest = absurd served
 no_path target no_vrfs no_prefixes Roles served rest = absurd served
+no_path target no_vrfs no_prefixes Aggregates served rest = absurd served
+no_path target no_vrfs no_prefixes Ranges served rest = absurd served
+no_path target no_vrfs no_prefixes Addresses served rest = absurd served
 
 pub lost : (target : List ℕ) → ((rest : List ℕ) → target ≢ rows_path Vrfs ++ rest) → ((rest : List ℕ) → target ≢ rows_path Prefixes ++ rest) → HasRoute target None
 lost target no_vrfs no_prefixes route h =

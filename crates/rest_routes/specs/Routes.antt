@@ -1,13 +1,13 @@
 -- Routes: which targets name something, and by which methods. A route is told by its whole path, compared byte by byte with the
--- target (RFC 9112 3.2.1): nothing is decoded, and a query, a missing slash or a leading zero makes another target.
+-- path of the target (RFC 3986 3.3): nothing is decoded, and a missing slash or a leading zero makes another path.
 use Rattle.std.specs.Prelude.{◌≡◌, ℕ, ◌^◌, ◌<◌, ◌≤◌, List, [], ◌++◌, codes, decimal, bytes_eq, Option, Some, None, if◌then◌else◌}
 use Rattle.ipam_data.specs.declared.kinds.Kind.{Kind}
-use Rattle.ipam_data.specs.declared.kinds.Kind.TheVariants.{Vrfs, Roles, Prefixes}
+use Rattle.ipam_data.specs.declared.kinds.Kind.TheVariants.{Vrfs, Rirs, Roles, Aggregates, Prefixes, Ranges, Addresses}
 use Rattle.ipam_data.specs.Answers.{kind_text}
 use Rattle.rest_routes.specs.declared.route.Route.{Route}
 use Rattle.rest_routes.specs.declared.route.Route.TheVariants.{Many, Single}
 use Rattle.rest_routes.specs.declared.route.Method.{Method}
-use Rattle.rest_routes.specs.declared.route.Method.TheVariants.{Get, Post}
+use Rattle.rest_routes.specs.declared.route.Method.TheVariants.{Get, Post, Patch, Delete}
 
 -- the path of the rows of a kind
 abbrev pub rows_path : Kind → List ℕ
@@ -25,8 +25,12 @@ path_of (Single kind id) = rows_path kind ++ row_end id
 -- the kinds that are served
 abbrev pub IsServed : Kind → Type 0
 IsServed Vrfs = Unit {0}
+IsServed Rirs = ⊥
 IsServed Roles = ⊥
+IsServed Aggregates = ⊥
 IsServed Prefixes = Unit {0}
+IsServed Ranges = ⊥
+IsServed Addresses = ⊥
 
 -- a route is of a kind that is served, and an id is a number from 1 to 4294967295
 abbrev pub IsRoute : Route → Type 0
@@ -56,9 +60,12 @@ HasEnd kind rest None = (route : Route) → ¬ IsEnd kind rest route
 -- a method by its name, in upper case (RFC 9110 9.1)
 abbrev pub method_named : List ℕ → Option Method
 method_named name =
-    if bytes_eq name (codes "GET") then Some Get else (if bytes_eq name (codes "POST") then Some Post else None)
+    if bytes_eq name (codes "GET") then Some Get
+    else (if bytes_eq name (codes "POST") then Some Post
+    else (if bytes_eq name (codes "PATCH") then Some Patch
+    else (if bytes_eq name (codes "DELETE") then Some Delete else None)))
 
 -- the methods of a route, as they are printed
 abbrev pub methods_text : Route → List ℕ
 methods_text (Many kind) = codes "GET, POST"
-methods_text (Single kind id) = codes "GET"
+methods_text (Single kind id) = codes "GET, PATCH, DELETE"

@@ -3,13 +3,15 @@
 ghost use Rattle.std.specs.Prelude.{◌≡◌, IfOk};
 ghost use Rattle.ipam_data.specs.Answers.{status_of, refusal_status_of};
 ghost use Rattle.http_session.specs.Replies.{answer_of};
-ghost use Rattle.rest_routes.specs.Answers.{IsRefusedAnswer, allow_of, reply_answer, route_methods};
+ghost use Rattle.rest_routes.specs.Answers.{IsRefusedAnswer, allow_of, end_of, finished_links, reply_answer, route_methods};
 
 use crate::route::{Route, route_of};
 use http::StatusCode;
 use http_session::{Body, Reply as Answer};
+use ipam_data::calls::Call;
 use ipam_data::replies::{Refusal, Reply};
 use ipam_json::{Links, refusal_bytes, reply_bytes};
+use rest_query::cut;
 use std::alloc::{AllocError, Global};
 
 /// The status of a refusal.
@@ -26,8 +28,12 @@ fn refusal_status(refusal: &Refusal) -> StatusCode
         Refusal::Field(_) => StatusCode::BAD_REQUEST,
         Refusal::NotFound(_, _) => StatusCode::NOT_FOUND,
         Refusal::Rule(_) => StatusCode::BAD_REQUEST,
+        Refusal::InUse(_, _) => StatusCode::CONFLICT,
+        Refusal::NoSpace(_) => StatusCode::CONFLICT,
         Refusal::Limit(_, _) => StatusCode::INSUFFICIENT_STORAGE,
+        Refusal::Keeper => StatusCode::SERVICE_UNAVAILABLE,
         Refusal::Memory => StatusCode::INTERNAL_SERVER_ERROR,
+        Refusal::Row(_, _) => StatusCode::BAD_REQUEST,
     }
 }
 
@@ -37,8 +43,15 @@ fn reply_status(reply: &Reply) -> StatusCode
 {
     match reply {
         Reply::Made(_) => StatusCode::CREATED,
+        Reply::MadeMany(_) => StatusCode::CREATED,
+        Reply::Changed(_) => StatusCode::OK,
+        Reply::Gone => StatusCode::NO_CONTENT,
+        Reply::Imported { .. } => StatusCode::OK,
         Reply::One(_) => StatusCode::OK,
         Reply::Page { .. } => StatusCode::OK,
+        Reply::Blocks { .. } => StatusCode::OK,
+        Reply::Addrs { .. } => StatusCode::OK,
+        Reply::Percent(_) => StatusCode::OK,
         Reply::Refused(refusal) => refusal_status(refusal),
     }
 }
@@ -89,11 +102,38 @@ pub fn answer_of_refusal(
 ) -> Result<Answer, AllocError>
     ensures { IfOk result (λ a. IsRefusedAnswer target.now refusal.now (answer_of a)) }
 {
+    let (path, _) = cut(target);
     let body = refusal_bytes(alloc, refusal)?;
     Ok(Answer {
         status: refusal_status(refusal),
-        allow: allowed(route_of(target), refusal),
+        allow: allowed(route_of(path), refusal),
         place: None,
         body: Body::Written(body),
     })
+}
+
+/// The number of rows up to the end of a page; 0 for a call that asks for none.
+pub fn page_end(call: &Call) -> u64
+    ensures { result ≡ end_of call.now }
+{
+    match call {
+        Call::List { limit, offset, .. } => u64::from(*offset) + u64::from(*limit),
+        Call::Get { .. } => 0,
+        Call::Create { .. } => 0,
+        Call::Change { .. } => 0,
+        Call::Delete { .. } => 0,
+    }
+}
+
+/// The links of a page that has so many rows up to its end: where these are all, no page is after it. It takes no memory.
+pub fn finish_links(reply: &Reply, end: u64, links: Links) -> Links
+    ensures { result ≡ finished_links reply.now end links }
+{
+    match reply {
+        Reply::Page { count, .. } if u64::from(*count) <= end => Links {
+            next: None,
+            previous: links.previous,
+        },
+        _ => links,
+    }
 }

@@ -1,31 +1,18 @@
 //! The call that a request asks for.
 
-ghost use Rattle.std.specs.Prelude.{◌≡◌, ℕ, List, IfOk};
-ghost use Rattle.ipam_data.specs.Steps.{IsWellMade};
+ghost use Rattle.std.specs.Prelude.{◌≡◌, ℕ, List, Some, IfOk};
 ghost use Rattle.ipam_json.specs.Bodies.{OrMemory};
-ghost use Rattle.rest_routes.specs.Requests.{IsAskedOf, IsRequest, all_of};
+ghost use Rattle.rest_routes.specs.Requests.{IsListAsked, IsRowsAsked, IsRowAsked, IsRequest, IsWellMade, link_text, links_of};
 ghost use Rattle.rest_routes.specs.Requests as spec;
 
 use crate::route::{Method, Route, route_of};
-use ipam_data::calls::{Call, Filter};
+use ipam_data::calls::Call;
 use ipam_data::kinds::Kind;
 use ipam_data::replies::Refusal;
-use ipam_json::{Links, read_body};
-use std::alloc::Global;
-
-/// How many rows a list has at most.
-const ROWS: u32 = 50;
-
-/// All rows of a kind.
-fn all_rows(kind: Kind) -> Filter
-    ensures { result ≡ all_of kind }
-{
-    match kind {
-        Kind::Vrfs => Filter::Vrfs,
-        Kind::Roles => Filter::Roles,
-        Kind::Prefixes => Filter::Prefixes,
-    }
-}
+use ipam_data::text::Text;
+use ipam_json::{Links, kind_name, read_body, read_edit};
+use rest_query::{cut, link_query, read_listing};
+use std::alloc::{AllocError, Global};
 
 /// A call with no page before or after.
 fn asks(call: Call) -> (Call, Links)
@@ -38,44 +25,126 @@ fn asks(call: Call) -> (Call, Links)
     (call, links)
 }
 
+/// The target of a page of a kind's rows.
+fn link(
+    alloc: Global,
+    kind: Kind,
+    query: &[u8],
+    limit: u32,
+    offset: u64,
+) -> Result<Text, AllocError>
+    ensures { IfOk result (λ t. t ≡ link_text kind query.now limit offset) }
+{
+    let query = link_query(alloc, kind, query, limit, offset)?;
+    let query = query.as_str();
+    let kind = kind_name(kind);
+    Ok(Text::of(format!(in alloc; "/api/ipam/{kind}/?{query}")?))
+}
+
+/// The page before that of a limit and an offset.
+fn previous(
+    alloc: Global,
+    kind: Kind,
+    query: &[u8],
+    limit: u32,
+    offset: u32,
+) -> Result<Option<Text>, AllocError>
+    ensures { IfOk result (λ t. t ≡ (links_of kind query.now limit offset).previous) }
+{
+    if offset == 0 {
+        return Ok(None);
+    }
+    let before = offset.saturating_sub(limit);
+    Ok(Some(link(alloc, kind, query, limit, u64::from(before))?))
+}
+
+/// The pages after and before that of a limit and an offset.
+fn links(
+    alloc: Global,
+    kind: Kind,
+    query: &[u8],
+    limit: u32,
+    offset: u32,
+) -> Result<Links, AllocError>
+    ensures { IfOk result (λ l. l ≡ links_of kind query.now limit offset) }
+{
+    let after = u64::from(offset) + u64::from(limit);
+    let next = link(alloc, kind, query, limit, after)?;
+    let previous = previous(alloc, kind, query, limit, offset)?;
+    Ok(Links {
+        next: Some(next),
+        previous,
+    })
+}
+
+/// A page of a kind's rows.
+fn call_of_list(alloc: Global, kind: Kind, query: &[u8]) -> Result<(Call, Links), Refusal>
+    ensures asked { OrMemory (IsListAsked kind query.now) result }
+    ensures well_made { IfOk result (λ asked. IsWellMade asked.0) }
+{
+    let listing = read_listing(alloc, kind, query)?;
+    let Ok(links) = links(alloc, kind, query, listing.limit, listing.offset) else {
+        return Err(Refusal::Memory);
+    };
+    let call = Call::List {
+        kind,
+        filter: listing.filter,
+        limit: listing.limit,
+        offset: listing.offset,
+    };
+    Ok((call, links))
+}
+
 /// What a method asks of the rows of a kind.
 fn call_of_rows(
     alloc: Global,
     kind: Kind,
     method: Option<Method>,
+    query: &[u8],
     body: &[u8],
 ) -> Result<(Call, Links), Refusal>
-    ensures { OrMemory (IsAskedOf (Route.Many kind) method body.now) result }
+    ensures asked { OrMemory (IsRowsAsked kind method query.now body.now) result }
+    ensures well_made { IfOk result (λ asked. IsWellMade asked.0) }
 {
     match method {
-        Some(Method::Get) => Ok(asks(Call::List {
-            kind,
-            filter: all_rows(kind),
-            limit: ROWS,
-            offset: 0,
-        })),
+        Some(Method::Get) => call_of_list(alloc, kind, query),
         Some(Method::Post) => {
             let draft = read_body(alloc, kind, body)?;
             Ok(asks(Call::Create { draft }))
         }
+        Some(Method::Patch) => Err(Refusal::Method),
+        Some(Method::Delete) => Err(Refusal::Method),
         None => Err(Refusal::Method),
     }
 }
 
 /// What a method asks of a row.
-fn call_of_row(kind: Kind, id: u32, method: Option<Method>) -> Result<(Call, Links), Refusal>
-    ensures asked { (body : List ℕ) → IsAskedOf (Route.Single kind id) method body result }
+fn call_of_row(
+    alloc: Global,
+    kind: Kind,
+    id: u32,
+    method: Option<Method>,
+    body: &[u8],
+) -> Result<(Call, Links), Refusal>
+    ensures asked { OrMemory (IsRowAsked kind id method body.now) result }
     ensures well_made { IfOk result (λ asked. IsWellMade asked.0) }
 {
     match method {
         Some(Method::Get) => Ok(asks(Call::Get { kind, id })),
         Some(Method::Post) => Err(Refusal::Method),
+        Some(Method::Patch) => {
+            let edit = read_edit(alloc, kind, body)?;
+            Ok(asks(Call::Change { id, edit }))
+        }
+        Some(Method::Delete) => Ok(asks(Call::Delete { kind, id })),
         None => Err(Refusal::Method),
     }
 }
 
-/// What a request asks of the register. `NoRoute` comes where the target has no route, then `Method` where the route does not
-/// have the method, and then the refusals of a body; `Memory` may come in place of any answer. The body of a GET is ignored.
+/// What a request asks of the register, with the links to the pages after and before that of a list. `NoRoute` comes where the
+/// path has no route, then `Method` where the route does not have the method, and then the refusals of a body, or for a list
+/// those of a query; `Memory` may come in place of any answer. The body of a GET or a DELETE is
+/// ignored.
 pub fn read_call(
     alloc: Global,
     method: &[u8],
@@ -85,9 +154,12 @@ pub fn read_call(
     ensures request { OrMemory (IsRequest method.now target.now body.now) result }
     ensures well_made { IfOk result (λ asked. IsWellMade asked.0) }
 {
-    match route_of(target) {
+    let (path, query) = cut(target);
+    match route_of(path) {
         None => Err(Refusal::NoRoute),
-        Some(Route::Many(kind)) => call_of_rows(alloc, kind, Method::named(method), body),
-        Some(Route::Single(kind, id)) => call_of_row(kind, id, Method::named(method)),
+        Some(Route::Many(kind)) => { call_of_rows(alloc, kind, Method::named(method), query, body) }
+        Some(Route::Single(kind, id)) => {
+            call_of_row(alloc, kind, id, Method::named(method), body)
+        }
     }
 }

@@ -8,7 +8,7 @@ mod route;
 #[cfg(test)]
 mod tests;
 
-pub use answer::{answer_of_refusal, answer_of_reply};
+pub use answer::{answer_of_refusal, answer_of_reply, finish_links, page_end};
 pub use call::read_call;
 pub use laws::request_is_one;
 pub use route::{Method, Route, route_of};

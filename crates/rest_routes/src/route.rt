@@ -18,6 +18,8 @@ pub enum Route {
 pub enum Method {
     Get,
     Post,
+    Patch,
+    Delete,
 }
 
 impl Method {
@@ -31,6 +33,12 @@ impl Method {
         if name == b"POST".as_slice() {
             return Some(Method::Post);
         }
+        if name == b"PATCH".as_slice() {
+            return Some(Method::Patch);
+        }
+        if name == b"DELETE".as_slice() {
+            return Some(Method::Delete);
+        }
         None
     }
 }
@@ -42,7 +50,7 @@ impl Route {
     {
         match self {
             Route::Many(_) => "GET, POST",
-            Route::Single(_, _) => "GET",
+            Route::Single(_, _) => "GET, PATCH, DELETE",
         }
     }
 }

@@ -1,125 +1,163 @@
-//! Targets and methods, told by what the request asks for or the answer of its refusal.
+//! Requests and answers, a case to a line.
 
-use crate::{answer_of_refusal, answer_of_reply, read_call};
-use http::StatusCode;
+use crate::{answer_of_refusal, answer_of_reply, finish_links, page_end, read_call};
 use ipam_data::calls::Call;
 use ipam_data::kinds::Kind;
-use ipam_data::replies::{Refusal, Reply};
+use ipam_data::replies::{Refusal, Reply, Views};
+use ipam_data::text::Text;
 use ipam_json::Links;
 use std::alloc::{AllocError, Global};
+use std::process::Abort;
 use std::test::Fail;
 
-/// A call in words.
-fn call_text(alloc: Global, call: &Call) -> Result<String, AllocError> {
-    match call {
-        Call::List {
-            kind,
-            limit,
-            offset,
-            ..
-        } => format!(in alloc; "list {} {limit} {offset}", kind_text(*kind)),
-        Call::Get { kind, id } => format!(in alloc; "get {} {id}", kind_text(*kind)),
-        Call::Create { .. } => String::from_str(alloc, "create"),
-    }
-}
+/// Requests: a method, a target, ` = `, and the call with its links, or the refusal with its status and its `Allow`. Each has
+/// one body, that of a VRF.
+const REQUESTS: &[u8] =
+    b"GET /api/ipam/vrfs/ = List { kind: Vrfs, filter: Vrfs { name: None, rd: None }, limit: 50, offset: 0 } /api/ipam/vrfs/?limit=50&offset=50
+GET /api/ipam/prefixes/?limit=2 = List { kind: Prefixes, filter: Prefixes { family: None, vrf_id: None, status: None, role_id: None, prefix: None, within: None, within_include: None, contains: None }, limit: 2, offset: 0 } /api/ipam/prefixes/?limit=2&offset=2
+GET /api/ipam/vrfs/?name=x&a=1&limit=x&na%6De=c+%C3%A9&limit=0&offset=3 = List { kind: Vrfs, filter: Vrfs { name: Some(Text { string: \"c \xc3\xa9\" }), rd: None }, limit: 1000, offset: 3 } /api/ipam/vrfs/?name=c+%C3%A9&limit=1000&offset=1003 /api/ipam/vrfs/?name=c+%C3%A9&limit=1000&offset=0
+GET /api/ipam/vrfs/?rd=&limit=9999999999&offset=4294967295 = List { kind: Vrfs, filter: Vrfs { name: None, rd: Some(Text { string: \"\" }) }, limit: 1000, offset: 4294967295 } /api/ipam/vrfs/?rd=&limit=1000&offset=4294968295 /api/ipam/vrfs/?rd=&limit=1000&offset=4294966295
+GET /api/ipam/prefixes/?contains=10.0.0.1&within_include=::/0&within=10.0.0.0/8&prefix=10.0.0.0/9&role_id=7&status=active&vrf_id=null&family=6&limit=1001 = List { kind: Prefixes, filter: Prefixes { family: Some(V6), vrf_id: Some(None), status: Some(Active), role_id: Some(Some(7)), prefix: Some(Block { first: 167772160, family: V4, len: 9 }), within: Some(Block { first: 167772160, family: V4, len: 8 }), within_include: Some(Block { first: 0, family: V6, len: 0 }), contains: Some(Block { first: 167772161, family: V4, len: 32 }) }, limit: 1000, offset: 0 } /api/ipam/prefixes/?family=6&vrf_id=null&status=active&role_id=7&prefix=10.0.0.0%2F9&within=10.0.0.0%2F8&within_include=%3A%3A%2F0&contains=10.0.0.1&limit=1000&offset=1000
+GET /api/ipam/vrfs/?limit=01 = Field(Limit) 400 
+GET /api/ipam/vrfs/?limit=10000000000 = Field(Limit) 400 
+GET /api/ipam/vrfs/?offset=x&limit=+5 = Field(Limit) 400 
+GET /api/ipam/vrfs/?offset=4294967296 = Field(Offset) 400 
+GET /api/ipam/vrfs/?limit = Field(Limit) 400 
+GET /api/ipam/prefixes/?limit=x&status=x&family=5 = Field(Family) 400 
+GET /api/ipam/prefixes/?status=x&vrf_id=0 = Field(VrfId) 400 
+GET /api/ipam/prefixes/?role_id=1&status=Active = Field(Status) 400 
+GET /api/ipam/prefixes/?role_id=4294967296 = Field(RoleId) 400 
+GET /api/ipam/prefixes/?within=10.0.0.1/8 = Field(Within) 400 
+GET /api/ipam/prefixes/?contains=10.0.0.1/8 = Field(Contains) 400 
+POST /api/ipam/vrfs/?limit=x = Create { draft: Vrf { name: Name { string: \"red\" }, rd: None, enforce_unique: true, description: Description { string: \"\" } } }
+POST /api/ipam/prefixes/ = Field(Prefix) 400 
+GET /api/ipam/vrfs/1/?limit=x = Get { kind: Vrfs, id: 1 }
+GET /api/ipam/prefixes/4294967295/ = Get { kind: Prefixes, id: 4294967295 }
+PUT /api/ipam/vrfs/?x = Method 405 GET, POST
+get /api/ipam/prefixes/ = Method 405 GET, POST
+PATCH /api/ipam/vrfs/ = Method 405 GET, POST
+HEAD /api/ipam/prefixes/7/ = Method 405 GET, PATCH, DELETE
+POST /api/ipam/prefixes/7/ = Method 405 GET, PATCH, DELETE
+DELETE /api/ipam/vrfs/7/ = Delete { kind: Vrfs, id: 7 }
+PATCH /api/ipam/vrfs/7/?x = Change { id: 7, edit: Vrf { name: Some(Name { string: \"red\" }), rd: None, enforce_unique: None, description: None } }
+PATCH /api/ipam/rirs/7/ = NoRoute 404 
+GET /api/ipam/vrfs = NoRoute 404 
+GET /api/ipam/vrfs/7 = NoRoute 404 
+GET /api/ipam/vrfs// = NoRoute 404 
+GET /api/ipam/vrfs/0/ = NoRoute 404 
+GET /api/ipam/vrfs/01/ = NoRoute 404 
+GET /api/ipam/vrfs/+1/ = NoRoute 404 
+GET /api/ipam/vrfs/4294967296/ = NoRoute 404 
+GET /api/ipam/vrfs/\xff/ = NoRoute 404 
+GET /api/ipam/vrfs/1/x/ = NoRoute 404 
+GET /api/ipam/%76rfs/ = NoRoute 404 
+GET http://x/api/ipam/vrfs/ = NoRoute 404 
+OPTIONS * = NoRoute 404 
+GET  = NoRoute 404 ";
 
-fn kind_text(kind: Kind) -> &'static str {
-    match kind {
-        Kind::Vrfs => "vrfs",
-        Kind::Roles => "roles",
-        Kind::Prefixes => "prefixes",
-    }
-}
-
-/// The status and the `Allow` field of a refusal.
-fn refusal_text(alloc: Global, target: &str, refusal: &Refusal) -> Result<String, AllocError> {
-    let answer = answer_of_refusal(alloc, target.as_bytes(), refusal)?;
+/// A refusal with its status and its `Allow` field.
+fn refusal_text(alloc: Global, target: &[u8], refusal: &Refusal) -> Result<Vec<u8>, AllocError> {
+    let answer = answer_of_refusal(alloc, target, refusal)?;
     let allow = String::from_utf8_lossy(alloc, answer.allow)?;
     let number = answer.status.as_u16();
-    format!(in alloc; "{number} {allow}")
+    Ok(format!(in alloc; "{refusal:?} {number} {allow}")?.into_bytes())
+}
+
+/// A link behind a space, where there is one.
+fn link_words(alloc: Global, link: &Option<Text>) -> Result<String, AllocError> {
+    match link {
+        Some(link) => format!(in alloc; " {}", link.as_str()),
+        None => Ok(String::new(alloc)),
+    }
+}
+
+/// A call with its links.
+fn call_words(alloc: Global, call: &Call, links: &Links) -> Result<Vec<u8>, AllocError> {
+    let next = link_words(alloc, &links.next)?;
+    let previous = link_words(alloc, &links.previous)?;
+    Ok(format!(in alloc; "{call:?}{next}{previous}")?.into_bytes())
 }
 
 /// What a request asks for, in words.
-fn told(alloc: Global, method: &str, target: &str) -> Result<String, AllocError> {
+fn told(alloc: Global, method: &[u8], target: &[u8]) -> Result<Vec<u8>, AllocError> {
     let body = b"{\"name\":\"red\"}";
-    match read_call(alloc, method.as_bytes(), target.as_bytes(), body) {
-        Ok((call, _)) => call_text(alloc, &call),
+    match read_call(alloc, method, target, body) {
+        Ok((call, links)) => call_words(alloc, &call, &links),
         Err(refusal) => refusal_text(alloc, target, &refusal),
     }
 }
 
-/// A method, a target, and what they ask for.
-fn case(number: u32) -> (&'static str, &'static str, &'static str) {
-    match number {
-        0 => ("GET", "/api/ipam/vrfs/", "list vrfs 50 0"),
-        1 => ("POST", "/api/ipam/vrfs/", "create"),
-        2 => ("GET", "/api/ipam/prefixes/", "list prefixes 50 0"),
-        3 => ("POST", "/api/ipam/prefixes/", "400 "),
-        4 => ("GET", "/api/ipam/vrfs/1/", "get vrfs 1"),
-        5 => (
-            "GET",
-            "/api/ipam/prefixes/4294967295/",
-            "get prefixes 4294967295",
-        ),
-        6 => ("PUT", "/api/ipam/vrfs/", "405 GET, POST"),
-        7 => ("get", "/api/ipam/prefixes/", "405 GET, POST"),
-        8 => ("HEAD", "/api/ipam/prefixes/7/", "405 GET"),
-        9 => ("POST", "/api/ipam/prefixes/7/", "405 GET"),
-        10 => ("DELETE", "/api/ipam/vrfs/7/", "405 GET"),
-        11 => ("GET", "/api/ipam/vrfs", "404 "),
-        12 => ("GET", "/api/ipam/vrfs/7", "404 "),
-        13 => ("GET", "/api/ipam/vrfs//", "404 "),
-        14 => ("GET", "/api/ipam/vrfs/0/", "404 "),
-        15 => ("GET", "/api/ipam/vrfs/01/", "404 "),
-        16 => ("GET", "/api/ipam/vrfs/+1/", "404 "),
-        17 => ("GET", "/api/ipam/vrfs/4294967296/", "404 "),
-        18 => ("GET", "/api/ipam/vrfs/99999999999999999999/", "404 "),
-        19 => ("GET", "/api/ipam/vrfs/\u{e9}/", "404 "),
-        20 => ("GET", "/api/ipam/vrfs/1/x/", "404 "),
-        21 => ("GET", "/api/ipam/vrfs/?limit=2", "404 "),
-        22 => ("GET", "/api/ipam/vrfs/1/?", "404 "),
-        23 => ("GET", "/api/ipam/%76rfs/", "404 "),
-        24 => ("GET", "http://x/api/ipam/vrfs/", "404 "),
-        25 => ("OPTIONS", "*", "404 "),
-        26 => ("GET", "/api/ipam/roles/", "404 "),
-        27 => ("put", "/api/ipam/roles/1/", "404 "),
-        28 => ("GET", "/", "404 "),
-        _ => ("GET", "", "404 "),
+/// What stands before the first of these bytes in a line, and behind it.
+fn cut(line: &[u8], byte: u8) -> (&[u8], &[u8]) {
+    match line.iter().position(|other| *other == byte) {
+        Some(place) => (&line[..place], &line[place + 1..]),
+        None => (line, b""),
     }
 }
 
-#[test]
-fn requests(rt: HostRuntime) -> Result<(), Fail> {
-    for number in 0..30 {
-        let (method, target, want) = case(number);
-        let text = told(rt.alloc(), method, target)?;
-        assert_eq!(rt; text.as_str(), want);
-    }
-    let bytes = read_call(rt.alloc(), b"GET", b"/api/ipam/vrfs/\xff/", b"");
-    assert!(rt; bytes.is_err(), "no route");
+/// Sees that the request of a line asks for what the line says.
+fn check(rt: &impl Abort, alloc: Global, line: &[u8]) -> Result<(), AllocError> {
+    let (method, rest) = cut(line, b' ');
+    let (target, want) = cut(rest, b' ');
+    let text = told(alloc, method, target)?;
+    assert_eq!(rt; text.as_slice(), want.strip_prefix(b"= ").unwrap_or(want));
     Ok(())
 }
 
 #[test]
-fn replies(rt: HostRuntime) -> Result<(), Fail> {
+fn requests(rt: HostRuntime) -> Result<(), Fail> {
+    for line in REQUESTS.split(|byte| *byte == b'\n') {
+        check(&rt, rt.alloc(), line)?;
+    }
+    Ok(())
+}
+
+/// An answer in words: its status, whether it has `Allow`, its place, and its body.
+fn answered(alloc: Global, reply: &Reply) -> Result<String, AllocError> {
     let links = Links {
         next: None,
         previous: None,
     };
+    let answer = answer_of_reply(alloc, reply, &links, 3)?;
+    let body = String::from_utf8_lossy(alloc, answer.body.bytes())?;
+    let number = answer.status.as_u16();
+    let place = answer.place.unwrap_or(0);
+    let fields = answer.allow.len();
+    format!(in alloc; "{number} {fields} {place} {body}")
+}
+
+#[test]
+fn replies(rt: HostRuntime) -> Result<(), Fail> {
     let absent = Reply::Refused(Refusal::NotFound(Kind::Prefixes, 9));
-    let answer = answer_of_reply(rt.alloc(), &absent, &links, 3)?;
-    assert!(rt; answer.status == StatusCode::NOT_FOUND, "the status");
-    assert!(rt;
-        answer.allow.is_empty() && answer.place == Some(3),
-        "the fields"
-    );
-    let want = "{\"code\":\"not_found\",\"detail\":\"prefixes 9 is not there\"}";
-    assert_eq!(rt; answer.body.bytes(), want.as_bytes());
-    let refused = answer_of_refusal(rt.alloc(), b"/api/ipam/vrfs/", &Refusal::BadJson)?;
-    assert!(rt; refused.status == StatusCode::BAD_REQUEST, "the status");
-    assert!(rt;
-        refused.allow.is_empty() && refused.place.is_none(),
-        "the fields"
-    );
+    let text = answered(rt.alloc(), &absent)?;
+    let want = "404 0 3 {\"code\":\"not_found\",\"detail\":\"prefixes 9 is not there\"}";
+    assert_eq!(rt; text.as_str(), want);
+    let text = answered(rt.alloc(), &Reply::Gone)?;
+    assert_eq!(rt; text.as_str(), "204 0 3 ");
+    let used = Reply::Refused(Refusal::InUse(Kind::Addresses, 1));
+    let text = answered(rt.alloc(), &used)?;
+    let want = "409 0 3 {\"code\":\"in_use\",\"detail\":\"named by ip-addresses 1\"}";
+    assert_eq!(rt; text.as_str(), want);
+    Ok(())
+}
+
+/// Whether a page of so many rows has one after it, where the request has this query.
+fn has_next(alloc: Global, target: &[u8], count: u32) -> Result<bool, AllocError> {
+    let Ok((call, links)) = read_call(alloc, b"GET", target, b"") else {
+        return Ok(false);
+    };
+    let page = Reply::Page {
+        count,
+        views: Views::of(Vec::new(alloc)),
+    };
+    Ok(finish_links(&page, page_end(&call), links).next.is_some())
+}
+
+#[test]
+fn last_pages(rt: HostRuntime) -> Result<(), Fail> {
+    let target = b"/api/ipam/prefixes/?limit=2&offset=1";
+    assert!(rt; has_next(rt.alloc(), target, 4)?);
+    assert!(rt; !has_next(rt.alloc(), target, 3)?);
+    assert!(rt; !has_next(rt.alloc(), target, 0)?);
     Ok(())
 }

@@ -1,4 +1,4 @@
-use Rattle.ipam_json.proofs.Pieces.{wrote, after, as_pieces, rows_end}
+use Rattle.ipam_json.proofs.Pieces.{wrote, after}
 use Rattle.ipam_json.proofs.replies.put_page.Goals as goal
 
 pub returns : goal.returns
@@ -8,8 +8,5 @@ returns c =
     (after c.in_ok-put_link.ensures
     (after c.in_ok-put_link-2.ensures
     (after (wrote c.in_ok-key.ensures)
-    (after (wrote c.in_ok-begin_array.ensures)
-    (as_pieces (rows_end c.args.views.now)
-    (after c.in_ok-put_rows.ensures
-    (after (wrote c.in_ok-end_array.ensures)
-    (wrote c.end_object.ensures)))))))))
+    (after c.in_ok-put_views.ensures
+    (wrote c.end_object.ensures))))))

@@ -1,0 +1,9 @@
+use Rattle.ipam_json.proofs.Pieces.{wrote, after}
+use Rattle.ipam_json.proofs.replies.put_imported.Goals as goal
+
+pub returns : goal.returns
+returns c =
+    after (wrote c.in_ok-begin_object.ensures)
+    (after c.in_ok-put_number.ensures
+    (after c.in_ok-put_number-2.ensures
+    (wrote c.end_object.ensures)))

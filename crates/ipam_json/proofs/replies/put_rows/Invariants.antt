@@ -1,7 +1,0 @@
-use Rattle.std.proofs.Common.{take, Ok}
-use Rattle.std.specs.declared.alloc.AllocError.{AllocError}
-use Rattle.ipam_json.specs.Written.{Puts, rows_pieces}
-use Rattle.ipam_json.proofs.replies.put_rows.Given as goal
-
-abbrev pub invariant-loop-view : goal.invariant-loop-view
-invariant-loop-view l = Puts {E = AllocError} (Ok tt) l.fn.writer l.writer (rows_pieces (take l.view-index l.views))

@@ -1,0 +1,52 @@
+//! Rows as they are answered, one file a kind.
+
+ghost use Rattle.ipam_json.specs.Replies.{view_data};
+ghost use Rattle.ipam_json.specs.Written.{Puts, pieces_of, rows_pieces};
+
+mod address;
+mod aggregate;
+mod prefix;
+mod range;
+mod rir;
+mod role;
+mod vrf;
+
+use address::put_address;
+use aggregate::put_aggregate;
+use ipam_data::replies::View;
+use json::Writer;
+use prefix::put_prefix;
+use range::put_range;
+use rir::put_rir;
+use role::put_role;
+use std::alloc::{AllocError, Global};
+use vrf::put_vrf;
+
+/// Writes a row.
+pub(crate) fn put_view(alloc: Global, writer: &mut Writer, view: &View) -> Result<(), AllocError>
+    ensures { Puts result writer.old writer.new (pieces_of (view_data view.now)) }
+{
+    match view {
+        View::Vrf(row) => put_vrf(writer, row),
+        View::Rir(row) => put_rir(writer, row),
+        View::Role(row) => put_role(writer, row),
+        View::Aggregate(row) => put_aggregate(alloc, writer, row),
+        View::Prefix {
+            row,
+            depth,
+            children,
+        } => put_prefix(alloc, writer, row, *depth, *children),
+        View::IpRange(row) => put_range(alloc, writer, row),
+        View::IpAddress(row) => put_address(alloc, writer, row),
+    }
+}
+
+/// Writes rows one after another.
+pub(crate) fn put_rows(alloc: Global, writer: &mut Writer, views: &[View]) -> Result<(), AllocError>
+    ensures { Puts result writer.old writer.new (rows_pieces view_data views.now) }
+{
+    for view in views {
+        put_view(alloc, writer, view)?;
+    }
+    Ok(())
+}

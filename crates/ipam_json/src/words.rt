@@ -1,0 +1,183 @@
+//! What is named by a word: kinds, members and parameters, statuses, and the roles of addresses.
+
+ghost use Rattle.std.specs.Prelude.{◌≡◌};
+ghost use Rattle.ipam_data.specs.Answers.{kind_text, field_text};
+ghost use Rattle.ipam_json.specs.Words as spec;
+
+use ipam_data::address::{AddressRole, AddressStatus};
+use ipam_data::kinds::Kind;
+use ipam_data::prefix::PrefixStatus;
+use ipam_data::range::RangeStatus;
+use ipam_data::replies::FieldName;
+
+/// A kind by its name in a path.
+pub fn kind_name(kind: Kind) -> &'static str
+    ensures { result.now ≡ kind_text kind }
+{
+    match kind {
+        Kind::Vrfs => "vrfs",
+        Kind::Rirs => "rirs",
+        Kind::Roles => "roles",
+        Kind::Aggregates => "aggregates",
+        Kind::Prefixes => "prefixes",
+        Kind::Ranges => "ip-ranges",
+        Kind::Addresses => "ip-addresses",
+    }
+}
+
+/// A member or a parameter by its printed name.
+pub fn field_name(field: FieldName) -> &'static str
+    ensures { result.now ≡ field_text field }
+{
+    match field {
+        FieldName::Address => "address",
+        FieldName::Body => "body",
+        FieldName::Column => "column",
+        FieldName::Contains => "contains",
+        FieldName::Description => "description",
+        FieldName::DnsName => "dns_name",
+        FieldName::EndAddress => "end_address",
+        FieldName::EnforceUnique => "enforce_unique",
+        FieldName::Family => "family",
+        FieldName::IsPool => "is_pool",
+        FieldName::IsPrivate => "is_private",
+        FieldName::Limit => "limit",
+        FieldName::MarkUtilized => "mark_utilized",
+        FieldName::Name => "name",
+        FieldName::Offset => "offset",
+        FieldName::Parent => "parent",
+        FieldName::Prefix => "prefix",
+        FieldName::PrefixLength => "prefix_length",
+        FieldName::Rd => "rd",
+        FieldName::Rir => "rir",
+        FieldName::RirId => "rir_id",
+        FieldName::Role => "role",
+        FieldName::RoleId => "role_id",
+        FieldName::Row => "row",
+        FieldName::Slug => "slug",
+        FieldName::StartAddress => "start_address",
+        FieldName::Status => "status",
+        FieldName::Vrf => "vrf",
+        FieldName::VrfId => "vrf_id",
+        FieldName::Weight => "weight",
+        FieldName::Within => "within",
+        FieldName::WithinInclude => "within_include",
+    }
+}
+
+/// The status of a prefix by the word that names it.
+pub(crate) fn prefix_status_value(word: PrefixStatus) -> &'static str
+    ensures { result.now ≡ spec.prefix_status_value word }
+{
+    match word {
+        PrefixStatus::Container => "container",
+        PrefixStatus::Active => "active",
+        PrefixStatus::Reserved => "reserved",
+        PrefixStatus::Deprecated => "deprecated",
+    }
+}
+
+/// The status of a prefix by the word that is shown.
+pub(crate) fn prefix_status_label(word: PrefixStatus) -> &'static str
+    ensures { result.now ≡ spec.prefix_status_label word }
+{
+    match word {
+        PrefixStatus::Container => "Container",
+        PrefixStatus::Active => "Active",
+        PrefixStatus::Reserved => "Reserved",
+        PrefixStatus::Deprecated => "Deprecated",
+    }
+}
+
+/// The status of a range by the word that names it.
+pub(crate) fn range_status_value(word: RangeStatus) -> &'static str
+    ensures { result.now ≡ spec.range_status_value word }
+{
+    match word {
+        RangeStatus::Active => "active",
+        RangeStatus::Reserved => "reserved",
+        RangeStatus::Deprecated => "deprecated",
+    }
+}
+
+/// The status of a range by the word that is shown.
+pub(crate) fn range_status_label(word: RangeStatus) -> &'static str
+    ensures { result.now ≡ spec.range_status_label word }
+{
+    match word {
+        RangeStatus::Active => "Active",
+        RangeStatus::Reserved => "Reserved",
+        RangeStatus::Deprecated => "Deprecated",
+    }
+}
+
+/// The status of an address by the word that names it.
+pub(crate) fn address_status_value(word: AddressStatus) -> &'static str
+    ensures { result.now ≡ spec.address_status_value word }
+{
+    match word {
+        AddressStatus::Active => "active",
+        AddressStatus::Reserved => "reserved",
+        AddressStatus::Deprecated => "deprecated",
+        AddressStatus::Dhcp => "dhcp",
+        AddressStatus::Slaac => "slaac",
+    }
+}
+
+/// The status of an address by the word that is shown.
+pub(crate) fn address_status_label(word: AddressStatus) -> &'static str
+    ensures { result.now ≡ spec.address_status_label word }
+{
+    match word {
+        AddressStatus::Active => "Active",
+        AddressStatus::Reserved => "Reserved",
+        AddressStatus::Deprecated => "Deprecated",
+        AddressStatus::Dhcp => "DHCP",
+        AddressStatus::Slaac => "SLAAC",
+    }
+}
+
+/// The role of an address by the word that names it.
+pub(crate) fn address_role_value(word: AddressRole) -> &'static str
+    ensures { result.now ≡ spec.address_role_value word }
+{
+    match word {
+        AddressRole::Loopback => "loopback",
+        AddressRole::Secondary => "secondary",
+        AddressRole::Anycast => "anycast",
+        AddressRole::Vip => "vip",
+        AddressRole::Vrrp => "vrrp",
+        AddressRole::Hsrp => "hsrp",
+        AddressRole::Glbp => "glbp",
+        AddressRole::Carp => "carp",
+    }
+}
+
+/// The role of an address by the word that is shown.
+pub(crate) fn address_role_label(word: AddressRole) -> &'static str
+    ensures { result.now ≡ spec.address_role_label word }
+{
+    match word {
+        AddressRole::Loopback => "Loopback",
+        AddressRole::Secondary => "Secondary",
+        AddressRole::Anycast => "Anycast",
+        AddressRole::Vip => "VIP",
+        AddressRole::Vrrp => "VRRP",
+        AddressRole::Hsrp => "HSRP",
+        AddressRole::Glbp => "GLBP",
+        AddressRole::Carp => "CARP",
+    }
+}
+
+/// The status of a prefix that a word names.
+pub fn prefix_status_named(word: &str) -> Option<PrefixStatus>
+    ensures { result ≡ spec.prefix_status_named word.now }
+{
+    match word {
+        "container" => Some(PrefixStatus::Container),
+        "active" => Some(PrefixStatus::Active),
+        "reserved" => Some(PrefixStatus::Reserved),
+        "deprecated" => Some(PrefixStatus::Deprecated),
+        _ => None,
+    }
+}

@@ -1,0 +1,71 @@
+-- What the query of a list asks for: a filter, a limit and an offset, and the queries of the links to other pages.
+use Rattle.std.specs.Prelude.{◌≡◌, ℕ, List, [], decimal, Option, Result, Ok, Err}
+use Rattle.form_urlencoded.specs.Form.{append_pair}
+use Rattle.ipam_data.specs.declared.kinds.Kind.{Kind}
+use Rattle.ipam_data.specs.declared.kinds.Kind.TheVariants.{Vrfs, Rirs, Roles, Aggregates, Prefixes, Ranges, Addresses}
+use Rattle.ipam_data.specs.declared.calls.Filter.{Filter}
+use Rattle.ipam_data.specs.declared.calls.Filter.TheVariants.{Vrfs as SomeVrfs, Rirs as SomeRirs, Roles as SomeRoles, Aggregates as SomeAggregates, Prefixes as SomePrefixes, Ranges as SomeRanges, Addresses as SomeAddresses}
+use Rattle.ipam_data.specs.declared.replies.FieldName.TheVariants.{Limit, Offset}
+use Rattle.ipam_data.specs.declared.replies.Refusal.{Refusal}
+use Rattle.ipam_data.specs.declared.replies.Refusal.TheVariants.{NoRoute}
+use Rattle.ipam_data.specs.Answers.{field_text}
+use Rattle.ipam_json.specs.Outcomes.{then, field}
+use Rattle.rest_query.specs.declared.asked.PrefixTests.{PrefixTests}
+use Rattle.rest_query.specs.declared.asked.Listing.{Listing}
+use Rattle.rest_query.specs.Query.{value_in}
+use Rattle.rest_query.specs.Readings.{IsLimit, IsOffset}
+use Rattle.rest_query.specs.Vrfs.{vrf_filter, with_vrf_filters}
+use Rattle.rest_query.specs.Prefixes.{ArePrefixTests, prefix_filter, with_prefix_filters}
+
+-- the filter of a kind; the kinds without one have no route
+abbrev pub IsFilterOf : Kind → List ℕ → Result Filter Refusal → Type 0
+IsFilterOf Vrfs query filter = filter ≡ Ok (vrf_filter query)
+IsFilterOf Rirs query filter = filter ≡ Err NoRoute
+IsFilterOf Roles query filter = filter ≡ Err NoRoute
+IsFilterOf Aggregates query filter = filter ≡ Err NoRoute
+IsFilterOf Prefixes query filter = (tests : PrefixTests) × ArePrefixTests query tests × (filter ≡ prefix_filter tests)
+IsFilterOf Ranges query filter = filter ≡ Err NoRoute
+IsFilterOf Addresses query filter = filter ≡ Err NoRoute
+
+-- filter, limit and offset, in this order
+abbrev pub listing_of : Result Filter Refusal → Option ℕ → Option ℕ → Result Listing Refusal
+listing_of filter limit offset =
+    then filter λ filter.
+    then (field Limit limit) λ limit.
+    then (field Offset offset) λ offset.
+    Ok (record { filter = filter; limit = limit; offset = offset })
+
+-- what the query of a list asks for
+pub record IsListing (kind : Kind) (query : List ℕ) (answer : Result Listing Refusal) : Type 0 where
+  pub filter : Result Filter Refusal
+  pub limit : Option ℕ
+  pub offset : Option ℕ
+  pub filtered : IsFilterOf kind query filter
+  pub limited : IsLimit (value_in query Limit) limit
+  pub moved : IsOffset (value_in query Offset) offset
+  pub is : answer ≡ listing_of filter limit offset
+
+-- a form with the filters of a kind that are given, as they were given
+abbrev pub with_filters : Kind → List ℕ → List ℕ → List ℕ
+with_filters Vrfs query form = with_vrf_filters query form
+with_filters Rirs query form = form
+with_filters Roles query form = form
+with_filters Aggregates query form = form
+with_filters Prefixes query form = with_prefix_filters query form
+with_filters Ranges query form = form
+with_filters Addresses query form = form
+
+-- the query of a link to a page: the filters, then limit and offset
+abbrev pub link_query : Kind → List ℕ → ℕ → ℕ → List ℕ
+link_query kind query limit offset =
+    append_pair (append_pair (with_filters kind query []) (field_text Limit) (decimal limit)) (field_text Offset) (decimal offset)
+
+-- the kind of a filter
+abbrev pub kind_of : Filter → Kind
+kind_of (SomeVrfs name rd) = Vrfs
+kind_of (SomeRirs name slug) = Rirs
+kind_of (SomeRoles name slug) = Roles
+kind_of (SomeAggregates family rir_id) = Aggregates
+kind_of (SomePrefixes family vrf_id status role_id prefix within within_include contains) = Prefixes
+kind_of (SomeRanges family vrf_id status role_id contains) = Ranges
+kind_of (SomeAddresses family vrf_id status role parent dns_name) = Addresses

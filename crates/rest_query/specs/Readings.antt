@@ -1,0 +1,71 @@
+-- How the text of a parameter is read. `None` is one that is malformed; an absent one has its default.
+use Rattle.std.specs.Prelude.{◌≡◌, ◌≢◌, ◌⊎◌, ℕ, ◌+◌, ◌<◌, ◌≤◌, ◌^◌, ◌==◌, ◌||◌, nat_lt, Bool, true, false, List, codes, decimal, bytes_eq, Option, Some, None, option_map, option_and_then, if◌then◌else◌}
+use Rattle.inet_num.specs.declared.Family.{Family}
+use Rattle.inet_num.specs.declared.Family.TheVariants.{V4, V6}
+use Rattle.inet_num.specs.Net.{Address, Cidr, width_of, block_at}
+use Rattle.inet_num.specs.Text.{IsBlockText, IsAddressText, IsNoAddressText}
+
+-- a family is the number of its version
+abbrev pub family_named : List ℕ → Option Family
+family_named text = if bytes_eq text (codes "4") then Some V4 else (if bytes_eq text (codes "6") then Some V6 else None)
+
+-- a parameter that is given is read so, and no parameter is no test
+abbrev pub test_of : {A : Type 0} → (List ℕ → Option A) → Option (List ℕ) → Option (Option A)
+test_of read None = Some None
+test_of read (Some text) = option_map Some (read text)
+
+-- an id is a number from 1 to 4294967295, in decimal, without a leading zero
+abbrev pub HasId : List ℕ → Option (Option (Option ℕ)) → Type 0
+HasId text None = (n : ℕ) → 1 ≤ n → n < 2 ^ 32 → text ≢ decimal n
+HasId text (Some None) = ⊥
+HasId text (Some (Some None)) = ⊥
+HasId text (Some (Some (Some n))) = (text ≡ decimal n) × (1 ≤ n) × (n < 2 ^ 32)
+
+-- where the text is `null`, those are meant that have none
+abbrev pub HasIdOrNull : Bool → List ℕ → Option (Option (Option ℕ)) → Type 0
+HasIdOrNull true text id = id ≡ Some (Some None)
+HasIdOrNull false text id = HasId text id
+
+abbrev pub IsIdTest : Option (List ℕ) → Option (Option (Option ℕ)) → Type 0
+IsIdTest None id = id ≡ Some None
+IsIdTest (Some text) id = HasIdOrNull (bytes_eq text (codes "null")) text id
+
+-- a block
+abbrev pub IsBlockTest : Option (List ℕ) → Option (Option Cidr) → Type 0
+IsBlockTest None block = block ≡ Some None
+IsBlockTest (Some text) None = (b : Cidr) → ¬ IsBlockText text b
+IsBlockTest (Some text) (Some None) = ⊥
+IsBlockTest (Some text) (Some (Some b)) = IsBlockText text b
+
+-- the text is that of this block, or of none
+abbrev pub HasBlock : List ℕ → Option Cidr → Type 0
+HasBlock text (Some b) = IsBlockText text b
+HasBlock text None = (b : Cidr) → ¬ IsBlockText text b
+
+-- this block; where there is none, that of an address alone, which has its family's width
+abbrev pub IsAreaOf : Option Cidr → List ℕ → Option (Option Cidr) → Type 0
+IsAreaOf (Some b) text area = area ≡ Some (Some b)
+IsAreaOf None text None = IsNoAddressText text
+IsAreaOf None text (Some None) = ⊥
+IsAreaOf None text (Some (Some b)) = (a : Address) × IsAddressText text a × (b ≡ block_at a (width_of a.family))
+
+-- a block or an address
+abbrev pub IsAreaTest : Option (List ℕ) → Option (Option Cidr) → Type 0
+IsAreaTest None area = area ≡ Some None
+IsAreaTest (Some text) area = (block : Option Cidr) × HasBlock text block × IsAreaOf block text area
+
+-- a limit of 0 and each above 1000 count as 1000
+abbrev pub limit_of : ℕ → ℕ
+limit_of n = if n == 0 || nat_lt 1000 n then 1000 else n
+
+-- a limit is a number of at most ten digits, in decimal, without a leading zero; an absent one is 50
+abbrev pub IsLimit : Option (List ℕ) → Option ℕ → Type 0
+IsLimit None limit = limit ≡ Some 50
+IsLimit (Some text) None = (n : ℕ) → n < 10000000000 → text ≢ decimal n
+IsLimit (Some text) (Some limit) = (n : ℕ) × (text ≡ decimal n) × (n < 10000000000) × (limit ≡ limit_of n)
+
+-- an offset is a number up to 4294967295 likewise; an absent one is 0
+abbrev pub IsOffset : Option (List ℕ) → Option ℕ → Type 0
+IsOffset None offset = offset ≡ Some 0
+IsOffset (Some text) None = (n : ℕ) → n < 2 ^ 32 → text ≢ decimal n
+IsOffset (Some text) (Some n) = (text ≡ decimal n) × (n < 2 ^ 32)

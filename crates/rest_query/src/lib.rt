@@ -1,0 +1,16 @@
+//! The query of a target: its parameters, the filter of a list, and the links to other pages.
+#![tactic(auto)]
+
+mod asked;
+mod laws;
+mod lists;
+mod numbers;
+mod prefix;
+mod query;
+mod readings;
+mod vrf;
+
+pub use asked::Listing;
+pub use laws::listing_is_one;
+pub use lists::{link_query, read_listing};
+pub use query::cut;

@@ -1,0 +1,134 @@
+//! What the query of a list asks for, and the links to other pages.
+
+ghost use Rattle.std.specs.Prelude.{◌≡◌, IfOk, OnOk, Ok, string_bytes};
+ghost use Rattle.ipam_json.specs.Outcomes.{OrMemory};
+ghost use Rattle.ipam_data.specs.declared.replies.FieldName.TheVariants.{Limit, Offset};
+ghost use Rattle.rest_query.specs.Query.{value_in};
+ghost use Rattle.rest_query.specs.Readings.{IsLimit, IsOffset};
+ghost use Rattle.rest_query.specs.Lists.{IsFilterOf, IsListing, listing_of, kind_of, with_filters};
+ghost use Rattle.rest_query.specs.Lists as spec;
+
+use crate::asked::Listing;
+use crate::prefix::{add_prefix_filters, prefix_filter};
+use crate::query::{add_value, value};
+use crate::readings::{limit, offset};
+use crate::vrf::{add_vrf_filters, vrf_filter};
+use form_urlencoded::Serializer;
+use ipam_data::calls::Filter;
+use ipam_data::kinds::Kind;
+use ipam_data::replies::{FieldName, Refusal};
+use ipam_json::field_name;
+use itoa::Buffer;
+use std::alloc::{AllocError, Global};
+
+/// The filter of a kind.
+fn filter_of(alloc: Global, kind: Kind, query: &[u8]) -> Result<Filter, Refusal>
+    ensures filter { OrMemory (IsFilterOf kind query.now) result }
+    ensures kind { IfOk result (λ f. kind_of f ≡ kind) }
+{
+    match kind {
+        Kind::Vrfs => match vrf_filter(alloc, query) {
+            Ok(filter) => Ok(filter),
+            Err(_) => Err(Refusal::Memory),
+        },
+        Kind::Rirs => Err(Refusal::NoRoute),
+        Kind::Roles => Err(Refusal::NoRoute),
+        Kind::Aggregates => Err(Refusal::NoRoute),
+        Kind::Prefixes => prefix_filter(alloc, query),
+        Kind::Ranges => Err(Refusal::NoRoute),
+        Kind::Addresses => Err(Refusal::NoRoute),
+    }
+}
+
+/// The limit of a query.
+fn limit_in(alloc: Global, query: &[u8]) -> Result<Option<u32>, AllocError>
+    ensures { IfOk result (IsLimit (value_in query.now Limit)) }
+{
+    let text = value(alloc, query, FieldName::Limit)?;
+    Ok(limit(&text))
+}
+
+/// The offset of a query.
+fn offset_in(alloc: Global, query: &[u8]) -> Result<Option<u32>, AllocError>
+    ensures { IfOk result (IsOffset (value_in query.now Offset)) }
+{
+    let text = value(alloc, query, FieldName::Offset)?;
+    Ok(offset(&text))
+}
+
+/// A filter with a limit and an offset.
+fn listed(filter: Filter, limit: Option<u32>, offset: Option<u32>) -> Result<Listing, Refusal>
+    ensures listing { listing_of (Ok filter) limit offset ≡ result }
+    ensures filter { IfOk result (λ l. l.filter ≡ filter) }
+{
+    let Some(limit) = limit else {
+        return Err(Refusal::Field(FieldName::Limit));
+    };
+    let Some(offset) = offset else {
+        return Err(Refusal::Field(FieldName::Offset));
+    };
+    Ok(Listing {
+        filter,
+        limit,
+        offset,
+    })
+}
+
+/// What the query of a list asks for. `Field` names the first parameter that is malformed, in the order of the kind's filters,
+/// then limit, then offset; `NoRoute` comes for a kind without filters, and `Memory` may come in place of any answer.
+pub fn read_listing(alloc: Global, kind: Kind, query: &[u8]) -> Result<Listing, Refusal>
+    ensures listing { OrMemory (IsListing kind query.now) result }
+    ensures kind { IfOk result (λ l. kind_of l.filter ≡ kind) }
+{
+    let Ok(limit) = limit_in(alloc, query) else {
+        return Err(Refusal::Memory);
+    };
+    let Ok(offset) = offset_in(alloc, query) else {
+        return Err(Refusal::Memory);
+    };
+    match filter_of(alloc, kind, query) {
+        Ok(filter) => listed(filter, limit, offset),
+        Err(refusal) => Err(refusal),
+    }
+}
+
+/// Adds the filters of a kind that are given to a form.
+fn add_filters(
+    alloc: Global,
+    kind: Kind,
+    form: &mut Serializer<Global>,
+    query: &[u8],
+) -> Result<(), AllocError>
+    ensures form { OnOk result (form.new.form ≡ with_filters kind query.now form.old.form) }
+    ensures prefix { OnOk result (form.new.prefix ≡ form.old.prefix) }
+{
+    match kind {
+        Kind::Vrfs => add_vrf_filters(alloc, form, query),
+        Kind::Rirs => Ok(()),
+        Kind::Roles => Ok(()),
+        Kind::Aggregates => Ok(()),
+        Kind::Prefixes => add_prefix_filters(alloc, form, query),
+        Kind::Ranges => Ok(()),
+        Kind::Addresses => Ok(()),
+    }
+}
+
+/// The query of a link to another page: the filters that are given, as they were given, then limit and offset. `Err` is want of
+/// memory.
+pub fn link_query(
+    alloc: Global,
+    kind: Kind,
+    query: &[u8],
+    limit: u32,
+    offset: u64,
+) -> Result<String, AllocError>
+    ensures { IfOk result (λ text. string_bytes text ≡ spec.link_query kind query.now limit offset) }
+{
+    let mut form = Serializer::new(String::new(alloc));
+    add_filters(alloc, kind, &mut form, query)?;
+    let mut digits = Buffer::new();
+    form.append_pair(field_name(FieldName::Limit), digits.format(limit))?;
+    let mut digits = Buffer::new();
+    form.append_pair(field_name(FieldName::Offset), digits.format(offset))?;
+    Ok(form.finish())
+}
