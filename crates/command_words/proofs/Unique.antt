@@ -1,5 +1,5 @@
 -- Words ask for one command: each value is determined by the text that was given, and the names of commands differ.
-use Rattle.std.proofs.Common.{◌≡◌, ℕ, ◌+◌, ◌<◌, ◌≤◌, ◌^◌, refl, sym, ◌∙◌, ap, ap₂, arith, Bool, true, false, List, [], ◌∷◌, Option, Some, None, codes, decimal, sum}
+use Rattle.std.proofs.Common.{◌≡◌, ℕ, ◌<◌, ◌^◌, refl, sym, ◌∙◌, ap, ap₂, arith, Bool, true, false, List, ◌∷◌, Option, Some, None, codes, sum}
 use Rattle.std.proofs.lemmas.Fmt.{decimal_injective}
 use Rattle.inet_num.specs.Net.{Cidr}
 use Rattle.inet_num.proofs.Readings.{reading_is_one}
@@ -13,10 +13,9 @@ use Rattle.command_words.specs.declared.asked.Store.{Store}
 use Rattle.command_words.specs.declared.asked.Serving.{Serving}
 use Rattle.command_words.specs.declared.asked.Command.{Command}
 use Rattle.command_words.specs.declared.asked.Command.TheVariants as command
-use Rattle.command_words.specs.declared.TheConstants.{MOST_WORKERS, MOST_CONNECTIONS, MOST_CLAIMS, MOST_ID}
 use Rattle.command_words.specs.Grammar.{given}
-use Rattle.command_words.specs.Values.{IsBlockValue, IsNumberValue, IsNumberOr, IsTextValue, IsTextOrNone, IsYesValue, IsKindValue, IsReportValue, kind_word}
-use Rattle.command_words.specs.Asked.{name_of, app_for, IsStore, IsServing, HasValues, Asks, WordsAskForOne}
+use Rattle.command_words.specs.Values.{most_workers, most_connections, most_claims, most_id, IsBlockValue, IsNumberValue, IsNumberOr, IsTextValue, IsYesValue, IsKindValue, IsReportValue, kind_word}
+use Rattle.command_words.specs.Asked.{name_of, app_for, IsStore, IsServing, HasValues, WordsAskForOne}
 
 one_block : (text : Option (List ℕ)) (b c : Cidr) → IsBlockValue text b → IsBlockValue text c → b ≡ c
 one_block None b c h k = absurd h
@@ -76,7 +75,7 @@ one_report_named : (name prefix : Option (List ℕ)) (q r : Report) → sum (rep
 unfolding report_name
 one_report_named name prefix report.Tree report.Tree e h k = refl
 one_report_named name prefix report.Utilization report.Utilization e h k = refl
-one_report_named name prefix (report.Free m) (report.Free n) e h k = ap report.Free (one_number MOST_ID prefix m n (omega arith) h.1 k.1)
+one_report_named name prefix (report.Free m) (report.Free n) e h k = ap report.Free (one_number most_id prefix m n (omega arith) h.1 k.1)
 one_report_named name prefix q r e h k = absurd (omega arith)
 
 one_report : (name prefix : Option (List ℕ)) (q r : Report) → IsReportValue name prefix q → IsReportValue name prefix r → q ≡ r
@@ -92,12 +91,12 @@ one_store rows s t h k =
 one_serving : (rows : List Row) (s t : Serving) → IsServing rows s → IsServing rows t → s ≡ t
 one_serving rows s t h k =
     let bind : s.bind ≡ t.bind = one_text (first_of (codes "bind") rows) s.bind t.bind h.bind k.bind in
-    let workers : s.workers ≡ t.workers = one_number MOST_WORKERS (first_of (codes "workers") rows) s.workers t.workers (omega arith) h.workers k.workers in
+    let workers : s.workers ≡ t.workers = one_number most_workers (first_of (codes "workers") rows) s.workers t.workers (omega arith) h.workers k.workers in
     let connections : s.connections ≡ t.connections =
-        one_number_or MOST_CONNECTIONS MOST_CONNECTIONS (first_of (codes "connections") rows) s.connections t.connections (omega arith) h.connections k.connections in
+    one_number_or most_connections most_connections (first_of (codes "connections") rows) s.connections t.connections (omega arith) h.connections k.connections in
     let store : s.store ≡ t.store = one_store rows s.store t.store h.store k.store in
     let first : s ≡ record t { connections = s.connections; store = s.store } =
-        ap₂ (λ (b : List ℕ) (w : ℕ). record s { bind = b; workers = w }) bind workers in
+    ap₂ (λ (b : List ℕ) (w : ℕ). record s { bind = b; workers = w }) bind workers in
     first ∙ ap₂ (λ (c : ℕ) (d : Store). record t { connections = c; store = d }) connections store
 
 -- with one name they are one
@@ -110,7 +109,7 @@ one_named words (command.Import i s) (command.Import j t) e h k = ap₂ command.
 one_named words (command.Export i s) (command.Export j t) e h k = ap₂ command.Export (kinds_are_one _ i j h.0 k.0) (one_store _ s t h.1 k.1)
 one_named words (command.Report q s) (command.Report r t) e h k = ap₂ command.Report (one_report _ _ q r h.0 k.0) (one_store _ s t h.1 k.1)
 one_named words (command.Load m w) (command.Load n v) e h k =
-    ap₂ command.Load (one_number MOST_CLAIMS _ m n (omega arith) h.0 k.0) (one_number_or 1 MOST_WORKERS _ w v (omega arith) h.1 k.1)
+    ap₂ command.Load (one_number most_claims _ m n (omega arith) h.0 k.0) (one_number_or 1 most_workers _ w v (omega arith) h.1 k.1)
 one_named words one other e h k = absurd (omega arith)
 
 -- the first of two lists that are one

@@ -7,9 +7,8 @@ use Rattle.command_words.specs.declared.asked.Store.{Store}
 use Rattle.command_words.specs.declared.asked.Serving.{Serving}
 use Rattle.command_words.specs.declared.asked.Command.{Command}
 use Rattle.command_words.specs.declared.asked.Command.TheVariants.{Free, Session, Serve, Import, Export, Report, Load}
-use Rattle.command_words.specs.declared.TheConstants.{MOST_WORKERS, MOST_CONNECTIONS, MOST_CLAIMS}
 use Rattle.command_words.specs.Grammar.{Takes, given, free_app, session_app, serve_app, import_app, export_app, report_app, load_app}
-use Rattle.command_words.specs.Values.{IsBlockValue, IsNumberValue, IsNumberOr, IsTextValue, IsTextOrNone, IsYesValue, IsKindValue, IsReportValue}
+use Rattle.command_words.specs.Values.{most_workers, most_connections, most_claims, IsBlockValue, IsNumberValue, IsNumberOr, IsTextValue, IsTextOrNone, IsYesValue, IsKindValue, IsReportValue}
 
 -- the first word
 abbrev pub name_of : Command → List ℕ
@@ -39,8 +38,8 @@ pub record IsStore (rows : List Row) (store : Store) : Type 0 where
 -- what was given to `serve`
 pub record IsServing (rows : List Row) (serving : Serving) : Type 0 where
   pub bind : IsTextValue (first_of (codes "bind") rows) serving.bind
-  pub workers : IsNumberValue MOST_WORKERS (first_of (codes "workers") rows) serving.workers
-  pub connections : IsNumberOr MOST_CONNECTIONS MOST_CONNECTIONS (first_of (codes "connections") rows) serving.connections
+  pub workers : IsNumberValue most_workers (first_of (codes "workers") rows) serving.workers
+  pub connections : IsNumberOr most_connections most_connections (first_of (codes "connections") rows) serving.connections
   pub store : IsStore rows serving.store
 
 -- what was given are the values of the command
@@ -51,7 +50,7 @@ HasValues rows (Serve serving) = IsServing rows serving
 HasValues rows (Import kind store) = IsKindValue (first_of (codes "kind") rows) kind × IsStore rows store
 HasValues rows (Export kind store) = IsKindValue (first_of (codes "kind") rows) kind × IsStore rows store
 HasValues rows (Report report store) = IsReportValue (first_of (codes "name") rows) (first_of (codes "prefix") rows) report × IsStore rows store
-HasValues rows (Load count workers) = IsNumberValue MOST_CLAIMS (first_of (codes "count") rows) count × IsNumberOr 1 MOST_WORKERS (first_of (codes "workers") rows) workers
+HasValues rows (Load count workers) = IsNumberValue most_claims (first_of (codes "count") rows) count × IsNumberOr 1 most_workers (first_of (codes "workers") rows) workers
 
 -- the words ask for the command
 pub record Asks (words : List (List ℕ)) (command : Command) : Type 0 where

@@ -6,7 +6,19 @@ use Rattle.command_words.specs.declared.asked.KindName.{KindName}
 use Rattle.command_words.specs.declared.asked.KindName.TheVariants.{Vrfs, Rirs, Roles, Aggregates, Prefixes, Ranges, Addresses}
 use Rattle.command_words.specs.declared.asked.Report.{Report}
 use Rattle.command_words.specs.declared.asked.Report.TheVariants.{Tree, Utilization, Free}
-use Rattle.command_words.specs.declared.TheConstants.{MOST_ID}
+
+-- the most workers, the most connections of a worker, the most claims of a load, the greatest id
+abbrev pub most_workers : ℕ
+most_workers = 32
+
+abbrev pub most_connections : ℕ
+most_connections = 1000000000
+
+abbrev pub most_claims : ℕ
+most_claims = 100000
+
+abbrev pub most_id : ℕ
+most_id = 4294967295
 
 -- the text of a block of a length of at least 1
 abbrev pub IsBlockValue : Option (List ℕ) → Cidr → Type 0
@@ -56,4 +68,4 @@ IsKindValue text kind = text ≡ Some (kind_word kind)
 abbrev pub IsReportValue : Option (List ℕ) → Option (List ℕ) → Report → Type 0
 IsReportValue name prefix Tree = (name ≡ Some (codes "tree")) × (prefix ≡ None)
 IsReportValue name prefix Utilization = (name ≡ Some (codes "utilization")) × (prefix ≡ None)
-IsReportValue name prefix (Free id) = (name ≡ Some (codes "free")) × IsNumberValue MOST_ID prefix id
+IsReportValue name prefix (Free id) = (name ≡ Some (codes "free")) × IsNumberValue most_id prefix id

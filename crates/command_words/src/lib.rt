@@ -18,15 +18,6 @@ use readers::{
 use std::alloc::{AllocError, Global};
 use values::is_word;
 
-/// The most workers that may be asked for.
-pub const MOST_WORKERS: u32 = 32;
-/// The most connections of a worker.
-pub const MOST_CONNECTIONS: u32 = 1000000000;
-/// The most claims of a load.
-pub const MOST_CLAIMS: u32 = 100000;
-/// The greatest id of a record.
-pub const MOST_ID: u32 = 4294967295;
-
 /// The first word.
 fn first_word<'a>(words: &'a [&'a str]) -> Option<&'a str>
     ensures { MatchOption result (map (λ w. w.now) words.entry.now ≡ []) (λ name. (rest : List (List ℕ)) × (map (λ w. w.now) words.entry.now ≡ name.now ∷ rest)) }

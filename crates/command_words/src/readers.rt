@@ -12,13 +12,22 @@ use crate::builder::{
 use crate::values::{
     block_value, kind_value, number_or, number_value, report_value, store_value, text_value,
 };
-use crate::{MOST_CLAIMS, MOST_CONNECTIONS, MOST_WORKERS};
 use clap::ArgMatches;
 use std::alloc::{AllocError, Global};
 
+/// The most workers.
+const MOST_WORKERS: u32 = 32;
+/// The most connections of a worker.
+const MOST_CONNECTIONS: u32 = 1_000_000_000;
+/// The most claims of a load.
+const MOST_CLAIMS: u32 = 100_000;
+
 /// Reads the words of `free`. `Err` is want of memory.
 #[tactic(auto, using(crate::proofs::Plain::free_is_plain))]
-pub(crate) fn read_free<'a>(alloc: Global, words: &'a [&'a str]) -> Result<Option<Command>, AllocError>
+pub(crate) fn read_free<'a>(
+    alloc: Global,
+    words: &'a [&'a str],
+) -> Result<Option<Command>, AllocError>
     ensures { IfOk result (λ found. IsReadAs (codes "free") (map (λ w. w.now) words.entry.now) found) }
 {
     let command = free_command(alloc)?;
@@ -50,10 +59,7 @@ pub(crate) fn read_session<'a>(
 }
 
 /// The values of `serve`. `Err` is want of memory.
-fn serving_value<'a>(
-    alloc: Global,
-    matches: &ArgMatches<'a>,
-) -> Result<Option<Serving>, AllocError>
+fn serving_value<'a>(alloc: Global, matches: &ArgMatches<'a>) -> Result<Option<Serving>, AllocError>
     ensures { IfOk result (λ found. MatchOption found ((s : Serving) → ¬ IsServing (rows_of (found_of matches.now)) s) (λ s. IsServing (rows_of (found_of matches.now)) s)) }
 {
     let Some(workers) = number_value(value(matches, "workers"), MOST_WORKERS) else {
@@ -72,7 +78,12 @@ fn serving_value<'a>(
     let Some(store) = store_value(alloc, matches)? else {
         return Ok(None);
     };
-    Ok(Some(Serving { bind, workers, connections, store }))
+    Ok(Some(Serving {
+        bind,
+        workers,
+        connections,
+        store,
+    }))
 }
 
 /// Reads the words of `serve`. `Err` is want of memory.
@@ -158,7 +169,10 @@ pub(crate) fn read_report<'a>(
 
 /// Reads the words of `load`. `Err` is want of memory.
 #[tactic(auto, using(crate::proofs::Plain::load_is_plain))]
-pub(crate) fn read_load<'a>(alloc: Global, words: &'a [&'a str]) -> Result<Option<Command>, AllocError>
+pub(crate) fn read_load<'a>(
+    alloc: Global,
+    words: &'a [&'a str],
+) -> Result<Option<Command>, AllocError>
     ensures { IfOk result (λ found. IsReadAs (codes "load") (map (λ w. w.now) words.entry.now) found) }
 {
     let command = load_command(alloc)?;

@@ -8,11 +8,13 @@ ghost use Rattle.command_words.specs.Asked.{IsStore};
 
 use crate::asked::{KindName, Report, Store, WordText};
 use crate::builder::value;
-use crate::MOST_ID;
 use clap::ArgMatches;
 use inet_num::{Block, read_block};
 use itoa::Buffer;
 use std::alloc::{AllocError, Global};
+
+/// The greatest id of a record.
+const MOST_ID: u32 = 4_294_967_295;
 
 /// Whether the word is this one.
 pub(crate) fn is_word(word: &str, name: &str) -> bool
