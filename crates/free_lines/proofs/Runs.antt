@@ -24,7 +24,7 @@ printed_front within (Some x) (Some y) old new children blocks bytes took end re
     (lines_text_of blocks, subst (λ (t : List ℕ). IsFreeText within t (lines_text_of blocks)) (sym whole) text, front, ap Some end)
 
 -- what holds of all bytes holds of told ones
-always : (told : Option (List ℕ)) (P : List ℕ → Type 0) → ((bytes : List ℕ) → P bytes) → IfSome told P
+pub always : (told : Option (List ℕ)) (P : List ℕ → Type 0) → ((bytes : List ℕ) → P bytes) → IfSome told P
 always None P h = tt
 always (Some bytes) P h = h bytes
 

@@ -12,7 +12,8 @@ blocks_left-requires g c = let read = c.in_ok-children.ensures.read in all_insid
 
 pub returns-clause-end : goal.returns-clause-end
 returns-clause-end g c =
-    let read = c.in_ok-children.ensures.read in
-    (c.in-Err.ensures.cause.failed refl,
-    printed_front c.args.within.now _ _ _ _ c.in_ok-children.children.items c.in_ok-blocks.blocks.items read.0 read.1 read.2 read.3 c.in_ok-blocks.ensures
-    (subst (λ (bs : List Cidr). AppendsFront (g.Si.Sink.written c.args.output.now) (g.Si.Sink.written c.write_blocks.new.output) (lines_text_of bs)) c.deref.ensures.value c.in-Err.ensures.told))
+    let read = c.in_ok-children.ensures.read in (
+      c.in-Err.ensures.cause.failed refl,
+      printed_front c.args.within.now _ _ _ _ c.in_ok-children.children.items c.in_ok-blocks.blocks.items read.0 read.1 read.2 read.3 c.in_ok-blocks.ensures
+          (subst (λ (bs : List Cidr). AppendsFront (g.Si.Sink.written c.args.output.now) (g.Si.Sink.written c.write_blocks.new.output) (lines_text_of bs)) c.deref.ensures.value c.in-Err.ensures.told),
+    )

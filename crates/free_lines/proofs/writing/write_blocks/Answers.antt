@@ -19,6 +19,6 @@ loop-block-preserved g c =
     let now = c.make_room.ensures.cause.later in
     record {
       passed = passes_line _ _ _ _ _ _ _ _ (line_text_of c.block-item.result) c.loop-block.invariant.passed c.in_ok-make_room.ensures.passed c.push_line.ensures
-      (text_more blocks i c.block-item.result c.loop-block-test.true ∙ ap (λ (b : Cidr). lines_text_of (take i blocks) ++ line_text_of b) (sym c.block-item.is));
+          (text_more blocks i c.block-item.result c.loop-block-test.true ∙ ap (λ (b : Cidr). lines_text_of (take i blocks) ++ line_text_of b) (sym c.block-item.is));
       later = omega arith;
     }
