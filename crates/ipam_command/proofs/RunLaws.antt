@@ -1,5 +1,5 @@
 -- The one relation of a run gives each promise.
-use Rattle.std.proofs.Common.{◌≡◌, ◌∙◌, ℕ, ◌≤◌, ◌⊎◌, inl, inr, refl, sym, ap, subst, arith, Bool, List, Option, None, IfSome}
+use Rattle.std.proofs.Common.{◌≡◌, ◌∙◌, ℕ, ◌≤◌, ◌⊎◌, inl, inr, refl, sym, ap, subst, arith, Bool, List, [], Option, Some, None, IfSome}
 use Rattle.inet_num.specs.Net.{Cidr}
 use Rattle.http_session.specs.declared.session.SessionEnd.TheVariants.{SourceFault}
 use Rattle.command_words.specs.declared.asked.Store.{Store}
@@ -7,14 +7,15 @@ use Rattle.command_words.specs.declared.asked.Command.{Command}
 use Rattle.command_words.specs.declared.asked.Command.TheVariants.{Free, Session, Serve, Import, Export, Report, Load}
 use Rattle.command_words.specs.Asked.{Asks}
 use Rattle.command_words.proofs.Unique.{words_ask_for_one}
-use Rattle.command_streams.specs.Streams.{Streams, Failed, SomeFailed, NeverFalls}
+use Rattle.command_streams.specs.Streams.{Streams, Gains, Failed, SomeFailed, NeverFalls}
 use Rattle.free_lines.specs.declared.free.LineFault.{LineFault}
-use Rattle.free_lines.specs.Free.{IsRefusedLine}
+use Rattle.free_lines.specs.Free.{IsFreeText, IsRefusedLine, refusal_text_of}
 use Rattle.free_lines.specs.Run.{IsFree}
+use Rattle.free_lines.proofs.OneAnswer.{one_answer}
 use Rattle.free_lines.proofs.Runs.{always}
 use Rattle.ipam_command.specs.Session.{Serves, IsSession}
 use Rattle.ipam_command.specs.Runs.{Stands, Answers, AsksNothing, IsUsage, Runs}
-use Rattle.ipam_command.specs.Clauses.{AsksSession, HasClauses, RunsHaveClauses}
+use Rattle.ipam_command.specs.Clauses.{AsksSession, IsExact, HasClauses, RunsHaveClauses}
 use Rattle.ipam_command.proofs.Sessions.{session_not_begun}
 
 -- the words of `free` are not those of `session`
@@ -31,6 +32,18 @@ same_store words a b f g = let e = words_ask_for_one words (Session a) (Session 
 in_memory : (words : List (List ℕ)) (store : Store) → store.db ≡ None → Asks words (Session store) → AsksSession words store.global_unique
 in_memory words store none asks =
     subst (Asks words) (ap (λ (d : Option (List ℕ)). Session (record { db = d; global_unique = store.global_unique })) none) asks
+
+-- where the blocks were printed no line is refused
+exact_done : (within : Cidr) (told : Option (List ℕ)) (Gained : List ℕ → Type 0) (Ended : Type 0) (status : ℕ) → status ≡ 0
+    → IfSome told (λ input. (text : List ℕ) × IsFreeText within input text × Gained text × Ended) → IfSome told (IsExact within status)
+exact_done within None Gained Ended status zero printed = tt
+exact_done within (Some input) Gained Ended status zero printed = inr (inr (zero, (λ number fault refused. one_answer.apart within input printed.0 number fault printed.1 refused)))
+
+-- where a line was named it is refused
+exact_refused : (within : Cidr) (told : Option (List ℕ)) (Said : ℕ → LineFault → Type 0) (status : ℕ) → status ≡ 1
+    → IfSome told (λ bytes. (number : ℕ) × (fault : LineFault) × IsRefusedLine within bytes number fault × Said number fault) → IfSome told (IsExact within status)
+exact_refused within None Said status one named = tt
+exact_refused within (Some bytes) Said status one named = inr (inl (one, (named.0, named.1, named.2)))
 
 -- ---- a run of `free`
 
@@ -67,6 +80,18 @@ of_free words old new status within asks f = record {
       ]
     ]
   ];
+  exact = λ other a well. (
+      let same : within ≡ other = same_block words within other asks a in
+      subst (λ (b : Cidr). IfSome old.input.bytes (IsExact b status)) same (elim f.statuses [
+        | inl e ↦ exact_done within old.input.bytes (λ text. Gains old.output new.output text) (new.input.bytes ≡ Some []) status e (f.done e).0
+        | inr more ↦ elim more [
+          | inl e ↦ exact_refused within old.input.bytes (λ number fault. Gains old.errors new.errors (refusal_text_of within number fault)) status e (f.refused e).0
+          | inr rest ↦ elim rest [
+            | inl e ↦ absurd (well (elim (f.fault e) [ inl h ↦ inl h.failed | inr faults ↦ elim faults [ inl h ↦ inr (inl h.failed) | inr h ↦ inr (inr h.failed) ] ]))
+            | inr e ↦ always old.input.bytes _ (λ bytes. inl e)
+          ]
+        ]
+      ]));
   later = f.later;
 }
 
@@ -99,6 +124,7 @@ of_session words old new status store asks none s = record {
       | inr e ↦ inr (inr e)
     ]
   ];
+  exact = λ within a well. absurd (free_apart words within store a asks);
   later = s.later;
 }
 
@@ -119,6 +145,7 @@ of_none words old new status none u = record {
   refuses = λ within number fault a. absurd (none (Free within) a tt);
   session = λ unique a. absurd (none (Session (record { db = None; global_unique = unique })) a refl);
   complete = λ command a stands well. absurd (none command a stands);
+  exact = λ within a well. absurd (none (Free within) a tt);
   later = u.later;
 }
 
@@ -143,6 +170,7 @@ of_memory words old new status five same =
       refuses = λ within number fault a. always old.input.bytes _ (λ bytes h. inr (inr five));
       session = λ unique a. session_not_begun unique old new status five same;
       complete = λ command a stands well. inr (inr five);
+      exact = λ within a well. always old.input.bytes _ (λ bytes. inl five);
       later = subst (λ (t : Streams). NeverFalls old t) (sym same) (record { input = omega arith; output = omega arith; errors = omega arith });
     }
 

@@ -26,6 +26,13 @@ IsDone words old new =
     ((within : Cidr) × AsksFree words within × PrintsFree within old.input new.input old.output new.output)
     ⊎ ((unique : Bool) × AsksSession words unique × PrintsSession unique old.input old.output new.output)
 
+-- the status says whether a line of these bytes is refused: 1 where one is, 0 where none is, and 5 for want of memory
+abbrev pub IsExact : Cidr → ℕ → List ℕ → Type 0
+IsExact within status bytes =
+    (status ≡ 5)
+    ⊎ ((status ≡ 1) × ((number : ℕ) × (fault : LineFault) × IsRefusedLine within bytes number fault))
+    ⊎ ((status ≡ 0) × ((number : ℕ) (fault : LineFault) → ¬ IsRefusedLine within bytes number fault))
+
 -- the clauses of a run
 pub record HasClauses (words : List (List ℕ)) (old new : Streams) (status : ℕ) : Type 0 where
   -- the status is one of these
@@ -59,6 +66,9 @@ pub record HasClauses (words : List (List ℕ)) (old new : Streams) (status : �
   pub session : (unique : Bool) → AsksSession words unique → IsSession unique old new status
   -- a command that stands ends by itself where nothing fails: done, refused, or for want of memory
   pub complete : (command : Command) → Asks words command → Stands command → (¬ SomeFailed old new) → (status ≡ 0) ⊎ (status ≡ 1) ⊎ (status ≡ 5)
+  -- `free`: over a told input, where nothing fails, the status is 1 exactly where a line is refused, memory apart
+  pub exact : (within : Cidr) → AsksFree words within → (¬ SomeFailed old new) → IfSome old.input.bytes (IsExact within status)
+  -- no count of faults falls
   pub later : NeverFalls old new
 
 -- a run has all of these
