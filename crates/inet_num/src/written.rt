@@ -185,20 +185,27 @@ pub fn write_addr(addr: Addr, out: &mut Vec<u8>) -> Result<(), AllocError>
     }
 }
 
+/// The canonical text of a block, as `10.0.0.0/8` or `2001:db8::/32`. It takes no memory.
+pub fn block_text(block: Block) -> ArrayVec<u8, 48>
+    ensures { result.items ≡ block_text_of block }
+{
+    match block.family {
+        Family::V4 => {
+            let quad = quad_block_text(block.first as u32, block.len);
+            let mut text = ArrayVec::new();
+            push_all(&mut text, quad.as_str().as_bytes());
+            text
+        }
+        Family::V6 => groups_block_text(block.first, block.len),
+    }
+}
+
 /// Appends the canonical text of a block, as `10.0.0.0/8` or `2001:db8::/32` (RFC 5952 4; an IPv6 block is always written
 /// in groups). After want of memory `out` is as before.
 pub fn write_block(block: Block, out: &mut Vec<u8>) -> Result<(), AllocError>
     ensures ok { OnOk result (out.new.items ≡ out.old.items ++ block_text_of block) }
     ensures err { OnErr result (out.new.items ≡ out.old.items) }
 {
-    match block.family {
-        Family::V4 => {
-            let text = quad_block_text(block.first as u32, block.len);
-            out.extend_from_slice(text.as_str().as_bytes())
-        }
-        Family::V6 => {
-            let text = groups_block_text(block.first, block.len);
-            out.extend_from_slice(text.as_slice())
-        }
-    }
+    let text = block_text(block);
+    out.extend_from_slice(text.as_slice())
 }

@@ -1,0 +1,54 @@
+-- What is seen of the input, the output and the messages of a command, before it and after it.
+use Rattle.std.specs.Prelude.{◌≡◌, ℕ, ◌≤◌, ◌⊎◌, List, Option}
+use Rattle.std.specs.Io.KnownBytes.{Appends, Keeps}
+use Rattle.ipam_edge.specs.Faults.{Rose}
+use Rattle.ipam_edge.specs.Writing.{AppendsFront}
+
+-- what an object of the outside tells: its bytes, where it tells them, and its count of faults
+pub record Told : Type 0 where
+  pub bytes : Option (List ℕ)
+  pub faults : ℕ
+
+-- what an object tells, by the members of its trait
+abbrev pub told : {S : Type 0} → (S → Option (List ℕ)) → (S → ℕ) → S → Told
+told bytes faults object = record { bytes = bytes object; faults = faults object }
+
+-- the input tells the bytes that are left, the output and the messages those that were written
+pub record Streams : Type 0 where
+  pub input : Told
+  pub output : Told
+  pub errors : Told
+
+abbrev pub streams : Told → Told → Told → Streams
+streams input output errors = record { input = input; output = output; errors = errors }
+
+-- the object gained this text
+abbrev pub Gains : Told → Told → List ℕ → Type 0
+Gains old new text = Appends old.bytes new.bytes text
+
+-- it gained a front of this text, which may be empty
+abbrev pub GainsFront : Told → Told → List ℕ → Type 0
+GainsFront old new text = AppendsFront old.bytes new.bytes text
+
+-- its bytes are as they were
+abbrev pub Stays : Told → Told → Type 0
+Stays old new = Keeps old.bytes new.bytes
+
+-- it failed meanwhile
+abbrev pub Failed : Told → Told → Type 0
+Failed old new = Rose old.faults new.faults
+
+-- one of the objects failed meanwhile
+abbrev pub SomeFailed : Streams → Streams → Type 0
+SomeFailed old new = Failed old.input new.input ⊎ Failed old.output new.output ⊎ Failed old.errors new.errors
+
+-- no count of faults falls
+pub record NeverFalls (old new : Streams) : Type 0 where
+  pub input : old.input.faults ≤ new.input.faults
+  pub output : old.output.faults ≤ new.output.faults
+  pub errors : old.errors.faults ≤ new.errors.faults
+
+-- the message was said and the command ends with its status, or the object failed, gained a front of it, and the status is 3
+abbrev pub EndsWith : Told → Told → List ℕ → ℕ → ℕ → Type 0
+EndsWith old new message wanted status =
+    ((status ≡ wanted) × Gains old new message) ⊎ ((status ≡ 3) × Failed old new × GainsFront old new message)

@@ -1,0 +1,29 @@
+//! What the commands of the program share: their statuses, and how a message ends one.
+#![tactic(auto)]
+
+ghost use Rattle.std.specs.Prelude.{◌≡◌, ◌≤◌};
+ghost use Rattle.command_streams.specs.Streams.{EndsWith, told};
+
+use ipam_edge::{Sink, write_all};
+
+/// Done.
+pub const DONE: u8 = 0;
+/// The input, a record, an import or a loaded table breaks a stated rule, which the messages name.
+pub const REFUSED: u8 = 1;
+/// The words are no command.
+pub const USAGE: u8 = 2;
+/// The input, the output or the messages failed.
+pub const FAULT: u8 = 3;
+/// Want of memory.
+pub const MEMORY: u8 = 5;
+
+/// Writes a message, after which a command ends with this status, or with that of a fault where it can't be written.
+pub fn end_with<Se: Sink>(errors: &mut Se, message: &[u8], status: u8) -> u8
+    ensures ends { EndsWith (told Se.written Se.faults errors.old) (told Se.written Se.faults errors.new) message.now status result }
+    ensures later { Se.faults errors.old ≤ Se.faults errors.new }
+{
+    match write_all(errors, message) {
+        Ok(()) => status,
+        Err(_) => FAULT,
+    }
+}

@@ -1,0 +1,121 @@
+-- Words ask for one command: each value is determined by the text that was given, and the names of commands differ.
+use Rattle.std.proofs.Common.{◌≡◌, ℕ, ◌<◌, ◌^◌, refl, sym, ◌∙◌, ap, ap₂, arith, Bool, true, false, List, ◌∷◌, Option, Some, None, codes, sum}
+use Rattle.std.proofs.lemmas.Fmt.{decimal_injective}
+use Rattle.inet_num.specs.Net.{Cidr}
+use Rattle.inet_num.proofs.Readings.{reading_is_one}
+use Rattle.clap.specs.Walk.{Row}
+use Rattle.clap.specs.Words.{first_of}
+use Rattle.command_words.specs.declared.asked.KindName.{KindName}
+use Rattle.command_words.specs.declared.asked.KindName.TheVariants.{Vrfs, Rirs, Roles, Aggregates, Prefixes, Ranges, Addresses}
+use Rattle.command_words.specs.declared.asked.Report.{Report}
+use Rattle.command_words.specs.declared.asked.Report.TheVariants as report
+use Rattle.command_words.specs.declared.asked.Store.{Store}
+use Rattle.command_words.specs.declared.asked.Serving.{Serving}
+use Rattle.command_words.specs.declared.asked.Command.{Command}
+use Rattle.command_words.specs.declared.asked.Command.TheVariants as command
+use Rattle.command_words.specs.Grammar.{given}
+use Rattle.command_words.specs.Values.{most_workers, most_connections, most_claims, most_id, IsBlockValue, IsNumberValue, IsNumberOr, IsTextValue, IsYesValue, IsKindValue, IsReportValue, kind_word}
+use Rattle.command_words.specs.Asked.{name_of, app_for, IsStore, IsServing, HasValues, WordsAskForOne}
+
+one_block : (text : Option (List ℕ)) (b c : Cidr) → IsBlockValue text b → IsBlockValue text c → b ≡ c
+one_block None b c h k = absurd h
+one_block (Some text) b c h k = reading_is_one.blocks text b c h.0 k.0
+
+one_number : (most : ℕ) (text : Option (List ℕ)) (m n : ℕ) → most < 2 ^ 64 → IsNumberValue most text m → IsNumberValue most text n → m ≡ n
+one_number most None m n small h k = absurd h
+one_number most (Some text) m n small h k =
+    let low = h.2 in
+    let low_too = k.2 in
+    decimal_injective m n (omega arith) (omega arith) (sym h.0 ∙ k.0)
+
+one_number_or : (usual most : ℕ) (text : Option (List ℕ)) (m n : ℕ) → most < 2 ^ 64 → IsNumberOr usual most text m → IsNumberOr usual most text n → m ≡ n
+one_number_or usual most None m n small h k = h ∙ sym k
+one_number_or usual most (Some text) m n small h k = one_number most (Some text) m n small h k
+
+one_text : (text : Option (List ℕ)) (s t : List ℕ) → IsTextValue text s → IsTextValue text t → s ≡ t
+one_text None s t h k = absurd h
+one_text (Some text) s t h k = h.0 ∙ sym k.0
+
+one_answer : (text : Option (List ℕ)) (b c : Bool) → IsYesValue text b → IsYesValue text c → b ≡ c
+one_answer None b c h k = h ∙ sym k
+one_answer (Some text) true true h k = refl
+one_answer (Some text) false false h k = refl
+one_answer (Some text) true false h k = (let e : sum (codes "yes") ≡ sum (codes "no") = ap sum (sym h ∙ k) in absurd (omega arith))
+one_answer (Some text) false true h k = (let e : sum (codes "no") ≡ sum (codes "yes") = ap sum (sym h ∙ k) in absurd (omega arith))
+
+-- what is in both is one
+one_of_two : (a b : List ℕ) → Some a ≡ Some b → a ≡ b
+one_of_two a b h = cc
+
+one_kind : (j k : KindName) → sum (kind_word j) ≡ sum (kind_word k) → j ≡ k
+one_kind Vrfs Vrfs e = refl
+one_kind Rirs Rirs e = refl
+one_kind Roles Roles e = refl
+one_kind Aggregates Aggregates e = refl
+one_kind Prefixes Prefixes e = refl
+one_kind Ranges Ranges e = refl
+one_kind Addresses Addresses e = refl
+one_kind j k e = absurd (omega arith)
+
+kinds_are_one : (text : Option (List ℕ)) (j k : KindName) → IsKindValue text j → IsKindValue text k → j ≡ k
+kinds_are_one text j k h e = one_kind j k (ap sum (one_of_two (kind_word j) (kind_word k) (sym h ∙ e)))
+
+report_name : Report → List ℕ
+report_name report.Tree = codes "tree"
+report_name report.Utilization = codes "utilization"
+report_name (report.Free id) = codes "free"
+
+named_so : (name prefix : Option (List ℕ)) (r : Report) → IsReportValue name prefix r → name ≡ Some (report_name r)
+unfolding report_name
+named_so name prefix report.Tree h = h.0
+named_so name prefix report.Utilization h = h.0
+named_so name prefix (report.Free id) h = h.0
+
+one_report_named : (name prefix : Option (List ℕ)) (q r : Report) → sum (report_name q) ≡ sum (report_name r) → IsReportValue name prefix q → IsReportValue name prefix r → q ≡ r
+unfolding report_name
+one_report_named name prefix report.Tree report.Tree e h k = refl
+one_report_named name prefix report.Utilization report.Utilization e h k = refl
+one_report_named name prefix (report.Free m) (report.Free n) e h k = ap report.Free (one_number most_id prefix m n (omega arith) h.1 k.1)
+one_report_named name prefix q r e h k = absurd (omega arith)
+
+one_report : (name prefix : Option (List ℕ)) (q r : Report) → IsReportValue name prefix q → IsReportValue name prefix r → q ≡ r
+one_report name prefix q r h k =
+    one_report_named name prefix q r (ap sum (one_of_two (report_name q) (report_name r) (sym (named_so name prefix q h) ∙ named_so name prefix r k))) h k
+
+one_store : (rows : List Row) (s t : Store) → IsStore rows s → IsStore rows t → s ≡ t
+one_store rows s t h k =
+    let db : s.db ≡ t.db = h.db.0 ∙ sym k.db.0 in
+    let unique : s.global_unique ≡ t.global_unique = one_answer (first_of (codes "global-unique") rows) s.global_unique t.global_unique h.unique k.unique in
+    ap₂ (λ (d : Option (List ℕ)) (u : Bool). record { db = d; global_unique = u }) db unique
+
+one_serving : (rows : List Row) (s t : Serving) → IsServing rows s → IsServing rows t → s ≡ t
+one_serving rows s t h k =
+    let bind : s.bind ≡ t.bind = one_text (first_of (codes "bind") rows) s.bind t.bind h.bind k.bind in
+    let workers : s.workers ≡ t.workers = one_number most_workers (first_of (codes "workers") rows) s.workers t.workers (omega arith) h.workers k.workers in
+    let connections : s.connections ≡ t.connections =
+    one_number_or most_connections most_connections (first_of (codes "connections") rows) s.connections t.connections (omega arith) h.connections k.connections in
+    let store : s.store ≡ t.store = one_store rows s.store t.store h.store k.store in
+    let first : s ≡ record t { connections = s.connections; store = s.store } =
+    ap₂ (λ (b : List ℕ) (w : ℕ). record s { bind = b; workers = w }) bind workers in
+    first ∙ ap₂ (λ (c : ℕ) (d : Store). record t { connections = c; store = d }) connections store
+
+-- with one name they are one
+one_named : (words : List (List ℕ)) (one other : Command) → sum (name_of one) ≡ sum (name_of other) → HasValues (given (app_for one) words) one
+    → HasValues (given (app_for other) words) other → one ≡ other
+one_named words (command.Free b) (command.Free c) e h k = ap command.Free (one_block _ b c h k)
+one_named words (command.Session s) (command.Session t) e h k = ap command.Session (one_store _ s t h k)
+one_named words (command.Serve s) (command.Serve t) e h k = ap command.Serve (one_serving _ s t h k)
+one_named words (command.Import i s) (command.Import j t) e h k = ap₂ command.Import (kinds_are_one _ i j h.0 k.0) (one_store _ s t h.1 k.1)
+one_named words (command.Export i s) (command.Export j t) e h k = ap₂ command.Export (kinds_are_one _ i j h.0 k.0) (one_store _ s t h.1 k.1)
+one_named words (command.Report q s) (command.Report r t) e h k = ap₂ command.Report (one_report _ _ q r h.0 k.0) (one_store _ s t h.1 k.1)
+one_named words (command.Load m w) (command.Load n v) e h k =
+    ap₂ command.Load (one_number most_claims _ m n (omega arith) h.0 k.0) (one_number_or 1 most_workers _ w v (omega arith) h.1 k.1)
+one_named words one other e h k = absurd (omega arith)
+
+-- the first of two lists that are one
+same_first : (a b : List ℕ) (more others : List (List ℕ)) → a ∷ more ≡ b ∷ others → a ≡ b
+same_first a b more others h = cc
+
+pub words_ask_for_one : WordsAskForOne
+words_ask_for_one = λ words one other h k.
+    one_named words one other (ap sum (same_first (name_of one) (name_of other) h.rest k.rest (sym h.named ∙ k.named))) h.values k.values

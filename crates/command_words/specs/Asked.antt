@@ -1,0 +1,74 @@
+-- Which command the words ask for: its name comes first, the words are some that it takes, and they give its values.
+use Rattle.std.specs.Prelude.{◌≡◌, ℕ, List, ◌∷◌, Option, MatchOption, codes}
+use Rattle.clap.specs.Simple.{App}
+use Rattle.clap.specs.Walk.{Row}
+use Rattle.clap.specs.Words.{first_of}
+use Rattle.command_words.specs.declared.asked.Store.{Store}
+use Rattle.command_words.specs.declared.asked.Serving.{Serving}
+use Rattle.command_words.specs.declared.asked.Command.{Command}
+use Rattle.command_words.specs.declared.asked.Command.TheVariants.{Free, Session, Serve, Import, Export, Report, Load}
+use Rattle.command_words.specs.Grammar.{Takes, given, free_app, session_app, serve_app, import_app, export_app, report_app, load_app}
+use Rattle.command_words.specs.Values.{most_workers, most_connections, most_claims, IsBlockValue, IsNumberValue, IsNumberOr, IsTextValue, IsTextOrNone, IsYesValue, IsKindValue, IsReportValue}
+
+-- the first word
+abbrev pub name_of : Command → List ℕ
+name_of (Free block) = codes "free"
+name_of (Session store) = codes "session"
+name_of (Serve serving) = codes "serve"
+name_of (Import kind store) = codes "import"
+name_of (Export kind store) = codes "export"
+name_of (Report report store) = codes "report"
+name_of (Load count workers) = codes "load"
+
+-- the words behind it that are taken
+abbrev pub app_for : Command → App
+app_for (Free block) = free_app
+app_for (Session store) = session_app
+app_for (Serve serving) = serve_app
+app_for (Import kind store) = import_app
+app_for (Export kind store) = export_app
+app_for (Report report store) = report_app
+app_for (Load count workers) = load_app
+
+-- what was given to the options of a store
+pub record IsStore (rows : List Row) (store : Store) : Type 0 where
+  pub db : IsTextOrNone (first_of (codes "db") rows) store.db
+  pub unique : IsYesValue (first_of (codes "global-unique") rows) store.global_unique
+
+-- what was given to `serve`
+pub record IsServing (rows : List Row) (serving : Serving) : Type 0 where
+  pub bind : IsTextValue (first_of (codes "bind") rows) serving.bind
+  pub workers : IsNumberValue most_workers (first_of (codes "workers") rows) serving.workers
+  pub connections : IsNumberOr most_connections most_connections (first_of (codes "connections") rows) serving.connections
+  pub store : IsStore rows serving.store
+
+-- what was given are the values of the command
+abbrev pub HasValues : List Row → Command → Type 0
+HasValues rows (Free block) = IsBlockValue (first_of (codes "block") rows) block
+HasValues rows (Session store) = IsStore rows store
+HasValues rows (Serve serving) = IsServing rows serving
+HasValues rows (Import kind store) = IsKindValue (first_of (codes "kind") rows) kind × IsStore rows store
+HasValues rows (Export kind store) = IsKindValue (first_of (codes "kind") rows) kind × IsStore rows store
+HasValues rows (Report report store) = IsReportValue (first_of (codes "name") rows) (first_of (codes "prefix") rows) report × IsStore rows store
+HasValues rows (Load count workers) = IsNumberValue most_claims (first_of (codes "count") rows) count × IsNumberOr 1 most_workers (first_of (codes "workers") rows) workers
+
+-- the words ask for the command
+pub record Asks (words : List (List ℕ)) (command : Command) : Type 0 where
+  pub rest : List (List ℕ)
+  pub named : words ≡ name_of command ∷ rest
+  pub taken : Takes (app_for command) words
+  pub values : HasValues (given (app_for command) words) command
+
+-- the words are no command
+abbrev pub IsNoCommand : List (List ℕ) → Type 0
+IsNoCommand words = (command : Command) → ¬ Asks words command
+
+-- what was found in words is the command of this name that they ask for, if their first word is this name, and nothing where they
+-- ask for none of this name
+abbrev pub IsReadAs : List ℕ → List (List ℕ) → Option Command → Type 0
+IsReadAs name words found = MatchOption found ((c : Command) → name_of c ≡ name → ¬ Asks words c)
+    (λ c. (rest : List (List ℕ)) → words ≡ name ∷ rest → Asks words c)
+
+-- words ask for one command
+abbrev pub WordsAskForOne : Type 0
+WordsAskForOne = (words : List (List ℕ)) (one other : Command) → Asks words one → Asks words other → one ≡ other

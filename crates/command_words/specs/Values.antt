@@ -1,0 +1,71 @@
+-- What the text of a place or an option says, where there is one.
+use Rattle.std.specs.Prelude.{◌≡◌, ◌≢◌, ℕ, ◌≤◌, Bool, true, false, List, [], Option, Some, None, codes, decimal}
+use Rattle.inet_num.specs.Net.{Cidr}
+use Rattle.inet_num.specs.Text.{IsBlockText}
+use Rattle.command_words.specs.declared.asked.KindName.{KindName}
+use Rattle.command_words.specs.declared.asked.KindName.TheVariants.{Vrfs, Rirs, Roles, Aggregates, Prefixes, Ranges, Addresses}
+use Rattle.command_words.specs.declared.asked.Report.{Report}
+use Rattle.command_words.specs.declared.asked.Report.TheVariants.{Tree, Utilization, Free}
+
+-- the most workers, the most connections of a worker, the most claims of a load, the greatest id
+abbrev pub most_workers : ℕ
+most_workers = 32
+
+abbrev pub most_connections : ℕ
+most_connections = 1000000000
+
+abbrev pub most_claims : ℕ
+most_claims = 100000
+
+abbrev pub most_id : ℕ
+most_id = 4294967295
+
+-- the text of a block of a length of at least 1
+abbrev pub IsBlockValue : Option (List ℕ) → Cidr → Type 0
+IsBlockValue None block = ⊥
+IsBlockValue (Some text) block = IsBlockText text block × (1 ≤ block.len)
+
+-- a number from 1 to the most, in decimal without a leading zero
+abbrev pub IsNumberValue : ℕ → Option (List ℕ) → ℕ → Type 0
+IsNumberValue most None n = ⊥
+IsNumberValue most (Some text) n = (text ≡ decimal n) × (1 ≤ n) × (n ≤ most)
+
+-- such a number, or the usual one where there is none
+abbrev pub IsNumberOr : ℕ → ℕ → Option (List ℕ) → ℕ → Type 0
+IsNumberOr usual most None n = n ≡ usual
+IsNumberOr usual most (Some text) n = IsNumberValue most (Some text) n
+
+-- any text but the empty one
+abbrev pub IsTextValue : Option (List ℕ) → List ℕ → Type 0
+IsTextValue None found = ⊥
+IsTextValue (Some text) found = (found ≡ text) × (text ≢ [])
+
+-- such a text, or none where there is none
+abbrev pub IsTextOrNone : Option (List ℕ) → Option (List ℕ) → Type 0
+IsTextOrNone text found = (found ≡ text) × (text ≢ Some [])
+
+-- `yes`, as nothing too, or `no`
+abbrev pub IsYesValue : Option (List ℕ) → Bool → Type 0
+IsYesValue None flag = flag ≡ true
+IsYesValue (Some text) true = text ≡ codes "yes"
+IsYesValue (Some text) false = text ≡ codes "no"
+
+-- the name of a kind, as its paths have it
+abbrev pub kind_word : KindName → List ℕ
+kind_word Vrfs = codes "vrfs"
+kind_word Rirs = codes "rirs"
+kind_word Roles = codes "roles"
+kind_word Aggregates = codes "aggregates"
+kind_word Prefixes = codes "prefixes"
+kind_word Ranges = codes "ip-ranges"
+kind_word Addresses = codes "ip-addresses"
+
+-- a kind by its name
+abbrev pub IsKindValue : Option (List ℕ) → KindName → Type 0
+IsKindValue text kind = text ≡ Some (kind_word kind)
+
+-- a report by its name; that on what is free of a prefix has the prefix's id, and no other has one
+abbrev pub IsReportValue : Option (List ℕ) → Option (List ℕ) → Report → Type 0
+IsReportValue name prefix Tree = (name ≡ Some (codes "tree")) × (prefix ≡ None)
+IsReportValue name prefix Utilization = (name ≡ Some (codes "utilization")) × (prefix ≡ None)
+IsReportValue name prefix (Free id) = (name ≡ Some (codes "free")) × IsNumberValue most_id prefix id

@@ -1,0 +1,95 @@
+//! What the program can be asked for.
+
+use inet_num::Block;
+use std::alloc::{AllocError, Global};
+use std::marker::Model;
+
+/// A text that was given, as the name of a file or of a place. A contract sees its bytes.
+#[derive(Debug, Drop)]
+pub struct WordText {
+    string: String,
+}
+
+impl Model for WordText {
+    ghost use Rattle.std.specs.Prelude.{List, ℕ, string_bytes};
+
+    ghost Value = { List ℕ };
+
+    ghost view = { λ n. string_bytes n.string };
+}
+
+impl WordText {
+    ghost use Rattle.std.specs.Prelude.{◌≡◌, IfOk};
+
+    /// A copy of the text. `Err` is want of memory.
+    pub(crate) fn of(alloc: Global, text: &str) -> Result<WordText, AllocError>
+        ensures { IfOk result (λ n. n ≡ text.now) }
+    {
+        Ok(WordText {
+            string: String::from_str(alloc, text)?,
+        })
+    }
+
+    /// The text as it was given.
+    pub fn as_str(&self) -> &str
+        ensures { result.now ≡ self.now }
+    {
+        self.string.as_str()
+    }
+}
+
+/// A kind of record, by the name that its paths have.
+#[derive(Clone, Copy, Debug)]
+pub enum KindName {
+    Vrfs,
+    Rirs,
+    Roles,
+    Aggregates,
+    Prefixes,
+    Ranges,
+    Addresses,
+}
+
+/// A report by its name.
+#[derive(Clone, Copy, Debug)]
+pub enum Report {
+    Tree,
+    Utilization,
+    /// What is free of the prefix with this id.
+    Free(u32),
+}
+
+/// The file where a register is kept, if any, and whether its global table may have each block once.
+#[derive(Debug, Drop)]
+pub struct Store {
+    pub db: Option<WordText>,
+    pub global_unique: bool,
+}
+
+/// Where to listen, with how many workers, for how many connections of each, over which register.
+#[derive(Debug, Drop)]
+pub struct Serving {
+    pub bind: WordText,
+    pub workers: u32,
+    pub connections: u32,
+    pub store: Store,
+}
+
+/// What the program is asked to do.
+#[derive(Debug, Drop)]
+pub enum Command {
+    /// What is left of a block.
+    Free(Block),
+    /// One session over the input and the output.
+    Session(Store),
+    /// Sessions with all that connect.
+    Serve(Serving),
+    /// The rows of a file into the register.
+    Import(KindName, Store),
+    /// The rows of a kind out of the register.
+    Export(KindName, Store),
+    /// A text about the register.
+    Report(Report, Store),
+    /// So many claims by so many workers.
+    Load { count: u32, workers: u32 },
+}

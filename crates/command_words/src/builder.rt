@@ -1,0 +1,159 @@
+//! How clap is asked: a command of places and options, and what words give to them.
+
+ghost use Rattle.std.specs.Prelude.{◌≡◌, ◌↔◌, Option, IfOk, IsTrue, MatchOption, map, option_map, true, false, codes};
+ghost use Rattle.clap.specs.Words.{app_of, first_of, found_of, kind_of, rows_of, rule_of};
+ghost use Rattle.clap.specs.Simple.{App, with_rule};
+ghost use Rattle.command_words.specs.Grammar.{IsPlainCommand, Takes, given, command_app, option_rule, needed_rule, place_rule, with_store, free_app, session_app, serve_app, import_app, export_app, report_app, load_app};
+
+use clap::error::ErrorKind;
+use clap::{Arg, ArgAction, ArgMatches, Error};
+use std::alloc::{AllocError, Global};
+
+/// An option that takes one value.
+fn option<'a>(alloc: Global, name: &'a str) -> Arg<'a>
+    ensures rule { rule_of result ≡ option_rule name.entry.now }
+    ensures local { result.global ≡ false }
+{
+    Arg::new(alloc, name).long(name).action(ArgAction::Set)
+}
+
+/// An option that takes one value and has to be given.
+fn needed<'a>(alloc: Global, name: &'a str) -> Arg<'a>
+    ensures rule { rule_of result ≡ needed_rule name.entry.now }
+    ensures local { result.global ≡ false }
+{
+    Arg::new(alloc, name)
+        .long(name)
+        .required(true)
+        .action(ArgAction::Set)
+}
+
+/// A place that has to be filled.
+fn place<'a>(alloc: Global, name: &'a str) -> Arg<'a>
+    ensures rule { rule_of result ≡ place_rule name.entry.now }
+    ensures local { result.global ≡ false }
+{
+    Arg::new(alloc, name).required(true).action(ArgAction::Set)
+}
+
+/// A command of this name, without a help flag.
+fn plain_command<'a>(alloc: Global, name: &'a str) -> clap::Command<'a>
+    ensures { app_of result ≡ command_app name.entry.now }
+{
+    clap::Command::new(alloc, name).disable_help_flag(true)
+}
+
+/// The command with one more place or option. `Err` is want of memory.
+fn with<'a>(command: clap::Command<'a>, arg: Arg<'a>) -> Result<clap::Command<'a>, AllocError>
+    requires { arg.global ≡ false }
+    ensures { IfOk result (λ c. app_of c ≡ with_rule (app_of command.entry) (rule_of arg.entry)) }
+{
+    command.arg(arg)
+}
+
+/// The command with the options of a store. `Err` is want of memory.
+fn stored<'a>(alloc: Global, command: clap::Command<'a>) -> Result<clap::Command<'a>, AllocError>
+    ensures { IfOk result (λ c. app_of c ≡ with_store (app_of command.entry)) }
+{
+    let command = with(command, option(alloc, "db"))?;
+    with(command, option(alloc, "global-unique"))
+}
+
+/// `free P`. `Err` is want of memory.
+#[tactic(auto, unfolding(crate::specs::Grammar::free_app))]
+pub(crate) fn free_command<'a>(alloc: Global) -> Result<clap::Command<'a>, AllocError>
+    ensures { IfOk result (λ c. app_of c ≡ free_app) }
+{
+    with(plain_command(alloc, "free"), place(alloc, "block"))
+}
+
+/// `session`. `Err` is want of memory.
+#[tactic(auto, unfolding(crate::specs::Grammar::session_app))]
+pub(crate) fn session_command<'a>(alloc: Global) -> Result<clap::Command<'a>, AllocError>
+    ensures { IfOk result (λ c. app_of c ≡ session_app) }
+{
+    stored(alloc, plain_command(alloc, "session"))
+}
+
+/// `serve --bind HOST:PORT --workers N`. `Err` is want of memory.
+#[tactic(auto, unfolding(crate::specs::Grammar::serve_app))]
+pub(crate) fn serve_command<'a>(alloc: Global) -> Result<clap::Command<'a>, AllocError>
+    ensures { IfOk result (λ c. app_of c ≡ serve_app) }
+{
+    let command = with(plain_command(alloc, "serve"), needed(alloc, "bind"))?;
+    let command = with(command, needed(alloc, "workers"))?;
+    let command = with(command, option(alloc, "connections"))?;
+    stored(alloc, command)
+}
+
+/// `import KIND`. `Err` is want of memory.
+#[tactic(auto, unfolding(crate::specs::Grammar::import_app))]
+pub(crate) fn import_command<'a>(alloc: Global) -> Result<clap::Command<'a>, AllocError>
+    ensures { IfOk result (λ c. app_of c ≡ import_app) }
+{
+    let command = with(plain_command(alloc, "import"), place(alloc, "kind"))?;
+    stored(alloc, command)
+}
+
+/// `export KIND`. `Err` is want of memory.
+#[tactic(auto, unfolding(crate::specs::Grammar::export_app))]
+pub(crate) fn export_command<'a>(alloc: Global) -> Result<clap::Command<'a>, AllocError>
+    ensures { IfOk result (λ c. app_of c ≡ export_app) }
+{
+    let command = with(plain_command(alloc, "export"), place(alloc, "kind"))?;
+    stored(alloc, command)
+}
+
+/// `report NAME`. `Err` is want of memory.
+#[tactic(auto, unfolding(crate::specs::Grammar::report_app))]
+pub(crate) fn report_command<'a>(alloc: Global) -> Result<clap::Command<'a>, AllocError>
+    ensures { IfOk result (λ c. app_of c ≡ report_app) }
+{
+    let command = with(plain_command(alloc, "report"), place(alloc, "name"))?;
+    let command = with(command, option(alloc, "prefix"))?;
+    stored(alloc, command)
+}
+
+/// `load N`. `Err` is want of memory.
+#[tactic(auto, unfolding(crate::specs::Grammar::load_app))]
+pub(crate) fn load_command<'a>(alloc: Global) -> Result<clap::Command<'a>, AllocError>
+    ensures { IfOk result (λ c. app_of c ≡ load_app) }
+{
+    let command = with(plain_command(alloc, "load"), place(alloc, "count"))?;
+    with(command, option(alloc, "workers"))
+}
+
+/// Whether the error is want of memory; any other is that the words are not taken.
+fn is_memory(error: &Error) -> bool
+    ensures { IsTrue result ↔ (kind_of error.now ≡ ErrorKind.OutOfMemory) }
+{
+    matches!(error.kind(), ErrorKind::OutOfMemory)
+}
+
+/// What the words give, or none where the command does not take them. `Err` is want of memory.
+#[tactic(auto, unfolding(crate::specs::Grammar::IsPlainCommand, crate::specs::Grammar::Takes, crate::specs::Grammar::given))]
+pub(crate) fn parse<'a>(
+    command: clap::Command<'a>,
+    words: &'a [&'a str],
+) -> Result<Option<ArgMatches<'a>>, AllocError>
+    requires { IsPlainCommand (app_of command) }
+    ensures { IfOk result (λ found. MatchOption found (¬ Takes (app_of command.entry) (map (λ w. w.now) words.entry.now))
+        (λ m. Takes (app_of command.entry) (map (λ w. w.now) words.entry.now)
+        × (rows_of (found_of m) ≡ given (app_of command.entry) (map (λ w. w.now) words.entry.now)))) }
+{
+    match command.try_get_matches_from(words) {
+        Ok(matches) => Ok(Some(matches)),
+        Err(error) => if is_memory(&error) {
+            Err(AllocError)
+        } else {
+            Ok(None)
+        },
+    }
+}
+
+/// What was given to a place or an option.
+pub(crate) fn value<'a>(matches: &ArgMatches<'a>, name: &str) -> Option<&'a str>
+    ensures { option_map (λ t. t.now) result ≡ first_of name.now (rows_of (found_of matches.now)) }
+{
+    matches.get_str(name)
+}

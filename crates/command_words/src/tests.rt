@@ -1,0 +1,100 @@
+//! Words that are refused, and what words that are taken ask for.
+
+use crate::read_words;
+use std::alloc::Global;
+use std::test::Fail;
+
+/// A case to a line: words, with one space between two of them, and what they ask for as `Debug` writes it. Two spaces have an
+/// empty word between them.
+const CASES: &str = "free | None
+free 10.0.0.1/24 | None
+free 0.0.0.0/0 | None
+free ::/0 | None
+free 10.0.0.0/16 10.1.0.0/16 | None
+free --db f 10.0.0.0/16 | None
+free --help | None
+free 10.0.0.0/16 | Some(Free(Block { first: 167772160, family: V4, len: 16 }))
+free -- 10.0.0.0/16 | Some(Free(Block { first: 167772160, family: V4, len: 16 }))
+free ::/1 | Some(Free(Block { first: 0, family: V6, len: 1 }))
+session x | None
+session --db a --db b | None
+session --db=a --db=a | None
+session --db | None
+session --db= | None
+session --db  | None
+session --d a | None
+session -h | None
+session --global-unique maybe | None
+session --global-unique | None
+session | Some(Session(Store { db: None, global_unique: true }))
+session --db=a=b | Some(Session(Store { db: Some(WordText { string: \"a=b\" }), global_unique: true }))
+session --global-unique=no --db f | Some(Session(Store { db: Some(WordText { string: \"f\" }), global_unique: false }))
+session --db f --global-unique yes | Some(Session(Store { db: Some(WordText { string: \"f\" }), global_unique: true }))
+serve --workers 1 | None
+serve --bind h:1 | None
+serve --bind  --workers 1 | None
+serve --bind h:1 --workers 0 | None
+serve --bind h:1 --workers 33 | None
+serve --bind h:1 --workers 01 | None
+serve --bind h:1 --workers +1 | None
+serve --bind h:1 --workers 1 --connections 0 | None
+serve --bind h:1 --workers 1 --connections 1000000001 | None
+serve --bind h:1 --workers 32 | Some(Serve(Serving { bind: WordText { string: \"h:1\" }, workers: 32, connections: 1000000000, store: Store { db: None, global_unique: true } }))
+serve --global-unique no --connections=1000000000 --db f --workers=1 --bind h | Some(Serve(Serving { bind: WordText { string: \"h\" }, workers: 1, connections: 1000000000, store: Store { db: Some(WordText { string: \"f\" }), global_unique: false } }))
+import | None
+import Vrfs | None
+import ranges | None
+import vrfs prefixes | None
+import --db=f prefixes | Some(Import(Prefixes, Store { db: Some(WordText { string: \"f\" }), global_unique: true }))
+import vrfs | Some(Import(Vrfs, Store { db: None, global_unique: true }))
+import rirs | Some(Import(Rirs, Store { db: None, global_unique: true }))
+import roles | Some(Import(Roles, Store { db: None, global_unique: true }))
+import aggregates | Some(Import(Aggregates, Store { db: None, global_unique: true }))
+export | None
+export ip-ranges | Some(Export(Ranges, Store { db: None, global_unique: true }))
+export ip-addresses --global-unique no | Some(Export(Addresses, Store { db: None, global_unique: false }))
+report | None
+report trees | None
+report tree --prefix 1 | None
+report utilization --prefix 1 | None
+report free | None
+report free --prefix 0 | None
+report free --prefix 4294967296 | None
+report free --prefix 1 --prefix 1 | None
+report tree --db f | Some(Report(Tree, Store { db: Some(WordText { string: \"f\" }), global_unique: true }))
+report utilization | Some(Report(Utilization, Store { db: None, global_unique: true }))
+report --prefix 4294967295 free | Some(Report(Free(4294967295), Store { db: None, global_unique: true }))
+load | None
+load 0 | None
+load 05 | None
+load 100001 | None
+load 5 --workers 33 | None
+load 5 --db f | None
+load 100000 | Some(Load { count: 100000, workers: 1 })
+load --workers 4 1000 | Some(Load { count: 1000, workers: 4 })
+sessions | None
+--db f session | None
+help | None
+ | None";
+
+/// What the words of a case ask for, as `Debug` writes it.
+fn asked_for(alloc: Global, words: &str) -> Result<String, Fail> {
+    let mut list = Vec::new(alloc);
+    for word in words.split(' ') {
+        list.push(word)?;
+    }
+    let found = read_words(alloc, &list)?;
+    Ok(format!(in alloc; "{found:?}")?)
+}
+
+#[test]
+fn words_ask_for_what_they_say(rt: HostRuntime) -> Result<(), Fail> {
+    for case in CASES.split('\n') {
+        let (words, wanted) = case.split_once(" | ").ok_or("a line is no case")?;
+        let found = asked_for(rt.alloc(), words)?;
+        assert!(rt; found.as_str() == wanted, "{words}: {found}");
+    }
+    let none = read_words(rt.alloc(), &[])?;
+    assert!(rt; none.is_none());
+    Ok(())
+}

@@ -1,0 +1,230 @@
+//! What a text says, where one was given: a block, a number, a kind, a report, a store.
+
+ghost use Rattle.std.specs.Prelude.{◌≡◌, ◌≢◌, ◌≤◌, ◌<◌, ◌^◌, ◌↔◌, ℕ, Option, List, [], Some, Bool, option_map, decimal, IfOk, IsTrue, MatchOption};
+ghost use Rattle.inet_num.specs.Net.{Cidr};
+ghost use Rattle.clap.specs.Words.{found_of, rows_of};
+ghost use Rattle.command_words.specs.Values.{IsBlockValue, IsNumberValue, IsNumberOr, IsTextValue, IsTextOrNone, IsYesValue, IsKindValue, IsReportValue, kind_word};
+ghost use Rattle.command_words.specs.Asked.{IsStore};
+
+use crate::asked::{KindName, Report, Store, WordText};
+use crate::builder::value;
+use clap::ArgMatches;
+use inet_num::{Block, read_block};
+use itoa::Buffer;
+use std::alloc::{AllocError, Global};
+
+/// The greatest id of a record.
+const MOST_ID: u32 = 4_294_967_295;
+
+/// Whether the word is this one.
+pub(crate) fn is_word(word: &str, name: &str) -> bool
+    ensures { IsTrue result ↔ (word.now ≡ name.now) }
+{
+    word == name
+}
+
+/// The block of a length of at least 1 whose text this is.
+fn block_of(text: &str) -> Option<Block>
+    ensures { MatchOption result ((b : Cidr) → ¬ IsBlockValue (Some text.now) b) (λ b. IsBlockValue (Some text.now) b) }
+{
+    match read_block(text.as_bytes()) {
+        Ok(block) if block.len() > 0 => Some(block),
+        _ => None,
+    }
+}
+
+/// The block of a length of at least 1 that was given.
+pub(crate) fn block_value(text: Option<&str>) -> Option<Block>
+    ensures { MatchOption result ((b : Cidr) → ¬ IsBlockValue (option_map (λ t. t.now) text.entry) b) (λ b. IsBlockValue (option_map (λ t. t.now) text.entry) b) }
+{
+    match text {
+        Some(text) => block_of(text),
+        None => None,
+    }
+}
+
+/// The number that the text is read as: at least every decimal text of one is.
+fn number_read(text: &str) -> Option<u32>
+    ensures { (n : ℕ) → n < 2 ^ 32 → text.now ≡ decimal n → result ≡ Some n }
+{
+    match text.parse::<u32>() {
+        Ok(n) => Some(n),
+        Err(_) => None,
+    }
+}
+
+/// Whether the text is the decimal one of this number, without a sign or a leading zero.
+fn is_decimal(text: &str, n: u32) -> bool
+    ensures { IsTrue result ↔ (text.now ≡ decimal n) }
+{
+    let mut room = Buffer::new();
+    text.as_bytes() == room.format(n).as_bytes()
+}
+
+/// The number from 1 to the most that the text is in decimal.
+fn number_of(text: &str, most: u32) -> Option<u32>
+    ensures { MatchOption result ((n : ℕ) → ¬ IsNumberValue most (Some text.now) n) (λ n. IsNumberValue most (Some text.now) n) }
+{
+    match number_read(text) {
+        Some(n) if n > 0 && n <= most && is_decimal(text, n) => Some(n),
+        _ => None,
+    }
+}
+
+/// The number from 1 to the most that was given.
+pub(crate) fn number_value(text: Option<&str>, most: u32) -> Option<u32>
+    ensures { MatchOption result ((n : ℕ) → ¬ IsNumberValue most (option_map (λ t. t.now) text.entry) n) (λ n. IsNumberValue most (option_map (λ t. t.now) text.entry) n) }
+{
+    match text {
+        Some(text) => number_of(text, most),
+        None => None,
+    }
+}
+
+/// The number that was given, or the usual one.
+pub(crate) fn number_or(text: Option<&str>, usual: u32, most: u32) -> Option<u32>
+    ensures { MatchOption result ((n : ℕ) → ¬ IsNumberOr usual most (option_map (λ t. t.now) text.entry) n) (λ n. IsNumberOr usual most (option_map (λ t. t.now) text.entry) n) }
+{
+    match text {
+        Some(text) => number_of(text, most),
+        None => Some(usual),
+    }
+}
+
+/// The text that was given, if it is not empty. `Err` is want of memory.
+pub(crate) fn text_value(alloc: Global, text: Option<&str>) -> Result<Option<WordText>, AllocError>
+    ensures { IfOk result (λ found. MatchOption found ((t : List ℕ) → ¬ IsTextValue (option_map (λ t. t.now) text.entry) t) (λ t. IsTextValue (option_map (λ t. t.now) text.entry) t)) }
+{
+    let Some(text) = text else {
+        return Ok(None);
+    };
+    if is_word(text, "") {
+        return Ok(None);
+    }
+    Ok(Some(WordText::of(alloc, text)?))
+}
+
+/// Whether an empty text was given.
+fn is_empty_text(text: Option<&str>) -> bool
+    ensures { IsTrue result ↔ (option_map (λ t. t.now) text.entry ≡ Some []) }
+{
+    match text {
+        Some(text) => text.is_empty(),
+        None => false,
+    }
+}
+
+/// The text that was given, if any. `Err` is want of memory.
+fn text_or_none(alloc: Global, text: Option<&str>) -> Result<Option<WordText>, AllocError>
+    ensures { IfOk result (λ found. found ≡ option_map (λ t. t.now) text.entry) }
+{
+    match text {
+        Some(text) => Ok(Some(WordText::of(alloc, text)?)),
+        None => Ok(None),
+    }
+}
+
+/// Whether `yes` or nothing was given, or `no`.
+fn yes_value(text: Option<&str>) -> Option<bool>
+    ensures { MatchOption result ((b : Bool) → ¬ IsYesValue (option_map (λ t. t.now) text.entry) b) (λ b. IsYesValue (option_map (λ t. t.now) text.entry) b) }
+{
+    match text {
+        Some(text) => if text == "yes" {
+            Some(true)
+        } else if text == "no" {
+            Some(false)
+        } else {
+            None
+        },
+        None => Some(true),
+    }
+}
+
+/// The kind of this name.
+fn kind_named(text: &str) -> Option<KindName>
+    ensures { MatchOption result ((k : KindName) → text.now ≢ kind_word k) (λ k. text.now ≡ kind_word k) }
+{
+    if is_word(text, "vrfs") {
+        return Some(KindName::Vrfs);
+    }
+    if is_word(text, "rirs") {
+        return Some(KindName::Rirs);
+    }
+    if is_word(text, "roles") {
+        return Some(KindName::Roles);
+    }
+    if is_word(text, "aggregates") {
+        return Some(KindName::Aggregates);
+    }
+    if is_word(text, "prefixes") {
+        return Some(KindName::Prefixes);
+    }
+    if is_word(text, "ip-ranges") {
+        return Some(KindName::Ranges);
+    }
+    if is_word(text, "ip-addresses") {
+        return Some(KindName::Addresses);
+    }
+    None
+}
+
+/// The kind that was given.
+pub(crate) fn kind_value(text: Option<&str>) -> Option<KindName>
+    ensures { MatchOption result ((k : KindName) → ¬ IsKindValue (option_map (λ t. t.now) text.entry) k) (λ k. IsKindValue (option_map (λ t. t.now) text.entry) k) }
+{
+    match text {
+        Some(text) => kind_named(text),
+        None => None,
+    }
+}
+
+/// The report of this name, with the prefix that was given.
+fn report_named(name: &str, prefix: Option<&str>) -> Option<Report>
+    ensures { MatchOption result ((r : Report) → ¬ IsReportValue (Some name.now) (option_map (λ t. t.now) prefix.entry) r) (λ r. IsReportValue (Some name.now) (option_map (λ t. t.now) prefix.entry) r) }
+{
+    if is_word(name, "free") {
+        return match number_value(prefix, MOST_ID) {
+            Some(id) => Some(Report::Free(id)),
+            None => None,
+        };
+    }
+    if prefix.is_some() {
+        return None;
+    }
+    if is_word(name, "tree") {
+        return Some(Report::Tree);
+    }
+    if is_word(name, "utilization") {
+        return Some(Report::Utilization);
+    }
+    None
+}
+
+/// The report that was given, with the prefix that was given.
+pub(crate) fn report_value(name: Option<&str>, prefix: Option<&str>) -> Option<Report>
+    ensures { MatchOption result ((r : Report) → ¬ IsReportValue (option_map (λ t. t.now) name.entry) (option_map (λ t. t.now) prefix.entry) r)
+        (λ r. IsReportValue (option_map (λ t. t.now) name.entry) (option_map (λ t. t.now) prefix.entry) r) }
+{
+    match name {
+        Some(name) => report_named(name, prefix),
+        None => None,
+    }
+}
+
+/// The store that was given. `Err` is want of memory.
+pub(crate) fn store_value<'a>(
+    alloc: Global,
+    matches: &ArgMatches<'a>,
+) -> Result<Option<Store>, AllocError>
+    ensures { IfOk result (λ found. MatchOption found ((s : Store) → ¬ IsStore (rows_of (found_of matches.now)) s) (λ s. IsStore (rows_of (found_of matches.now)) s)) }
+{
+    let db = value(matches, "db");
+    if is_empty_text(db) {
+        return Ok(None);
+    }
+    let Some(global_unique) = yes_value(value(matches, "global-unique")) else {
+        return Ok(None);
+    };
+    let db = text_or_none(alloc, db)?;
+    Ok(Some(Store { db, global_unique }))
+}

@@ -1,0 +1,5 @@
+pub mod Readings
+pub mod OneAnswer
+pub mod Leaving
+pub mod Passing
+pub mod Runs

@@ -1,0 +1,4 @@
+pub mod Free
+pub mod Reading
+pub mod Writing
+pub mod Run

@@ -1,0 +1,80 @@
+//! The commands of the program: what its words ask for is run over its input, output and messages.
+#![tactic(auto)]
+
+ghost use Rattle.std.specs.Prelude.{map};
+ghost use Rattle.command_streams.specs.Streams.{Told, streams, told};
+ghost use Rattle.ipam_command.specs.Clauses.{RunsHaveClauses};
+ghost use Rattle.ipam_command.specs.Runs.{IsUsage, Runs, RunsCommand};
+
+mod entry;
+mod session;
+#[cfg(test)]
+mod session_tests;
+#[cfg(test)]
+mod tests;
+
+use command_streams::{MEMORY, USAGE, end_with};
+use command_words::{Command, read_words};
+pub use entry::program;
+use free_lines::run_free;
+use ipam_edge::{Sink, Source};
+use session::run_session;
+use std::alloc::Global;
+
+/// What is said where the words ask for no command.
+pub(crate) const USAGE_TEXT: &[u8] = b"usage: ipamd COMMAND\n";
+
+/// Says the usage line; nothing else is used.
+fn run_none<Se: Sink>(errors: &mut Se) -> u8
+    ensures { (input output : Told) → IsUsage (streams input output (told Se.written Se.faults errors.old))
+        (streams input output (told Se.written Se.faults errors.new)) result }
+{
+    end_with(errors, USAGE_TEXT, USAGE)
+}
+
+/// Runs a command that was read, if it stands.
+fn run_command<So: Source, Si: Sink, Se: Sink>(
+    alloc: Global,
+    command: &Command,
+    input: &mut So,
+    output: &mut Si,
+    errors: &mut Se,
+) -> u8
+    ensures { RunsCommand command.now
+        (streams (told So.left So.faults input.old) (told Si.written Si.faults output.old) (told Se.written Se.faults errors.old))
+        (streams (told So.left So.faults input.new) (told Si.written Si.faults output.new) (told Se.written Se.faults errors.new)) result }
+{
+    match command {
+        Command::Free(within) => run_free(alloc, within, input, output, errors),
+        Command::Session(store) => match store.db {
+            None => run_session(alloc, store.global_unique, input, output),
+            Some(_) => run_none(errors),
+        },
+        _ => run_none(errors),
+    }
+}
+
+/// Runs the program: the words behind its name, the input, the output and where messages go. It gives the status: 0 done, 1 the
+/// input breaks a stated rule, 2 the words are no command, 3 one of the objects failed, 5 want of memory.
+pub fn run<So: Source, Si: Sink, Se: Sink>(
+    alloc: Global,
+    words: &[&str],
+    input: &mut So,
+    output: &mut Si,
+    errors: &mut Se,
+) -> u8
+    ensures { Runs (map (λ w. w.now) words.now)
+        (streams (told So.left So.faults input.old) (told Si.written Si.faults output.old) (told Se.written Se.faults errors.old))
+        (streams (told So.left So.faults input.new) (told Si.written Si.faults output.new) (told Se.written Se.faults errors.new)) result }
+{
+    match read_words(alloc, words) {
+        Ok(Some(command)) => run_command(alloc, &command, input, output, errors),
+        Ok(None) => run_none(errors),
+        Err(_) => MEMORY,
+    }
+}
+
+/// A law: the one relation of a run gives each promise of the program.
+pub fn runs_have_clauses()
+    ensures { RunsHaveClauses }
+{}

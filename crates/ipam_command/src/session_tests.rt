@@ -1,0 +1,190 @@
+//! The command `session` over objects in memory: each request with its answer, byte for byte, however the bytes are cut.
+
+use crate::tests::run_on;
+use std::alloc::{AllocError, Global};
+use std::test::Fail;
+
+/// A conversation, an exchange to a line: what is asked, by its method and target; its body; and what has to be answered: the
+/// status, the field past the length, the body.
+const EXCHANGES: &str =
+    r#"POST /api/ipam/prefixes/|{"prefix":"10.0.0.0/24"}|201 Created|Ipam-Place: 0|{"children":0,"depth":0,"description":"","family":4,"id":1,"is_pool":false,"mark_utilized":false,"prefix":"10.0.0.0/24","role":null,"status":{"label":"Active","value":"active"},"vrf":null}
+GET /api/ipam/prefixes/1/||200 OK|Ipam-Place: 1|{"children":0,"depth":0,"description":"","family":4,"id":1,"is_pool":false,"mark_utilized":false,"prefix":"10.0.0.0/24","role":null,"status":{"label":"Active","value":"active"},"vrf":null}
+POST /api/ipam/prefixes/|{"prefix":"10.0.0.0/24"}|400 Bad Request|Ipam-Place: 1|{"code":"duplicate","detail":"coincides with 1"}
+GET /api/ipam/prefixes/9/||404 Not Found|Ipam-Place: 1|{"code":"not_found","detail":"prefixes 9 is not there"}
+POST /api/ipam/vrfs/|{"name":"red"}|201 Created|Ipam-Place: 1|{"description":"","enforce_unique":true,"id":1,"name":"red","rd":null}
+POST /api/ipam/vrfs/|{"name":"blue","rd":"65000:1","enforce_unique":false,"description":"the \"lab\""}|201 Created|Ipam-Place: 2|{"description":"the \"lab\"","enforce_unique":false,"id":2,"name":"blue","rd":"65000:1"}
+POST /api/ipam/vrfs/|{"name":"green","rd":"65000:1"}|400 Bad Request|Ipam-Place: 3|{"code":"rd_taken","detail":"the rd is that of 2"}
+POST /api/ipam/prefixes/|{"prefix":"10.0.0.0/25","vrf":1,"status":"reserved","is_pool":true,"mark_utilized":true}|201 Created|Ipam-Place: 3|{"children":0,"depth":0,"description":"","family":4,"id":2,"is_pool":true,"mark_utilized":true,"prefix":"10.0.0.0/25","role":null,"status":{"label":"Reserved","value":"reserved"},"vrf":1}
+POST /api/ipam/prefixes/|{"prefix":"10.0.0.0/16","status":"container"}|201 Created|Ipam-Place: 4|{"children":1,"depth":0,"description":"","family":4,"id":3,"is_pool":false,"mark_utilized":false,"prefix":"10.0.0.0/16","role":null,"status":{"label":"Container","value":"container"},"vrf":null}
+GET /api/ipam/prefixes/1/||200 OK|Ipam-Place: 5|{"children":0,"depth":1,"description":"","family":4,"id":1,"is_pool":false,"mark_utilized":false,"prefix":"10.0.0.0/24","role":null,"status":{"label":"Active","value":"active"},"vrf":null}
+GET /api/ipam/prefixes/||200 OK|Ipam-Place: 5|{"count":3,"next":null,"previous":null,"results":[{"children":0,"depth":1,"description":"","family":4,"id":1,"is_pool":false,"mark_utilized":false,"prefix":"10.0.0.0/24","role":null,"status":{"label":"Active","value":"active"},"vrf":null},{"children":0,"depth":0,"description":"","family":4,"id":2,"is_pool":true,"mark_utilized":true,"prefix":"10.0.0.0/25","role":null,"status":{"label":"Reserved","value":"reserved"},"vrf":1},{"children":1,"depth":0,"description":"","family":4,"id":3,"is_pool":false,"mark_utilized":false,"prefix":"10.0.0.0/16","role":null,"status":{"label":"Container","value":"container"},"vrf":null}]}
+GET /api/ipam/vrfs/||200 OK|Ipam-Place: 5|{"count":2,"next":null,"previous":null,"results":[{"description":"","enforce_unique":true,"id":1,"name":"red","rd":null},{"description":"the \"lab\"","enforce_unique":false,"id":2,"name":"blue","rd":"65000:1"}]}
+GET /api/ipam/vrfs/2/||200 OK|Ipam-Place: 5|{"description":"the \"lab\"","enforce_unique":false,"id":2,"name":"blue","rd":"65000:1"}
+GET /api/ipam/vrfs/4294967295/||404 Not Found|Ipam-Place: 5|{"code":"not_found","detail":"vrfs 4294967295 is not there"}
+POST /api/ipam/prefixes/|{"prefix":"10.0.0.1/24"}|400 Bad Request||{"code":"host_bits","detail":"host bits are set, the prefix is 10.0.0.0/24"}
+POST /api/ipam/prefixes/|{}|400 Bad Request||{"code":"field","detail":"prefix is missing or malformed"}
+POST /api/ipam/prefixes/|[]|400 Bad Request||{"code":"bad_json","detail":"the body is not the JSON that is asked for"}
+POST /api/ipam/prefixes/||400 Bad Request||{"code":"bad_json","detail":"the body is not the JSON that is asked for"}
+POST /api/ipam/vrfs/|{"slug":5}|400 Bad Request||{"code":"field","detail":"name is missing or malformed"}
+PUT /api/ipam/vrfs/||405 Method Not Allowed|Allow: GET, POST|{"code":"method","detail":"the path does not have this method"}
+DELETE /api/ipam/vrfs/1/||405 Method Not Allowed|Allow: GET|{"code":"method","detail":"the path does not have this method"}
+GET /api/ipam/prefixes/?limit=2||404 Not Found||{"code":"no_route","detail":"no such path"}
+GET /api/ipam/prefixes/01/||404 Not Found||{"code":"no_route","detail":"no such path"}
+PATCH /api/ipam/roles/||404 Not Found||{"code":"no_route","detail":"no such path"}
+POST /api/ipam/prefixes/|{"prefix":"10.3.0.0/16","vrf":9}|400 Bad Request|Ipam-Place: 5|{"code":"no_such","detail":"vrfs 9 is not there"}
+POST /api/ipam/prefixes/|{"prefix":"10.3.0.0/16","role":4}|400 Bad Request|Ipam-Place: 5|{"code":"no_such","detail":"roles 4 is not there"}
+POST /api/ipam/prefixes/|{"prefix":"0.0.0.0/0"}|400 Bad Request|Ipam-Place: 5|{"code":"zero_mask","detail":"a mask of length 0 is refused"}
+POST /api/ipam/prefixes/|{"prefix":"2001:DB8::/32"}|201 Created|Ipam-Place: 5|{"children":0,"depth":0,"description":"","family":6,"id":4,"is_pool":false,"mark_utilized":false,"prefix":"2001:db8::/32","role":null,"status":{"label":"Active","value":"active"},"vrf":null}
+POST /api/ipam/prefixes/|{"prefix":"10.9.0.0/16","x":[1,{"y":null}],"prefix":"10.1.0.0/16"}|201 Created|Ipam-Place: 6|{"children":0,"depth":0,"description":"","family":4,"id":5,"is_pool":false,"mark_utilized":false,"prefix":"10.1.0.0/16","role":null,"status":{"label":"Active","value":"active"},"vrf":null}
+POST /api/ipam/prefixes/|{"prefix":"10.2.0.0/16","vrf":null,"role":null}|201 Created|Ipam-Place: 7|{"children":0,"depth":0,"description":"","family":4,"id":6,"is_pool":false,"mark_utilized":false,"prefix":"10.2.0.0/16","role":null,"status":{"label":"Active","value":"active"},"vrf":null}
+POST /api/ipam/prefixes/|{"prefix":"10.3.0.0/16","vrf":1.0}|400 Bad Request||{"code":"field","detail":"vrf is missing or malformed"}
+POST /api/ipam/prefixes/|{"prefix":"10.3.0.0/16","description":null}|400 Bad Request||{"code":"field","detail":"description is missing or malformed"}
+POST /api/ipam/prefixes/|{"prefix":"10.0.0.1/24","vrf":0}|400 Bad Request||{"code":"host_bits","detail":"host bits are set, the prefix is 10.0.0.0/24"}
+POST /api/ipam/vrfs/|{"name":"😀😀😀😀😀😀😀😀😀😀😀😀😀😀😀😀😀😀😀😀😀😀😀😀😀😀😀😀😀😀😀😀😀😀😀😀😀😀😀😀😀😀😀😀😀😀😀😀😀😀😀😀😀😀😀😀😀😀😀😀😀😀😀😀😀😀😀😀😀😀😀😀😀😀😀😀😀😀😀😀😀😀😀😀😀😀😀😀😀😀😀😀😀😀😀😀😀😀😀😀"}|201 Created|Ipam-Place: 8|{"description":"","enforce_unique":true,"id":3,"name":"😀😀😀😀😀😀😀😀😀😀😀😀😀😀😀😀😀😀😀😀😀😀😀😀😀😀😀😀😀😀😀😀😀😀😀😀😀😀😀😀😀😀😀😀😀😀😀😀😀😀😀😀😀😀😀😀😀😀😀😀😀😀😀😀😀😀😀😀😀😀😀😀😀😀😀😀😀😀😀😀😀😀😀😀😀😀😀😀😀😀😀😀😀😀😀😀😀😀😀😀","rd":null}
+POST /api/ipam/vrfs/|{"name":"a\u0007"}|400 Bad Request||{"code":"field","detail":"name is missing or malformed"}"#;
+
+/// A part of an exchange.
+fn part(exchange: &str, index: usize) -> &str {
+    exchange.split('|').nth(index).unwrap_or("")
+}
+
+/// The answer to bytes that end inside a request.
+const CUT_SHORT: &str =
+    "HTTP/1.1 400 Bad Request\r\nContent-Type: application/json\r\nContent-Length: 60\r\nConnection: close\r\n\r\n{\"code\":\"bad_head\",\"detail\":\"the request could not be read\"}";
+
+/// Puts a text at the end.
+fn put(out: &mut Vec<u8>, text: &str) -> Result<(), AllocError> {
+    out.extend_from_slice(text.as_bytes())
+}
+
+/// Puts a field on a line of its own, if there is one.
+fn put_field(out: &mut Vec<u8>, field: &str) -> Result<(), AllocError> {
+    if field.is_empty() {
+        return Ok(());
+    }
+    put(out, field)?;
+    put(out, "\r\n")
+}
+
+/// The request of an exchange, as a usual client sends it.
+fn put_request(alloc: Global, out: &mut Vec<u8>, exchange: &str) -> Result<(), AllocError> {
+    let body = part(exchange, 1);
+    let length = format!(in alloc; "{}", body.len())?;
+    let fields = " HTTP/1.1\r\nHost: 127.0.0.1:8080\r\nUser-Agent: curl/8.5.0\r\nContent-Length: ";
+    put(out, part(exchange, 0))?;
+    put(out, fields)?;
+    put(out, &length)?;
+    put(out, "\r\n\r\n")?;
+    put(out, body)
+}
+
+/// The answer of an exchange, which leaves the connection open.
+fn put_answer(alloc: Global, out: &mut Vec<u8>, exchange: &str) -> Result<(), AllocError> {
+    let body = part(exchange, 4);
+    let length = format!(in alloc; "{}", body.len())?;
+    put(out, "HTTP/1.1 ")?;
+    put(out, part(exchange, 2))?;
+    put(
+        out,
+        "\r\nContent-Type: application/json\r\nContent-Length: ",
+    )?;
+    put(out, &length)?;
+    put(out, "\r\n")?;
+    put_field(out, part(exchange, 3))?;
+    put(out, "\r\n")?;
+    put(out, body)
+}
+
+/// All requests, and all answers.
+fn conversation(alloc: Global) -> Result<(Vec<u8>, Vec<u8>), AllocError> {
+    let mut input = Vec::new(alloc);
+    let mut output = Vec::new(alloc);
+    for exchange in EXCHANGES.lines() {
+        put_request(alloc, &mut input, exchange)?;
+        put_answer(alloc, &mut output, exchange)?;
+    }
+    Ok((input, output))
+}
+
+/// The first request, and its answer.
+fn opening(alloc: Global) -> Result<(Vec<u8>, Vec<u8>), AllocError> {
+    let exchange = EXCHANGES.lines().next().unwrap_or("");
+    let mut input = Vec::new(alloc);
+    let mut output = Vec::new(alloc);
+    put_request(alloc, &mut input, exchange)?;
+    put_answer(alloc, &mut output, exchange)?;
+    Ok((input, output))
+}
+
+#[test]
+fn requests_and_their_answers(rt: HostRuntime) -> Result<(), Fail> {
+    let (input, output) = conversation(rt.alloc())?;
+    for piece in [1, 7, 4_096] {
+        let left = run_on(rt.alloc(), "session", &input, piece, [&[], &[], &[]])?;
+        assert!(rt; left.status == 0 && left.errors.is_empty());
+        assert!(rt;
+            left.output.as_slice() == output.as_slice(),
+            "pieces of {piece}"
+        );
+    }
+    Ok(())
+}
+
+#[test]
+fn an_input_that_ends_inside_a_body(rt: HostRuntime) -> Result<(), Fail> {
+    let (mut input, mut output) = opening(rt.alloc())?;
+    put(
+        &mut input,
+        "POST /api/ipam/vrfs/ HTTP/1.1\r\nContent-Length: 14\r\n\r\n{\"name\"",
+    )?;
+    put(&mut output, CUT_SHORT)?;
+    for piece in [1, 7, 4_096] {
+        let left = run_on(rt.alloc(), "session", &input, piece, [&[], &[], &[]])?;
+        assert!(rt; left.status == 0 && left.output.as_slice() == output.as_slice());
+    }
+    Ok(())
+}
+
+#[test]
+fn an_empty_input_and_failing_objects(rt: HostRuntime) -> Result<(), Fail> {
+    let empty = run_on(rt.alloc(), "session", b"", 4_096, [&[], &[], &[]])?;
+    assert!(rt; empty.status == 0 && empty.output.is_empty() && empty.errors.is_empty());
+    let (input, output) = opening(rt.alloc())?;
+    let read = run_on(rt.alloc(), "session", &input, 4_096, [&[1], &[], &[]])?;
+    assert!(rt; read.status == 3 && read.output.as_slice() == output.as_slice());
+    let write = run_on(rt.alloc(), "session", &input, 4_096, [&[], &[0], &[]])?;
+    assert!(rt; write.status == 3 && write.output.is_empty());
+    Ok(())
+}
+
+#[test]
+fn one_block_twice_where_that_is_asked_for(rt: HostRuntime) -> Result<(), Fail> {
+    let (input, _) = opening(rt.alloc())?;
+    let mut twice = Vec::from_slice(rt.alloc(), &input)?;
+    twice.extend_from_slice(&input)?;
+    let refused = run_on(
+        rt.alloc(),
+        "session --global-unique=yes",
+        &twice,
+        4_096,
+        [&[], &[], &[]],
+    )?;
+    assert!(rt;
+        refused.status == 0
+            && refused.output.ends_with(b"{\"code\":\"duplicate\",\"detail\":\"coincides with 1\"}")
+    );
+    let taken = run_on(
+        rt.alloc(),
+        "session --global-unique no",
+        &twice,
+        4_096,
+        [&[], &[], &[]],
+    )?;
+    assert!(rt;
+        taken.status == 0
+            && taken.output.ends_with(
+                b"\"status\":{\"label\":\"Active\",\"value\":\"active\"},\"vrf\":null}"
+            )
+    );
+    Ok(())
+}

@@ -1,0 +1,84 @@
+//! `run` over objects in memory: words that are no command yet, each status, and messages that fail.
+
+use crate::run;
+use ipam_edge::{BytesSink, BytesSource};
+use std::alloc::{AllocError, Global};
+use std::test::Fail;
+
+/// What a run left: its status, the output, the messages.
+#[derive(Drop)]
+pub struct Left {
+    pub status: u8,
+    pub output: Vec<u8>,
+    pub errors: Vec<u8>,
+}
+
+/// Runs words, with one space between two of them, over told objects, whose calls with these numbers fail, in pieces of this size.
+pub fn run_on(
+    alloc: Global,
+    words: &str,
+    input: &[u8],
+    piece: usize,
+    fails: [&[u32]; 3],
+) -> Result<Left, AllocError> {
+    let piece = piece.max(1);
+    let mut list = Vec::new(alloc);
+    for word in words.split(' ') {
+        list.push(word)?;
+    }
+    let bytes = Vec::from_slice(alloc, input)?;
+    let [source, sink, messages] = fails;
+    let mut input = BytesSource::new(bytes, Vec::from_slice(alloc, source)?, piece);
+    let mut output = BytesSink::new(alloc, Vec::from_slice(alloc, sink)?, piece, 65_536)?;
+    let mut errors = BytesSink::new(alloc, Vec::from_slice(alloc, messages)?, piece, 4_096)?;
+    let status = run(alloc, &list, &mut input, &mut output, &mut errors);
+    Ok(Left {
+        status,
+        output: output.into_bytes(),
+        errors: errors.into_bytes(),
+    })
+}
+
+/// Words that ask for nothing that stands, a case to a line.
+const NOTHING: &str = "
+free
+free 10.0.0.1/24
+Session
+session x
+session --db f
+serve --bind 127.0.0.1:0 --workers 1
+import vrfs
+export vrfs
+report tree
+load 1";
+
+#[test]
+fn words_that_ask_for_nothing(rt: HostRuntime) -> Result<(), Fail> {
+    let usage = b"usage: ipamd COMMAND\n";
+    for words in NOTHING.split('\n') {
+        let left = run_on(rt.alloc(), words, b"x\n", 4_096, [&[0], &[0], &[]])?;
+        assert!(rt; left.status == 2 && left.output.is_empty(), "{words}");
+        assert!(rt; left.errors.as_slice() == usage.as_slice(), "{words}");
+    }
+    let left = run_on(rt.alloc(), "load", b"", 4_096, [&[], &[], &[0]])?;
+    assert!(rt; left.status == 3 && left.errors.is_empty());
+    Ok(())
+}
+
+#[test]
+fn what_a_block_leaves(rt: HostRuntime) -> Result<(), Fail> {
+    let words = "free 10.0.0.0/30";
+    let done = run_on(rt.alloc(), words, b"10.0.0.0/31\n", 4_096, [&[], &[], &[]])?;
+    assert!(rt; done.status == 0 && done.output.as_slice() == b"10.0.0.2/31\n".as_slice());
+    let refused = run_on(
+        rt.alloc(),
+        words,
+        b"10.0.0.0/31\nx\n",
+        4_096,
+        [&[], &[], &[]],
+    )?;
+    assert!(rt;
+        refused.status == 1 && refused.errors.as_slice() == b"line 2: not a prefix\n".as_slice()
+    );
+    Ok(())
+}
