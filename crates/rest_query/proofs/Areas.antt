@@ -1,5 +1,5 @@
 -- An address alone is a block of its family's width.
-use Rattle.std.proofs.Common.{◌≡◌, ℕ, ◌-◌, ◌≤◌, ◌<◌, ◌^◌, ◌%◌, arith, List, sym, subst}
+use Rattle.std.proofs.Common.{◌≡◌, ℕ, ◌-◌, ◌≤◌, ◌^◌, ◌%◌, arith, List, sym, subst}
 use Rattle.inet_num.specs.declared.Family.{Family}
 use Rattle.inet_num.specs.declared.Family.TheVariants.{V4, V6}
 use Rattle.inet_num.specs.Net.{Address, IsAddress, Cidr, IsBlock, block_at, width_of}

@@ -1,5 +1,5 @@
 -- A query asks for one thing.
-use Rattle.std.proofs.Common.{◌≡◌, ℕ, ◌<◌, ◌^◌, Bool, true, false, List, Option, Some, None, Result, decimal, codes, bytes_eq, sym, ◌∙◌, ap, subst, refl, arith}
+use Rattle.std.proofs.Common.{◌≡◌, ℕ, ◌<◌, Bool, true, false, List, Option, Some, None, Result, decimal, codes, bytes_eq, sym, ◌∙◌, ap, subst, refl, arith}
 use Rattle.std.proofs.lemmas.Fmt.{decimal_injective}
 use Rattle.inet_num.specs.Net.{Address, Cidr, block_at, width_of}
 use Rattle.inet_num.proofs.Readings.{reading_is_one}
@@ -12,7 +12,7 @@ use Rattle.ipam_data.specs.declared.replies.FieldName.TheVariants.{VrfId, RoleId
 use Rattle.rest_query.specs.Query.{value_in}
 use Rattle.rest_query.specs.Readings.{HasId, HasIdOrNull, IsIdTest, IsBlockTest, HasBlock, IsAreaOf, IsAreaTest, limit_of, IsLimit, IsOffset}
 use Rattle.rest_query.specs.Prefixes.{ArePrefixTests, prefix_filter}
-use Rattle.rest_query.specs.Lists.{IsFilterOf, IsListing, listing_of}
+use Rattle.rest_query.specs.Lists.{IsFilterOf, listing_of}
 use Rattle.rest_query.specs.Laws.{ListingIsOne}
 
 one_number : (text : List ℕ) (m n : ℕ) → m < 10000000000 → n < 10000000000 → text ≡ decimal m → text ≡ decimal n → m ≡ n

@@ -1,5 +1,5 @@
 -- The filter of a list of prefixes: its parameters in this order, and the first that is malformed is answered by its name.
-use Rattle.std.specs.Prelude.{◌≡◌, ℕ, List, Option, Result, Ok}
+use Rattle.std.specs.Prelude.{◌≡◌, ℕ, List, Result, Ok}
 use Rattle.ipam_data.specs.declared.calls.Filter.{Filter}
 use Rattle.ipam_data.specs.declared.calls.Filter.TheVariants.{Prefixes as SomePrefixes}
 use Rattle.ipam_data.specs.declared.replies.FieldName.TheVariants.{Contains, Family, Prefix as PrefixField, RoleId, Status, VrfId, Within, WithinInclude}

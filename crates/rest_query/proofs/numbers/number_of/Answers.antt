@@ -1,4 +1,4 @@
-use Rattle.std.proofs.Common.{◌≡◌, Ok, arith}
+use Rattle.std.proofs.Common.{◌≡◌, Ok}
 use Rattle.std.proofs.lemmas.Fmt.{parse-decimal}
 use Rattle.rest_query.proofs.numbers.number_of.Goals as goal
 
