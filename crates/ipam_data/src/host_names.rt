@@ -30,7 +30,8 @@ fn is_one_label(text: &[u8]) -> bool
 fn are_all_labels(text: &[u8]) -> bool
     ensures { result ≡ are_labels text.now }
 {
-    text.split(|byte| *byte == b'.').all(|part| is_one_label(part))
+    text.split(|byte| *byte == b'.')
+        .all(|part| is_one_label(part))
 }
 
 /// The text without a last period.

@@ -8,3 +8,4 @@ pub mod opener;
 mod places;
 #[cfg(test)]
 mod tests;
+pub mod unkept;

@@ -98,11 +98,7 @@ fn clash_in_table(table: Table, row: &IpAddress, other: &IpAddress) -> bool
 }
 
 /// The first of these rows that clashes with the row in the table.
-fn clash_among<'a>(
-    rows: &'a [IpAddress],
-    table: Table,
-    row: &IpAddress,
-) -> Option<&'a IpAddress>
+fn clash_among<'a>(rows: &'a [IpAddress], table: Table, row: &IpAddress) -> Option<&'a IpAddress>
     ensures { option_copied result ≡ find (clash_in table row.now) rows.now }
 {
     rows.iter().find(|other| clash_in_table(table, row, other))
@@ -237,19 +233,11 @@ impl Registered for IpAddress {
     }
 
     fn fault_new(&self, shelves: &Shelves) -> Option<Rule> {
-        fault(
-            shelves.addresses().rows(),
-            self,
-            is_enforced(shelves, self),
-        )
+        fault(shelves.addresses().rows(), self, is_enforced(shelves, self))
     }
 
     fn fault_changed(&self, shelves: &Shelves) -> Option<Rule> {
-        fault(
-            shelves.addresses().rows(),
-            self,
-            is_enforced(shelves, self),
-        )
+        fault(shelves.addresses().rows(), self, is_enforced(shelves, self))
     }
 
     fn user(_shelves: &Shelves, _id: u32) -> Option<Refusal> {
@@ -298,15 +286,7 @@ pub fn plan_edit(
     ensures { IfOk result (λ p. IsPlanned (change address_rules (state_of shelves.now) id nothing_told (edited_address host vrf status role dns_name.now description.now)) p) }
 {
     let row = match IpAddress::found(shelves, id) {
-        Some(old) => edited_row(
-            old,
-            host,
-            vrf,
-            status,
-            role,
-            dns_name,
-            description,
-        )?,
+        Some(old) => edited_row(old, host, vrf, status, role, dns_name, description)?,
         None => return Ok(Planned::Refused(Refusal::NotFound(Kind::Addresses, id))),
     };
     plan_replace(shelves, row)

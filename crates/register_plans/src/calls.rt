@@ -91,13 +91,7 @@ fn check_changed<T: Registered>(shelves: &Shelves, row: &T) -> Option<Refusal>
 }
 
 /// One row more, and the next id of its kind after it; the other row is the same one, for the answer.
-fn made(
-    alloc: Global,
-    row: View,
-    copy: View,
-    kind: Kind,
-    next: u32,
-) -> Result<Planned, AllocError>
+fn made(alloc: Global, row: View, copy: View, kind: Kind, next: u32) -> Result<Planned, AllocError>
     ensures { IfOk result (λ p. p ≡ Planned.Change (record { puts = row ∷ []; cuts = []; next = (kind, next) ∷ []; spent = 1 }) (MadeReply copy)) }
 {
     let mut puts = Vec::new(alloc);
@@ -133,12 +127,7 @@ fn replaced(alloc: Global, row: View, copy: View) -> Result<Planned, AllocError>
 }
 
 /// A row less, and these rows put again.
-fn taken_out(
-    alloc: Global,
-    puts: Vec<View>,
-    kind: Kind,
-    id: u32,
-) -> Result<Planned, AllocError>
+fn taken_out(alloc: Global, puts: Vec<View>, kind: Kind, id: u32) -> Result<Planned, AllocError>
     ensures { IfOk result (λ p. p ≡ Planned.Change (record { puts = puts.items; cuts = (kind, id) ∷ []; next = []; spent = 1 }) GoneReply) }
 {
     let mut cuts = Vec::new(alloc);

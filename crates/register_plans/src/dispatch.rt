@@ -6,15 +6,9 @@ ghost use Rattle.register_shelves.specs.Held.{state_of};
 ghost use Rattle.register_plans.specs.Planned.{IsPlanned};
 ghost use Rattle.register_plans.specs.Broken.{broken_new};
 
-use crate::addresses;
-use crate::aggregates;
 use crate::calls::{broken, plan_create, plan_delete, plan_get, plan_list};
 use crate::planned::Planned;
-use crate::prefixes;
-use crate::ranges;
-use crate::rirs;
-use crate::roles;
-use crate::vrfs;
+use crate::{addresses, aggregates, prefixes, ranges, rirs, roles, vrfs};
 use ipam_data::address::IpAddress;
 use ipam_data::aggregate::Aggregate;
 use ipam_data::calls::{Call, Draft, Edit, Filter};

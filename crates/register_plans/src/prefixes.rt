@@ -13,9 +13,7 @@ ghost use Rattle.register_plans.specs.Meets.{prefix_meets};
 
 use crate::calls::plan_replace;
 use crate::edits::{edited_description, edited_value};
-use crate::filters::{
-    asks_block, asks_contains, asks_family, asks_inside, asks_name, asks_within,
-};
+use crate::filters::{asks_block, asks_contains, asks_family, asks_inside, asks_name, asks_within};
 use crate::planned::Planned;
 use crate::references::{missing_role, missing_vrf};
 use crate::registered::Registered;

@@ -6,16 +6,16 @@ ghost use Rattle.http_session.specs.Steps.{Grown, framed};
 ghost use Rattle.http_session.specs.Ends.{IsEnd, IsLeft, IsReadAsNeeded, IsSession};
 ghost use Rattle.http_session.specs.Replies.{answer_of};
 ghost use Rattle.rest_routes.specs.Answers.{IsRefusedAnswer};
-ghost use Rattle.register_core.specs.Kept.{Kept};
-ghost use Rattle.rest_ipam.specs.Answered.{answers_plainly, IsActed};
+ghost use Rattle.rest_ipam.specs.Answered.{Seen, seen_of, opened, answers_plainly, IsActed};
 
 use http_session::{Desk, HttpRequest, Reply as Answer, SessionEnd, serve};
 use ipam_data::calls::Call;
 use ipam_data::replies::{Refusal, Reply};
 use ipam_edge::{Sink, Source};
 use ipam_json::Links;
-use register_core::{Register, Settings, open};
-use rest_routes::{answer_of_refusal, answer_of_reply, read_call};
+use ipam_keeper::unkept::Unkept;
+use register_core::{Register, Settings, begin};
+use rest_routes::{answer_of_refusal, answer_of_reply, finish_links, page_end, read_call};
 use std::alloc::{AllocError, Global};
 use std::mem;
 
@@ -39,22 +39,39 @@ fn is_memory(reply: &Reply) -> bool
     }
 }
 
+/// A register of its own: what it keeps is gone with the program.
+pub type OwnRegister = Register<Unkept>;
+
+/// An empty register of its own. It takes no memory.
+pub fn own_register(alloc: Global, settings: Settings) -> OwnRegister
+    ensures { seen_of result ≡ opened settings.global_unique }
+{
+    begin(alloc, Unkept::new(alloc), settings)
+}
+
 /// Lets the register answer a call, and writes the answer. The one error is want of memory: the register is then as before, or
 /// the call was made and its answer is lost.
 fn act(
     alloc: Global,
-    register: &mut Register,
+    register: &mut OwnRegister,
     call: Call,
-    links: &Links,
+    links: Links,
 ) -> Result<Answer, AllocError>
-    ensures { IsActed register.old call links.now result register.new }
+    ensures { IsActed (seen_of register.old) call links result (seen_of register.new) }
 {
     let place = register.log().len() as u64;
+    let end = page_end(&call);
     let reply = register.act(CALLER, call);
     if is_memory(&reply) {
+        drop(reply);
+        drop(links);
         return Err(AllocError);
     }
-    answer_of_reply(alloc, &reply, links, place)
+    let links = finish_links(&reply, end, links);
+    let answer = answer_of_reply(alloc, &reply, &links, place);
+    drop(reply);
+    drop(links);
+    answer
 }
 
 /// Writes the answer to a refused request of this target. The one error is want of memory, in this call or as what was refused.
@@ -67,28 +84,28 @@ fn refuse(alloc: Global, target: &[u8], refusal: &Refusal) -> Result<Answer, All
     }
 }
 
-/// A register that one connection has for itself.
-pub struct OwnRegister;
+/// The desk of a connection that has a register for itself.
+pub struct OwnDesk;
 
-impl Desk for OwnRegister {
-    type Seat = Register;
+impl Desk for OwnDesk {
+    type Seat = OwnRegister;
 
-    ghost View = { Kept };
+    ghost View = { Seen };
 
-    ghost view = { λ s. s };
+    ghost view = { λ s. seen_of s };
 
     ghost may = { answers_plainly };
 
     fn answer(
         &self,
         alloc: Global,
-        seat: Register,
+        seat: OwnRegister,
         request: &HttpRequest,
-    ) -> (Register, Result<Answer, AllocError>) {
+    ) -> (OwnRegister, Result<Answer, AllocError>) {
         let mut register = seat;
         match read_call(alloc, &request.method, &request.target, &request.body) {
             Ok((call, links)) => {
-                let answer = act(alloc, &mut register, call, &links);
+                let answer = act(alloc, &mut register, call, links);
                 (register, answer)
             }
             Err(refusal) => (register, refuse(alloc, &request.target, &refusal)),
@@ -102,28 +119,28 @@ impl Desk for OwnRegister {
 /// or after its reply was made.
 pub fn serve_session<So: Source, Si: Sink>(
     alloc: Global,
-    register: &mut Register,
+    register: &mut OwnRegister,
     source: &mut So,
     sink: &mut Si,
 ) -> SessionEnd
     ensures talk { (bytes : List ℕ) × Grown (So.left source.old) (So.left source.new) [] bytes
-        × IsEnd answers_plainly register.old register.new (Si.written sink.old) (Si.written sink.new) bytes (So.left source.new) result
+        × IsEnd answers_plainly (seen_of register.old) (seen_of register.new) (Si.written sink.old) (Si.written sink.new) bytes (So.left source.new) result
         × IsReadAsNeeded bytes }
-    ensures session { IsSession answers_plainly So.reads register.old register.new source.old source.new (So.left source.old) (So.left source.new) (Si.written sink.old) (Si.written sink.new) result }
+    ensures session { IsSession answers_plainly So.reads (seen_of register.old) (seen_of register.new) source.old source.new (So.left source.old) (So.left source.new) (Si.written sink.old) (Si.written sink.new) result }
     ensures source_later { So.faults source.old ≤ So.faults source.new }
     ensures source { result ≡ SessionEnd.SourceFault → Rose (So.faults source.old) (So.faults source.new) }
     ensures sink_later { Si.faults sink.old ≤ Si.faults sink.new }
     ensures sink { result ≡ SessionEnd.SinkFault → Rose (Si.faults sink.old) (Si.faults sink.new) }
 {
     // The loop takes the register and gives it back; an empty one, which takes no memory, stands in its place meanwhile.
-    let empty = open(
+    let empty = own_register(
         alloc,
         Settings {
             global_unique: true,
         },
     );
     let seat = mem::replace(register, empty);
-    let (seat, end) = serve(alloc, &OwnRegister, seat, source, sink);
+    let (seat, end) = serve(alloc, &OwnDesk, seat, source, sink);
     *register = seat;
     end
 }

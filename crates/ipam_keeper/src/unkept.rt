@@ -1,0 +1,37 @@
+//! A keeper that keeps nothing, for a register that lasts as long as its program.
+
+ghost use Rattle.std.specs.Prelude.{◌≡◌, ℕ, ◌≤◌, None, option_map, IfOk, OnOk, OnErr, IsErrOf};
+
+use crate::empty::empty_tables;
+use crate::keeper::{KeepFault, Keeper};
+use ipam_stored::tables::{Change, Tables};
+use std::alloc::Global;
+
+/// A keeper that keeps nothing and tells nothing. It never fails.
+#[derive(Drop)]
+pub struct Unkept {
+    alloc: Global,
+}
+
+impl Unkept {
+    /// Such a keeper. It takes no memory.
+    pub fn new(alloc: Global) -> Unkept {
+        Unkept { alloc }
+    }
+}
+
+impl Keeper for Unkept {
+    ghost told = { λ k. None };
+
+    ghost faults = { λ k. 0 };
+
+    /// The empty tables. `Err` is want of memory alone.
+    fn load(&mut self) -> Result<Tables, KeepFault> {
+        Ok(empty_tables(self.alloc)?)
+    }
+
+    /// Every change is made, and none is kept.
+    fn apply(&mut self, _change: &Change) -> Result<(), KeepFault> {
+        Ok(())
+    }
+}
