@@ -15,3 +15,4 @@ pub mod ReadBack
 pub mod Nexts
 pub mod OpenLaws
 pub mod OpenOne
+pub mod Passes
