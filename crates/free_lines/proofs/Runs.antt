@@ -1,14 +1,14 @@
 -- What a run of `free` promises, from what its parts left.
-use Rattle.std.proofs.Common.{◌≡◌, ℕ, ◌⊎◌, inl, inr, refl, sym, ◌∙◌, ap, subst, arith, List, [], ◌++◌, Option, Some, None, IfSome, append-nil}
+use Rattle.std.proofs.Common.{◌≡◌, ℕ, inl, inr, refl, sym, ◌∙◌, ap, subst, arith, List, [], ◌++◌, Option, Some, None, IfSome, append-nil}
 use Rattle.std.specs.Io.KnownBytes.{Consumes, IsAtEnd}
 use Rattle.ipam_edge.specs.Writing.{AppendsFront}
 use Rattle.inet_num.specs.Net.{Cidr}
 use Rattle.inet_num.specs.Free.{available_blocks_of}
-use Rattle.command_streams.specs.Streams.{Told, Streams, Gains, GainsFront, Failed, NeverFalls}
+use Rattle.command_streams.specs.Streams.{Streams, Gains, GainsFront, NeverFalls}
 use Rattle.free_lines.specs.declared.free.LineFault.{LineFault}
 use Rattle.free_lines.specs.Free.{IsFreeText, IsRefusedLine, lines_text_of, refusal_text_of}
 use Rattle.free_lines.specs.Reading.{HasRead}
-use Rattle.free_lines.specs.Run.{PrintsFree, NamesLine, NamesFront, IsFree, IsNamed}
+use Rattle.free_lines.specs.Run.{PrintsFree, IsFree, IsNamed}
 use Rattle.free_lines.proofs.OneAnswer.{printed_not_refused}
 
 -- the text of an input that was read to its end, of which a front was written
