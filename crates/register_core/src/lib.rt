@@ -4,8 +4,10 @@
 
 mod books;
 mod log;
+mod machine;
 mod register;
 mod stop;
 
 pub use log::Entry;
+pub use machine::SeenState;
 pub use register::{Register, Settings, begin};

@@ -1,18 +1,15 @@
 //! The register as a machine of the lock: so many callers can share one, and have one history.
-#![tactic(auto)]
 
 ghost use Rattle.std.specs.Prelude.{◌≡◌, ◌^◌, ◌<◌, true, length, map, List, ℕ};
 ghost use Rattle.ipam_data.specs.State.{State, empty_state};
 ghost use Rattle.ipam_data.specs.Steps.{plain_step};
-ghost use Rattle.register_machine.specs.Kinds.{kind_of, pair_of};
+ghost use Rattle.register_core.specs.Machines.{kind_of, pair_of};
 
-#[cfg(test)]
-mod tests;
-
+use crate::register::Register;
 use history_lock::Machine;
 use ipam_data::calls::Call;
 use ipam_data::replies::Reply;
-use register_core::Register;
+use ipam_keeper::keeper::Keeper;
 use std::marker::Model;
 
 /// A state as contracts see it. No value of it is made.
@@ -27,13 +24,7 @@ impl Model for SeenState {
     ghost view = { λ s. empty_state true };
 }
 
-/// A register to be shared out. It can't fail but for want of memory, so it counts no faults.
-#[derive(Drop)]
-pub struct RegisterMachine {
-    pub register: Register,
-}
-
-impl Machine for RegisterMachine {
+impl<K: Keeper> Machine for Register<K> {
     type Call = Call;
 
     type Reply = Reply;
@@ -54,22 +45,22 @@ impl Machine for RegisterMachine {
 
     ghost blank = { empty_state true };
 
-    ghost opening = { λ m. empty_state m.register.state.global_unique };
+    ghost opening = { λ m. m.opening };
 
-    ghost state = { λ m. m.register.state };
+    ghost state = { λ m. m.state };
 
-    ghost log = { λ m. map pair_of m.register.log };
+    ghost log = { λ m. map pair_of m.log };
 
-    ghost faults = { λ m. 0 };
+    ghost faults = { λ m. K.faults m.keeper };
 
     ghost step = { plain_step };
 
     fn act(&mut self, who: u32, call: Call) -> Reply {
-        self.register.act(who, call)
+        Register::act(self, who, call)
     }
 
     fn entries(&self) -> u64 {
-        self.register.replayed();
-        self.register.log().len() as u64
+        self.replayed();
+        self.log().len() as u64
     }
 }

@@ -1,14 +1,14 @@
 -- The register as a lock sees it: which kind each reply has, and an entry as the pair of its fields.
 use Rattle.std.specs.Prelude.{ℕ}
-use Rattle.history_lock.specs.Replies.{ReplyKind, accepted, memory, plain}
+use Rattle.history_lock.specs.Replies.{ReplyKind, accepted, fault, memory, plain}
 use Rattle.ipam_data.specs.declared.calls.Call.{Call}
 use Rattle.ipam_data.specs.declared.replies.Refusal.{Refusal}
-use Rattle.ipam_data.specs.declared.replies.Refusal.TheVariants.{BadHead, TooLarge, Coding, NoRoute, Method, BadJson, Field, NotFound, Rule as Breaks, Limit, Memory}
+use Rattle.ipam_data.specs.declared.replies.Refusal.TheVariants.{BadHead, TooLarge, Coding, NoRoute, Method, BadJson, Field, NotFound, Rule as Breaks, InUse, NoSpace, Limit, Keeper, Memory, Row}
 use Rattle.ipam_data.specs.declared.replies.Reply.{Reply}
-use Rattle.ipam_data.specs.declared.replies.Reply.TheVariants.{Made, One, Page, Refused}
+use Rattle.ipam_data.specs.declared.replies.Reply.TheVariants.{Made, MadeMany, Changed, Gone, Imported, One, Page, Blocks, Addrs, Percent, Refused}
 use Rattle.ipam_data.specs.Replays.{Entry}
 
--- want of memory is a kind of its own, and every other refusal a plain answer
+-- want of memory and a keeper that failed are kinds of their own, and every other refusal a plain answer
 abbrev pub refusal_kind : Refusal → ReplyKind
 refusal_kind BadHead = plain
 refusal_kind (TooLarge part) = plain
@@ -19,14 +19,25 @@ refusal_kind BadJson = plain
 refusal_kind (Field member) = plain
 refusal_kind (NotFound kind n) = plain
 refusal_kind (Breaks rule) = plain
+refusal_kind (InUse kind n) = plain
+refusal_kind (NoSpace n) = plain
 refusal_kind (Limit which n) = plain
+refusal_kind Keeper = fault
 refusal_kind Memory = memory
+refusal_kind (Row n why) = plain
 
--- a row that was made is an accepted change; no reply tells a fault
+-- what changed the register is an accepted change
 abbrev pub kind_of : Reply → ReplyKind
 kind_of (Made view) = accepted
+kind_of (MadeMany views) = accepted
+kind_of (Changed view) = accepted
+kind_of Gone = accepted
+kind_of (Imported created present) = accepted
 kind_of (One view) = plain
 kind_of (Page count views) = plain
+kind_of (Blocks vrf list) = plain
+kind_of (Addrs vrf len list) = plain
+kind_of (Percent figure) = plain
 kind_of (Refused refusal) = refusal_kind refusal
 
 -- the caller's number and its call
