@@ -1,20 +1,19 @@
 -- The one relation of a run gives each promise.
-use Rattle.std.proofs.Common.{◌≡◌, ◌∙◌, ℕ, ◌≤◌, ◌⊎◌, inl, inr, refl, sym, ap, subst, arith, Bool, List, [], Option, Some, None, IfSome}
+use Rattle.std.proofs.Common.{◌≡◌, ℕ, inl, inr, refl, sym, ap, subst, arith, Bool, List, [], Option, Some, None, IfSome}
 use Rattle.inet_num.specs.Net.{Cidr}
 use Rattle.http_session.specs.declared.session.SessionEnd.TheVariants.{SourceFault}
 use Rattle.command_words.specs.declared.asked.Store.{Store}
-use Rattle.command_words.specs.declared.asked.Command.{Command}
 use Rattle.command_words.specs.declared.asked.Command.TheVariants.{Free, Session, Serve, Import, Export, Report, Load}
 use Rattle.command_words.specs.Asked.{Asks}
 use Rattle.command_words.proofs.Unique.{words_ask_for_one}
-use Rattle.command_streams.specs.Streams.{Streams, Gains, Failed, SomeFailed, NeverFalls}
+use Rattle.command_streams.specs.Streams.{Streams, Gains, NeverFalls}
 use Rattle.free_lines.specs.declared.free.LineFault.{LineFault}
 use Rattle.free_lines.specs.Free.{IsFreeText, IsRefusedLine, refusal_text_of}
 use Rattle.free_lines.specs.Run.{IsFree}
 use Rattle.free_lines.proofs.OneAnswer.{one_answer}
 use Rattle.free_lines.proofs.Runs.{always}
 use Rattle.ipam_command.specs.Session.{Serves, IsSession}
-use Rattle.ipam_command.specs.Runs.{Stands, Answers, AsksNothing, IsUsage, Runs}
+use Rattle.ipam_command.specs.Runs.{AsksNothing, IsUsage}
 use Rattle.ipam_command.specs.Clauses.{AsksSession, IsExact, HasClauses, RunsHaveClauses}
 use Rattle.ipam_command.proofs.Sessions.{session_not_begun}
 

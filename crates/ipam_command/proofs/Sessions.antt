@@ -1,5 +1,5 @@
 -- What a session of an empty register leaves, as the command's record has it.
-use Rattle.std.proofs.Common.{◌≡◌, ℕ, Bool, List, [], ◌++◌, ◌⊎◌, inl, inr, Option, Some, None, IfSome, refl, subst, sym, ◌∙◌, ap, arith}
+use Rattle.std.proofs.Common.{◌≡◌, ℕ, Bool, List, [], ◌++◌, inl, inr, Option, Some, None, IfSome, refl, subst, sym, ◌∙◌, ap, arith}
 use Rattle.std.proofs.KnownBytes.{Consumes-nil, Appends-nil}
 use Rattle.http_session.specs.Steps.{Grown}
 use Rattle.http_session.specs.Talk.{Answer, Run, texts}

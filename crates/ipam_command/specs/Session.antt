@@ -1,6 +1,6 @@
 -- What a run of the command `session` promises of each status: one connection over the input and the output, with a register of
 -- its own that begins empty.
-use Rattle.std.specs.Prelude.{◌≡◌, ℕ, ◌⊎◌, Bool, List, [], Option, IfSome}
+use Rattle.std.specs.Prelude.{◌≡◌, ℕ, ◌⊎◌, Bool, List, [], IfSome}
 use Rattle.http_session.specs.Requests.{AreAllItems, Item}
 use Rattle.http_session.specs.Steps.{Grown}
 use Rattle.http_session.specs.Talk.{Answer, Run, texts}
