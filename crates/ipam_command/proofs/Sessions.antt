@@ -8,15 +8,14 @@ use Rattle.http_session.specs.Ends.{IsEnd, IsReadAsNeeded}
 use Rattle.http_session.specs.declared.session.SessionEnd.TheVariants.{Closed, Memory}
 use Rattle.http_session.proofs.ItemLemmas.{all_in_all}
 use Rattle.std.specs.Io.KnownBytes.{Appends}
-use Rattle.register_core.specs.Kept.{Kept, opened}
-use Rattle.rest_ipam.specs.Answered.{answers_plainly}
+use Rattle.rest_ipam.specs.Answered.{Seen, opened, answers_plainly}
 use Rattle.command_streams.specs.Streams.{Streams, NeverFalls}
 use Rattle.ipam_command.specs.Session.{Serves, IsSession}
 
 -- where the session closed, the output has the answers to all requests of the whole input
-prints : (unique : Bool) (left_old left_new written_old written_new : Option (List ℕ)) (register : Kept) (n : ℕ) (bytes : List ℕ)
+prints : (unique : Bool) (left_old left_new written_old written_new : Option (List ℕ)) (register : Seen) (n : ℕ) (bytes : List ℕ)
     → Grown left_old left_new [] bytes → IsEnd answers_plainly (opened unique) register written_old written_new bytes left_new (Closed n)
-    → IfSome left_old (λ input. (items : List Item) × (answers : List Answer) × (last : Kept)
+    → IfSome left_old (λ input. (items : List Item) × (answers : List Answer) × (last : Seen)
     × AreAllItems input (Unit {0}) items × Run answers_plainly (opened unique) items answers last × Appends written_old written_new (texts items answers))
 prints unique None left_new written_old written_new register n bytes grown said = tt
 prints unique (Some input) None written_old written_new register n bytes grown said = absurd grown.consumes
@@ -31,12 +30,12 @@ prints unique (Some input) (Some left) written_old written_new register n bytes 
     )
 
 -- a session that closed
-pub session_closed : (unique : Bool) (old new : Streams) (n : ℕ) (first last : Kept) → first ≡ opened unique
+pub session_closed : (unique : Bool) (old new : Streams) (n : ℕ) (first last : Seen) → first ≡ opened unique
     → (bytes : List ℕ) × Grown old.input.bytes new.input.bytes [] bytes
     × IsEnd answers_plainly first last old.output.bytes new.output.bytes bytes new.input.bytes (Closed n) × IsReadAsNeeded bytes
     → new.errors ≡ old.errors → NeverFalls old new → IsSession unique old new 0
 session_closed unique old new n first last empty (bytes, grown, ends, needed) silent later =
-    let said = subst (λ (k : Kept). IsEnd answers_plainly k last old.output.bytes new.output.bytes bytes new.input.bytes (Closed n)) empty ends in
+    let said = subst (λ (k : Seen). IsEnd answers_plainly k last old.output.bytes new.output.bytes bytes new.input.bytes (Closed n)) empty ends in
     record {
       statuses = inl refl;
       done = λ z. record {
@@ -56,7 +55,7 @@ nothing_served unique old = record {
   bytes = [];
   register = opened unique;
   grown = record { got = []; consumes = Consumes-nil old.input.bytes; grown = refl };
-  ends = inl (record { items = []; rest = []; items_are = refl; talk = record { answers = []; run = refl; told = Appends-nil old.output.bytes } });
+  ends = inl (record { items = []; rest = []; items_are = refl; open_ = tt; talk = record { answers = []; run = refl; told = Appends-nil old.output.bytes } });
   needed = inl refl;
 }
 

@@ -7,14 +7,13 @@ use Rattle.http_session.specs.Talk.{Answer, Run, texts}
 use Rattle.http_session.specs.Ends.{IsEnd, IsReadAsNeeded}
 use Rattle.http_session.specs.declared.session.SessionEnd.{SessionEnd}
 use Rattle.http_session.specs.declared.session.SessionEnd.TheVariants.{Closed, SourceFault, SinkFault, Memory}
-use Rattle.register_core.specs.Kept.{Kept, opened}
-use Rattle.rest_ipam.specs.Answered.{answers_plainly}
+use Rattle.rest_ipam.specs.Answered.{Seen, opened, answers_plainly}
 use Rattle.command_streams.specs.Streams.{Told, Streams, Gains, Failed, NeverFalls}
 
 -- what was read is what a session of an empty register with this setting served, and the output gained what this end says
 pub record Serves (unique : Bool) (old new : Streams) (end : SessionEnd) : Type 0 where
   pub bytes : List ℕ
-  pub register : Kept
+  pub register : Seen
   pub grown : Grown old.input.bytes new.input.bytes [] bytes
   pub ends : IsEnd answers_plainly (opened unique) register old.output.bytes new.output.bytes bytes new.input.bytes end
   pub needed : IsReadAsNeeded bytes
@@ -23,7 +22,7 @@ pub record Serves (unique : Bool) (old new : Streams) (end : SessionEnd) : Type 
 -- to the first that closes
 abbrev pub PrintsSession : Bool → Told → Told → Told → Type 0
 PrintsSession unique input output_old output_new =
-    IfSome input.bytes (λ bytes. (items : List Item) × (answers : List Answer) × (register : Kept)
+    IfSome input.bytes (λ bytes. (items : List Item) × (answers : List Answer) × (register : Seen)
     × AreAllItems bytes (Unit {0}) items × Run answers_plainly (opened unique) items answers register
     × Gains output_old output_new (texts items answers))
 

@@ -5,8 +5,7 @@ ghost use Rattle.ipam_command.specs.Session.{IsSession};
 
 use command_streams::{DONE, FAULT, MEMORY};
 use ipam_edge::{Sink, Source};
-use register_core::{Settings, open};
-use rest_ipam::{SessionEnd, serve_session};
+use rest_ipam::{SessionEnd, Settings, own_register, serve_session};
 use std::alloc::Global;
 
 /// Runs `session`: the requests of the input, by a register that begins empty. Nothing is said on the messages.
@@ -20,7 +19,7 @@ pub(crate) fn run_session<So: Source, Si: Sink>(
         (streams (told So.left So.faults input.old) (told Si.written Si.faults output.old) errors)
         (streams (told So.left So.faults input.new) (told Si.written Si.faults output.new) errors) result }
 {
-    let mut register = open(alloc, Settings { global_unique });
+    let mut register = own_register(alloc, Settings { global_unique });
     match serve_session(alloc, &mut register, input, output) {
         SessionEnd::Closed(_) => DONE,
         SessionEnd::SourceFault => FAULT,
