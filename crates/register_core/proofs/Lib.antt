@@ -2,3 +2,4 @@ pub mod Told
 pub mod Planning
 pub mod History
 pub mod NoKeeper
+pub mod Loading

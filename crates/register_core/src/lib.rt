@@ -4,8 +4,11 @@
 
 mod books;
 mod log;
+mod opening;
+mod passes;
 mod register;
 mod stop;
 
 pub use log::Entry;
+pub use opening::open;
 pub use register::{Register, Settings, begin};
