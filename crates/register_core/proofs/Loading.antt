@@ -47,8 +47,8 @@ one_more rows i row views more read view l is a r n m =
     let got : IsRead IsBare stored_row row (Some view) = subst (λ (o : Option View). IsRead IsBare stored_row row o) n r in
     record {
       stored =
-        ap (map stored_row) m ∙ stored_more views view ∙ ap (λ (front : List Row). front ++ stored_row view ∷ []) a.stored
-        ∙ ap (λ (x : Row). take i rows ++ x ∷ []) (got.1 ∙ is) ∙ sym (take_next rows i row l);
+          ap (map stored_row) m ∙ stored_more views view ∙ ap (λ (front : List Row). front ++ stored_row view ∷ []) a.stored
+          ∙ ap (λ (x : Row). take i rows ++ x ∷ []) (got.1 ∙ is) ∙ sym (take_next rows i row l);
       bare = subst AllBare (sym m) (all_bare_more views view a.bare got.0);
     }
 

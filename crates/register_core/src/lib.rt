@@ -8,6 +8,8 @@ mod opening;
 mod passes;
 mod register;
 mod stop;
+#[cfg(test)]
+mod tests;
 
 pub use log::Entry;
 pub use opening::open;

@@ -35,18 +35,11 @@ fn check(
         return Ok(Err(OpenFault::BadRow(kind, id)));
     }
     if let Some(kind) = first_overfull(rows) {
-        return Ok(Err(OpenFault::Limit(
-            Which::Kind(kind),
-            most_of(kind) as u64,
-        )));
+        return Ok(Err(OpenFault::Limit(Which::Kind(kind), most_of(kind) as u64)));
     }
     let mut shelves = bare(alloc, nexts, global_unique);
     if let Some(breach) = fill(&mut shelves, views)? {
-        return Ok(Err(OpenFault::BadTables(
-            breach.kind,
-            breach.id,
-            breach.rule,
-        )));
+        return Ok(Err(OpenFault::BadTables(breach.kind, breach.id, breach.rule)));
     }
     if let Some(kind) = first_bad_next(nexts, rows) {
         return Ok(Err(OpenFault::BadNext(kind)));

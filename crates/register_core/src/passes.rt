@@ -87,10 +87,7 @@ fn is_of_kind(kind: Kind, row: &Row) -> bool
 fn is_overfull(rows: &[Row], kind: Kind) -> bool
     ensures { result ≡ is_overfull rows.now kind }
 {
-    let count = rows
-        .iter()
-        .filter(|row| is_of_kind(kind, row))
-        .count();
+    let count = rows.iter().filter(|row| is_of_kind(kind, row)).count();
     count > most_of(kind) as usize
 }
 
