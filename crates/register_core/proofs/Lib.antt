@@ -3,3 +3,4 @@ pub mod Planning
 pub mod History
 pub mod NoKeeper
 pub mod MachineFits
+pub mod Loading

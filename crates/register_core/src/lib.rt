@@ -5,9 +5,14 @@
 mod books;
 mod log;
 mod machine;
+mod opening;
+mod passes;
 mod register;
 mod stop;
+#[cfg(test)]
+mod tests;
 
 pub use log::Entry;
 pub use machine::SeenState;
+pub use opening::open;
 pub use register::{Register, Settings, begin};

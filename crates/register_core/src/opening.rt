@@ -1,0 +1,86 @@
+//! A register of stored tables.
+
+ghost use Rattle.std.specs.Prelude.{◌≡◌, ℕ, ◌≤◌, [], None, IfOk, IfErr};
+ghost use Rattle.ipam_stored.specs.Order.{AreTables};
+ghost use Rattle.ipam_stored.specs.Opening.{IsOfTables};
+ghost use Rattle.ipam_keeper.specs.Keeping.{Rose};
+ghost use Rattle.register_core.specs.Opened.{IsChecked, IsOpened, IsUnopened};
+
+use crate::books::Books;
+use crate::passes::{bare, fill, first_bad_next, first_overfull, most_of, read_all};
+use crate::register::{Register, Settings};
+use ipam_data::replies::Which;
+use ipam_keeper::keeper::{KeepFault, Keeper};
+use ipam_stored::opening::OpenFault;
+use ipam_stored::tables::Tables;
+use register_shelves::Shelves;
+use std::alloc::{AllocError, Global};
+
+/// The shelves of the rows of stored tables, or what is first found wrong with the tables. `Err` is want of memory.
+fn check(
+    alloc: Global,
+    tables: &Tables,
+    global_unique: bool,
+) -> Result<Result<Shelves, OpenFault>, AllocError>
+    requires { AreTables tables.now }
+    ensures { IfOk result (λ checked. IsChecked tables.now global_unique checked) }
+{
+    if tables.version != 1 {
+        return Ok(Err(OpenFault::Version(tables.version)));
+    }
+    let rows = tables.rows.as_slice();
+    let nexts = tables.next.as_slice();
+    let mut views = Vec::new(alloc);
+    if let Some((kind, id)) = read_all(alloc, rows, &mut views)? {
+        return Ok(Err(OpenFault::BadRow(kind, id)));
+    }
+    if let Some(kind) = first_overfull(rows) {
+        return Ok(Err(OpenFault::Limit(Which::Kind(kind), most_of(kind) as u64)));
+    }
+    let mut shelves = bare(alloc, nexts, global_unique);
+    if let Some(breach) = fill(&mut shelves, views)? {
+        return Ok(Err(OpenFault::BadTables(breach.kind, breach.id, breach.rule)));
+    }
+    if let Some(kind) = first_bad_next(nexts, rows) {
+        return Ok(Err(OpenFault::BadNext(kind)));
+    }
+    Ok(Ok(shelves))
+}
+
+/// A register over a keeper, of the state for which its tables stand. The tables are loaded once and checked in passes, each over
+/// all rows by kind and id before the next begins. The register has an empty log and no last change, and the keeper keeps what it
+/// tells, as does the keeper that a refusal hands back.
+///
+/// `Err` is `Version` exactly where the version is not 1; `BadRow` exactly where a row has id 0 or can't be read, the first such;
+/// `Limit` exactly where a kind has more rows than it may, the first such; `BadTables` exactly where a row breaks a rule beside the
+/// rows before it, the first such with its first rule, references first; `BadNext` exactly where a next id is absent, 0 or not above
+/// all ids of its kind, the first such kind; `Keeper` only where the keeper failed in this call; `Memory` for want of memory.
+pub fn open<K: Keeper + Drop>(
+    alloc: Global,
+    keeper: K,
+    settings: Settings,
+) -> Result<Register<K>, (K, OpenFault)>
+    ensures state { IfOk result (λ r. IsOpened (K.told keeper) settings.global_unique r.state) }
+    ensures fresh { IfOk result (λ r. r ≡ record { opening = r.state; state = r.state; log = []; last = None; keeper = r.keeper }) }
+    ensures told { IfOk result (λ r. K.told r.keeper ≡ K.told keeper) }
+    ensures later { IfOk result (λ r. K.faults keeper ≤ K.faults r.keeper) }
+    ensures fault { IfErr result (λ e. IsOfTables e.1 → IsUnopened (K.told keeper) settings.global_unique e.1) }
+    ensures cause { IfErr result (λ e. e.1 ≡ OpenFault.Keeper → Rose (K.faults keeper) (K.faults e.0)) }
+    ensures err_told { IfErr result (λ e. K.told e.0 ≡ K.told keeper) }
+    ensures err_later { IfErr result (λ e. K.faults keeper ≤ K.faults e.0) }
+{
+    let mut keeper = keeper;
+    let tables = match keeper.load() {
+        Ok(tables) => tables,
+        Err(KeepFault::Failed) => return Err((keeper, OpenFault::Keeper)),
+        Err(KeepFault::Memory) => return Err((keeper, OpenFault::Memory)),
+    };
+    let checked = match check(alloc, &tables, settings.global_unique) {
+        Ok(checked) => checked,
+        Err(AllocError) => return Err((keeper, OpenFault::Memory)),
+    };
+    match checked {
+        Ok(shelves) => Ok(Register::over(alloc, Books::of(shelves), keeper)),
+        Err(fault) => Err((keeper, fault)),
+    }
+}
