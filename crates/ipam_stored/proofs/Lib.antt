@@ -15,4 +15,3 @@ pub mod ReadBack
 pub mod Nexts
 pub mod OpenLaws
 pub mod OpenOne
-pub mod Passes

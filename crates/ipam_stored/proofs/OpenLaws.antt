@@ -43,7 +43,7 @@ use Rattle.ipam_stored.specs.declared.tables.Row.{Row}
 use Rattle.ipam_stored.specs.declared.opening.Breach.{Breach}
 use Rattle.ipam_stored.specs.Stored.{stored_row, tables_of, kinds, kind_number, place_of, row_place}
 use Rattle.ipam_stored.specs.Reading.{IsBare}
-use Rattle.ipam_stored.specs.Opening.{broken, breach_of, first_breach, told_next, bare_state, loaded, most_of, is_of_kind, is_overfull, is_past, is_bad_next, AllBare, AreNextIds, AcceptedAreOpened, ReadRowsFit}
+use Rattle.ipam_stored.specs.Opening.{broken, breach_of, first_breach, told_next, bare_state, loaded, most_of, is_of_kind, is_overfull, is_past, is_bad_next, AllBare, AreNextIds, AcceptedAreOpened}
 use Rattle.ipam_stored.proofs.StoredLaws.{AreOrdered, puts_told, puts_next}
 use Rattle.ipam_stored.proofs.Nexts.{all_told}
 
@@ -483,9 +483,3 @@ accepted_are_opened tables g views order fits ok =
       unique = unique_kept tables.next g s views;
       spent = views_spent s views;
     }
-
-pub read_rows_fit : ReadRowsFit
-read_rows_fit tables g views order read =
-    let s = bare_state tables.next g in
-    let rises : Rises row_place 0 (map stored_row views) = subst (λ (rows : List Row). Rises row_place 0 rows) (sym read.stored) order.rows in
-    all_fit s views (all_above s 0 views (bare_under tables.next g) rises) read.bare

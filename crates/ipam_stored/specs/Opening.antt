@@ -12,15 +12,13 @@ use Rattle.ipam_data.specs.declared.replies.View.{View}
 use Rattle.ipam_stored.specs.declared.tables.Row.{Row}
 use Rattle.ipam_stored.specs.declared.tables.Tables.{Tables}
 use Rattle.ipam_stored.specs.declared.opening.Breach.{Breach}
-use Rattle.ipam_stored.specs.declared.opening.ReadRows.{ReadRows}
-use Rattle.ipam_stored.specs.declared.opening.ReadRows.TheVariants.{All, Unread}
 use Rattle.ipam_stored.specs.declared.opening.OpenFault.{OpenFault}
 use Rattle.ipam_stored.specs.declared.opening.OpenFault.TheVariants.{Keeper, BadTables, Memory, BadRow, Version, BadNext, Limit}
 use Rattle.ipam_data.specs.Shelf.{Shelf, last_next}
 use Rattle.ipam_data.specs.Checks.{first}
 use Rattle.ipam_data.specs.State.{State}
 use Rattle.ipam_data.specs.ByKind.{by_kind, by_view}
-use Rattle.ipam_data.specs.Updates.{with_view, AreFit}
+use Rattle.ipam_data.specs.Updates.{with_view}
 use Rattle.ipam_data.specs.Lawful.{IsLawful}
 use Rattle.ipam_stored.specs.Stored.{stored_row, tables_of, kinds, kind_number}
 use Rattle.ipam_stored.specs.Order.{AreTables}
@@ -108,11 +106,6 @@ pub record IsUnread (rows : List Row) (kind : Kind) (id : ℕ) : Type 0 where
   pub id_is : row.id ≡ id
   pub none : (view : View) → IsBare view → stored_row view ≢ row
 
--- what rows were read as: all of them, or the first that is that of no view
-abbrev pub AreReadAs : List Row → ReadRows → Type 0
-AreReadAs rows (All views) = (map stored_row views ≡ rows) × AllBare views
-AreReadAs rows (Unread kind id) = IsUnread rows kind id
-
 -- the tables have version 1, and their rows are those of these views
 pub record IsReadable (tables : Tables) (views : List View) : Type 0 where
   pub version : tables.version ≡ 1
@@ -176,10 +169,6 @@ AreNextIds nexts = (kind : Kind) → told_next nexts kind ≤ last_next
 abbrev pub AcceptedAreOpened : Type 0
 AcceptedAreOpened = (tables : Tables) (global_unique : Bool) (views : List View) → AreTables tables → AreNextIds tables.next
     → IsAccepted tables global_unique views → IsOpening tables global_unique (loaded tables.next global_unique views)
-
--- rows of tables in order fit, one after another, over the state without rows
-abbrev pub ReadRowsFit : Type 0
-ReadRowsFit = (tables : Tables) (global_unique : Bool) (views : List View) → AreTables tables → IsReadable tables views → AreFit (bare_state tables.next global_unique) views
 
 -- tables are read as one list of rows, are accepted or have one fault, and not both
 pub record OpeningIsOne : Type 0 where

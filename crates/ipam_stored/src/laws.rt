@@ -2,7 +2,7 @@
 
 ghost use Rattle.ipam_stored.specs.Stored.{ChangesAreTold};
 ghost use Rattle.ipam_stored.specs.Reading.{WrittenIsRead};
-ghost use Rattle.ipam_stored.specs.Opening.{AcceptedAreOpened, ReadRowsFit, OpeningIsOne};
+ghost use Rattle.ipam_stored.specs.Opening.{AcceptedAreOpened, OpeningIsOne};
 
 /// The tables after the change of an update are those of the updated state.
 pub fn changes_are_told()
@@ -22,9 +22,4 @@ pub fn accepted_tables_are_opened()
 /// Tables are read as one list of rows, and are accepted or have one fault, and not both.
 pub fn opening_is_one()
     ensures { OpeningIsOne }
-{}
-
-/// The rows of tables in order fit, put one after another over the state without rows.
-pub fn read_rows_fit()
-    ensures { ReadRowsFit }
 {}
