@@ -2,6 +2,8 @@
 //! and an accepted change is stored by the keeper before it is made. `open` makes a register of stored tables.
 #![tactic(auto)]
 
+#[cfg(test)]
+mod act_tests;
 mod books;
 mod log;
 mod machine;
