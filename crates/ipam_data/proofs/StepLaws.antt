@@ -41,7 +41,7 @@ use Rattle.ipam_data.specs.Steps.{plan_of, create_plan, change_plan, delete_plan
 use Rattle.ipam_data.specs.Replays.{OneMoreEntryIsOneMoreStep}
 use Rattle.ipam_data.specs.Lawful.{IsLawful, RefusedStepsLeave, FoundIsLeast}
 use Rattle.ipam_data.proofs.Shelves.{found_least}
-use Rattle.ipam_data.proofs.Tests.{one_family}
+use Rattle.ipam_data.proofs.Decided.{one_family}
 use Rattle.ipam_data.proofs.Verdicts.{none_head, test_holds}
 use Rattle.ipam_data.proofs.Sound.{outcome_keeps, create_keeps, change_keeps, delete_keeps, get_keeps, list_keeps}
 use Rattle.ipam_data.proofs.VrfLaws.{vrfs_sound}
