@@ -3,6 +3,7 @@
 # pages of 1,000 rows listed. The prefixes are /32 blocks: `rising` and `random` are in the global table in rising order or in none,
 # `spread` are random ones over the tables of the 1,000 VRFs. Each time is the best of three runs; memory is the peak of the process
 # less that of a run that opens a register and makes nothing, and so it has what the log keeps of each call.
+# A last run says how long `open` takes for the tables of as many rising prefixes.
 # It also sees that every prefix that is made is found, and that the 200,001st is refused.
 # It writes a program into a scratch copy outside the repository, proves and builds it there, and runs it.
 # usage: bench/act.sh [prefixes]; with SCRATCH=DIR the program stays there
@@ -30,7 +31,7 @@ copy() {
 : > "$scratch/crates.txt"
 copy register_core
 cp "$top/HANDLES" "$scratch/"
-echo 'act_bench: inet_num ipam_data register_core anyhow' >> "$scratch/crates.txt"
+echo 'act_bench: inet_num ipam_data ipam_keeper ipam_stored register_core anyhow' >> "$scratch/crates.txt"
 bench=$scratch/crates/act_bench
 mkdir -p "$bench/src"
 cat > "$bench/src/main.rt" <<'E'
@@ -45,7 +46,11 @@ use ipam_data::kinds::Kind;
 use ipam_data::prefix::PrefixStatus;
 use ipam_data::replies::Reply;
 use ipam_data::text::{Description, Name};
-use register_core::{open, Register, Settings};
+use ipam_keeper::empty::empty_tables;
+use ipam_keeper::keeper::Keeper;
+use ipam_keeper::memory::MemoryKeeper;
+use ipam_keeper::unkept::Unkept;
+use register_core::{begin, open, Register, Settings};
 use std::alloc::{AllocError, Global};
 use std::env;
 use std::time::Instant;
@@ -84,7 +89,7 @@ fn table(order: Order, n: u32) -> Option<u32> {
 }
 
 /// Whether the VRF was made.
-fn make_vrf(alloc: Global, register: &mut Register) -> Result<bool, AllocError> {
+fn make_vrf<K: Keeper>(alloc: Global, register: &mut Register<K>) -> Result<bool, AllocError> {
     let name = Name::of(String::from_str(alloc, "customer")?);
     let description = Description::of(String::from_str(alloc, "a customer's network")?);
     match (name, description) {
@@ -97,9 +102,9 @@ fn make_vrf(alloc: Global, register: &mut Register) -> Result<bool, AllocError> 
 }
 
 /// Whether the prefix was made.
-fn make_prefix(
+fn make_prefix<K: Keeper>(
     alloc: Global,
-    register: &mut Register,
+    register: &mut Register<K>,
     block: Block,
     vrf: Option<u32>,
 ) -> Result<bool, AllocError> {
@@ -124,7 +129,7 @@ fn one(done: bool) -> u64 {
     if done { 1 } else { 0 }
 }
 
-fn make_vrfs(alloc: Global, register: &mut Register, count: u32) -> Result<u64, AllocError> {
+fn make_vrfs<K: Keeper>(alloc: Global, register: &mut Register<K>, count: u32) -> Result<u64, AllocError> {
     let mut done = 0u64;
     for _ in 0..count {
         done = done.wrapping_add(one(make_vrf(alloc, register)?));
@@ -132,9 +137,9 @@ fn make_vrfs(alloc: Global, register: &mut Register, count: u32) -> Result<u64, 
     Ok(done)
 }
 
-fn make_prefixes(
+fn make_prefixes<K: Keeper>(
     alloc: Global,
-    register: &mut Register,
+    register: &mut Register<K>,
     order: Order,
     count: u32,
 ) -> Result<u64, AllocError> {
@@ -156,7 +161,7 @@ fn below(n: u32, count: u32) -> u32 {
     }
 }
 
-fn read(register: &mut Register, count: u32) -> u64 {
+fn read<K: Keeper>(register: &mut Register<K>, count: u32) -> u64 {
     let mut done = 0u64;
     for n in 0..count {
         let id = below(n, count).saturating_add(1);
@@ -166,13 +171,22 @@ fn read(register: &mut Register, count: u32) -> u64 {
     done
 }
 
-fn list(register: &mut Register, pages: u32, count: u32) -> u64 {
+fn list<K: Keeper>(register: &mut Register<K>, pages: u32, count: u32) -> u64 {
     let mut done = 0u64;
     for n in 0..pages {
         let offset = below(n, count);
         let call = Call::List {
             kind: Kind::Prefixes,
-            filter: Filter::Prefixes,
+            filter: Filter::Prefixes {
+                family: None,
+                vrf_id: None,
+                status: None,
+                role_id: None,
+                prefix: None,
+                within: None,
+                within_include: None,
+                contains: None,
+            },
             limit: 1000,
             offset,
         };
@@ -183,13 +197,36 @@ fn list(register: &mut Register, pages: u32, count: u32) -> u64 {
     done
 }
 
+/// The nanoseconds in which the tables of as many rising prefixes are opened, or 0 where they are not.
+fn time_open(rt: &HostRuntime, count: u32) -> anyhow::Result<u128> {
+    let alloc = rt.alloc();
+    let settings = Settings { global_unique: false };
+    let keeper = MemoryKeeper::new(empty_tables(alloc)?, Vec::new(alloc));
+    let mut register = begin(alloc, keeper, settings);
+    let _made = make_prefixes(alloc, &mut register, Order::Rising, count)?;
+    let tables = register.into_keeper().into_tables();
+    let keeper = MemoryKeeper::new(tables, Vec::new(alloc));
+    let start = Instant::now(rt)?;
+    match open(alloc, keeper, settings) {
+        Ok(register) => {
+            drop(register);
+            Ok(start.elapsed(rt)?.as_nanos())
+        }
+        Err(refused) => {
+            drop(refused);
+            Ok(0)
+        }
+    }
+}
+
 fn main(rt: HostRuntime) -> anyhow::Result<()> {
     let mut words = env::args(&rt)?;
     let _ = words.next();
     let order = words.next().expect(&rt, "rising, random, spread or none");
     let mut count: u32 = words.next().expect(&rt, "prefixes").parse()?;
+    let order_is_open = order.as_str() == "open";
     let order = match order.as_str() {
-        "rising" => Order::Rising,
+        "rising" | "open" => Order::Rising,
         "random" => Order::Random,
         "spread" => Order::Spread,
         _ => Order::Nothing,
@@ -199,7 +236,12 @@ fn main(rt: HostRuntime) -> anyhow::Result<()> {
         count = 0;
         vrfs = 0;
     }
-    let mut register = open(rt.alloc(), Settings { global_unique: false });
+    if order_is_open {
+        let opened = time_open(&rt, count)?;
+        println!(rt; "{opened}")?;
+        return Ok(());
+    }
+    let mut register = begin(rt.alloc(), Unkept::new(rt.alloc()), Settings { global_unique: false });
     let start = Instant::now(&rt)?;
     let made_vrfs = make_vrfs(rt.alloc(), &mut register, vrfs)?;
     let for_vrfs = start.elapsed(&rt)?.as_nanos();
@@ -241,3 +283,5 @@ for order in rising random spread; do
             printf "| %s | %d | %.0f | %.0f | %.0f | %.0f | %.0f |\n", k, made,
                 vrfs * 1e9 / best[1], made * 1e9 / best[2], c * 1e9 / best[3], rows * 1e9 / best[4], m / made }' "$scratch/answers"
 done
+echo
+awk -v c="$prefixes" '{ printf "`open` of the tables of %d rising prefixes: %.2f s\n", c, $1 / 1e9 }' <("$program" open "$prefixes")

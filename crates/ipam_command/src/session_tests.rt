@@ -27,8 +27,8 @@ POST /api/ipam/prefixes/|[]|400 Bad Request||{"code":"bad_json","detail":"the bo
 POST /api/ipam/prefixes/||400 Bad Request||{"code":"bad_json","detail":"the body is not the JSON that is asked for"}
 POST /api/ipam/vrfs/|{"slug":5}|400 Bad Request||{"code":"field","detail":"name is missing or malformed"}
 PUT /api/ipam/vrfs/||405 Method Not Allowed|Allow: GET, POST|{"code":"method","detail":"the path does not have this method"}
-DELETE /api/ipam/vrfs/1/||405 Method Not Allowed|Allow: GET|{"code":"method","detail":"the path does not have this method"}
-GET /api/ipam/prefixes/?limit=2||404 Not Found||{"code":"no_route","detail":"no such path"}
+DELETE /api/ipam/vrfs/1/||409 Conflict|Ipam-Place: 5|{"code":"in_use","detail":"named by prefixes 2"}
+GET /api/ipam/prefixes/?limit=2||200 OK|Ipam-Place: 5|{"count":3,"next":"/api/ipam/prefixes/?limit=2&offset=2","previous":null,"results":[{"children":0,"depth":1,"description":"","family":4,"id":1,"is_pool":false,"mark_utilized":false,"prefix":"10.0.0.0/24","role":null,"status":{"label":"Active","value":"active"},"vrf":null},{"children":0,"depth":0,"description":"","family":4,"id":2,"is_pool":true,"mark_utilized":true,"prefix":"10.0.0.0/25","role":null,"status":{"label":"Reserved","value":"reserved"},"vrf":1}]}
 GET /api/ipam/prefixes/01/||404 Not Found||{"code":"no_route","detail":"no such path"}
 PATCH /api/ipam/roles/||404 Not Found||{"code":"no_route","detail":"no such path"}
 POST /api/ipam/prefixes/|{"prefix":"10.3.0.0/16","vrf":9}|400 Bad Request|Ipam-Place: 5|{"code":"no_such","detail":"vrfs 9 is not there"}
@@ -41,7 +41,17 @@ POST /api/ipam/prefixes/|{"prefix":"10.3.0.0/16","vrf":1.0}|400 Bad Request||{"c
 POST /api/ipam/prefixes/|{"prefix":"10.3.0.0/16","description":null}|400 Bad Request||{"code":"field","detail":"description is missing or malformed"}
 POST /api/ipam/prefixes/|{"prefix":"10.0.0.1/24","vrf":0}|400 Bad Request||{"code":"host_bits","detail":"host bits are set, the prefix is 10.0.0.0/24"}
 POST /api/ipam/vrfs/|{"name":"😀😀😀😀😀😀😀😀😀😀😀😀😀😀😀😀😀😀😀😀😀😀😀😀😀😀😀😀😀😀😀😀😀😀😀😀😀😀😀😀😀😀😀😀😀😀😀😀😀😀😀😀😀😀😀😀😀😀😀😀😀😀😀😀😀😀😀😀😀😀😀😀😀😀😀😀😀😀😀😀😀😀😀😀😀😀😀😀😀😀😀😀😀😀😀😀😀😀😀😀"}|201 Created|Ipam-Place: 8|{"description":"","enforce_unique":true,"id":3,"name":"😀😀😀😀😀😀😀😀😀😀😀😀😀😀😀😀😀😀😀😀😀😀😀😀😀😀😀😀😀😀😀😀😀😀😀😀😀😀😀😀😀😀😀😀😀😀😀😀😀😀😀😀😀😀😀😀😀😀😀😀😀😀😀😀😀😀😀😀😀😀😀😀😀😀😀😀😀😀😀😀😀😀😀😀😀😀😀😀😀😀😀😀😀😀😀😀😀😀😀😀","rd":null}
-POST /api/ipam/vrfs/|{"name":"a\u0007"}|400 Bad Request||{"code":"field","detail":"name is missing or malformed"}"#;
+POST /api/ipam/vrfs/|{"name":"a\u0007"}|400 Bad Request||{"code":"field","detail":"name is missing or malformed"}
+PATCH /api/ipam/prefixes/1/|{"status":"deprecated","vrf":2}|200 OK|Ipam-Place: 9|{"children":0,"depth":0,"description":"","family":4,"id":1,"is_pool":false,"mark_utilized":false,"prefix":"10.0.0.0/24","role":null,"status":{"label":"Deprecated","value":"deprecated"},"vrf":2}
+PATCH /api/ipam/prefixes/5/|{"prefix":"10.2.0.0/16"}|400 Bad Request|Ipam-Place: 10|{"code":"duplicate","detail":"coincides with 6"}
+PATCH /api/ipam/vrfs/2/|{"rd":""}|200 OK|Ipam-Place: 10|{"description":"the \"lab\"","enforce_unique":false,"id":2,"name":"blue","rd":null}
+PATCH /api/ipam/vrfs/2/|{"enforce_unique":null}|400 Bad Request||{"code":"field","detail":"enforce_unique is missing or malformed"}
+GET /api/ipam/prefixes/?status=active&limit=2&offset=2||200 OK|Ipam-Place: 11|{"count":3,"next":null,"previous":"/api/ipam/prefixes/?status=active&limit=2&offset=0","results":[{"children":0,"depth":0,"description":"","family":4,"id":6,"is_pool":false,"mark_utilized":false,"prefix":"10.2.0.0/16","role":null,"status":{"label":"Active","value":"active"},"vrf":null}]}
+GET /api/ipam/prefixes/?limit=x||400 Bad Request||{"code":"field","detail":"limit is missing or malformed"}
+DELETE /api/ipam/prefixes/1/||204 No Content|Ipam-Place: 11|
+DELETE /api/ipam/prefixes/1/||404 Not Found|Ipam-Place: 12|{"code":"not_found","detail":"prefixes 1 is not there"}
+HEAD /api/ipam/vrfs/3/||405 Method Not Allowed|Allow: GET, PATCH, DELETE|{"code":"method","detail":"the path does not have this method"}
+GET /api/ipam/vrfs/1/||200 OK|Ipam-Place: 12|{"description":"","enforce_unique":true,"id":1,"name":"red","rd":null}"#;
 
 /// A part of an exchange.
 fn part(exchange: &str, index: usize) -> &str {
@@ -78,21 +88,29 @@ fn put_request(alloc: Global, out: &mut Vec<u8>, exchange: &str) -> Result<(), A
     put(out, body)
 }
 
-/// The answer of an exchange, which leaves the connection open.
-fn put_answer(alloc: Global, out: &mut Vec<u8>, exchange: &str) -> Result<(), AllocError> {
-    let body = part(exchange, 4);
+/// The fields that tell of a body, where there is one.
+fn put_size(alloc: Global, out: &mut Vec<u8>, body: &str) -> Result<(), AllocError> {
+    if body.is_empty() {
+        return Ok(());
+    }
     let length = format!(in alloc; "{}", body.len())?;
+    put(out, "Content-Type: application/json\r\nContent-Length: ")?;
+    put(out, &length)?;
+    put(out, "\r\n")
+}
+
+/// The answer of an exchange, which leaves the connection open. That to HEAD tells of a body and sends none.
+fn put_answer(alloc: Global, out: &mut Vec<u8>, exchange: &str) -> Result<(), AllocError> {
     put(out, "HTTP/1.1 ")?;
     put(out, part(exchange, 2))?;
-    put(
-        out,
-        "\r\nContent-Type: application/json\r\nContent-Length: ",
-    )?;
-    put(out, &length)?;
     put(out, "\r\n")?;
+    put_size(alloc, out, part(exchange, 4))?;
     put_field(out, part(exchange, 3))?;
     put(out, "\r\n")?;
-    put(out, body)
+    if exchange.starts_with("HEAD ") {
+        return Ok(());
+    }
+    put(out, part(exchange, 4))
 }
 
 /// All requests, and all answers.
