@@ -1,6 +1,6 @@
 //! Calls over a keeper in memory: what they answer, what is noted, and what is found again where the tables are opened.
 
-use crate::{Register, Settings, begin, open};
+use crate::{Register, Settings, open};
 use inet_num::read_block;
 use ipam_data::calls::{Call, Draft, Edit, Filter};
 use ipam_data::kinds::Kind;
@@ -113,17 +113,9 @@ fn answer(
     text
 }
 
-/// A register of the keeper's tables, opened again; without one, an empty register.
-fn again(
-    alloc: Global,
-    register: Register<MemoryKeeper>,
-) -> Result<Register<MemoryKeeper>, AllocError> {
-    let tables = register.into_keeper().into_tables();
-    match open(
-        alloc,
-        MemoryKeeper::new(tables, Vec::new(alloc)),
-        settings(),
-    ) {
+/// The register that is opened over a keeper.
+fn over(alloc: Global, keeper: MemoryKeeper) -> Result<Register<MemoryKeeper>, AllocError> {
+    match open(alloc, keeper, settings()) {
         Ok(register) => Ok(register),
         Err((keeper, _fault)) => {
             drop(keeper);
@@ -132,57 +124,161 @@ fn again(
     }
 }
 
+/// A register that is opened over the tables of this one's keeper.
+fn again(
+    alloc: Global,
+    register: Register<MemoryKeeper>,
+) -> Result<Register<MemoryKeeper>, AllocError> {
+    let tables = register.into_keeper().into_tables();
+    over(alloc, MemoryKeeper::new(tables, Vec::new(alloc)))
+}
+
+/// What is said of a line's block and how many entries the log then has, for the first word of a line.
+fn tried(
+    alloc: Global,
+    register: &mut Register<MemoryKeeper>,
+    line: &str,
+) -> Result<String, AllocError> {
+    let text = line.split(' ').next().unwrap_or("");
+    let said = answer(alloc, register, prefix(alloc, text)?)?;
+    let noted = register.log().len();
+    format!(in alloc; "{text} {said} {noted}")
+}
+
+/// What is said of each line's block.
+fn try_all(
+    alloc: Global,
+    register: &mut Register<MemoryKeeper>,
+    lines: &str,
+) -> Result<String, AllocError> {
+    let mut text = String::new(alloc);
+    for line in lines.lines() {
+        text.push_str(tried(alloc, register, line)?.as_str())?;
+        text.push_str("\n")?;
+    }
+    Ok(text)
+}
+
+/// Makes the prefix of a number below 1,000.
+fn make(
+    alloc: Global,
+    register: &mut Register<MemoryKeeper>,
+    n: u32,
+) -> Result<String, AllocError> {
+    let (high, low) = (n / 256, n % 256);
+    let text = format!(in alloc; "10.{high}.{low}.0/24")?;
+    answer(alloc, register, prefix(alloc, text.as_str())?)
+}
+
+/// How many of 1,000 prefixes were made.
+fn make_all(alloc: Global, register: &mut Register<MemoryKeeper>) -> Result<u32, AllocError> {
+    let mut made = 0u32;
+    for n in 0..1000 {
+        let said = make(alloc, register, n)?;
+        if said.as_str() == "made" {
+            made = made.saturating_add(1);
+        }
+    }
+    Ok(made)
+}
+
+/// What is said to a change of the first prefix, and to a deletion of the second.
+fn change_two(alloc: Global, register: &mut Register<MemoryKeeper>) -> Result<String, AllocError> {
+    let changed = answer(alloc, register, reserve(1))?;
+    let gone = answer(
+        alloc,
+        register,
+        Call::Delete {
+            kind: Kind::Prefixes,
+            id: 2,
+        },
+    )?;
+    format!(in alloc; "{changed} {gone}")
+}
+
+/// A line with the count that is answered in place of its last word.
+fn counted(
+    alloc: Global,
+    register: &mut Register<MemoryKeeper>,
+    line: &str,
+) -> Result<String, AllocError> {
+    let mut words = line.split(' ');
+    let text = words.next().unwrap_or("");
+    let word = words.next().unwrap_or("");
+    let status = if word == "reserved" {
+        Some(PrefixStatus::Reserved)
+    } else {
+        None
+    };
+    let said = answer(alloc, register, within(text, status)?)?;
+    format!(in alloc; "{text} {word} {said}")
+}
+
+/// The lines of the filters, with the counts that are answered.
+fn counts(alloc: Global, register: &mut Register<MemoryKeeper>) -> Result<String, AllocError> {
+    let mut text = String::new(alloc);
+    for line in FILTERS.lines() {
+        text.push_str(counted(alloc, register, line)?.as_str())?;
+        text.push_str("\n")?;
+    }
+    Ok(text)
+}
+
+/// A register without rows over a keeper whose call 2 fails: call 0 reads the tables, and each accepted change is one more.
+fn failing(alloc: Global) -> Result<Register<MemoryKeeper>, AllocError> {
+    let mut fails = Vec::new(alloc);
+    fails.push(2)?;
+    over(alloc, MemoryKeeper::new(empty_tables(alloc)?, fails))
+}
+
+/// What that register says of the blocks of the lines.
+fn failed(alloc: Global, lines: &str) -> Result<String, AllocError> {
+    let mut register = failing(alloc)?;
+    try_all(alloc, &mut register, lines)
+}
+
+/// What is made, changed and deleted.
+fn fill(alloc: Global, register: &mut Register<MemoryKeeper>) -> Result<String, AllocError> {
+    let made = make_all(alloc, register)?;
+    let said = change_two(alloc, register)?;
+    format!(in alloc; "{made} {said}")
+}
+
+/// How many entries the log has, and the counts.
+fn ask(alloc: Global, register: &mut Register<MemoryKeeper>) -> Result<String, AllocError> {
+    let noted = register.log().len();
+    let counts = counts(alloc, register)?;
+    format!(in alloc; "{noted}\n{counts}")
+}
+
+/// What a register of the keeper's tables answers.
+fn ask_again(alloc: Global, register: Register<MemoryKeeper>) -> Result<String, AllocError> {
+    let mut opened = again(alloc, register)?;
+    ask(alloc, &mut opened)
+}
+
+/// What is said while prefixes are made, changed and deleted, and then of a register that opens their tables.
+fn stored(alloc: Global) -> Result<(String, String), AllocError> {
+    let keeper = MemoryKeeper::new(empty_tables(alloc)?, Vec::new(alloc));
+    let mut register = over(alloc, keeper)?;
+    let filled = fill(alloc, &mut register);
+    let asked = ask_again(alloc, register);
+    Ok((filled?, asked?))
+}
+
 #[test]
 fn a_failed_keeper_leaves_all(rt: HostRuntime) -> Result<(), Fail> {
-    let alloc = rt.alloc();
-    let mut fails = Vec::new(alloc);
-    fails.push(1)?;
-    let keeper = MemoryKeeper::new(empty_tables(alloc)?, fails);
-    let mut register = begin(alloc, keeper, settings());
-    for line in "10.0.0.0/8 made 1\n10.0.0.0/9 keeper 1\n10.0.0.0/9 made 2\n".lines() {
-        let text = line.split(' ').next().unwrap_or("");
-        let said = answer(alloc, &mut register, prefix(alloc, text)?)?;
-        let noted = register.log().len();
-        let told = format!(in alloc; "{text} {said} {noted}")?;
-        assert!(rt; told.as_str() == line, "{told} for {line}");
-    }
+    let lines = "10.0.0.0/8 made 1\n10.0.0.0/9 keeper 1\n10.0.0.0/9 made 2\n";
+    let said = failed(rt.alloc(), lines)?;
+    assert!(rt; said.as_str() == lines, "{said}");
     Ok(())
 }
 
 #[test]
 fn what_was_stored_is_opened(rt: HostRuntime) -> Result<(), Fail> {
-    let alloc = rt.alloc();
-    let keeper = MemoryKeeper::new(empty_tables(alloc)?, Vec::new(alloc));
-    let mut register = begin(alloc, keeper, settings());
-    for n in 0..1000 {
-        let (high, low) = (n / 256, n % 256);
-        let text = format!(in alloc; "10.{high}.{low}.0/24")?;
-        let said = answer(alloc, &mut register, prefix(alloc, text.as_str())?)?;
-        assert!(rt; said.as_str() == "made", "{text}: {said}");
-    }
-    let said = answer(alloc, &mut register, reserve(1))?;
-    assert!(rt; said.as_str() == "changed", "{said}");
-    let gone = Call::Delete {
-        kind: Kind::Prefixes,
-        id: 2,
-    };
-    let said = answer(alloc, &mut register, gone)?;
-    assert!(rt; said.as_str() == "gone", "{said}");
-    let mut register = again(alloc, register)?;
-    for line in FILTERS.lines() {
-        let mut words = line.split(' ');
-        let text = words.next().unwrap_or("");
-        let status = match words.next() {
-            Some("reserved") => Some(PrefixStatus::Reserved),
-            _ => None,
-        };
-        let said = answer(alloc, &mut register, within(text, status)?)?;
-        let wanted = words.next().unwrap_or("");
-        assert!(rt; said.as_str() == wanted, "{line}: {said}");
-    }
-    assert!(rt;
-        register.log().is_empty(),
-        "nothing is noted of what was opened"
-    );
+    let (filled, asked) = stored(rt.alloc())?;
+    let wanted = format!(in rt.alloc(); "0\n{FILTERS}")?;
+    assert!(rt; filled.as_str() == "1000 changed gone", "{filled}");
+    assert!(rt; asked.as_str() == wanted.as_str(), "{asked}");
     Ok(())
 }
