@@ -13,7 +13,7 @@ mod text_tests;
 mod written;
 
 pub use percentage::percent;
-pub use plain::{available_blocks, available_blocks_are_those};
+pub use plain::{available_blocks, available_blocks_are_those, largest_are_fewest};
 use std::marker::Model;
 pub use text::{
     TextFault, canonical_text_is_one, one_reading, read_addr, read_block, read_host,
