@@ -194,6 +194,13 @@ impl Block {
         self.len
     }
 
+    /// The length fits the family, and the first address is one of it and a multiple of the size, by the type: a law.
+    pub fn bounds(&self)
+        ensures { IsBlock self.now }
+    {
+        let _len = self.len;
+    }
+
     /// The block's first address.
     pub fn first(&self) -> Addr
         ensures { result ≡ first_of self.now }
