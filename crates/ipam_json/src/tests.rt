@@ -128,7 +128,7 @@ A{\"rir\":0}
 a{\"prefix\":\"10.0.0.1/8\"}
 = Aggregate { block: None, rir: Some(2), description: None }
 A{\"rir\":2}
-= IpRange { start: Host { addr: Addr { value: 167772161, family: V4 }, len: 24 }, end: Host { addr: Addr { value: 167772162, family: V4 }, len: 32 }, vrf: None, status: Active, role: None, mark_utilized: false, description: Description { string: \"\" } }
+= IpRange { start: Host { addr: Addr { family: V4, value: 167772161 }, len: 24 }, end: Host { addr: Addr { family: V4, value: 167772162 }, len: 32 }, vrf: None, status: Active, role: None, mark_utilized: false, description: Description { string: \"\" } }
 g{\"start_address\":\"10.0.0.1/24\",\"end_address\":\"10.0.0.2\"}
 = {\"code\":\"field\",\"detail\":\"start_address is missing or malformed\"}
 g{\"start_address\":5}
@@ -140,13 +140,13 @@ g{\"start_address\":\"10.0.0.1/24\",\"vrf\":0}
 G{\"end_address\":\"10.0.0\"}
 = {\"code\":\"field\",\"detail\":\"status is missing or malformed\"}
 g{\"start_address\":\"10.0.0.1/24\",\"end_address\":\"10.0.0.2/24\",\"status\":\"container\",\"role\":\"\"}
-= IpRange { start: None, end: Some(Host { addr: Addr { value: 167772169, family: V4 }, len: 32 }), vrf: None, status: Some(Reserved), role: Some(None), mark_utilized: None, description: None }
+= IpRange { start: None, end: Some(Host { addr: Addr { family: V4, value: 167772169 }, len: 32 }), vrf: None, status: Some(Reserved), role: Some(None), mark_utilized: None, description: None }
 G{\"end_address\":\"10.0.0.9\",\"role\":null,\"status\":\"reserved\"}
-= IpAddress { host: Host { addr: Addr { value: 167772161, family: V4 }, len: 24 }, vrf: None, status: Active, role: None, dns_name: DnsText { string: \"\" }, description: Description { string: \"\" } }
+= IpAddress { host: Host { addr: Addr { family: V4, value: 167772161 }, len: 24 }, vrf: None, status: Active, role: None, dns_name: DnsText { string: \"\" }, description: Description { string: \"\" } }
 d{\"address\":\"10.0.0.1/24\"}
 d{\"address\":\"10.0.0.1/24\",\"role\":null}
 d{\"address\":\"10.0.0.1/24\",\"role\":\"\",\"dns_name\":\"\"}
-= IpAddress { host: Host { addr: Addr { value: 1, family: V6 }, len: 128 }, vrf: Some(3), status: Slaac, role: Some(Carp), dns_name: DnsText { string: \"A.\\u{7}\" }, description: Description { string: \"lab\" } }
+= IpAddress { host: Host { addr: Addr { family: V6, value: 1 }, len: 128 }, vrf: Some(3), status: Slaac, role: Some(Carp), dns_name: DnsText { string: \"A.\\u{7}\" }, description: Description { string: \"lab\" } }
 d{\"address\":\"::1\",\"vrf\":3,\"status\":\"slaac\",\"role\":\"carp\",\"dns_name\":\"A.\\u0007\",\"description\":\"lab\"}
 = {\"code\":\"field\",\"detail\":\"address is missing or malformed\"}
 d{\"role\":5}
