@@ -3,6 +3,7 @@
 
 mod address;
 mod aggregate;
+mod available;
 mod bodies;
 mod choices;
 mod details;
