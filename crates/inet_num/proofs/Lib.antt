@@ -2,6 +2,7 @@ pub mod Numbers
 pub mod Aligned
 pub mod Frees
 pub mod Nested
+pub mod Fewest
 pub mod Available
 pub mod PlainSearch
 pub mod Counts

@@ -3,3 +3,4 @@ pub mod Text
 pub mod Fault
 pub mod Free
 pub mod Count
+pub mod Fewest

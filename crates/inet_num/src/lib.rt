@@ -13,7 +13,7 @@ mod text_tests;
 mod written;
 
 pub use percentage::percent;
-pub use plain::{available_blocks, available_blocks_are_those};
+pub use plain::{available_blocks, available_blocks_are_those, largest_are_fewest};
 use std::marker::Model;
 pub use text::{
     TextFault, canonical_text_is_one, one_reading, read_addr, read_block, read_host,
@@ -192,6 +192,13 @@ impl Block {
         ensures lawful { IsBlock self.now }
     {
         self.len
+    }
+
+    /// The length fits the family, and the first address is one of it and a multiple of the size, by the type: a law.
+    pub fn bounds(&self)
+        ensures { IsBlock self.now }
+    {
+        let _len = self.len;
     }
 
     /// The block's first address.

@@ -3,6 +3,7 @@
 ghost use Rattle.std.specs.Prelude.{◌≡◌, ℕ, ◌+◌, ◌-◌, ◌*◌, ◌%◌, ◌^◌, ◌<◌, ◌≤◌, ◌↔◌, ◌++◌, not, filter, IfOk, OnOk, IsTrue};
 ghost use Rattle.std.specs.List.{list_any};
 ghost use Rattle.inet_num.specs.Net.{width_of, Cidr, IsBlock, HasAddress, size_of, block_at};
+ghost use Rattle.inet_num.specs.Fewest.{LargestAreFewest};
 ghost use Rattle.inet_num.specs.Free.{is_available, meets, picked_of, picked_at, available_blocks_of, AvailableBlocksAreThose};
 
 use crate::{Addr, Block};
@@ -104,4 +105,10 @@ pub fn available_blocks(
 /// The list of available blocks that the definition gives is that of the largest free blocks, in order, and no other is.
 pub fn available_blocks_are_those()
     ensures { AvailableBlocksAreThose }
+{}
+
+/// No list of blocks that has just the addresses of a set is shorter than the list of its largest blocks: each of them needs a
+/// block of its own.
+pub fn largest_are_fewest()
+    ensures { LargestAreFewest }
 {}

@@ -1,7 +1,8 @@
 //! The canonical text of addresses and blocks (RFC 5952 4).
 
-ghost use Rattle.std.specs.Prelude.{◌≡◌, ◌≤◌, ◌<◌, ◌+◌, ◌*◌, [], ◌∷◌, ◌++◌, length, OnOk, OnErr, decimal};
+ghost use Rattle.std.specs.Prelude.{◌≡◌, ◌≤◌, ◌<◌, ◌+◌, ◌*◌, [], ◌∷◌, ◌++◌, length, OnOk, OnErr, Some, decimal};
 ghost use Rattle.std.specs.Char.{digit_char};
+ghost use Rattle.std.specs.Net.Addr.{ipv4_octets, ipv6_segments};
 ghost use Rattle.std.specs.Net.Text as Text;
 ghost use Rattle.arrayvec.specs.ArrayString.{array_string_len};
 ghost use Rattle.arrayvec.specs.ArrayVec.{array_vec_len};
@@ -12,7 +13,8 @@ use crate::{Addr, Block, Family};
 use arrayvec::{ArrayString, ArrayVec};
 use itoa::Buffer;
 use std::alloc::AllocError;
-use std::net::Ipv6Addr;
+use std::fmt;
+use std::net::{HexGroups, Ipv4Addr, Ipv6Addr};
 
 /// The canonical text of an IPv4 address.
 fn quad_text(value: u32) -> ArrayString<19>
@@ -208,4 +210,43 @@ pub fn write_block(block: Block, out: &mut Vec<u8>) -> Result<(), AllocError>
 {
     let text = block_text(block);
     out.extend_from_slice(text.as_slice())
+}
+
+/// The IPv4 address of this number, as std has it.
+#[tactic(auto, unfolding(std::specs::Net::Addr::IsIpv4OfBits))]
+fn quad_of(value: u32) -> Ipv4Addr
+    ensures { Text.ipv4_text (ipv4_octets result) ≡ canonical_text_of V4 value }
+{
+    Ipv4Addr::from_bits(value)
+}
+
+/// The groups of the IPv6 address of this number, as std has them.
+#[tactic(auto, unfolding(std::specs::Net::Addr::IsIpv6OfBits))]
+fn groups_of(value: u128) -> HexGroups
+    ensures { Text.hex_groups_text (ipv6_segments (Text.hex_groups_addr result)) ≡ canonical_text_of V6 value }
+{
+    Ipv6Addr::from_bits(value).hex_groups()
+}
+
+/// The canonical text (RFC 5952 4): as `10.0.0.1` or `2001:db8::1`; an IPv6 address is always written in groups.
+impl fmt::Display for Addr {
+    ghost output = { λ a. Some (canonical_text_of a.family a.value) };
+
+    fn fmt<W: fmt::Write>(&self, f: &mut fmt::Formatter<W>) -> fmt::Result {
+        match self.family {
+            Family::V4 => fmt::Display::fmt(&quad_of(self.value as u32), f),
+            Family::V6 => fmt::Display::fmt(&groups_of(self.value), f),
+        }
+    }
+}
+
+/// The canonical text: that of the first address, a slash and the length, as `10.0.0.0/8` or `2001:db8::/32`.
+impl fmt::Display for Block {
+    ghost output = { λ b. Some (block_text_of b) };
+
+    fn fmt<W: fmt::Write>(&self, f: &mut fmt::Formatter<W>) -> fmt::Result {
+        let addr = self.addr();
+        let len = self.len;
+        write!(f, "{addr}/{len}")
+    }
 }

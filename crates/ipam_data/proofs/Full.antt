@@ -2,11 +2,9 @@
 use Rattle.std.proofs.Common.{◌≡◌, ℕ, ◌+◌, ◌≤◌, false, nat_le, List, [], ◌∷◌, ◌++◌, length, Option, Some, None, refl, ◌∙◌, arith}
 use Rattle.std.proofs.lemmas.Bool.Decides.{nat_tests}
 use Rattle.ipam_data.specs.declared.kinds.Kind.{Kind}
-use Rattle.ipam_data.specs.declared.replies.Refusal.{Refusal}
 use Rattle.ipam_data.specs.declared.replies.Refusal.TheVariants.{Limit}
 use Rattle.ipam_data.specs.declared.replies.Which.TheVariants.{Kind as OfKind}
 use Rattle.ipam_data.specs.Checks.{first, no_room, no_log}
-use Rattle.ipam_data.specs.State.{State}
 use Rattle.ipam_data.specs.Plans.{KindRules, broken, no_seats}
 use Rattle.ipam_data.specs.Vrfs.{vrf_rules}
 use Rattle.ipam_data.specs.Rirs.{rir_rules}

@@ -15,8 +15,8 @@ use Rattle.ipam_data.specs.declared.replies.Refusal.{Refusal}
 use Rattle.ipam_data.specs.declared.replies.Reply.{Reply}
 use Rattle.ipam_data.specs.declared.replies.Reply.TheVariants.{Made, MadeMany, Changed, Gone, Imported, One, Page, Blocks, Addrs, Percent, Refused}
 use Rattle.ipam_data.specs.Shelf.{row_at}
-use Rattle.ipam_data.specs.State.{State, Plan, verdict_of, no_update, reading}
-use Rattle.ipam_data.specs.Plans.{KindRules, with_found, with_row_at, create, replace, change, take_out, delete, get, list, nothing_told}
+use Rattle.ipam_data.specs.State.{State, Plan, verdict_of, no_update}
+use Rattle.ipam_data.specs.Plans.{KindRules, with_found, create, replace, change, take_out, delete, get, list, nothing_told}
 use Rattle.ipam_data.specs.Updates.{updated, answered, outcome}
 use Rattle.ipam_data.specs.Vrfs.{vrf_rules, meets_vrf}
 use Rattle.ipam_data.specs.Rirs.{rir_rules, meets_rir}

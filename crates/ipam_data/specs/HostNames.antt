@@ -1,6 +1,6 @@
 -- Names of hosts (RFC 1035 2.3.1, with underscores and a star for the first label, RFC 4592): labels joined by periods; one more
 -- period may stand last.
-use Rattle.std.specs.Prelude.{◌≡◌, ℕ, ◌==◌, ◌&&◌, ◌||◌, nat_le, Bool, List, [], ◌∷◌, reverse, length, codes, bytes_eq, if◌then◌else◌}
+use Rattle.std.specs.Prelude.{ℕ, ◌==◌, ◌&&◌, ◌||◌, nat_le, Bool, List, [], ◌∷◌, reverse, length, codes, bytes_eq, if◌then◌else◌}
 use Rattle.std.specs.List.{list_all, slice_split}
 use Rattle.ipam_data.specs.Texts.{is_slug_char}
 

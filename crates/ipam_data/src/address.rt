@@ -84,9 +84,9 @@ impl IpAddress {
     pub fn bounds(&self)
         ensures { HasAddressBounds self.now }
     {
-        let _len = self.host.len();
-        let _dns_name = self.dns_name.as_str();
-        let _description = self.description.as_str();
+        self.host.bounds();
+        self.dns_name.bounds();
+        self.description.bounds();
     }
 
     /// The same row again. `Err` is want of memory.

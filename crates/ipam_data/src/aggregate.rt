@@ -26,8 +26,8 @@ impl Aggregate {
     pub fn bounds(&self)
         ensures { HasAggregateBounds self.now }
     {
-        let _len = self.block.len();
-        let _description = self.description.as_str();
+        self.block.bounds();
+        self.description.bounds();
     }
 
     /// The same row again. `Err` is want of memory.

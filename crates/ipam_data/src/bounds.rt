@@ -17,7 +17,7 @@ fn name_bounds(field: &Option<Name>)
     ensures { Given IsName field.now }
 {
     if let Some(name) = field {
-        let _text = name.as_str();
+        name.bounds();
     }
 }
 
@@ -26,7 +26,7 @@ fn slug_bounds(field: &Option<Slug>)
     ensures { Given IsSlug field.now }
 {
     if let Some(slug) = field {
-        let _text = slug.as_str();
+        slug.bounds();
     }
 }
 
@@ -44,7 +44,7 @@ fn description_bounds(field: &Option<Description>)
     ensures { Given IsDescription field.now }
 {
     if let Some(description) = field {
-        let _text = description.as_str();
+        description.bounds();
     }
 }
 
@@ -53,7 +53,7 @@ fn weight_bounds(field: &Option<Weight>)
     ensures { Given IsWeight field.now }
 {
     if let Some(weight) = field {
-        let _value = weight.get();
+        weight.bounds();
     }
 }
 
@@ -62,7 +62,7 @@ fn block_bounds(field: Option<Block>)
     ensures { Given IsBlock field }
 {
     if let Some(block) = field {
-        let _len = block.len();
+        block.bounds();
     }
 }
 
@@ -71,7 +71,7 @@ fn host_bounds(field: Option<Host>)
     ensures { Given IsMasked field }
 {
     if let Some(host) = field {
-        let _len = host.len();
+        host.bounds();
     }
 }
 
@@ -80,7 +80,7 @@ fn dns_text_bounds(field: &Option<DnsText>)
     ensures { Given IsDnsText field.now }
 {
     if let Some(text) = field {
-        let _text = text.as_str();
+        text.bounds();
     }
 }
 
@@ -93,22 +93,22 @@ impl Draft {
             Draft::Vrf {
                 name,
                 rd,
-                enforce_unique: _,
                 description,
+                ..
             } => {
-                let _name = name.as_str();
+                name.bounds();
                 distinguisher_bounds(rd);
-                let _description = description.as_str();
+                description.bounds();
             }
             Draft::Rir {
                 name,
                 slug,
-                is_private: _,
                 description,
+                ..
             } => {
-                let _name = name.as_str();
-                let _slug = slug.as_str();
-                let _description = description.as_str();
+                name.bounds();
+                slug.bounds();
+                description.bounds();
             }
             Draft::Role {
                 name,
@@ -116,55 +116,46 @@ impl Draft {
                 weight,
                 description,
             } => {
-                let _name = name.as_str();
-                let _slug = slug.as_str();
-                let _weight = weight.get();
-                let _description = description.as_str();
+                name.bounds();
+                slug.bounds();
+                weight.bounds();
+                description.bounds();
             }
             Draft::Aggregate {
                 block,
-                rir: _,
                 description,
+                ..
             } => {
-                let _len = block.len();
-                let _description = description.as_str();
+                block.bounds();
+                description.bounds();
             }
             Draft::Prefix {
                 block,
-                vrf: _,
-                status: _,
-                role: _,
-                is_pool: _,
-                mark_utilized: _,
                 description,
+                ..
             } => {
-                let _len = block.len();
-                let _description = description.as_str();
+                block.bounds();
+                description.bounds();
             }
             Draft::IpRange {
                 start,
                 end,
-                vrf: _,
-                status: _,
-                role: _,
-                mark_utilized: _,
                 description,
+                ..
             } => {
-                let _start = start.len();
-                let _end = end.len();
-                let _description = description.as_str();
+                start.bounds();
+                end.bounds();
+                description.bounds();
             }
             Draft::IpAddress {
                 host,
-                vrf: _,
-                status: _,
-                role: _,
                 dns_name,
                 description,
+                ..
             } => {
-                let _len = host.len();
-                let _dns_name = dns_name.as_str();
-                let _description = description.as_str();
+                host.bounds();
+                dns_name.bounds();
+                description.bounds();
             }
         }
     }
@@ -179,8 +170,8 @@ impl Edit {
             Edit::Vrf {
                 name,
                 rd,
-                enforce_unique: _,
                 description,
+                ..
             } => {
                 name_bounds(name);
                 given_distinguisher_bounds(rd);
@@ -189,8 +180,8 @@ impl Edit {
             Edit::Rir {
                 name,
                 slug,
-                is_private: _,
                 description,
+                ..
             } => {
                 name_bounds(name);
                 slug_bounds(slug);
@@ -209,20 +200,16 @@ impl Edit {
             }
             Edit::Aggregate {
                 block,
-                rir: _,
                 description,
+                ..
             } => {
                 block_bounds(*block);
                 description_bounds(description);
             }
             Edit::Prefix {
                 block,
-                vrf: _,
-                status: _,
-                role: _,
-                is_pool: _,
-                mark_utilized: _,
                 description,
+                ..
             } => {
                 block_bounds(*block);
                 description_bounds(description);
@@ -230,11 +217,8 @@ impl Edit {
             Edit::IpRange {
                 start,
                 end,
-                vrf: _,
-                status: _,
-                role: _,
-                mark_utilized: _,
                 description,
+                ..
             } => {
                 host_bounds(*start);
                 host_bounds(*end);
@@ -242,11 +226,9 @@ impl Edit {
             }
             Edit::IpAddress {
                 host,
-                vrf: _,
-                status: _,
-                role: _,
                 dns_name,
                 description,
+                ..
             } => {
                 host_bounds(*host);
                 dns_text_bounds(dns_name);

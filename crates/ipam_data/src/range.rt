@@ -51,8 +51,8 @@ impl IpRange {
     pub fn bounds(&self)
         ensures { HasRangeBounds self.now }
     {
-        let _len = self.ends.len();
-        let _description = self.description.as_str();
+        self.ends.bounds();
+        self.description.bounds();
     }
 
     /// The same row again. `Err` is want of memory.

@@ -25,9 +25,9 @@ impl Rir {
     pub fn bounds(&self)
         ensures { HasRirBounds self.now }
     {
-        let _name = self.name.as_str();
-        let _slug = self.slug.as_str();
-        let _description = self.description.as_str();
+        self.name.bounds();
+        self.slug.bounds();
+        self.description.bounds();
     }
 
     /// The same row again. `Err` is want of memory.

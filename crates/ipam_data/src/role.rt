@@ -25,10 +25,10 @@ impl Role {
     pub fn bounds(&self)
         ensures { HasRoleBounds self.now }
     {
-        let _name = self.name.as_str();
-        let _slug = self.slug.as_str();
-        let _weight = self.weight.get();
-        let _description = self.description.as_str();
+        self.name.bounds();
+        self.slug.bounds();
+        self.weight.bounds();
+        self.description.bounds();
     }
 
     /// The same row again. `Err` is want of memory.

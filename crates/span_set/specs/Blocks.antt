@@ -1,22 +1,12 @@
--- The fewest aligned blocks of a set of addresses: all that are largest, that is in the set with the enclosing block
--- (of one length less, RFC 4632 3.1) not in it; and how they are the available blocks of a block.
-use Rattle.std.specs.Prelude.{◌≡◌, ℕ, ◌+◌, ◌<◌, ◌≤◌, ◌↔◌, false, IsTrue, List, Contains}
+-- The largest blocks of a set of addresses in order, no shorter list of blocks has just its addresses; and how they are the
+-- available blocks of a block.
+use Rattle.std.specs.Prelude.{◌≡◌, ℕ, ◌+◌, ◌≤◌, ◌↔◌, false, IsTrue, List, length, Contains}
 use Rattle.std.specs.List.{AllByRecursion}
 use Rattle.inet_num.specs.declared.Family.{Family}
-use Rattle.inet_num.specs.Net.{Cidr, Address, IsBlock, size_of, HasAddress, enclosing_of, block_at}
+use Rattle.inet_num.specs.Net.{Cidr, Address, IsBlock, size_of, HasAddress, block_at}
 use Rattle.inet_num.specs.Free.{InOrder, is_taken, available_blocks_of}
+pub use Rattle.inet_num.specs.Fewest.{AllIn, IsLargest, HaveJust}
 use Rattle.span_set.specs.Spans.{Spans, IsIn}
-
--- each address of the block is one of the set
-abbrev pub AllIn : (ℕ → Type 0) → Cidr → Type 0
-AllIn set b = (a : ℕ) → HasAddress b a → set a
-
--- a block of the set whose enclosing block is not one
-pub record IsLargest (family : Family) (set : ℕ → Type 0) (b : Cidr) : Type 0 where
-  pub lawful : IsBlock b
-  pub family_is : b.family ≡ family
-  pub inside : AllIn set b
-  pub largest : 0 < b.len → ¬ AllIn set (enclosing_of b)
 
 -- all largest blocks of the set, each once, in address order: the fewest that have just its addresses
 pub record ListsLargest (family : Family) (set : ℕ → Type 0) (bs : List Cidr) : Type 0 where
@@ -28,6 +18,10 @@ pub record ListsLargest (family : Family) (set : ℕ → Type 0) (bs : List Cidr
 pub record IsFewest (family : Family) (set : ℕ → Type 0) (bs : List Cidr) : Type 0 where
   pub lists : ListsLargest family set bs
   pub covers : (a : ℕ) → set a → IsTrue (is_taken bs a)
+
+-- no list of blocks that has just the set's addresses is shorter
+abbrev pub NoneIsShorter : Family → (ℕ → Type 0) → List Cidr → Type 0
+NoneIsShorter family set bs = (cs : List Cidr) → HaveJust family set cs → length bs ≤ length cs
 
 -- the block of this length at this address is lawful and ends at the last number or before
 pub record FitsAt (first : Address) (last len : ℕ) : Type 0 where

@@ -9,7 +9,7 @@ ghost use Rattle.inet_num.specs.Count.{count_of};
 ghost use Rattle.inet_num.specs.Free.{is_taken};
 ghost use Rattle.span_set.specs.Runs.{IsBetween};
 ghost use Rattle.span_set.specs.Spans.{IsSpans, is_in, IsIn};
-ghost use Rattle.span_set.specs.Blocks.{ListsLargest, FewestAreAvailable};
+ghost use Rattle.span_set.specs.Blocks.{ListsLargest, NoneIsShorter, FewestAreAvailable};
 
 mod blocks;
 mod runs;
@@ -96,9 +96,11 @@ impl SpanSet {
         count_between(&self.runs, within.first().value(), within.last().value())
     }
 
-    /// The fewest aligned blocks that have just the set's addresses, in address order. The one error is want of memory.
+    /// The fewest aligned blocks that have just the set's addresses, in address order: no list of blocks with these addresses
+    /// is shorter. The one error is want of memory.
     pub fn blocks(&self) -> Result<Vec<Block>, AllocError>
         ensures fewest { IfOk result (λ v. ListsLargest self.now.family (IsIn self.now) v.items) }
+        ensures shortest { IfOk result (λ v. NoneIsShorter self.now.family (IsIn self.now) v.items) }
         ensures members { IfOk result (λ v. (a : ℕ) → IsIn self.now a ↔ IsTrue (is_taken v.items a)) }
         ensures lawful { IfOk result (λ v. AllByRecursion IsBlock v.items) }
         ensures family { IfOk result (λ v. AllByRecursion (λ b. b.family ≡ self.now.family) v.items) }

@@ -1,7 +1,7 @@
 use Rattle.std.proofs.Common.{rules}
 use Rattle.std.proofs.lemmas.Iterator.Search.{all_from_yields_List}
 use Rattle.std.proofs.lemmas.Iterator.Splits.{YieldsList-from_slice_split}
-use Rattle.ipam_data.specs.HostNames.{is_dot, is_label, are_labels}
+use Rattle.ipam_data.specs.HostNames.{is_dot, is_label}
 use Rattle.ipam_data.proofs.host_names.are_all_labels.Goals as goal
 
 pub returns : goal.returns

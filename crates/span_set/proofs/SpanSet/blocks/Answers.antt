@@ -1,9 +1,10 @@
 use Rattle.std.proofs.Common.{◌≡◌, ℕ, ◌^◌, ◌<◌, ◌≤◌, List, length, get_or, sym, subst}
 use Rattle.std.proofs.lemmas.List.Elements.{All-from_recursion}
 use Rattle.inet_num.specs.Net.{Cidr, IsBlock, width_of}
+use Rattle.inet_num.proofs.Fewest.{largest_are_fewest}
 use Rattle.span_set.specs.declared.runs.Run.{Run}
 use Rattle.span_set.specs.Runs.{AreApart, EndBelow}
-use Rattle.span_set.specs.Spans.{Spans, IsIn}
+use Rattle.span_set.specs.Spans.{Spans, is_in, IsIn}
 use Rattle.span_set.specs.Blocks.{IsFewest, IsLargest}
 use Rattle.span_set.proofs.Rising.{at_least}
 use Rattle.span_set.proofs.Greedy.{All-weaker}
@@ -55,3 +56,10 @@ returns-clause-family c =
     let whole = fewest_whole set c.deref-run-items.result.now c.runs.run-index c.runs.out.items c.deref-run-items.ensures.value c.runs-test.false c.runs.invariant in
     let f = subst (λ (s : Spans). IsFewest s.family (IsIn s) c.runs.out.items) c.self.view_is whole in
     All-weaker _ (λ (m : Cidr). m.family ≡ c.args.self.now.family) c.runs.out.items (λ m (k : IsLargest c.args.self.now.family (IsIn c.args.self.now) m). k.family_is) f.lists.each
+
+pub returns-clause-shortest : goal.returns-clause-shortest
+returns-clause-shortest c =
+    let set : Spans = record { family = c.self.inside.family; runs = c.self.inside.runs.items } in
+    let whole = fewest_whole set c.deref-run-items.result.now c.runs.run-index c.runs.out.items c.deref-run-items.ensures.value c.runs-test.false c.runs.invariant in
+    let f = subst (λ (s : Spans). IsFewest s.family (IsIn s) c.runs.out.items) c.self.view_is whole in
+    λ cs just. largest_are_fewest c.args.self.now.family (is_in c.args.self.now) c.runs.out.items cs f.lists.each f.lists.ordered just
