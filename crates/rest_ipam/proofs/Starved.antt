@@ -1,5 +1,5 @@
 -- Where memory is wanting before the first read, nothing was read, answered or written.
-use Rattle.std.proofs.Common.{◌≡◌, ℕ, List, [], ◌++◌, Option, Some, None, refl, sym, inl, append-nil}
+use Rattle.std.proofs.Common.{ℕ, List, [], Option, Some, None, refl, sym, inl, append-nil}
 use Rattle.std.specs.Io.KnownBytes.{Appends}
 use Rattle.ipam_edge.specs.Reading.{Step, Open}
 use Rattle.http_session.specs.Steps.{Grown}

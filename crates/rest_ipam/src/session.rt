@@ -16,7 +16,7 @@ use ipam_json::Links;
 use ipam_keeper::unkept::Unkept;
 use register_core::{Register, Settings, begin};
 use rest_routes::{
-    Routes, answer_of_refusal, answer_of_reply, finish_links, page_end, read_call_by,
+    Routes, answer_of_refusal_by, answer_of_reply, finish_links, page_end, read_call_by,
 };
 use std::alloc::{AllocError, Global};
 use std::mem;
@@ -87,7 +87,7 @@ fn refuse(
 {
     match refusal {
         Refusal::Memory => Err(AllocError),
-        _ => answer_of_refusal(alloc, routes, target, refusal),
+        _ => answer_of_refusal_by(alloc, routes, target, refusal),
     }
 }
 

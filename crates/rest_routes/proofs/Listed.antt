@@ -7,7 +7,6 @@ use Rattle.rest_routes.specs.declared.route.Route.{Route}
 use Rattle.rest_routes.specs.declared.route.Route.TheVariants.{Many, Single}
 use Rattle.rest_routes.specs.declared.table.Stem.{Stem}
 use Rattle.rest_routes.specs.declared.table.Stem.TheVariants.{Rows, Row}
-use Rattle.rest_routes.specs.Routes.{IsRoute}
 use Rattle.rest_routes.specs.Stems.{stem_of, all_kinds, rows_stems, stems}
 
 abbrev pub kind_of : Stem → Kind

@@ -1,6 +1,6 @@
 -- Routes: which targets name something, and by which methods. A route is told by its whole path, compared byte by byte with the
 -- path of the target (RFC 3986 3.3): nothing is decoded, and a missing slash or a leading zero makes another path.
-use Rattle.std.specs.Prelude.{◌≡◌, ℕ, ◌^◌, ◌<◌, ◌≤◌, List, [], ◌++◌, codes, decimal, bytes_eq, Option, Some, None, if◌then◌else◌}
+use Rattle.std.specs.Prelude.{◌≡◌, ℕ, ◌^◌, ◌<◌, ◌≤◌, List, ◌++◌, codes, decimal, bytes_eq, Option, Some, None, if◌then◌else◌}
 use Rattle.ipam_data.specs.declared.kinds.Kind.{Kind}
 use Rattle.ipam_data.specs.Answers.{kind_text}
 use Rattle.rest_routes.specs.declared.route.Route.{Route}

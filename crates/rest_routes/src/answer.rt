@@ -95,8 +95,9 @@ pub fn answer_of_reply(
     })
 }
 
-/// The answer of a refusal that the bytes of a request decide, before the register: it has no place. `Err` is want of memory.
-pub fn answer_of_refusal(
+/// The answer of a refusal that the bytes of a request decide, before the register, by a table of the routes that is lent: it has
+/// no place. `Err` is want of memory.
+pub fn answer_of_refusal_by(
     alloc: Global,
     routes: &Routes,
     target: &[u8],
@@ -112,6 +113,18 @@ pub fn answer_of_refusal(
         place: None,
         body: Body::Written(body),
     })
+}
+
+/// The same of one refusal alone, for which the table is built.
+pub fn answer_of_refusal(
+    alloc: Global,
+    target: &[u8],
+    refusal: &Refusal,
+) -> Result<Answer, AllocError>
+    ensures { IfOk result (λ a. IsRefusedAnswer target.now refusal.now (answer_of a)) }
+{
+    let routes = Routes::new(alloc)?;
+    answer_of_refusal_by(alloc, &routes, target, refusal)
 }
 
 /// The number of rows up to the end of a page; 0 for a call that asks for none.

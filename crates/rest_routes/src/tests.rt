@@ -1,7 +1,7 @@
 //! Requests and answers, a case to a line.
 
 use crate::{
-    Routes, answer_of_refusal, answer_of_reply, finish_links, page_end, read_call, read_call_by,
+    Routes, answer_of_refusal_by, answer_of_reply, finish_links, page_end, read_call, read_call_by,
 };
 use ipam_data::calls::Call;
 use ipam_data::kinds::Kind;
@@ -81,7 +81,7 @@ fn refusal_text(
     target: &[u8],
     refusal: &Refusal,
 ) -> Result<Vec<u8>, AllocError> {
-    let answer = answer_of_refusal(alloc, routes, target, refusal)?;
+    let answer = answer_of_refusal_by(alloc, routes, target, refusal)?;
     let allow = String::from_utf8_lossy(alloc, answer.allow)?;
     let number = answer.status.as_u16();
     Ok(format!(in alloc; "{refusal:?} {number} {allow}")?.into_bytes())
