@@ -2,16 +2,15 @@
 //! slots, 8 bytes a row, is what moves when a row is taken out.
 #![tactic(auto)]
 
-ghost use Rattle.std.specs.Prelude.{◌≡◌, ℕ, ◌+◌, ◌^◌, ◌<◌, ◌≤◌, [], OnOk, OnErr, length, option_copied, slice_get, vec_capacity};
-ghost use Rattle.ipam_data.specs.Shelf.{row_at, row_after, with_row, without, Rises};
-ghost use Rattle.row_book.specs.Book.{IsFitting};
+ghost use Rattle.std.specs.Prelude.{◌≡◌, ℕ, [], option_copied, slice_get, vec_capacity};
+ghost use Rattle.ipam_data.specs.Shelf.{Rises};
 ghost use Rattle.indexed_book.specs.Indexed.{entry_id, resettled, IsOnlyFor};
 
 #[cfg(test)]
 mod tests;
 
 use ipam_data::kinds::HasId;
-use row_book::{found, seek};
+use row_book::{Book, found, seek};
 use std::alloc::{AllocError, Global};
 use std::marker::Model;
 
@@ -89,40 +88,35 @@ impl<T: HasId> IndexedBook<T> {
             spare: 0,
         }
     }
+}
 
-    /// How many rows there are: fewer than 2^30. Their ids rise.
-    pub fn len(&self) -> u32
-        ensures len { result ≡ length self.now.rows }
-        ensures few { length self.now.rows < 2 ^ 30 }
-        ensures ordered { Rises T.id_of 0 self.now.rows }
-    {
+/// Each row is found by halving the index.
+impl<T: HasId + Drop> Book for IndexedBook<T> {
+    type Item = T;
+
+    ghost rows = { λ b. b.rows };
+
+    ghost spare = { λ b. b.spare };
+
+    fn len(&self) -> u32 {
         self.index.len() as u32
     }
 
-    /// The row at an index, in the order of their ids.
-    pub fn at(&self, index: u32) -> Option<&T>
-        ensures { option_copied result ≡ slice_get self.now.rows index }
-    {
+    fn at(&self, index: u32) -> Option<&T> {
         match item(&self.index, index as usize) {
             Some(entry) => item(&self.slots, entry.slot as usize),
             None => None,
         }
     }
 
-    /// The row of this id, by halving.
-    pub fn get(&self, id: u32) -> Option<&T>
-        ensures { option_copied result ≡ row_at T.id_of self.now.rows id }
-    {
+    fn get(&self, id: u32) -> Option<&T> {
         match found(self.index.as_slice(), id) {
             Some(at) => item(&self.slots, self.index[at].slot as usize),
             None => None,
         }
     }
 
-    /// The row of the least id above this one, by halving.
-    pub fn after(&self, id: u32) -> Option<&T>
-        ensures { option_copied result ≡ row_after T.id_of self.now.rows id }
-    {
+    fn after(&self, id: u32) -> Option<&T> {
         let at = seek(self.index.as_slice(), id as u64 + 1);
         if at < self.index.len() {
             return item(&self.slots, self.index[at].slot as usize);
@@ -130,14 +124,7 @@ impl<T: HasId> IndexedBook<T> {
         None
     }
 
-    /// Makes room for `n` more rows. `Err` is want of memory, and leaves the book as it was.
-    pub fn reserve(&mut self, n: u32) -> Result<(), AllocError>
-        requires { length self.old.rows + n < 2 ^ 30 }
-        ensures rows { self.new.rows ≡ self.old.rows }
-        ensures ok { OnOk result (n ≤ self.new.spare) }
-        ensures kept { self.old.spare ≤ self.new.spare }
-        ensures err { OnErr result (self.new ≡ self.old) }
-    {
+    fn reserve(&mut self, n: u32) -> Result<(), AllocError> {
         self.index.reserve(n as usize)?;
         self.slots.reserve(n as usize)?;
         if self.spare < n {
@@ -145,18 +132,8 @@ impl<T: HasId> IndexedBook<T> {
         }
         Ok(())
     }
-}
 
-impl<T: HasId + Drop> IndexedBook<T> {
-    /// Puts the row in the place of the one of its id, or else behind all: its id is then above all others. It takes no
-    /// memory, and uses up at most one row's room.
-    pub fn put(&mut self, row: T)
-        requires room { 1 ≤ self.old.spare }
-        requires id { 1 ≤ T.id_of row }
-        requires fits { IsFitting T.id_of self.old.rows row }
-        ensures rows { self.new.rows ≡ with_row T.id_of self.old.rows row }
-        ensures spare { self.old.spare ≤ self.new.spare + 1 }
-    {
+    fn put(&mut self, row: T) {
         let id = row.id();
         match found(self.index.as_slice(), id) {
             Some(at) => {
@@ -172,12 +149,7 @@ impl<T: HasId + Drop> IndexedBook<T> {
         }
     }
 
-    /// Takes the row of this id out, and hands it out; `None` where there is none. It leaves the room.
-    pub fn cut(&mut self, id: u32) -> Option<T>
-        ensures row { result ≡ row_at T.id_of self.old.rows id }
-        ensures rows { self.new.rows ≡ without T.id_of self.old.rows id }
-        ensures spare { self.old.spare ≤ self.new.spare }
-    {
+    fn cut(&mut self, id: u32) -> Option<T> {
         match found(self.index.as_slice(), id) {
             Some(at) => {
                 let gone = self.index.remove(at);

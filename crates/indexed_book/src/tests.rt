@@ -2,6 +2,7 @@
 
 use crate::IndexedBook;
 use ipam_data::kinds::HasId;
+use row_book::Book;
 use std::test::Fail;
 
 #[derive(Clone, Copy, Debug)]

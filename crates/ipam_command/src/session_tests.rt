@@ -30,7 +30,7 @@ PUT /api/ipam/vrfs/||405 Method Not Allowed|Allow: GET, POST|{"code":"method","d
 DELETE /api/ipam/vrfs/1/||409 Conflict|Ipam-Place: 5|{"code":"in_use","detail":"named by prefixes 2"}
 GET /api/ipam/prefixes/?limit=2||200 OK|Ipam-Place: 5|{"count":3,"next":"/api/ipam/prefixes/?limit=2&offset=2","previous":null,"results":[{"children":0,"depth":1,"description":"","family":4,"id":1,"is_pool":false,"mark_utilized":false,"prefix":"10.0.0.0/24","role":null,"status":{"label":"Active","value":"active"},"vrf":null},{"children":0,"depth":0,"description":"","family":4,"id":2,"is_pool":true,"mark_utilized":true,"prefix":"10.0.0.0/25","role":null,"status":{"label":"Reserved","value":"reserved"},"vrf":1}]}
 GET /api/ipam/prefixes/01/||404 Not Found||{"code":"no_route","detail":"no such path"}
-PATCH /api/ipam/roles/||404 Not Found||{"code":"no_route","detail":"no such path"}
+PATCH /api/ipam/roles/||405 Method Not Allowed|Allow: GET, POST|{"code":"method","detail":"the path does not have this method"}
 POST /api/ipam/prefixes/|{"prefix":"10.3.0.0/16","vrf":9}|400 Bad Request|Ipam-Place: 5|{"code":"no_such","detail":"vrfs 9 is not there"}
 POST /api/ipam/prefixes/|{"prefix":"10.3.0.0/16","role":4}|400 Bad Request|Ipam-Place: 5|{"code":"no_such","detail":"roles 4 is not there"}
 POST /api/ipam/prefixes/|{"prefix":"0.0.0.0/0"}|400 Bad Request|Ipam-Place: 5|{"code":"zero_mask","detail":"a mask of length 0 is refused"}
@@ -52,6 +52,77 @@ DELETE /api/ipam/prefixes/1/||204 No Content|Ipam-Place: 11|
 DELETE /api/ipam/prefixes/1/||404 Not Found|Ipam-Place: 12|{"code":"not_found","detail":"prefixes 1 is not there"}
 HEAD /api/ipam/vrfs/3/||405 Method Not Allowed|Allow: GET, PATCH, DELETE|{"code":"method","detail":"the path does not have this method"}
 GET /api/ipam/vrfs/1/||200 OK|Ipam-Place: 12|{"description":"","enforce_unique":true,"id":1,"name":"red","rd":null}"#;
+
+/// Refusals of what is not there, changes that are refused and the one that changes nothing, on a register of their own.
+const CHANGES: &str =
+    r#"GET /api/ipam/prefixes/?limit=2||200 OK|Ipam-Place: 0|{"count":0,"next":null,"previous":null,"results":[]}
+GET /api/ipam/prefixes/9/||404 Not Found|Ipam-Place: 0|{"code":"not_found","detail":"prefixes 9 is not there"}
+PATCH /api/ipam/prefixes/9/|{"status":5}|400 Bad Request||{"code":"field","detail":"status is missing or malformed"}
+PATCH /api/ipam/prefixes/9/|{"status":"active"}|404 Not Found|Ipam-Place: 0|{"code":"not_found","detail":"prefixes 9 is not there"}
+GET /api/ipam/prefixes/0/||404 Not Found||{"code":"no_route","detail":"no such path"}
+PUT /api/ipam/prefixes/9/||405 Method Not Allowed|Allow: GET, PATCH, DELETE|{"code":"method","detail":"the path does not have this method"}
+POST /api/ipam/vrfs/|{"name":"red"}|201 Created|Ipam-Place: 0|{"description":"","enforce_unique":true,"id":1,"name":"red","rd":null}
+POST /api/ipam/vrfs/|{"name":"blue","enforce_unique":false}|201 Created|Ipam-Place: 1|{"description":"","enforce_unique":false,"id":2,"name":"blue","rd":null}
+POST /api/ipam/prefixes/|{"prefix":"10.0.0.0/24","vrf":2}|201 Created|Ipam-Place: 2|{"children":0,"depth":0,"description":"","family":4,"id":1,"is_pool":false,"mark_utilized":false,"prefix":"10.0.0.0/24","role":null,"status":{"label":"Active","value":"active"},"vrf":2}
+POST /api/ipam/prefixes/|{"prefix":"10.0.0.0/24"}|201 Created|Ipam-Place: 3|{"children":0,"depth":0,"description":"","family":4,"id":2,"is_pool":false,"mark_utilized":false,"prefix":"10.0.0.0/24","role":null,"status":{"label":"Active","value":"active"},"vrf":null}
+PATCH /api/ipam/prefixes/1/|{"vrf":null}|400 Bad Request|Ipam-Place: 4|{"code":"duplicate","detail":"coincides with 2"}
+PATCH /api/ipam/prefixes/1/|{}|200 OK|Ipam-Place: 4|{"children":0,"depth":0,"description":"","family":4,"id":1,"is_pool":false,"mark_utilized":false,"prefix":"10.0.0.0/24","role":null,"status":{"label":"Active","value":"active"},"vrf":2}
+PATCH /api/ipam/prefixes/2/|{"vrf":2}|200 OK|Ipam-Place: 5|{"children":0,"depth":0,"description":"","family":4,"id":2,"is_pool":false,"mark_utilized":false,"prefix":"10.0.0.0/24","role":null,"status":{"label":"Active","value":"active"},"vrf":2}
+PATCH /api/ipam/vrfs/2/|{"enforce_unique":true}|400 Bad Request|Ipam-Place: 6|{"code":"coincide","detail":"prefixes 1 and 2 coincide"}
+GET /api/ipam/vrfs/2/||200 OK|Ipam-Place: 6|{"description":"","enforce_unique":false,"id":2,"name":"blue","rd":null}
+POST /api/ipam/prefixes/|{"prefix":"10.1.0.0/16"}|201 Created|Ipam-Place: 6|{"children":0,"depth":0,"description":"","family":4,"id":3,"is_pool":false,"mark_utilized":false,"prefix":"10.1.0.0/16","role":null,"status":{"label":"Active","value":"active"},"vrf":null}
+POST /api/ipam/prefixes/|{"prefix":"10.2.0.0/16","vrf":1}|201 Created|Ipam-Place: 7|{"children":0,"depth":0,"description":"","family":4,"id":4,"is_pool":false,"mark_utilized":false,"prefix":"10.2.0.0/16","role":null,"status":{"label":"Active","value":"active"},"vrf":1}
+DELETE /api/ipam/vrfs/1/||409 Conflict|Ipam-Place: 8|{"code":"in_use","detail":"named by prefixes 4"}"#;
+
+/// RIRs, roles, aggregates, ranges and addresses, on a register of their own.
+const KINDS: &str =
+    r#"POST /api/ipam/rirs/|{"name":"ARIN","slug":"arin"}|201 Created|Ipam-Place: 0|{"description":"","id":1,"is_private":false,"name":"ARIN","slug":"arin"}
+POST /api/ipam/rirs/|{"name":"ARIN","slug":"other"}|400 Bad Request|Ipam-Place: 1|{"code":"name_taken","detail":"the name is that of 1"}
+POST /api/ipam/rirs/|{"name":"other","slug":"arin"}|400 Bad Request|Ipam-Place: 1|{"code":"slug_taken","detail":"the slug is that of 1"}
+POST /api/ipam/rirs/|{"name":"other"}|400 Bad Request||{"code":"field","detail":"slug is missing or malformed"}
+POST /api/ipam/aggregates/|{"prefix":"10.0.0.0/8","rir":1}|201 Created|Ipam-Place: 1|{"description":"","family":4,"id":1,"prefix":"10.0.0.0/8","rir":1}
+POST /api/ipam/aggregates/|{"prefix":"10.1.0.0/16","rir":1}|400 Bad Request|Ipam-Place: 2|{"code":"aggregate_overlap","detail":"overlaps aggregate 1"}
+POST /api/ipam/aggregates/|{"prefix":"11.0.0.0/8","rir":9}|400 Bad Request|Ipam-Place: 2|{"code":"no_such","detail":"rirs 9 is not there"}
+PATCH /api/ipam/aggregates/1/|{"rir":null}|400 Bad Request||{"code":"field","detail":"rir is missing or malformed"}
+GET /api/ipam/aggregates/?rir_id=1&limit=1||200 OK|Ipam-Place: 2|{"count":1,"next":null,"previous":null,"results":[{"description":"","family":4,"id":1,"prefix":"10.0.0.0/8","rir":1}]}
+GET /api/ipam/aggregates/?family=6||200 OK|Ipam-Place: 2|{"count":0,"next":null,"previous":null,"results":[]}
+DELETE /api/ipam/rirs/1/||409 Conflict|Ipam-Place: 2|{"code":"in_use","detail":"named by aggregates 1"}
+PATCH /api/ipam/rirs/1/|{}|200 OK|Ipam-Place: 2|{"description":"","id":1,"is_private":false,"name":"ARIN","slug":"arin"}
+GET /api/ipam/rirs/1/||200 OK|Ipam-Place: 3|{"description":"","id":1,"is_private":false,"name":"ARIN","slug":"arin"}
+POST /api/ipam/roles/|{"name":"lan","slug":"lan"}|201 Created|Ipam-Place: 3|{"description":"","id":1,"name":"lan","slug":"lan","weight":1000}
+POST /api/ipam/prefixes/|{"prefix":"10.0.0.0/24"}|201 Created|Ipam-Place: 4|{"children":0,"depth":0,"description":"","family":4,"id":1,"is_pool":false,"mark_utilized":false,"prefix":"10.0.0.0/24","role":null,"status":{"label":"Active","value":"active"},"vrf":null}
+POST /api/ipam/prefixes/|{"prefix":"10.0.1.0/24"}|201 Created|Ipam-Place: 5|{"children":0,"depth":0,"description":"","family":4,"id":2,"is_pool":false,"mark_utilized":false,"prefix":"10.0.1.0/24","role":null,"status":{"label":"Active","value":"active"},"vrf":null}
+POST /api/ipam/prefixes/|{"prefix":"10.0.2.0/24"}|201 Created|Ipam-Place: 6|{"children":0,"depth":0,"description":"","family":4,"id":3,"is_pool":false,"mark_utilized":false,"prefix":"10.0.2.0/24","role":null,"status":{"label":"Active","value":"active"},"vrf":null}
+POST /api/ipam/prefixes/|{"prefix":"10.0.3.0/24","role":1}|201 Created|Ipam-Place: 7|{"children":0,"depth":0,"description":"","family":4,"id":4,"is_pool":false,"mark_utilized":false,"prefix":"10.0.3.0/24","role":1,"status":{"label":"Active","value":"active"},"vrf":null}
+POST /api/ipam/ip-ranges/|{"start_address":"10.0.0.10/24","end_address":"10.0.0.19/24","role":1}|201 Created|Ipam-Place: 8|{"description":"","end_address":"10.0.0.19/24","family":4,"id":1,"mark_utilized":false,"role":1,"size":10,"start_address":"10.0.0.10/24","status":{"label":"Active","value":"active"},"vrf":null}
+DELETE /api/ipam/roles/1/||204 No Content|Ipam-Place: 9|
+GET /api/ipam/prefixes/4/||200 OK|Ipam-Place: 10|{"children":0,"depth":0,"description":"","family":4,"id":4,"is_pool":false,"mark_utilized":false,"prefix":"10.0.3.0/24","role":null,"status":{"label":"Active","value":"active"},"vrf":null}
+GET /api/ipam/ip-ranges/1/||200 OK|Ipam-Place: 10|{"description":"","end_address":"10.0.0.19/24","family":4,"id":1,"mark_utilized":false,"role":null,"size":10,"start_address":"10.0.0.10/24","status":{"label":"Active","value":"active"},"vrf":null}
+POST /api/ipam/ip-ranges/|{"start_address":"10.0.0.19/24","end_address":"10.0.0.29/24"}|400 Bad Request|Ipam-Place: 10|{"code":"range_overlap","detail":"overlaps range 1"}
+POST /api/ipam/ip-ranges/|{"start_address":"10.0.0.30/24","end_address":"2001:db8::1/64"}|400 Bad Request|Ipam-Place: 10|{"code":"range_family","detail":"start and end differ in family"}
+POST /api/ipam/ip-ranges/|{"start_address":"10.0.0.30/24","end_address":"10.0.0.39"}|400 Bad Request|Ipam-Place: 10|{"code":"range_mask","detail":"start and end differ in mask"}
+POST /api/ipam/ip-ranges/|{"start_address":"10.0.0.30/24","end_address":"10.0.0.30/24"}|400 Bad Request|Ipam-Place: 10|{"code":"range_order","detail":"the end must be greater than the start"}
+POST /api/ipam/ip-ranges/|{"start_address":"2001:db8::/64","end_address":"2001:db8::ffff:ffff/64"}|400 Bad Request|Ipam-Place: 10|{"code":"range_size","detail":"a range has at most 4294967295 addresses"}
+POST /api/ipam/ip-ranges/|{"start_address":"2001:db8::/64","end_address":"2001:db8::ffff:fffe/64"}|201 Created|Ipam-Place: 10|{"description":"","end_address":"2001:db8::ffff:fffe/64","family":6,"id":2,"mark_utilized":false,"role":null,"size":4294967295,"start_address":"2001:db8::/64","status":{"label":"Active","value":"active"},"vrf":null}
+GET /api/ipam/ip-ranges/?contains=10.0.0.12/30||200 OK|Ipam-Place: 11|{"count":1,"next":null,"previous":null,"results":[{"description":"","end_address":"10.0.0.19/24","family":4,"id":1,"mark_utilized":false,"role":null,"size":10,"start_address":"10.0.0.10/24","status":{"label":"Active","value":"active"},"vrf":null}]}
+POST /api/ipam/ip-addresses/|{"address":"10.0.0.1/24","role":"vip"}|201 Created|Ipam-Place: 11|{"address":"10.0.0.1/24","description":"","dns_name":"","family":4,"id":1,"role":{"label":"VIP","value":"vip"},"status":{"label":"Active","value":"active"},"vrf":null}
+POST /api/ipam/ip-addresses/|{"address":"10.0.0.1/24","role":"vip"}|201 Created|Ipam-Place: 12|{"address":"10.0.0.1/24","description":"","dns_name":"","family":4,"id":2,"role":{"label":"VIP","value":"vip"},"status":{"label":"Active","value":"active"},"vrf":null}
+PATCH /api/ipam/ip-addresses/1/|{"role":""}|400 Bad Request|Ipam-Place: 13|{"code":"duplicate","detail":"coincides with 2"}
+POST /api/ipam/ip-addresses/|{"address":"10.0.0.1/16"}|400 Bad Request|Ipam-Place: 13|{"code":"duplicate","detail":"coincides with 1"}
+POST /api/ipam/ip-addresses/|{"address":"10.0.0.2/24","status":"slaac"}|400 Bad Request|Ipam-Place: 13|{"code":"slaac_family","detail":"slaac is for IPv6 only"}
+POST /api/ipam/ip-addresses/|{"address":"10.0.0.2/24","dns_name":"a..b"}|400 Bad Request|Ipam-Place: 13|{"code":"dns_name","detail":"not a DNS name"}
+POST /api/ipam/ip-addresses/|{"address":"2001:DB8::1/64","status":"slaac","dns_name":"A.Example."}|201 Created|Ipam-Place: 13|{"address":"2001:db8::1/64","description":"","dns_name":"a.example.","family":6,"id":3,"role":null,"status":{"label":"SLAAC","value":"slaac"},"vrf":null}
+GET /api/ipam/ip-addresses/?dns_name=A.EXAMPLE.&limit=1||200 OK|Ipam-Place: 14|{"count":1,"next":null,"previous":null,"results":[{"address":"2001:db8::1/64","description":"","dns_name":"a.example.","family":6,"id":3,"role":null,"status":{"label":"SLAAC","value":"slaac"},"vrf":null}]}
+GET /api/ipam/ip-addresses/?parent=10.0.0.0/24&role=vip&limit=1||200 OK|Ipam-Place: 14|{"count":2,"next":"/api/ipam/ip-addresses/?role=vip&parent=10.0.0.0%2F24&limit=1&offset=1","previous":null,"results":[{"address":"10.0.0.1/24","description":"","dns_name":"","family":4,"id":1,"role":{"label":"VIP","value":"vip"},"status":{"label":"Active","value":"active"},"vrf":null}]}
+GET /api/ipam/ip-addresses/?role=||400 Bad Request||{"code":"field","detail":"role is missing or malformed"}
+POST /api/ipam/vrfs/|{"name":"red"}|201 Created|Ipam-Place: 14|{"description":"","enforce_unique":true,"id":1,"name":"red","rd":null}
+PATCH /api/ipam/ip-addresses/2/|{"vrf":1,"role":null}|200 OK|Ipam-Place: 15|{"address":"10.0.0.1/24","description":"","dns_name":"","family":4,"id":2,"role":null,"status":{"label":"Active","value":"active"},"vrf":1}
+DELETE /api/ipam/vrfs/1/||409 Conflict|Ipam-Place: 16|{"code":"in_use","detail":"named by ip-addresses 2"}
+PATCH /api/ipam/ip-ranges/1/|{"end_address":"10.0.0.9"}|400 Bad Request|Ipam-Place: 16|{"code":"range_mask","detail":"start and end differ in mask"}
+DELETE /api/ipam/ip-ranges/1/||204 No Content|Ipam-Place: 16|
+DELETE /api/ipam/ip-addresses/2/||204 No Content|Ipam-Place: 17|
+DELETE /api/ipam/aggregates/1/||204 No Content|Ipam-Place: 18|
+DELETE /api/ipam/rirs/1/||204 No Content|Ipam-Place: 19|"#;
 
 /// A part of an exchange.
 fn part(exchange: &str, index: usize) -> &str {
@@ -76,15 +147,24 @@ fn put_field(out: &mut Vec<u8>, field: &str) -> Result<(), AllocError> {
     put(out, "\r\n")
 }
 
+/// The length of a body, where there is one.
+fn put_length(alloc: Global, out: &mut Vec<u8>, body: &str) -> Result<(), AllocError> {
+    if body.is_empty() {
+        return Ok(());
+    }
+    let length = format!(in alloc; "Content-Length: {}", body.len())?;
+    put_field(out, &length)
+}
+
 /// The request of an exchange, as a usual client sends it.
 fn put_request(alloc: Global, out: &mut Vec<u8>, exchange: &str) -> Result<(), AllocError> {
     let body = part(exchange, 1);
-    let length = format!(in alloc; "{}", body.len())?;
-    let fields = " HTTP/1.1\r\nHost: 127.0.0.1:8080\r\nUser-Agent: curl/8.5.0\r\nContent-Length: ";
+    let fields =
+        " HTTP/1.1\r\nHost: 127.0.0.1:8080\r\nUser-Agent: curl/8.5.0\r\nAccept: */*\r\nAuthorization: Token 0123\r\n";
     put(out, part(exchange, 0))?;
     put(out, fields)?;
-    put(out, &length)?;
-    put(out, "\r\n\r\n")?;
+    put_length(alloc, out, body)?;
+    put(out, "\r\n")?;
     put(out, body)
 }
 
@@ -113,11 +193,11 @@ fn put_answer(alloc: Global, out: &mut Vec<u8>, exchange: &str) -> Result<(), Al
     put(out, part(exchange, 4))
 }
 
-/// All requests, and all answers.
-fn conversation(alloc: Global) -> Result<(Vec<u8>, Vec<u8>), AllocError> {
+/// All requests of a conversation, and all answers.
+fn conversation(alloc: Global, exchanges: &str) -> Result<(Vec<u8>, Vec<u8>), AllocError> {
     let mut input = Vec::new(alloc);
     let mut output = Vec::new(alloc);
-    for exchange in EXCHANGES.lines() {
+    for exchange in exchanges.lines() {
         put_request(alloc, &mut input, exchange)?;
         put_answer(alloc, &mut output, exchange)?;
     }
@@ -136,7 +216,7 @@ fn opening(alloc: Global) -> Result<(Vec<u8>, Vec<u8>), AllocError> {
 
 #[test]
 fn requests_and_their_answers(rt: HostRuntime) -> Result<(), Fail> {
-    let (input, output) = conversation(rt.alloc())?;
+    let (input, output) = conversation(rt.alloc(), EXCHANGES)?;
     for piece in [1, 7, 4_096] {
         let left = run_on(rt.alloc(), "session", &input, piece, [&[], &[], &[]])?;
         assert!(rt; left.status == 0 && left.errors.is_empty());
@@ -145,6 +225,24 @@ fn requests_and_their_answers(rt: HostRuntime) -> Result<(), Fail> {
             "pieces of {piece}"
         );
     }
+    Ok(())
+}
+
+#[test]
+fn changes_and_what_is_not_there(rt: HostRuntime) -> Result<(), Fail> {
+    let (input, output) = conversation(rt.alloc(), CHANGES)?;
+    let left = run_on(rt.alloc(), "session", &input, 4_096, [&[], &[], &[]])?;
+    assert!(rt; left.status == 0 && left.errors.is_empty());
+    assert!(rt; left.output.as_slice() == output.as_slice());
+    Ok(())
+}
+
+#[test]
+fn the_other_kinds(rt: HostRuntime) -> Result<(), Fail> {
+    let (input, output) = conversation(rt.alloc(), KINDS)?;
+    let left = run_on(rt.alloc(), "session", &input, 4_096, [&[], &[], &[]])?;
+    assert!(rt; left.status == 0 && left.errors.is_empty());
+    assert!(rt; left.output.as_slice() == output.as_slice());
     Ok(())
 }
 

@@ -1,4 +1,3 @@
-pub mod Ascii
 pub mod Pieces
 pub mod Fields
 pub mod Unique

@@ -2,12 +2,14 @@ pub mod Outcomes
 pub mod Words
 pub mod Members
 pub mod Blocks
+pub mod Hosts
 pub mod Values
 pub mod Vrfs
 pub mod Rirs
 pub mod Roles
 pub mod Aggregates
 pub mod Prefixes
+pub mod Sizes
 pub mod Ranges
 pub mod Addresses
 pub mod Bodies

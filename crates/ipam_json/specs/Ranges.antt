@@ -1,24 +1,44 @@
--- Ranges in JSON: the row.
-use Rattle.std.specs.Prelude.{ℕ, ◌+◌, ◌-◌, ◌&&◌, nat_le, List, [], ◌∷◌, codes, if◌then◌else◌}
-use Rattle.ipam_data.specs.Hosts.{RangeEnds}
-use Rattle.ipam_data.specs.Blocks.{same_family}
-use Rattle.ipam_data.specs.Ranges.{most_of_range}
+-- Ranges in JSON: the bodies of a Create and of a Change, and the row.
+use Rattle.std.specs.Prelude.{false, List, [], ◌∷◌, codes, Option, Result, Ok}
+use Rattle.ipam_data.specs.Hosts.{Masked}
 use Rattle.ipam_data.specs.declared.range.IpRange.{IpRange}
+use Rattle.ipam_data.specs.declared.calls.Draft.{Draft}
+use Rattle.ipam_data.specs.declared.calls.Draft.TheVariants.{IpRange as RangeDraft}
+use Rattle.ipam_data.specs.declared.calls.Edit.{Edit}
+use Rattle.ipam_data.specs.declared.calls.Edit.TheVariants.{IpRange as RangeEdit}
 use Rattle.ipam_data.specs.declared.replies.FieldName.TheVariants.{Description, EndAddress, MarkUtilized, Role as RoleField, StartAddress, Status, Vrf as VrfField}
+use Rattle.ipam_data.specs.declared.replies.Refusal.{Refusal}
 use Rattle.ipam_data.specs.Answers.{field_text}
 use Rattle.serde_json.specs.Data.{Data, object}
+use Rattle.ipam_json.specs.Outcomes.{then, read_member, read_given}
+use Rattle.ipam_json.specs.Members.{description_of, flag_of, id_of, range_status_of}
+use Rattle.ipam_json.specs.Sizes.{range_size}
 use Rattle.ipam_json.specs.Words.{range_status_label, range_status_value}
 use Rattle.ipam_json.specs.Values.{members, number_data, choice_data, host_text, Named, id_named, text_named, flag_named, reference_named, family_named}
 
--- a count that is shown: none above this one
-abbrev pub shown_count : ℕ → ℕ
-shown_count count = if nat_le count most_of_range then count else most_of_range
+-- the body of a range, whose members `start_address` and `end_address` come first and give these hosts or refusals
+abbrev pub range_draft : Result Masked Refusal → Result Masked Refusal → Data → Result Draft Refusal
+range_draft start end d =
+    then start λ start.
+    then end λ end.
+    then (read_member VrfField id_of d) λ vrf.
+    then (read_member Status range_status_of d) λ status.
+    then (read_member RoleField id_of d) λ role.
+    then (read_member MarkUtilized (flag_of false) d) λ mark_utilized.
+    then (read_member Description description_of d) λ description.
+    Ok (RangeDraft start end vrf status role mark_utilized description)
 
--- how many addresses there are from start to end: none where the families differ or the end is below the start
-abbrev pub range_size : RangeEnds → ℕ
-range_size ends =
-    if same_family ends.start.family ends.end.family && nat_le ends.start.value ends.end.value
-    then shown_count (ends.end.value - ends.start.value + 1) else 0
+-- that of an edit, in the same order: what is absent stays
+abbrev pub range_edit : Result (Option Masked) Refusal → Result (Option Masked) Refusal → Data → Result Edit Refusal
+range_edit start end d =
+    then start λ start.
+    then end λ end.
+    then (read_given VrfField id_of d) λ vrf.
+    then (read_given Status range_status_of d) λ status.
+    then (read_given RoleField id_of d) λ role.
+    then (read_given MarkUtilized (flag_of false) d) λ mark_utilized.
+    then (read_given Description description_of d) λ description.
+    Ok (RangeEdit start end vrf status role mark_utilized description)
 
 abbrev pub range_members : IpRange → List Named
 range_members row =

@@ -43,6 +43,10 @@ page_data count views links = object (members (
     ∷ (codes "previous", text_data links.previous)
     ∷ (codes "results", views_data views) ∷ []))
 
+-- things as an array
+abbrev pub list_data : {T : Type 0} → (T → Data) → List T → Data
+list_data data_of xs = array (items_of (map data_of xs))
+
 -- an available block of the table of this VRF, or of the global one
 abbrev pub block_data : Option ℕ → Cidr → Data
 block_data vrf block = object (members (
@@ -81,8 +85,8 @@ reply_data Gone links = None
 reply_data (Imported created present) links = Some (imported_data created present)
 reply_data (One view) links = Some (view_data view)
 reply_data (Page count views) links = Some (page_data count views links)
-reply_data (Blocks vrf list) links = Some (array (items_of (map (block_data vrf) list)))
-reply_data (Addrs vrf len list) links = Some (array (items_of (map (addr_data vrf len) list)))
+reply_data (Blocks vrf list) links = Some (list_data (block_data vrf) list)
+reply_data (Addrs vrf len list) links = Some (list_data (addr_data vrf len) list)
 reply_data (Percent figure) links = Some (percent_data figure)
 reply_data (Refused refusal) links = Some (refusal_data refusal)
 

@@ -72,3 +72,29 @@ prefix_status_named text =
     else (if bytes_eq text (codes "active") then Some ActivePrefix
     else (if bytes_eq text (codes "reserved") then Some ReservedPrefix
     else (if bytes_eq text (codes "deprecated") then Some DeprecatedPrefix else None)))
+
+abbrev pub range_status_named : List ℕ → Option RangeStatus
+range_status_named text =
+    if bytes_eq text (codes "active") then Some ActiveRange
+    else (if bytes_eq text (codes "reserved") then Some ReservedRange
+    else (if bytes_eq text (codes "deprecated") then Some DeprecatedRange else None))
+
+abbrev pub address_status_named : List ℕ → Option AddressStatus
+address_status_named text =
+    if bytes_eq text (codes "active") then Some ActiveAddress
+    else (if bytes_eq text (codes "reserved") then Some ReservedAddress
+    else (if bytes_eq text (codes "deprecated") then Some DeprecatedAddress
+    else (if bytes_eq text (codes "dhcp") then Some Dhcp
+    else (if bytes_eq text (codes "slaac") then Some Slaac else None))))
+
+-- the role of an address that a word names
+abbrev pub address_role_named : List ℕ → Option AddressRole
+address_role_named text =
+    if bytes_eq text (codes "loopback") then Some Loopback
+    else (if bytes_eq text (codes "secondary") then Some Secondary
+    else (if bytes_eq text (codes "anycast") then Some Anycast
+    else (if bytes_eq text (codes "vip") then Some Vip
+    else (if bytes_eq text (codes "vrrp") then Some Vrrp
+    else (if bytes_eq text (codes "hsrp") then Some Hsrp
+    else (if bytes_eq text (codes "glbp") then Some Glbp
+    else (if bytes_eq text (codes "carp") then Some Carp else None)))))))

@@ -6,8 +6,13 @@ ghost use Rattle.ipam_data.specs.declared.replies.Refusal.TheVariants.{BadJson, 
 ghost use Rattle.ipam_json.specs.Outcomes.{OrMemory};
 ghost use Rattle.ipam_json.specs.Bodies.{IsObjectText, IsNoObjectText, IsBodyOf, IsEditOf};
 
-use crate::drafts::{prefix_draft, vrf_draft};
-use crate::edits::{prefix_edit, vrf_edit};
+use crate::address::{address_draft, address_edit};
+use crate::aggregate::{aggregate_draft, aggregate_edit};
+use crate::prefix::{prefix_draft, prefix_edit};
+use crate::range::{range_draft, range_edit};
+use crate::rir::{rir_draft, rir_edit};
+use crate::role::{role_draft, role_edit};
+use crate::vrf::{vrf_draft, vrf_edit};
 use ipam_data::calls::{Draft, Edit};
 use ipam_data::kinds::Kind;
 use ipam_data::replies::Refusal;
@@ -28,20 +33,19 @@ fn read_object(alloc: Global, body: &[u8]) -> Result<Value, Refusal>
 
 /// What the body of a Create asks for: a draft of the kind. `BadJson` comes where the body is no JSON text (RFC 8259) or no
 /// object; `Field` where a member is malformed, or required and absent, and names the first such member in the order of the
-/// kind; `HostBits` in the same order for a prefix text with host bits set; `NoRoute` for a kind without drafts; and `Memory`
-/// may come in place of any answer.
+/// kind; `HostBits` in the same order for a prefix text with host bits set; and `Memory` may come in place of any answer.
 pub fn read_body(alloc: Global, kind: Kind, body: &[u8]) -> Result<Draft, Refusal>
     ensures { OrMemory (IsBodyOf kind body.now) result }
 {
     let object = read_object(alloc, body)?;
     match kind {
         Kind::Vrfs => vrf_draft(alloc, &object),
-        Kind::Rirs => Err(Refusal::NoRoute),
-        Kind::Roles => Err(Refusal::NoRoute),
-        Kind::Aggregates => Err(Refusal::NoRoute),
+        Kind::Rirs => rir_draft(alloc, &object),
+        Kind::Roles => role_draft(alloc, &object),
+        Kind::Aggregates => aggregate_draft(alloc, &object),
         Kind::Prefixes => prefix_draft(alloc, &object),
-        Kind::Ranges => Err(Refusal::NoRoute),
-        Kind::Addresses => Err(Refusal::NoRoute),
+        Kind::Ranges => range_draft(alloc, &object),
+        Kind::Addresses => address_draft(alloc, &object),
     }
 }
 
@@ -53,11 +57,11 @@ pub fn read_edit(alloc: Global, kind: Kind, body: &[u8]) -> Result<Edit, Refusal
     let object = read_object(alloc, body)?;
     match kind {
         Kind::Vrfs => vrf_edit(alloc, &object),
-        Kind::Rirs => Err(Refusal::NoRoute),
-        Kind::Roles => Err(Refusal::NoRoute),
-        Kind::Aggregates => Err(Refusal::NoRoute),
+        Kind::Rirs => rir_edit(alloc, &object),
+        Kind::Roles => role_edit(alloc, &object),
+        Kind::Aggregates => aggregate_edit(alloc, &object),
         Kind::Prefixes => prefix_edit(alloc, &object),
-        Kind::Ranges => Err(Refusal::NoRoute),
-        Kind::Addresses => Err(Refusal::NoRoute),
+        Kind::Ranges => range_edit(alloc, &object),
+        Kind::Addresses => address_edit(alloc, &object),
     }
 }

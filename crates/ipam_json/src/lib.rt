@@ -1,22 +1,33 @@
 //! The JSON of the service: what the body of a request asks for, and the text of a reply.
 #![tactic(auto)]
 
+mod address;
+mod aggregate;
+mod available;
 mod bodies;
+mod choices;
 mod details;
-mod drafts;
-mod edits;
-mod given;
 mod laws;
 mod members;
+mod nets;
+mod numbers;
+mod prefix;
+mod range;
 mod replies;
+mod rir;
+mod role;
 mod rows;
 #[cfg(test)]
 mod tests;
 mod texts;
+mod vrf;
 mod words;
 mod writing;
 
 pub use bodies::{read_body, read_edit};
 pub use laws::{body_is_one, bounds_are_those, edit_is_one, rows_are_in_order};
 pub use replies::{Links, refusal_bytes, reply_bytes, write_reply};
-pub use words::{field_name, kind_name, prefix_status_named};
+pub use words::{
+    address_role_named, address_status_named, field_name, kind_name, prefix_status_named,
+    range_status_named,
+};

@@ -1,22 +1,19 @@
-//! Members of the object that a body is, read into fields.
+//! Members of the object that a body is, read into fields: texts and truth values. Each is read once for a draft, and so for an
+//! edit, in which an absent member leaves its field.
 
-ghost use Rattle.std.specs.Prelude.{◌≡◌, Some, None, IfOk, IfErr, option_and_then, string_bytes};
+ghost use Rattle.std.specs.Prelude.{◌≡◌, Some, None, false, IfOk, IfErr, option_and_then, option_map, string_bytes};
 ghost use Rattle.ipam_data.specs.declared.replies.Refusal.TheVariants.{Memory};
 ghost use Rattle.serde_json.specs.Find.{get, as_str};
 ghost use Rattle.serde_json.specs.View.{view};
-ghost use Rattle.std.specs.Prelude.{option_map};
-ghost use Rattle.ipam_json.specs.Members.{within, name_of, description_of, distinguisher_of, rd_of, flag_of, id_of, id_within, prefix_status_of};
-ghost use Rattle.ipam_json.specs.Blocks.{IsBlockMember, block_refusal};
-ghost use Rattle.ipam_json.specs.Outcomes.{OrMemory, field, value_of, read_member};
-ghost use Rattle.ipam_data.specs.declared.replies.FieldName.TheVariants.{Description as DescriptionField, Name as NameField, Prefix as PrefixField, Rd as RdField, Status as StatusField};
+ghost use Rattle.ipam_json.specs.Members.{within, name_of, slug_of, description_of, of_bytes, dns_name_of, distinguisher_of, rd_of, flag_of};
+ghost use Rattle.ipam_json.specs.Outcomes.{OrMemory, field, value_of, read_member, read_given};
+ghost use Rattle.ipam_data.specs.declared.replies.FieldName.TheVariants.{Description as DescriptionField, DnsName as DnsNameField, Name as NameField, Rd as RdField, Slug as SlugField};
 
-use crate::words::{field_name, prefix_status_named};
-use inet_num::{Block, TextFault, read_block};
-use ipam_data::prefix::PrefixStatus;
-use ipam_data::replies::{FieldName, Refusal, Rule};
-use ipam_data::text::{Description, Distinguisher, Name};
+use crate::words::field_name;
+use ipam_data::replies::{FieldName, Refusal};
+use ipam_data::text::{Description, Distinguisher, DnsText, Name, Slug};
 use serde_json::Value;
-use std::alloc::{AllocError, Global};
+use std::alloc::Global;
 
 /// The value of a member, where the object has it.
 pub(crate) fn member(body: &Value, name: FieldName) -> Option<&Value>
@@ -36,7 +33,7 @@ fn owned(alloc: Global, text: &str) -> Result<String, Refusal>
     }
 }
 
-/// The name of a VRF.
+/// The name of a row.
 pub(crate) fn name(alloc: Global, body: &Value) -> Result<Name, Refusal>
     ensures { OrMemory (λ r. read_member NameField name_of (view body.now) ≡ r) result }
 {
@@ -48,6 +45,40 @@ pub(crate) fn name(alloc: Global, body: &Value) -> Result<Name, Refusal>
         Some(name) => Ok(name),
         None => Err(Refusal::Field(FieldName::Name)),
     }
+}
+
+/// The name, where it is given.
+pub(crate) fn given_name(alloc: Global, body: &Value) -> Result<Option<Name>, Refusal>
+    ensures { OrMemory (λ r. read_given NameField name_of (view body.now) ≡ r) result }
+{
+    if member(body, FieldName::Name).is_none() {
+        return Ok(None);
+    }
+    Ok(Some(name(alloc, body)?))
+}
+
+/// The slug of a row.
+pub(crate) fn slug(alloc: Global, body: &Value) -> Result<Slug, Refusal>
+    ensures { OrMemory (λ r. read_member SlugField slug_of (view body.now) ≡ r) result }
+{
+    let Some(text) = member(body, FieldName::Slug).and_then(Value::as_str) else {
+        return Err(Refusal::Field(FieldName::Slug));
+    };
+    let text = owned(alloc, text)?;
+    match Slug::of(text) {
+        Some(slug) => Ok(slug),
+        None => Err(Refusal::Field(FieldName::Slug)),
+    }
+}
+
+/// The slug, where it is given.
+pub(crate) fn given_slug(alloc: Global, body: &Value) -> Result<Option<Slug>, Refusal>
+    ensures { OrMemory (λ r. read_given SlugField slug_of (view body.now) ≡ r) result }
+{
+    if member(body, FieldName::Slug).is_none() {
+        return Ok(None);
+    }
+    Ok(Some(slug(alloc, body)?))
 }
 
 /// The description that a text is.
@@ -75,20 +106,48 @@ pub(crate) fn description(alloc: Global, body: &Value) -> Result<Description, Re
     }
 }
 
-/// The route distinguisher of a VRF, where it has one.
-pub(crate) fn rd(alloc: Global, body: &Value) -> Result<Option<Distinguisher>, Refusal>
-    ensures { OrMemory (λ r. read_member RdField rd_of (view body.now) ≡ r) result }
+/// The description, where it is given.
+pub(crate) fn given_description(alloc: Global, body: &Value) -> Result<Option<Description>, Refusal>
+    ensures { OrMemory (λ r. read_given DescriptionField description_of (view body.now) ≡ r) result }
 {
-    let Some(value) = member(body, FieldName::Rd) else {
+    if member(body, FieldName::Description).is_none() {
         return Ok(None);
+    }
+    Ok(Some(description(alloc, body)?))
+}
+
+/// The name of a host that a text is.
+fn named_host(alloc: Global, text: &str) -> Result<DnsText, Refusal>
+    ensures { OrMemory (λ r. field DnsNameField (of_bytes text.now) ≡ r) result }
+{
+    let text = owned(alloc, text)?;
+    match DnsText::of(text) {
+        Some(name) => Ok(name),
+        None => Err(Refusal::Field(FieldName::DnsName)),
+    }
+}
+
+/// The name of a host, which may be absent.
+pub(crate) fn dns_name(alloc: Global, body: &Value) -> Result<DnsText, Refusal>
+    ensures { OrMemory (λ r. read_member DnsNameField dns_name_of (view body.now) ≡ r) result }
+{
+    let Some(value) = member(body, FieldName::DnsName) else {
+        return named_host(alloc, "");
     };
-    if value.is_null() {
+    match value.as_str() {
+        Some(text) => named_host(alloc, text),
+        None => Err(Refusal::Field(FieldName::DnsName)),
+    }
+}
+
+/// The name of a host, where it is given.
+pub(crate) fn given_dns_name(alloc: Global, body: &Value) -> Result<Option<DnsText>, Refusal>
+    ensures { OrMemory (λ r. read_given DnsNameField dns_name_of (view body.now) ≡ r) result }
+{
+    if member(body, FieldName::DnsName).is_none() {
         return Ok(None);
     }
-    match value.as_str() {
-        Some(text) => distinguisher(alloc, text),
-        None => Err(Refusal::Field(FieldName::Rd)),
-    }
+    Ok(Some(dns_name(alloc, body)?))
 }
 
 /// The route distinguisher of a text: none where it is empty.
@@ -105,6 +164,35 @@ fn distinguisher(alloc: Global, text: &str) -> Result<Option<Distinguisher>, Ref
     }
 }
 
+/// The route distinguisher of a VRF, where it has one.
+pub(crate) fn rd(alloc: Global, body: &Value) -> Result<Option<Distinguisher>, Refusal>
+    ensures { OrMemory (λ r. read_member RdField rd_of (view body.now) ≡ r) result }
+{
+    let Some(value) = member(body, FieldName::Rd) else {
+        return Ok(None);
+    };
+    if value.is_null() {
+        return Ok(None);
+    }
+    match value.as_str() {
+        Some(text) => distinguisher(alloc, text),
+        None => Err(Refusal::Field(FieldName::Rd)),
+    }
+}
+
+/// The route distinguisher, where it is given; an inner `None` clears it.
+pub(crate) fn given_rd(
+    alloc: Global,
+    body: &Value,
+) -> Result<Option<Option<Distinguisher>>, Refusal>
+    ensures { OrMemory (λ r. read_given RdField rd_of (view body.now) ≡ r) result }
+{
+    if member(body, FieldName::Rd).is_none() {
+        return Ok(None);
+    }
+    Ok(Some(rd(alloc, body)?))
+}
+
 /// A truth value, which may be absent.
 pub(crate) fn flag(body: &Value, name: FieldName, default: bool) -> Result<bool, Refusal>
     ensures { read_member name (flag_of default) (view body.now) ≡ result }
@@ -118,75 +206,15 @@ pub(crate) fn flag(body: &Value, name: FieldName, default: bool) -> Result<bool,
     }
 }
 
-/// A number that is an id.
-fn id_of_number(number: u64) -> Option<u32>
-    ensures { result ≡ id_within number }
-{
-    match u32::try_from(number) {
-        Ok(id) if id > 0 => Some(id),
-        _ => None,
-    }
-}
-
-/// The id that a value is; null is none.
-pub(crate) fn id_of_value(value: &Value) -> Option<Option<u32>>
-    ensures { result ≡ id_of (Some (view value.now)) }
-{
-    if value.is_null() {
-        return Some(None);
-    }
-    let number = value.as_u64()?;
-    let id = id_of_number(number)?;
-    Some(Some(id))
-}
-
-/// The id of another row, which may be absent or null.
-pub(crate) fn id(body: &Value, name: FieldName) -> Result<Option<u32>, Refusal>
-    ensures { read_member name id_of (view body.now) ≡ result }
+/// A truth value, where it is given.
+pub(crate) fn given_flag(body: &Value, name: FieldName) -> Result<Option<bool>, Refusal>
+    ensures { read_given name (flag_of false) (view body.now) ≡ result }
 {
     let Some(value) = member(body, name) else {
         return Ok(None);
     };
-    match id_of_value(value) {
-        Some(id) => Ok(id),
+    match value.as_bool() {
+        Some(flag) => Ok(Some(flag)),
         None => Err(Refusal::Field(name)),
-    }
-}
-
-/// The status of a prefix.
-pub(crate) fn prefix_status(body: &Value) -> Result<PrefixStatus, Refusal>
-    ensures { read_member StatusField prefix_status_of (view body.now) ≡ result }
-{
-    let Some(value) = member(body, FieldName::Status) else {
-        return Ok(PrefixStatus::Active);
-    };
-    match value.as_str().and_then(prefix_status_named) {
-        Some(status) => Ok(status),
-        None => Err(Refusal::Field(FieldName::Status)),
-    }
-}
-
-/// What a faulty text of a block is answered.
-pub(crate) fn refusal_of(fault: TextFault) -> Refusal
-    ensures { result ≡ block_refusal fault }
-{
-    match fault {
-        TextFault::HostBits(block) => Refusal::Rule(Rule::HostBits(block)),
-        TextFault::Shape | TextFault::Octet | TextFault::Group | TextFault::Length => {
-            Refusal::Field(FieldName::Prefix)
-        }
-    }
-}
-
-/// The block of a prefix.
-pub(crate) fn block(body: &Value) -> Result<Block, Refusal>
-    ensures { IsBlockMember (value_of PrefixField (view body.now)) result }
-{
-    let Some(text) = member(body, FieldName::Prefix).and_then(Value::as_str) else {
-        return Err(Refusal::Field(FieldName::Prefix));
-    };
-    match read_block(text.as_bytes()) {
-        Ok(block) => Ok(block),
-        Err(fault) => Err(refusal_of(fault)),
     }
 }

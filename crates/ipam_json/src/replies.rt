@@ -5,6 +5,7 @@ ghost use Rattle.ipam_json.specs.Replies.{views_data, page_data, imported_data, 
 ghost use Rattle.ipam_json.specs.Written.{Puts, pieces_of, value_pieces};
 ghost use Rattle.ipam_data.specs.Answers.{detail_of};
 
+use crate::available::{put_addrs, put_blocks};
 use crate::details::{code, detail};
 use crate::rows::{put_rows, put_view};
 use crate::writing::{put_link, put_number};
@@ -110,9 +111,8 @@ fn put_reply(
         Reply::Page { count, views } => put_page(alloc, writer, *count, views.as_slice(), links),
         Reply::Percent(figure) => put_percent(writer, *figure),
         Reply::Refused(refusal) => put_refusal(alloc, writer, refusal),
-        // No call has these replies yet, and no function of theirs hands out what they list.
-        Reply::Blocks { .. } => Err(AllocError),
-        Reply::Addrs { .. } => Err(AllocError),
+        Reply::Blocks { vrf, list } => put_blocks(alloc, writer, *vrf, list.as_slice()),
+        Reply::Addrs { vrf, len, list } => put_addrs(alloc, writer, *vrf, *len, list.as_slice()),
     }
 }
 

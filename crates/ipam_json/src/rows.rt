@@ -1,26 +1,18 @@
-//! Rows as they are answered, one file a kind.
+//! Rows as they are answered.
 
 ghost use Rattle.ipam_json.specs.Replies.{view_data};
 ghost use Rattle.ipam_json.specs.Written.{Puts, pieces_of, rows_pieces};
 
-mod address;
-mod aggregate;
-mod prefix;
-mod range;
-mod rir;
-mod role;
-mod vrf;
-
-use address::put_address;
-use aggregate::put_aggregate;
+use crate::address::put_address;
+use crate::aggregate::put_aggregate;
+use crate::prefix::put_prefix;
+use crate::range::put_range;
+use crate::rir::put_rir;
+use crate::role::put_role;
+use crate::vrf::put_vrf;
 use ipam_data::replies::View;
 use json::Writer;
-use prefix::put_prefix;
-use range::put_range;
-use rir::put_rir;
-use role::put_role;
 use std::alloc::{AllocError, Global};
-use vrf::put_vrf;
 
 /// Writes a row.
 pub(crate) fn put_view(alloc: Global, writer: &mut Writer, view: &View) -> Result<(), AllocError>

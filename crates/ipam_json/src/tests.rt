@@ -99,8 +99,68 @@ P{\"prefix\":\"10.0.0.1/24\",\"vrf\":0}
 P{\"prefix\":null}
 = {\"code\":\"field\",\"detail\":\"vrf is missing or malformed\"}
 P{\"vrf\":\"\"}
-= {\"code\":\"no_route\",\"detail\":\"no such path\"}
-r{}";
+= Rir { name: Name { string: \"ARIN\" }, slug: Slug { string: \"arin\" }, is_private: false, description: Description { string: \"\" } }
+r{\"name\":\"ARIN\",\"slug\":\"arin\"}
+= {\"code\":\"field\",\"detail\":\"slug is missing or malformed\"}
+r{\"name\":\"ARIN\"}
+r{\"is_private\":5,\"name\":\"ARIN\",\"slug\":\"a b\"}
+R{\"slug\":\"\"}
+= Rir { name: None, slug: Some(Slug { string: \"A_1-\" }), is_private: Some(true), description: None }
+R{\"slug\":\"A_1-\",\"is_private\":true}
+= Role { name: Name { string: \"lan\" }, slug: Slug { string: \"lan\" }, weight: Weight { value: 1000 }, description: Description { string: \"\" } }
+o{\"name\":\"lan\",\"slug\":\"lan\"}
+o{\"name\":\"lan\",\"slug\":\"lan\",\"weight\":1000}
+= {\"code\":\"field\",\"detail\":\"weight is missing or malformed\"}
+o{\"name\":\"lan\",\"slug\":\"lan\",\"weight\":32768,\"description\":5}
+o{\"name\":\"lan\",\"slug\":\"lan\",\"weight\":true}
+o{\"name\":\"lan\",\"slug\":\"lan\",\"weight\":65537}
+O{\"weight\":null}
+= Role { name: None, slug: None, weight: Some(Weight { value: 0 }), description: None }
+O{\"weight\":0}
+= Aggregate { block: Block { first: 167772160, family: V4, len: 8 }, rir: 1, description: Description { string: \"\" } }
+a{\"rir\":1,\"prefix\":\"10.0.0.0/8\"}
+= {\"code\":\"field\",\"detail\":\"rir is missing or malformed\"}
+a{\"prefix\":\"10.0.0.0/8\"}
+a{\"prefix\":\"10.0.0.0/8\",\"rir\":null,\"description\":5}
+A{\"rir\":null}
+A{\"rir\":0}
+= {\"code\":\"host_bits\",\"detail\":\"host bits are set, the prefix is 10.0.0.0/8\"}
+a{\"prefix\":\"10.0.0.1/8\"}
+= Aggregate { block: None, rir: Some(2), description: None }
+A{\"rir\":2}
+= IpRange { start: Host { addr: Addr { family: V4, value: 167772161 }, len: 24 }, end: Host { addr: Addr { family: V4, value: 167772162 }, len: 32 }, vrf: None, status: Active, role: None, mark_utilized: false, description: Description { string: \"\" } }
+g{\"start_address\":\"10.0.0.1/24\",\"end_address\":\"10.0.0.2\"}
+= {\"code\":\"field\",\"detail\":\"start_address is missing or malformed\"}
+g{\"start_address\":5}
+g{\"end_address\":\"10.0.0.1/24\"}
+g{\"start_address\":\"10.0.0.1/33\",\"end_address\":5}
+G{\"end_address\":5,\"start_address\":null}
+= {\"code\":\"field\",\"detail\":\"end_address is missing or malformed\"}
+g{\"start_address\":\"10.0.0.1/24\",\"vrf\":0}
+G{\"end_address\":\"10.0.0\"}
+= {\"code\":\"field\",\"detail\":\"status is missing or malformed\"}
+g{\"start_address\":\"10.0.0.1/24\",\"end_address\":\"10.0.0.2/24\",\"status\":\"container\",\"role\":\"\"}
+= IpRange { start: None, end: Some(Host { addr: Addr { family: V4, value: 167772169 }, len: 32 }), vrf: None, status: Some(Reserved), role: Some(None), mark_utilized: None, description: None }
+G{\"end_address\":\"10.0.0.9\",\"role\":null,\"status\":\"reserved\"}
+= IpAddress { host: Host { addr: Addr { family: V4, value: 167772161 }, len: 24 }, vrf: None, status: Active, role: None, dns_name: DnsText { string: \"\" }, description: Description { string: \"\" } }
+d{\"address\":\"10.0.0.1/24\"}
+d{\"address\":\"10.0.0.1/24\",\"role\":null}
+d{\"address\":\"10.0.0.1/24\",\"role\":\"\",\"dns_name\":\"\"}
+= IpAddress { host: Host { addr: Addr { family: V6, value: 1 }, len: 128 }, vrf: Some(3), status: Slaac, role: Some(Carp), dns_name: DnsText { string: \"A.\\u{7}\" }, description: Description { string: \"lab\" } }
+d{\"address\":\"::1\",\"vrf\":3,\"status\":\"slaac\",\"role\":\"carp\",\"dns_name\":\"A.\\u0007\",\"description\":\"lab\"}
+= {\"code\":\"field\",\"detail\":\"address is missing or malformed\"}
+d{\"role\":5}
+d{\"address\":\"fe80::1%eth0\"}
+D{\"address\":null}
+= {\"code\":\"field\",\"detail\":\"role is missing or malformed\"}
+d{\"address\":\"10.0.0.1/24\",\"role\":\"VIP\",\"dns_name\":5}
+d{\"address\":\"10.0.0.1/24\",\"role\":5}
+= {\"code\":\"field\",\"detail\":\"dns_name is missing or malformed\"}
+d{\"address\":\"10.0.0.1/24\",\"dns_name\":null}
+D{\"dns_name\":null}
+= IpAddress { host: None, vrf: Some(None), status: Some(Dhcp), role: Some(None), dns_name: Some(DnsText { string: \"\" }), description: None }
+D{\"vrf\":null,\"status\":\"dhcp\",\"role\":null,\"dns_name\":\"\"}
+D{\"vrf\":null,\"status\":\"dhcp\",\"role\":\"\",\"dns_name\":\"\"}";
 
 /// What a body of a kind asks for, in words.
 fn told(alloc: Global, kind: Kind, body: &[u8]) -> Result<Vec<u8>, AllocError> {
@@ -118,15 +178,27 @@ fn edit_told(alloc: Global, kind: Kind, body: &[u8]) -> Result<Vec<u8>, AllocErr
     }
 }
 
+/// The kind of a small letter.
+fn kind_of(letter: u8) -> Kind {
+    match letter {
+        b'v' => Kind::Vrfs,
+        b'r' => Kind::Rirs,
+        b'o' => Kind::Roles,
+        b'a' => Kind::Aggregates,
+        b'p' => Kind::Prefixes,
+        b'g' => Kind::Ranges,
+        _ => Kind::Addresses,
+    }
+}
+
 /// What the body of a line asks for: a draft behind a small letter, an edit behind a capital one.
 fn line_told(alloc: Global, line: &[u8]) -> Result<Vec<u8>, AllocError> {
     match line {
-        [b'v', body @ ..] => told(alloc, Kind::Vrfs, body),
-        [b'p', body @ ..] => told(alloc, Kind::Prefixes, body),
-        [b'V', body @ ..] => edit_told(alloc, Kind::Vrfs, body),
-        [b'P', body @ ..] => edit_told(alloc, Kind::Prefixes, body),
-        [b'r', body @ ..] => told(alloc, Kind::Roles, body),
-        _ => Ok(Vec::new(alloc)),
+        [letter @ b'A'..=b'Z', body @ ..] => {
+            edit_told(alloc, kind_of(letter.to_ascii_lowercase()), body)
+        }
+        [letter, body @ ..] => told(alloc, kind_of(*letter), body),
+        [] => Ok(Vec::new(alloc)),
     }
 }
 

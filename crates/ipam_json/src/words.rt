@@ -181,3 +181,46 @@ pub fn prefix_status_named(word: &str) -> Option<PrefixStatus>
         _ => None,
     }
 }
+
+/// The status of a range that a word names.
+pub fn range_status_named(word: &str) -> Option<RangeStatus>
+    ensures { result ≡ spec.range_status_named word.now }
+{
+    match word {
+        "active" => Some(RangeStatus::Active),
+        "reserved" => Some(RangeStatus::Reserved),
+        "deprecated" => Some(RangeStatus::Deprecated),
+        _ => None,
+    }
+}
+
+/// The status of an address that a word names.
+pub fn address_status_named(word: &str) -> Option<AddressStatus>
+    ensures { result ≡ spec.address_status_named word.now }
+{
+    match word {
+        "active" => Some(AddressStatus::Active),
+        "reserved" => Some(AddressStatus::Reserved),
+        "deprecated" => Some(AddressStatus::Deprecated),
+        "dhcp" => Some(AddressStatus::Dhcp),
+        "slaac" => Some(AddressStatus::Slaac),
+        _ => None,
+    }
+}
+
+/// The role of an address that a word names.
+pub fn address_role_named(word: &str) -> Option<AddressRole>
+    ensures { result ≡ spec.address_role_named word.now }
+{
+    match word {
+        "loopback" => Some(AddressRole::Loopback),
+        "secondary" => Some(AddressRole::Secondary),
+        "anycast" => Some(AddressRole::Anycast),
+        "vip" => Some(AddressRole::Vip),
+        "vrrp" => Some(AddressRole::Vrrp),
+        "hsrp" => Some(AddressRole::Hsrp),
+        "glbp" => Some(AddressRole::Glbp),
+        "carp" => Some(AddressRole::Carp),
+        _ => None,
+    }
+}

@@ -17,6 +17,7 @@ use Rattle.radix_tree.specs.declared.links.Place.TheVariants.{Under}
 use Rattle.radix_tree.specs.Shape.{half, HasRoom, IsLink, IsTree}
 use Rattle.radix_tree.specs.Listed.{blocks_of}
 use Rattle.radix_tree.specs.Find.{IsFound}
+use Rattle.radix_tree.specs.Figures.{Figures}
 use Rattle.radix_tree.specs.Frees.{if_uncounted, lesser, side_free, HasFrees, IsLeastFree}
 use Rattle.radix_tree.specs.Fits.{Reaches, side_link, AreFitting, depth, IsQuick}
 use Rattle.radix_tree.specs.Sound.{IsSound}
@@ -118,7 +119,7 @@ module _ (t : Linked) (w : IsSound t) (frees : HasFrees t.pool) (land : Cidr) (h
   uncounted reaches = go n.count refl where
     go : (c : ℕ) → n.count ≡ c → n.count ≡ 0
     go zero is = is
-    go (suc c) is = absurd (subst (λ (f : Option ℕ). Reaches f len) (frees id n e ∙ ap (λ (x : ℕ). if_uncounted x (lesser (side_free t.pool (n.block.len + 1) n.low) (side_free t.pool (n.block.len + 1) n.high))) is) reaches)
+    go (suc c) is = absurd (subst (λ (f : Option ℕ). Reaches f len) (ap (λ (f : Figures). f.free) (frees id n e) ∙ ap (λ (x : ℕ). if_uncounted x (lesser (side_free t.pool (n.block.len + 1) n.low) (side_free t.pool (n.block.len + 1) n.high))) is) reaches)
 
   pub own_sides : n.block ≡ land → HasRoom land → Reaches n.free len → (sides : Sides) → sides.low ≡ n.low → sides.high ≡ n.high → AreFitting t land len sides
   own_sides same room reaches sides low_is high_is = record {

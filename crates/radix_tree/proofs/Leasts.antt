@@ -12,6 +12,7 @@ use Rattle.radix_tree.specs.declared.links.Linked.{Linked}
 use Rattle.radix_tree.specs.declared.links.Place.TheVariants.{Under}
 use Rattle.radix_tree.specs.Shape.{half, child, HasRoom, IsLink}
 use Rattle.radix_tree.specs.Listed.{blocks_of}
+use Rattle.radix_tree.specs.Figures.{Figures}
 use Rattle.radix_tree.specs.Frees.{free_beside, side_free, if_uncounted, lesser, HasFrees, HasLeastFrees, IsLeastFree}
 use Rattle.radix_tree.specs.Sound.{IsSound}
 use Rattle.radix_tree.proofs.Sides.{self_in, has_first, half_family, half_in, side_of, room_above, len_of_inside}
@@ -114,7 +115,7 @@ node_step t w frees id n e deeper = go n.count refl where
   ]
 
   says : (c : ℕ) → n.count ≡ c → n.free ≡ if_uncounted c (lesser (side_free t.pool (n.block.len + 1) n.low) (side_free t.pool (n.block.len + 1) n.high))
-  says c is = frees id n e ∙ ap (λ (x : ℕ). if_uncounted x (lesser (side_free t.pool (n.block.len + 1) n.low) (side_free t.pool (n.block.len + 1) n.high))) is
+  says c is = ap (λ (f : Figures). f.free) (frees id n e) ∙ ap (λ (x : ℕ). if_uncounted x (lesser (side_free t.pool (n.block.len + 1) n.low) (side_free t.pool (n.block.len + 1) n.high))) is
 
   go : (c : ℕ) → n.count ≡ c → IsLeastFree (counting_of (blocks_of t.pool) n.block false) n.block n.free
   go (suc c) is = subst (IsLeastFree (counting_of (blocks_of t.pool) n.block false) n.block) (sym (says (suc c) is)) (counted (λ z. omega arith))

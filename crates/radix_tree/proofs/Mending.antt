@@ -1,4 +1,4 @@
--- What nodes say to be free stays right where the nodes that it follows from stay, and a mended node makes the ones around it mendable.
+-- What nodes say stays right where the nodes that it follows from stay, and a mended node makes the ones around it mendable.
 use Rattle.std.proofs.Common.{◌≡◌, ◌≢◌, ◌⊎◌, ℕ, ◌+◌, Bool, true, false, refl, sym, ◌∙◌, ap, subst, arith, inl, inr, Option, Some, None, replicate}
 use Rattle.std.specs.Prelude.{cond, nat_lt}
 use Rattle.std.proofs.lemmas.Bool.{cases_lt, cases_eq}
@@ -6,13 +6,14 @@ use Rattle.inet_num.specs.Net.{Cidr, width_of, IsBlock, IsInside}
 use Rattle.inet_num.proofs.Nested.{inside_trans, same_by_len}
 use Rattle.node_pool.specs.Pooled.{Pooled, node_at}
 use Rattle.radix_tree.specs.declared.Node.{Node}
+use Rattle.radix_tree.specs.Figures.{Figures, figures}
 use Rattle.radix_tree.specs.declared.links.Place.{Place}
 use Rattle.radix_tree.specs.declared.links.Place.TheVariants.{Root, Under}
 use Rattle.radix_tree.specs.declared.links.Linked.{Linked}
 use Rattle.radix_tree.specs.Shape.{half, child, HasRoom, LeadsTo, HasLink, IsLink, IsTree, IsSet}
 use Rattle.radix_tree.specs.Edits.{IsPut, IsCut}
 use Rattle.radix_tree.specs.Listed.{copies_at, blocks_of, link_count, child_count_at, Recounts}
-use Rattle.radix_tree.specs.Frees.{lesser, free_beside, side_free, if_uncounted, free_of, HasFrees, HasFreesBut, HasFreesIn, IsAlike, Refrees, RefreesOne}
+use Rattle.radix_tree.specs.Frees.{lesser, free_beside, side_free, if_uncounted, free_of, total_said, side_total, wrapped, total_of, figures_of, HasFrees, HasFreesBut, HasFreesIn, IsAlike, Refrees, RefreesOne}
 use Rattle.radix_tree.specs.Sound.{IsSound}
 use Rattle.radix_tree.proofs.Sides.{has_first, half_in, not_in_half, sides_apart, same_side, side_of, longer}
 use Rattle.radix_tree.proofs.Order.{some_same, not_both, one_node}
@@ -32,7 +33,7 @@ child_in m k s room i = inside_trans k.block (half s m.block) m.block i (half_in
 
 -- the node of a link says the same before and after
 abbrev SaysSame : Pooled Node → Pooled Node → ℕ → Type 0
-SaysSame old new c = (k : Node) × (q : Node) × (node_at old c ≡ Some k) × (node_at new c ≡ Some q) × (q.block ≡ k.block) × (q.free ≡ k.free)
+SaysSame old new c = (k : Node) × (q : Node) × (node_at old c ≡ Some k) × (node_at new c ≡ Some q) × (q.block ≡ k.block) × (figures q ≡ figures k)
 
 side_same : (old new : Pooled Node) (len : ℕ) (x : Option ℕ) → ((c : ℕ) → x ≡ Some c → SaysSame old new c) → side_free new len x ≡ side_free old len x
 side_same old new len None h = refl
@@ -42,7 +43,7 @@ side_same old new len (Some c) h =
     let q = r.1 in
     ap (free_beside len) r.3
     ∙ ap (λ (b : Cidr). cond (nat_lt len b.len) (Some (len + 1)) q.free) r.4
-    ∙ ap (λ (f : Option ℕ). cond (nat_lt len k.block.len) (Some (len + 1)) f) r.5
+    ∙ ap (λ (f : Figures). cond (nat_lt len k.block.len) (Some (len + 1)) f.free) r.5
     ∙ sym (ap (free_beside len) r.2)
 
 free_same : (old new : Pooled Node) (m q : Node) → q.block ≡ m.block → q.count ≡ m.count → ((s : Bool) → child s q ≡ child s m) → ((s : Bool) (c : ℕ) → child s m ≡ Some c → SaysSame old new c) → free_of new q ≡ free_of old m
@@ -57,6 +58,26 @@ free_same old new m q block count links says =
         ∙ ap (side_free new (m.block.len + 1)) (links s)
         ∙ side_same old new (m.block.len + 1) (child s m) (says s)
 
+total_side_same : (old new : Pooled Node) (x : Option ℕ) → ((c : ℕ) → x ≡ Some c → SaysSame old new c) → side_total new x ≡ side_total old x
+total_side_same old new None h = refl
+total_side_same old new (Some c) h =
+    let r = h c refl in
+    ap total_said r.3 ∙ ap (λ (f : Figures). f.total) r.5 ∙ sym (ap total_said r.2)
+
+total_same : (old new : Pooled Node) (m q : Node) → q.count ≡ m.count → ((s : Bool) → child s q ≡ child s m) → ((s : Bool) (c : ℕ) → child s m ≡ Some c → SaysSame old new c) → total_of new q ≡ total_of old m
+total_same old new m q count links says =
+    ap (λ (c : ℕ). wrapped (wrapped c (side_total new q.low)) (side_total new q.high)) count
+    ∙ ap (λ (x : ℕ). wrapped (wrapped m.count x) (side_total new q.high)) (side false)
+    ∙ ap (λ (x : ℕ). wrapped (wrapped m.count (side_total old m.low)) x) (side true)
+  where
+    side : (s : Bool) → side_total new (child s q) ≡ side_total old (child s m)
+    side s = ap (side_total new) (links s) ∙ total_side_same old new (child s m) (says s)
+
+figures_same : (old new : Pooled Node) (m q : Node) → q.block ≡ m.block → q.count ≡ m.count → ((s : Bool) → child s q ≡ child s m) → ((s : Bool) (c : ℕ) → child s m ≡ Some c → SaysSame old new c) → figures_of new q ≡ figures_of old m
+figures_same old new m q block count links says =
+    ap (λ (f : Option ℕ). let x : Figures = record { free = f; total = total_of new q } in x) (free_same old new m q block count links says)
+    ∙ ap (λ (n : ℕ). let x : Figures = record { free = free_of old m; total = n } in x) (total_same old new m q count links says)
+
 -- ---- a node was put around the block
 
 pub put_frees : (old new : Linked) (place : Place) (before : Option ℕ) (land : Cidr) (i : ℕ) (n : Node) → IsTree old → HasLink old place before land → IsPut old new place i n → (block : Cidr) → IsInside block land → IsInside block n.block
@@ -66,7 +87,7 @@ put_frees old new place before land i n w here h block in_land in_n frees = λ i
   | inr was ↦
       let m = was.0 in
       let out_m : IsInside block m.block → ⊥ = λ k. out (subst (IsInside block) (sym was.2.block) k) in
-      was.2.free ∙ frees id m was.1 out_m ∙ sym (free_same old.pool new.pool m q was.2.block was.2.count (links id m q was.1 was.2 out_m) (says id m was.1))
+      was.2.figures_are ∙ frees id m was.1 out_m ∙ sym (figures_same old.pool new.pool m q was.2.block was.2.count (links id m q was.1 was.2 out_m) (says id m was.1))
 ] where
   links : (id : ℕ) (m q : Node) → node_at old.pool id ≡ Some m → IsSet place (Some i) id m q → (IsInside block m.block → ⊥) → (s : Bool) → child s q ≡ child s m
   links id m q e set out s = elim (set.links s) [
@@ -81,7 +102,7 @@ put_frees old new place before land i n w here h block in_land in_n frees = λ i
   says id m e s c is =
       let k = child_node old w id m s c e is in
       let kept = h.kept c k.0 k.1 in
-      (k.0, kept.0, k.1, kept.1, kept.2.block, kept.2.free)
+      (k.0, kept.0, k.1, kept.1, kept.2.block, kept.2.figures_are)
 
 -- ---- the count of a node around the block was set
 
@@ -90,7 +111,7 @@ recount_frees old new i count n w here h block in_n frees = λ id q e out. elim 
   | inl same ↦ absurd (out (subst (λ (x : Node). IsInside block x.block) (one_node new.pool i id (record n { count = count }) q (sym same) (h.node n here) e) in_n))
   | inr other ↦
       let was = sym (h.others id other) ∙ e in
-      frees id q was out ∙ sym (free_same old.pool new.pool q q refl refl (λ s. refl) (says id q was))
+      frees id q was out ∙ sym (figures_same old.pool new.pool q q refl refl (λ s. refl) (says id q was))
 ] where
   says : (id : ℕ) (m : Node) → node_at old.pool id ≡ Some m → (s : Bool) (c : ℕ) → child s m ≡ Some c → SaysSame old.pool new.pool c
   says id m e s c is =
@@ -98,7 +119,7 @@ recount_frees old new i count n w here h block in_n frees = λ id q e out. elim 
       elim (cases_eq c i) [
         | inl same ↦
             let own : n ≡ k.0 = one_node old.pool i c n k.0 (sym same) here k.1 in
-            (k.0, record n { count = count }, k.1, ap (node_at new.pool) same ∙ h.node n here, ap (λ (x : Node). x.block) own, ap (λ (x : Node). x.free) own)
+            (k.0, record n { count = count }, k.1, ap (node_at new.pool) same ∙ h.node n here, ap (λ (x : Node). x.block) own, ap (λ (x : Node). figures x) own)
         | inr other ↦ (k.0, k.0, k.1, h.others c other ∙ k.1, refl, refl)
       ]
 
@@ -110,7 +131,7 @@ cut_frees old new place land i n side w here h block in_n frees = λ id q e out.
     let was = (h.was id q e).1 in
     let m = was.0 in
     let out_m : IsInside block m.block → ⊥ = λ k. out (subst (IsInside block) (sym was.2.block) k) in
-    was.2.free ∙ frees id m was.1 out_m ∙ sym (free_same old.pool new.pool m q was.2.block was.2.count (links id m q was.1 was.2 out_m) (says id m was.1 out_m))
+    was.2.figures_are ∙ frees id m was.1 out_m ∙ sym (figures_same old.pool new.pool m q was.2.block was.2.count (links id m q was.1 was.2 out_m) (says id m was.1 out_m))
   where
     -- a node with the cut one as a child is around the block
     above : (id : ℕ) (m : Node) (s : Bool) → node_at old.pool id ≡ Some m → child s m ≡ Some i → IsInside block m.block
@@ -132,7 +153,7 @@ cut_frees old new place land i n side w here h block in_n frees = λ id q e out.
     says id m e out s c is =
         let k = child_node old w id m s c e is in
         let kept = h.kept c k.0 (λ same. out (above id m s e (is ∙ ap (λ (x : ℕ). Some x) same))) k.1 in
-        (k.0, kept.0, k.1, kept.1, kept.2.block, kept.2.free)
+        (k.0, kept.0, k.1, kept.1, kept.2.block, kept.2.figures_are)
 
 -- where no node is around the block but wrong, all is right
 pub all_but : (pool : Pooled Node) (block : Cidr) → HasFrees pool → HasFreesBut pool block
@@ -143,17 +164,17 @@ all_but pool block h = λ id n e out. h id n e
 alike_self : (m : Node) → IsAlike m m
 alike_self m = record { block = refl; count = refl; low = refl; high = refl }
 
-pub refreed_one : (old new : Linked) (id : ℕ) (n : Node) (free : Option ℕ) → node_at old.pool id ≡ Some n → RefreesOne old new id free → Refrees old new
-refreed_one old new id n free here h = record {
+pub refreed_one : (old new : Linked) (id : ℕ) (n : Node) (says : Figures) → node_at old.pool id ≡ Some n → RefreesOne old new id says → Refrees old new
+refreed_one old new id n says here h = record {
   family = h.family;
   root = h.root;
   spare = h.spare;
   kept = λ j m e. elim (cases_eq j id) [
-    | inl same ↦ (record n { free = free }, ap (node_at new.pool) same ∙ h.node n here, subst (λ (x : Node). IsAlike x (record n { free = free })) (one_node old.pool id j n m (sym same) here e) (record { block = refl; count = refl; low = refl; high = refl }))
+    | inl same ↦ (record n { free = says.free; total = says.total }, ap (node_at new.pool) same ∙ h.node n here, subst (λ (x : Node). IsAlike x (record n { free = says.free; total = says.total })) (one_node old.pool id j n m (sym same) here e) (record { block = refl; count = refl; low = refl; high = refl }))
     | inr other ↦ (m, h.others j other ∙ e, alike_self m)
   ];
   was = λ j q e. elim (cases_eq j id) [
-    | inl same ↦ (n, ap (node_at old.pool) same ∙ here, subst (IsAlike n) (one_node new.pool id j (record n { free = free }) q (sym same) (h.node n here) e) (record { block = refl; count = refl; low = refl; high = refl }))
+    | inl same ↦ (n, ap (node_at old.pool) same ∙ here, subst (IsAlike n) (one_node new.pool id j (record n { free = says.free; total = says.total }) q (sym same) (h.node n here) e) (record { block = refl; count = refl; low = refl; high = refl }))
     | inr other ↦ (q, sym (h.others j other) ∙ e, alike_self q)
   ];
 }
@@ -233,28 +254,28 @@ module _ (old new : Linked) (h : Refrees old new) where
 
 -- ---- a node was mended, and those below it were right
 
-module _ (t new : Linked) (w : IsTree t) (id : ℕ) (n : Node) (here : node_at t.pool id ≡ Some n) (h : RefreesOne t new id (free_of t.pool n)) (block : Cidr) (in_n : IsInside block n.block) (but : HasFreesBut t.pool block)
-    (below : (j : ℕ) (m : Node) → node_at t.pool j ≡ Some m → j ≢ id → IsInside m.block n.block → m.free ≡ free_of t.pool m) where
-  now : node_at new.pool id ≡ Some (record n { free = free_of t.pool n })
+module _ (t new : Linked) (w : IsTree t) (id : ℕ) (n : Node) (here : node_at t.pool id ≡ Some n) (h : RefreesOne t new id (figures_of t.pool n)) (block : Cidr) (in_n : IsInside block n.block) (but : HasFreesBut t.pool block)
+    (below : (j : ℕ) (m : Node) → node_at t.pool j ≡ Some m → j ≢ id → IsInside m.block n.block → figures m ≡ figures_of t.pool m) where
+  now : node_at new.pool id ≡ Some (record n { free = free_of t.pool n; total = total_of t.pool n })
   now = h.node n here
 
   -- a node whose children are others says the same
-  same_of : (j : ℕ) (m q : Node) → node_at t.pool j ≡ Some m → q.block ≡ m.block → q.count ≡ m.count → ((s : Bool) → child s q ≡ child s m) → ((s : Bool) (k : Node) → HasRoom m.block → IsInside k.block (half s m.block) → k ≢ n) → free_of new.pool q ≡ free_of t.pool m
-  same_of j m q e block count links other = free_same t.pool new.pool m q block count links (λ s c is.
+  same_of : (j : ℕ) (m q : Node) → node_at t.pool j ≡ Some m → q.block ≡ m.block → q.count ≡ m.count → ((s : Bool) → child s q ≡ child s m) → ((s : Bool) (k : Node) → HasRoom m.block → IsInside k.block (half s m.block) → k ≢ n) → figures_of new.pool q ≡ figures_of t.pool m
+  same_of j m q e block count links other = figures_same t.pool new.pool m q block count links (λ s c is.
       let k = child_node t w j m s c e is in
       let not_id : c ≢ id = λ same. other s k.0 k.3 k.2 (one_node t.pool c id k.0 n same k.1 here) in
       (k.0, k.0, k.1, h.others c not_id ∙ k.1, refl, refl))
 
-  own_right : (q : Node) → node_at new.pool id ≡ Some q → q.free ≡ free_of new.pool q
+  own_right : (q : Node) → node_at new.pool id ≡ Some q → figures q ≡ figures_of new.pool q
   own_right q e =
-      let is : record n { free = free_of t.pool n } ≡ q = one_node new.pool id id (record n { free = free_of t.pool n }) q refl now e in
-      subst (λ (x : Node). x.free ≡ free_of new.pool x) is (sym (same_of id n (record n { free = free_of t.pool n }) here refl refl links (λ s k room i same. not_in_half s n.block room (subst (λ (x : Node). IsInside x.block (half s n.block)) same i))))
+      let is : record n { free = free_of t.pool n; total = total_of t.pool n } ≡ q = one_node new.pool id id (record n { free = free_of t.pool n; total = total_of t.pool n }) q refl now e in
+      subst (λ (x : Node). figures x ≡ figures_of new.pool x) is (sym (same_of id n (record n { free = free_of t.pool n; total = total_of t.pool n }) here refl refl links (λ s k room i same. not_in_half s n.block room (subst (λ (x : Node). IsInside x.block (half s n.block)) same i))))
     where
-      links : (s : Bool) → child s (record n { free = free_of t.pool n }) ≡ child s n
+      links : (s : Bool) → child s (record n { free = free_of t.pool n; total = total_of t.pool n }) ≡ child s n
       links false = refl
       links true = refl
 
-  other_right : (j : ℕ) (q : Node) → node_at new.pool j ≡ Some q → j ≢ id → ((IsInside block q.block → ⊥) ⊎ IsInside q.block n.block) → q.free ≡ free_of new.pool q
+  other_right : (j : ℕ) (q : Node) → node_at new.pool j ≡ Some q → j ≢ id → ((IsInside block q.block → ⊥) ⊎ IsInside q.block n.block) → figures q ≡ figures_of new.pool q
   other_right j q e other cases =
       let was = sym (h.others j other) ∙ e in
       elim cases [
@@ -284,7 +305,7 @@ module _ (t new : Linked) (w : IsTree t) (id : ℕ) (n : Node) (here : node_at t
 
 -- below the block itself no node is around it
 pub below_own : (t : Linked) → IsTree t → (id : ℕ) (n : Node) → node_at t.pool id ≡ Some n → (block : Cidr) → n.block ≡ block → HasFreesBut t.pool block
-    → (j : ℕ) (m : Node) → node_at t.pool j ≡ Some m → j ≢ id → IsInside m.block n.block → m.free ≡ free_of t.pool m
+    → (j : ℕ) (m : Node) → node_at t.pool j ≡ Some m → j ≢ id → IsInside m.block n.block → figures m ≡ figures_of t.pool m
 below_own t w id n here block same but j m e other i = but j m e (λ around.
     let less = longer m.block n.block (w.each j m e).lawful (w.each id n here).lawful i (λ is. other (w.one j id m n e here is)) in
     let back : IsInside n.block m.block = subst (λ (b : Cidr). IsInside b m.block) (sym same) around in
@@ -293,7 +314,7 @@ below_own t w id n here block same but j m e other i = but j m e (λ around.
 
 -- below a node around the block, once the half with the block was mended
 pub below_half : (t : Linked) → IsTree t → (id : ℕ) (n : Node) → node_at t.pool id ≡ Some n → (block : Cidr) (side : Bool) → IsInside block (half side n.block) → HasFreesIn t.pool block (half side n.block)
-    → (j : ℕ) (m : Node) → node_at t.pool j ≡ Some m → j ≢ id → IsInside m.block n.block → m.free ≡ free_of t.pool m
+    → (j : ℕ) (m : Node) → node_at t.pool j ≡ Some m → j ≢ id → IsInside m.block n.block → figures m ≡ figures_of t.pool m
 below_half t w id n here block side in_half h j m e other i =
     let own_m = (w.each j m e).lawful in
     let own_n = (w.each id n here).lawful in

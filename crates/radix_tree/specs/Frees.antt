@@ -1,11 +1,13 @@
--- The least length of a free block inside a node's block: how it follows from the node's children, and what it means.
-use Rattle.std.specs.Prelude.{◌≡◌, ◌≢◌, ℕ, zero, suc, ◌+◌, ◌≤◌, false, min, cond, nat_lt, List, Option, Some, None, MatchOption}
+-- The least length of a free block inside a node's block, and how many blocks lie there: how they follow from the node's children,
+-- and what the first of them means.
+use Rattle.std.specs.Prelude.{◌≡◌, ◌≢◌, ℕ, zero, suc, ◌+◌, ◌%◌, ◌^◌, ◌≤◌, false, min, cond, nat_lt, List, Option, Some, None, MatchOption}
 use Rattle.inet_num.specs.Net.{Cidr, IsBlock, IsInside}
 use Rattle.inet_num.specs.Free.{IsFree}
 use Rattle.block_space.specs.Listed.{counting_of}
 use Rattle.node_pool.specs.Pooled.{Pooled, node_at}
 use Rattle.radix_tree.specs.declared.Node.{Node}
 use Rattle.radix_tree.specs.declared.links.Linked.{Linked}
+use Rattle.radix_tree.specs.Figures.{Figures, figures}
 use Rattle.radix_tree.specs.Listed.{blocks_of}
 
 -- the lesser of two lengths, where there are any
@@ -33,26 +35,46 @@ if_uncounted (suc count) free = None
 abbrev pub free_of : Pooled Node → Node → Option ℕ
 free_of pool n = if_uncounted n.count (lesser (side_free pool (n.block.len + 1) n.low) (side_free pool (n.block.len + 1) n.high))
 
+-- of a side what its topmost node says of the number of blocks, if there is one
+abbrev pub total_said : Option Node → ℕ
+total_said None = 0
+total_said (Some m) = m.total
+
+abbrev pub side_total : Pooled Node → Option ℕ → ℕ
+side_total pool None = 0
+side_total pool (Some id) = total_said (node_at pool id)
+
+-- a sum as a u32 that wraps has it
+abbrev pub wrapped : ℕ → ℕ → ℕ
+wrapped a b = (a + b) % 2 ^ 32
+
+-- what follows for a node: its copies, and the blocks of its two sides
+abbrev pub total_of : Pooled Node → Node → ℕ
+total_of pool n = wrapped (wrapped n.count (side_total pool n.low)) (side_total pool n.high)
+
+abbrev pub figures_of : Pooled Node → Node → Figures
+figures_of pool n = record { free = free_of pool n; total = total_of pool n }
+
 -- each node says what follows for it
 abbrev pub HasFrees : Pooled Node → Type 0
-HasFrees pool = (id : ℕ) (n : Node) → node_at pool id ≡ Some n → n.free ≡ free_of pool n
+HasFrees pool = (id : ℕ) (n : Node) → node_at pool id ≡ Some n → figures n ≡ figures_of pool n
 
 -- the same, but for the nodes around a block
 abbrev pub HasFreesBut : Pooled Node → Cidr → Type 0
-HasFreesBut pool block = (id : ℕ) (n : Node) → node_at pool id ≡ Some n → (¬ IsInside block n.block) → n.free ≡ free_of pool n
+HasFreesBut pool block = (id : ℕ) (n : Node) → node_at pool id ≡ Some n → (¬ IsInside block n.block) → figures n ≡ figures_of pool n
 
 -- and for those nodes around it too that lie in the land
 abbrev pub HasFreesIn : Pooled Node → Cidr → Cidr → Type 0
-HasFreesIn pool block land = HasFreesBut pool block × ((id : ℕ) (n : Node) → node_at pool id ≡ Some n → IsInside n.block land → n.free ≡ free_of pool n)
+HasFreesIn pool block land = HasFreesBut pool block × ((id : ℕ) (n : Node) → node_at pool id ≡ Some n → IsInside n.block land → figures n ≡ figures_of pool n)
 
--- the two nodes differ at most in what they say to be free
+-- the two nodes differ at most in what they say
 pub record IsAlike (m n : Node) : Type 0 where
   pub block : n.block ≡ m.block
   pub count : n.count ≡ m.count
   pub low : n.low ≡ m.low
   pub high : n.high ≡ m.high
 
--- what nodes say to be free was set, and nothing else was changed
+-- what nodes say was set, and nothing else was changed
 pub record Refrees (old new : Linked) : Type 0 where
   pub family : new.family ≡ old.family
   pub root : new.root ≡ old.root
@@ -61,11 +83,11 @@ pub record Refrees (old new : Linked) : Type 0 where
   pub was : (id : ℕ) (n : Node) → node_at new.pool id ≡ Some n → (m : Node) × (node_at old.pool id ≡ Some m) × IsAlike m n
 
 -- it was set at one node to this
-pub record RefreesOne (old new : Linked) (id : ℕ) (free : Option ℕ) : Type 0 where
+pub record RefreesOne (old new : Linked) (id : ℕ) (says : Figures) : Type 0 where
   pub family : new.family ≡ old.family
   pub root : new.root ≡ old.root
   pub spare : new.pool.spare ≡ old.pool.spare
-  pub node : (n : Node) → node_at old.pool id ≡ Some n → node_at new.pool id ≡ Some (record n { free = free })
+  pub node : (n : Node) → node_at old.pool id ≡ Some n → node_at new.pool id ≡ Some (record n { free = says.free; total = says.total })
   pub others : (other : ℕ) → other ≢ id → node_at new.pool other ≡ node_at old.pool other
 
 -- the least length of a free block inside the land, or that there is none

@@ -6,6 +6,7 @@ use Rattle.inet_num.specs.declared.Family.{Family}
 use Rattle.inet_num.specs.Net.{Cidr, width_of, IsBlock, IsInside, low_half_of, high_half_of}
 use Rattle.node_pool.specs.Pooled.{Pooled, node_at}
 use Rattle.radix_tree.specs.declared.Node.{Node}
+use Rattle.radix_tree.specs.Figures.{figures}
 use Rattle.radix_tree.specs.declared.links.Place.{Place}
 use Rattle.radix_tree.specs.declared.links.Place.TheVariants.{Root, Under}
 use Rattle.radix_tree.specs.declared.links.Linked.{Linked}
@@ -72,7 +73,7 @@ rank pool (Some id) = rank_of (node_at pool id)
 pub record IsSet (place : Place) (to : Option ℕ) (id : ℕ) (m n : Node) : Type 0 where
   pub block : n.block ≡ m.block
   pub count : n.count ≡ m.count
-  pub free : n.free ≡ m.free
+  pub figures_are : figures n ≡ figures m
   pub links : (side : Bool) → (child side n ≡ child side m) ⊎ (HasRoom m.block × (place ≡ Under id side) × (child side n ≡ to))
   pub put : (side : Bool) → place ≡ Under id side → child side n ≡ to
 

@@ -3,40 +3,20 @@
 ghost use Rattle.std.specs.Prelude.{◌≡◌, ℕ, ◌^◌, ◌<◌, ◌≤◌, length, Some, Option, true, false};
 ghost use Rattle.inet_num.specs.Net.{Cidr, IsBlock};
 ghost use Rattle.block_space.specs.Listed.{counting_of};
-ghost use Rattle.radix_tree.specs.Shape.{IsLink};
 ghost use Rattle.radix_tree.specs.Listed.{blocks_of};
+ghost use Rattle.radix_tree.specs.Frees.{HasFrees};
 ghost use Rattle.radix_tree.specs.Sound.{IsSound};
 
 use crate::links::{Linked, is_left_out};
 use block_space::Steps;
 use inet_num::Block;
-use node_pool::NodeId;
 use std::sync::ledger::{Blank, Ledger};
 
 impl Linked {
-    /// How many blocks the nodes below a link stand for: the node's count, and those in its halves.
-    fn count_below<L: Ledger>(&self, at: Option<NodeId>, steps: &mut Steps<L>) -> u32
-        requires sound { IsSound self.now }
-        requires few { length (blocks_of self.now.pool) ≤ 2 ^ 30 }
-        requires link { (land : Cidr) × IsLink self.now.pool at land × (land.family ≡ self.now.family) }
-        ensures { (land : Cidr) → IsLink self.now.pool at land → land.family ≡ self.now.family → result ≡ length (counting_of (blocks_of self.now.pool) land false) }
-    {
-        let Some(id) = at else {
-            return 0;
-        };
-        let node = self.pool.visit(id, steps);
-        // a single address has nothing below it
-        if node.block.len() == self.family.width() {
-            return node.count;
-        }
-        let low = self.count_below(node.low, steps);
-        let high = self.count_below(node.high, steps);
-        node.count + low + high
-    }
-
     /// How many blocks of the tree count for a block.
     fn count_inside<L: Ledger>(&self, within: &Block, strict: bool, steps: &mut Steps<L>) -> u32
         requires sound { IsSound self.now }
+        requires frees { HasFrees self.now.pool }
         requires few { length (blocks_of self.now.pool) ≤ 2 ^ 30 }
         requires lawful { IsBlock within.now }
         requires family { within.now.family ≡ self.now.family }
@@ -46,12 +26,11 @@ impl Linked {
         let Some(id) = at else {
             return 0;
         };
-        let all = self.count_below(at, steps);
         let node = self.pool.visit(id, steps);
         if is_left_out(strict, &node.block, within) {
-            return all - node.count;
+            return node.total - node.count;
         }
-        all
+        node.total
     }
 }
 
@@ -61,6 +40,7 @@ pub fn count_counted<L: Ledger>(linked: &Linked, within: &Block, strict: bool, b
     requires parts { blank.parts ≡ L.parts }
     requires some { 0 < blank.parts }
     requires sound { IsSound linked.now }
+    requires frees { HasFrees linked.now.pool }
     requires few { length (blocks_of linked.now.pool) ≤ 2 ^ 30 }
     requires lawful { IsBlock within.now }
     requires family { within.now.family ≡ linked.now.family }

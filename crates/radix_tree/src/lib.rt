@@ -46,6 +46,8 @@ pub struct Node {
     /// The least length of a block inside this node's that no block of the tree inside it touches, this node's own included; so
     /// a node with a count has none.
     pub free: Option<u8>,
+    // How many blocks of the tree lie inside this one, each as often as the tree has it; it wraps, though no tree has so many.
+    pub(crate) total: u32,
 }
 
 impl Node {

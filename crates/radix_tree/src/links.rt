@@ -34,6 +34,7 @@ fn over(block: Block, count: u32, high: bool, id: NodeId) -> Node
             low: None,
             high: Some(id),
             free: None,
+            total: 0,
         }
     } else {
         Node {
@@ -42,6 +43,7 @@ fn over(block: Block, count: u32, high: bool, id: NodeId) -> Node
             low: Some(id),
             high: None,
             free: None,
+            total: 0,
         }
     }
 }
@@ -56,6 +58,7 @@ fn leaf_of(block: Block) -> Node
         low: None,
         high: None,
         free: None,
+        total: 0,
     }
 }
 

@@ -1,4 +1,4 @@
-//! What nodes say to be free in them: it is reckoned from a node's children, and mended on the way to a block that was put in
+//! What nodes say of the blocks inside them: it is reckoned from a node's children, and mended on the way to a block that was put in
 //! or taken out, the deepest node first.
 
 ghost use Rattle.std.specs.Prelude.{◌≡◌, ◌+◌, ◌≤◌, ℕ, Some, Option};
@@ -6,7 +6,7 @@ ghost use Rattle.inet_num.specs.Net.{Cidr, IsBlock, IsInside};
 ghost use Rattle.node_pool.specs.Pooled.{node_at, IsLive};
 ghost use Rattle.radix_tree.specs.Shape.{HasLink};
 ghost use Rattle.radix_tree.specs.Sound.{IsSound};
-ghost use Rattle.radix_tree.specs.Frees.{lesser, side_free, free_of, HasFreesBut, HasFreesIn, Refrees, RefreesOne};
+ghost use Rattle.radix_tree.specs.Frees.{lesser, side_free, free_of, side_total, total_of, figures_of, HasFreesBut, HasFreesIn, Refrees, RefreesOne};
 ghost use Rattle.radix_tree.specs.declared.links.Place.{Place};
 
 use crate::halves::half_of;
@@ -63,17 +63,43 @@ impl Linked {
         lesser_of(low, high)
     }
 
-    /// Sets what a node says to be free to what follows from its children, and nothing else.
+    /// How many blocks lie in a half, by the topmost node in it.
+    fn side_total<L: Ledger>(&self, at: Option<NodeId>, steps: &mut Steps<L>) -> u32
+        requires live { (id : ℕ) → at ≡ Some id → IsLive self.now.pool id }
+        ensures { result ≡ side_total self.now.pool at }
+    {
+        match at {
+            Some(id) => self.pool.visit(id, steps).total,
+            None => 0,
+        }
+    }
+
+    /// How many blocks lie inside a node's, by its count and its children.
+    fn node_total<L: Ledger>(&self, id: NodeId, steps: &mut Steps<L>) -> u32
+        requires sound { IsSound self.now }
+        requires live { IsLive self.now.pool id }
+        ensures { (n : _) → node_at self.now.pool id ≡ Some n → result ≡ total_of self.now.pool n }
+    {
+        let node = self.pool.visit(id, steps);
+        let low = self.side_total(node.low, steps);
+        let high = self.side_total(node.high, steps);
+        node.count.wrapping_add(low).wrapping_add(high)
+    }
+
+    /// Sets what a node says to what follows from its children, and nothing else.
     fn refree<L: Ledger>(&mut self, id: NodeId, steps: &mut Steps<L>)
         requires sound { IsSound self.old }
         requires live { IsLive self.old.pool id }
-        ensures { (n : _) → node_at self.old.pool id ≡ Some n → RefreesOne self.old self.new id (free_of self.old.pool n) }
+        ensures { (n : _) → node_at self.old.pool id ≡ Some n → RefreesOne self.old self.new id (figures_of self.old.pool n) }
     {
         let free = self.node_free(id, steps);
-        self.pool.change(id).free = free;
+        let total = self.node_total(id, steps);
+        let node = self.pool.change(id);
+        node.free = free;
+        node.total = total;
     }
 
-    /// Mends what the nodes around a block say to be free, from a link on down: the deepest first.
+    /// Mends what the nodes around a block say, from a link on down: the deepest first.
     pub fn mend<L: Ledger>(&mut self, at: Option<NodeId>, block: &Block, steps: &mut Steps<L>)
         requires sound { IsSound self.old }
         requires lawful { IsBlock block.now }

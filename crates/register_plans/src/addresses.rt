@@ -29,6 +29,7 @@ use ipam_data::kinds::{Kind, Table};
 use ipam_data::replies::{Refusal, Rule, View};
 use ipam_data::text::{Description, DnsText};
 use register_shelves::Shelves;
+use row_book::Book;
 use std::alloc::AllocError;
 
 /// Whether several addresses of one host may have the role.

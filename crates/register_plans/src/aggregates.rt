@@ -24,6 +24,7 @@ use ipam_data::kinds::Kind;
 use ipam_data::replies::{Refusal, Rule, View};
 use ipam_data::text::Description;
 use register_shelves::Shelves;
+use row_book::Book;
 use std::alloc::AllocError;
 
 /// Whether the other row is another aggregate that shares addresses with this one.

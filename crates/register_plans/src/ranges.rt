@@ -29,6 +29,7 @@ use ipam_data::range::{IpRange, MOST_RANGES, RangeStatus};
 use ipam_data::replies::{Refusal, Rule, View};
 use ipam_data::text::Description;
 use register_shelves::Shelves;
+use row_book::Book;
 use std::alloc::AllocError;
 
 /// Whether the two are of one table and family, and neither ends before the other begins.

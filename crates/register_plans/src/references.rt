@@ -9,6 +9,7 @@ ghost use Rattle.ipam_data.specs.Rows.{vrf_id, rir_id, role_id};
 use ipam_data::kinds::Kind;
 use ipam_data::replies::Rule;
 use register_shelves::Shelves;
+use row_book::Book;
 
 /// The VRF that is named, where it is not there.
 pub fn missing_vrf(shelves: &Shelves, vrf: Option<u32>) -> Option<Rule>

@@ -23,6 +23,7 @@ use ipam_data::replies::{Refusal, Rule, View};
 use ipam_data::rir::{MOST_RIRS, Rir};
 use ipam_data::text::{Description, Name, Slug};
 use register_shelves::Shelves;
+use row_book::Book;
 use std::alloc::AllocError;
 
 /// Whether the other row is another RIR with the row's name.

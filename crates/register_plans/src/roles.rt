@@ -28,6 +28,7 @@ use ipam_data::replies::{Refusal, Rule, View};
 use ipam_data::role::{MOST_ROLES, Role};
 use ipam_data::text::{Description, Name, Slug, Weight};
 use register_shelves::{Prefixes, Shelves};
+use row_book::Book;
 use std::alloc::AllocError;
 
 /// Whether the other row is another role with the row's name.

@@ -14,14 +14,15 @@ use Rattle.ipam_data.specs.declared.replies.View.TheVariants.{Vrf as VrfView, Ri
 use Rattle.ipam_data.specs.Tables.{table_of, same_table}
 use Rattle.ipam_data.specs.State.{State}
 use Rattle.row_book.specs.Book.{Book}
-use Rattle.prefix_rules.specs.Book.{TabledRows, spare_of}
+use Rattle.ipam_data.specs.declared.prefix.Prefix.{Prefix}
+use Rattle.placed_book.specs.Book.{TabledRows, spare_of}
 
 pub record Held : Type 0 where
   pub vrfs : Book Vrf
   pub rirs : Book Rir
   pub roles : Book Role
   pub aggregates : Book Aggregate
-  pub prefixes : TabledRows
+  pub prefixes : TabledRows Prefix
   pub ranges : Book IpRange
   pub addresses : Book IpAddress
   pub next_vrf : ℕ

@@ -12,7 +12,6 @@ ghost use Rattle.prefix_rules.specs.Book.{IsInOrder};
 mod figures;
 mod room;
 
-use block_list::BlockList;
 use ipam_data::address::IpAddress;
 use ipam_data::aggregate::Aggregate;
 use ipam_data::kinds::Kind;
@@ -22,13 +21,14 @@ use ipam_data::rir::Rir;
 use ipam_data::role::Role;
 use ipam_data::update::Update;
 use prefix_rules::PrefixBook;
-use row_book::RowBook;
+use radix_tree::Tree;
+use row_book::{Book, RowBook};
 use std::alloc::Global;
 use std::marker::Model;
 use vrf_table::VrfBook;
 
-/// What keeps the prefixes: this line alone says which spaces their tables have.
-pub type Prefixes = PrefixBook<BlockList>;
+/// What keeps the prefixes: their tables are trees.
+pub type Prefixes = PrefixBook<Tree>;
 
 /// The rows of all kinds with the next ids, the log items spent and the register's setting. A contract sees the books with their
 /// rooms.

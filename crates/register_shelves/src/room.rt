@@ -4,12 +4,14 @@ ghost use Rattle.std.specs.Prelude.{◌≡◌, ℕ, ◌<◌, ◌≤◌, ◌+◌,
 ghost use Rattle.ipam_data.specs.Updates.{with_view, IsFit};
 ghost use Rattle.ipam_data.specs.declared.kinds.Table.{Table as SeenTable};
 ghost use Rattle.ipam_data.specs.Tables.{table_of, same_table};
-ghost use Rattle.prefix_rules.specs.Book.{IsInOrder, spare_of};
+ghost use Rattle.placed_book.specs.Book.{spare_of};
+ghost use Rattle.prefix_rules.specs.Book.{IsInOrder};
 ghost use Rattle.register_shelves.specs.Held.{state_of, place_of_kind, kind_of, is_of, is_prefix_in, HasRoom, HasAtMost};
 
 use crate::{Prefixes, Shelves};
 use ipam_data::kinds::{Kind, Table};
 use ipam_data::replies::View;
+use row_book::Book;
 use std::alloc::AllocError;
 
 /// How many rows an update may put: more of them want more memory than there is.

@@ -15,7 +15,9 @@ use ipam_edge::{Sink, Source};
 use ipam_json::Links;
 use ipam_keeper::unkept::Unkept;
 use register_core::{Register, Settings, begin};
-use rest_routes::{answer_of_refusal, answer_of_reply, finish_links, page_end, read_call};
+use rest_routes::{
+    Routes, answer_of_refusal_by, answer_of_reply, finish_links, page_end, read_call_by,
+};
 use std::alloc::{AllocError, Global};
 use std::mem;
 
@@ -75,19 +77,27 @@ fn act(
 }
 
 /// Writes the answer to a refused request of this target. The one error is want of memory, in this call or as what was refused.
-fn refuse(alloc: Global, target: &[u8], refusal: &Refusal) -> Result<Answer, AllocError>
+fn refuse(
+    alloc: Global,
+    routes: &Routes,
+    target: &[u8],
+    refusal: &Refusal,
+) -> Result<Answer, AllocError>
     ensures { IfOk result (λ answer. (refusal.now ≢ Refusal.Memory) × IsRefusedAnswer target.now refusal.now (answer_of answer)) }
 {
     match refusal {
         Refusal::Memory => Err(AllocError),
-        _ => answer_of_refusal(alloc, target, refusal),
+        _ => answer_of_refusal_by(alloc, routes, target, refusal),
     }
 }
 
-/// The desk of a connection that has a register for itself.
-pub struct OwnDesk;
+/// The desk of a connection that has a register for itself. The table of routes is lent to it.
+#[derive(Clone, Copy)]
+pub struct OwnDesk<'a> {
+    routes: &'a Routes,
+}
 
-impl Desk for OwnDesk {
+impl<'a> Desk for OwnDesk<'a> {
     type Seat = OwnRegister;
 
     ghost View = { Seen };
@@ -103,22 +113,29 @@ impl Desk for OwnDesk {
         request: &HttpRequest,
     ) -> (OwnRegister, Result<Answer, AllocError>) {
         let mut register = seat;
-        match read_call(alloc, &request.method, &request.target, &request.body) {
+        match read_call_by(
+            alloc,
+            self.routes,
+            &request.method,
+            &request.target,
+            &request.body,
+        ) {
             Ok((call, links)) => {
                 let answer = act(alloc, &mut register, call, links);
                 (register, answer)
             }
-            Err(refusal) => (register, refuse(alloc, &request.target, &refusal)),
+            Err(refusal) => (
+                register,
+                refuse(alloc, self.routes, &request.target, &refusal),
+            ),
         }
     }
 }
 
-/// Serves one connection with a register of its own, from its first byte to its end, and notes its changes under the number 0.
-/// `SourceFault` comes where a read failed, with all requests that lay whole in the bytes read answered; `SinkFault` where a
-/// write failed, with a front of the last answer written; `Memory` where memory was wanting, before a call reached the register
-/// or after its reply was made.
-pub fn serve_session<So: Source, Si: Sink>(
+/// Serves one connection over a table of routes that is lent.
+fn serve_by<So: Source, Si: Sink>(
     alloc: Global,
+    routes: &Routes,
     register: &mut OwnRegister,
     source: &mut So,
     sink: &mut Si,
@@ -140,7 +157,33 @@ pub fn serve_session<So: Source, Si: Sink>(
         },
     );
     let seat = mem::replace(register, empty);
-    let (seat, end) = serve(alloc, &OwnDesk, seat, source, sink);
+    let (seat, end) = serve(alloc, &OwnDesk { routes }, seat, source, sink);
     *register = seat;
     end
+}
+
+/// Serves one connection with a register of its own, from its first byte to its end, and notes its changes under the number 0.
+/// `SourceFault` comes where a read failed, with all requests that lay whole in the bytes read answered; `SinkFault` where a
+/// write failed, with a front of the last answer written; `Memory` where memory was wanting, before a call reached the register
+/// or after its reply was made.
+/// The table of routes is built once, before the first read.
+pub fn serve_session<So: Source, Si: Sink>(
+    alloc: Global,
+    register: &mut OwnRegister,
+    source: &mut So,
+    sink: &mut Si,
+) -> SessionEnd
+    ensures talk { (bytes : List ℕ) × Grown (So.left source.old) (So.left source.new) [] bytes
+        × IsEnd answers_plainly (seen_of register.old) (seen_of register.new) (Si.written sink.old) (Si.written sink.new) bytes (So.left source.new) result
+        × IsReadAsNeeded bytes }
+    ensures session { IsSession answers_plainly So.reads (seen_of register.old) (seen_of register.new) source.old source.new (So.left source.old) (So.left source.new) (Si.written sink.old) (Si.written sink.new) result }
+    ensures source_later { So.faults source.old ≤ So.faults source.new }
+    ensures source { result ≡ SessionEnd.SourceFault → Rose (So.faults source.old) (So.faults source.new) }
+    ensures sink_later { Si.faults sink.old ≤ Si.faults sink.new }
+    ensures sink { result ≡ SessionEnd.SinkFault → Rose (Si.faults sink.old) (Si.faults sink.new) }
+{
+    match Routes::new(alloc) {
+        Ok(routes) => serve_by(alloc, &routes, register, source, sink),
+        Err(_) => SessionEnd::Memory,
+    }
 }

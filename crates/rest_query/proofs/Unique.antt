@@ -7,11 +7,17 @@ use Rattle.ipam_data.specs.declared.kinds.Kind.{Kind}
 use Rattle.ipam_data.specs.declared.kinds.Kind.TheVariants.{Vrfs, Rirs, Roles, Aggregates, Prefixes, Ranges, Addresses}
 use Rattle.ipam_data.specs.declared.calls.Filter.{Filter}
 use Rattle.ipam_data.specs.declared.replies.Refusal.{Refusal}
+use Rattle.rest_query.specs.declared.asked.AggregateTests.{AggregateTests}
 use Rattle.rest_query.specs.declared.asked.PrefixTests.{PrefixTests}
-use Rattle.ipam_data.specs.declared.replies.FieldName.TheVariants.{VrfId, RoleId}
+use Rattle.rest_query.specs.declared.asked.RangeTests.{RangeTests}
+use Rattle.rest_query.specs.declared.asked.AddressTests.{AddressTests}
+use Rattle.ipam_data.specs.declared.replies.FieldName.TheVariants.{DnsName, VrfId, RoleId}
 use Rattle.rest_query.specs.Query.{value_in}
-use Rattle.rest_query.specs.Readings.{HasId, HasIdOrNull, IsIdTest, IsBlockTest, HasBlock, IsAreaOf, IsAreaTest, limit_of, IsLimit, IsOffset}
+use Rattle.rest_query.specs.Readings.{HasId, HasIdOrNull, IsIdTest, IsRowTest, IsBlockTest, HasBlock, IsAreaOf, IsAreaTest, limit_of, IsLimit, IsOffset}
+use Rattle.rest_query.specs.Aggregates.{AreAggregateTests, aggregate_filter}
 use Rattle.rest_query.specs.Prefixes.{ArePrefixTests, prefix_filter}
+use Rattle.rest_query.specs.Ranges.{AreRangeTests, range_filter}
+use Rattle.rest_query.specs.Addresses.{AreAddressTests, address_filter, lower}
 use Rattle.rest_query.specs.Lists.{IsFilterOf, listing_of}
 use Rattle.rest_query.specs.Laws.{ListingIsOne}
 
@@ -38,6 +44,17 @@ one_id_or_null false text a b h k = one_id text a b h k
 one_id_test : (text : Option (List ℕ)) (a b : Option (Option (Option ℕ))) → IsIdTest text a → IsIdTest text b → a ≡ b
 one_id_test None a b h k = h ∙ sym k
 one_id_test (Some text) a b h k = one_id_or_null (bytes_eq text (codes "null")) text a b h k
+
+one_row_test : (text : Option (List ℕ)) (a b : Option (Option ℕ)) → IsRowTest text a → IsRowTest text b → a ≡ b
+one_row_test None a b h k = h ∙ sym k
+one_row_test (Some text) None None h k = refl
+one_row_test (Some text) None (Some None) h k = absurd k
+one_row_test (Some text) None (Some (Some n)) h k = absurd (h n k.1 k.2 k.0)
+one_row_test (Some text) (Some None) b h k = absurd h
+one_row_test (Some text) (Some (Some m)) None h k = absurd (k m h.1 h.2 h.0)
+one_row_test (Some text) (Some (Some m)) (Some None) h k = absurd k
+one_row_test (Some text) (Some (Some m)) (Some (Some n)) h k =
+    ap (λ (x : ℕ). Some (Some x)) (one_number text m n (let l = h.2 in omega arith) (let l = k.2 in omega arith) h.0 k.0)
 
 one_block : (text : List ℕ) (a b : Option Cidr) → HasBlock text a → HasBlock text b → a ≡ b
 one_block text None None h k = refl
@@ -97,14 +114,38 @@ one_prefix_filter query a b h k =
     let contains : a.contains ≡ b.contains = one_area_test _ a.contains b.contains h.contains k.contains in
     rw (family, vrf_id, status, role_id, prefix, within, within_include, contains) refl
 
+one_aggregate_filter : (query : List ℕ) (a b : AggregateTests) → AreAggregateTests query a → AreAggregateTests query b → aggregate_filter a ≡ aggregate_filter b
+one_aggregate_filter query a b h k =
+    let family : a.family ≡ b.family = h.family ∙ sym k.family in
+    let rir_id : a.rir_id ≡ b.rir_id = one_row_test _ a.rir_id b.rir_id h.rir_id k.rir_id in
+    rw (family, rir_id) refl
+
+one_range_filter : (query : List ℕ) (a b : RangeTests) → AreRangeTests query a → AreRangeTests query b → range_filter a ≡ range_filter b
+one_range_filter query a b h k =
+    let family : a.family ≡ b.family = h.family ∙ sym k.family in
+    let vrf_id : a.vrf_id ≡ b.vrf_id = one_id_test (value_in query VrfId) a.vrf_id b.vrf_id h.vrf_id k.vrf_id in
+    let status : a.status ≡ b.status = h.status ∙ sym k.status in
+    let role_id : a.role_id ≡ b.role_id = one_id_test (value_in query RoleId) a.role_id b.role_id h.role_id k.role_id in
+    let contains : a.contains ≡ b.contains = one_area_test _ a.contains b.contains h.contains k.contains in
+    rw (family, vrf_id, status, role_id, contains) refl
+
+one_address_filter : (query : List ℕ) (name : Option (List ℕ)) (a b : AddressTests) → AreAddressTests query a → AreAddressTests query b → address_filter a name ≡ address_filter b name
+one_address_filter query name a b h k =
+    let family : a.family ≡ b.family = h.family ∙ sym k.family in
+    let vrf_id : a.vrf_id ≡ b.vrf_id = one_id_test (value_in query VrfId) a.vrf_id b.vrf_id h.vrf_id k.vrf_id in
+    let status : a.status ≡ b.status = h.status ∙ sym k.status in
+    let role : a.role ≡ b.role = h.role ∙ sym k.role in
+    let parent : a.parent ≡ b.parent = one_block_test _ a.parent b.parent h.parent k.parent in
+    rw (family, vrf_id, status, role, parent) refl
+
 one_filter : (kind : Kind) (query : List ℕ) (a b : Result Filter Refusal) → IsFilterOf kind query a → IsFilterOf kind query b → a ≡ b
 one_filter Vrfs query a b h k = h ∙ sym k
 one_filter Rirs query a b h k = h ∙ sym k
 one_filter Roles query a b h k = h ∙ sym k
-one_filter Aggregates query a b h k = h ∙ sym k
+one_filter Aggregates query a b h k = h.2 ∙ one_aggregate_filter query h.0 k.0 h.1 k.1 ∙ sym k.2
 one_filter Prefixes query a b h k = h.2 ∙ one_prefix_filter query h.0 k.0 h.1 k.1 ∙ sym k.2
-one_filter Ranges query a b h k = h ∙ sym k
-one_filter Addresses query a b h k = h ∙ sym k
+one_filter Ranges query a b h k = h.2 ∙ one_range_filter query h.0 k.0 h.1 k.1 ∙ sym k.2
+one_filter Addresses query a b h k = h.2 ∙ one_address_filter query (lower (value_in query DnsName)) h.0 k.0 h.1 k.1 ∙ sym k.2
 
 pub listing_is_one : ListingIsOne
 listing_is_one kind query a b h k =

@@ -1,6 +1,11 @@
 pub mod Query
 pub mod Readings
 pub mod Vrfs
+pub mod Rirs
+pub mod Roles
+pub mod Aggregates
 pub mod Prefixes
+pub mod Ranges
+pub mod Addresses
 pub mod Lists
 pub mod Laws

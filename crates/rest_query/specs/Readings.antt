@@ -30,6 +30,13 @@ abbrev pub IsIdTest : Option (List ℕ) → Option (Option (Option ℕ)) → Typ
 IsIdTest None id = id ≡ Some None
 IsIdTest (Some text) id = HasIdOrNull (bytes_eq text (codes "null")) text id
 
+-- an id alone, where each row has one
+abbrev pub IsRowTest : Option (List ℕ) → Option (Option ℕ) → Type 0
+IsRowTest None id = id ≡ Some None
+IsRowTest (Some text) None = (n : ℕ) → 1 ≤ n → n < 2 ^ 32 → text ≢ decimal n
+IsRowTest (Some text) (Some None) = ⊥
+IsRowTest (Some text) (Some (Some n)) = (text ≡ decimal n) × (1 ≤ n) × (n < 2 ^ 32)
+
 -- a block
 abbrev pub IsBlockTest : Option (List ℕ) → Option (Option Cidr) → Type 0
 IsBlockTest None block = block ≡ Some None

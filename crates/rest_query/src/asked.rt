@@ -1,8 +1,17 @@
 //! What a query asks for, as it is read.
 
 use inet_num::{Block, Family};
+use ipam_data::address::{AddressRole, AddressStatus};
 use ipam_data::calls::Filter;
 use ipam_data::prefix::PrefixStatus;
+use ipam_data::range::RangeStatus;
+
+/// The parameters of a list of aggregates: `None` is one that is malformed, and an inner `None` one that is not given.
+#[derive(Clone, Copy, Debug)]
+pub struct AggregateTests {
+    pub family: Option<Option<Family>>,
+    pub rir_id: Option<Option<u32>>,
+}
 
 /// The parameters of a list of prefixes: `None` is one that is malformed, and an inner `None` one that is not given.
 #[derive(Clone, Copy, Debug)]
@@ -15,6 +24,26 @@ pub struct PrefixTests {
     pub within: Option<Option<Block>>,
     pub within_include: Option<Option<Block>>,
     pub contains: Option<Option<Block>>,
+}
+
+/// The parameters of a list of ranges likewise.
+#[derive(Clone, Copy, Debug)]
+pub struct RangeTests {
+    pub family: Option<Option<Family>>,
+    pub vrf_id: Option<Option<Option<u32>>>,
+    pub status: Option<Option<RangeStatus>>,
+    pub role_id: Option<Option<Option<u32>>>,
+    pub contains: Option<Option<Block>>,
+}
+
+/// The parameters of a list of addresses that may be malformed, likewise.
+#[derive(Clone, Copy, Debug)]
+pub struct AddressTests {
+    pub family: Option<Option<Family>>,
+    pub vrf_id: Option<Option<Option<u32>>>,
+    pub status: Option<Option<AddressStatus>>,
+    pub role: Option<Option<AddressRole>>,
+    pub parent: Option<Option<Block>>,
 }
 
 /// What the query of a list asks for.

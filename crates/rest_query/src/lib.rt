@@ -1,13 +1,18 @@
 //! The query of a target: its parameters, the filter of a list, and the links to other pages.
 #![tactic(auto)]
 
+mod address;
+mod aggregate;
 mod asked;
 mod laws;
 mod lists;
 mod numbers;
 mod prefix;
 mod query;
+mod range;
 mod readings;
+mod rir;
+mod role;
 mod vrf;
 
 pub use asked::Listing;

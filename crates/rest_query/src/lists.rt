@@ -8,10 +8,15 @@ ghost use Rattle.rest_query.specs.Readings.{IsLimit, IsOffset};
 ghost use Rattle.rest_query.specs.Lists.{IsFilterOf, IsListing, listing_of, kind_of, with_filters};
 ghost use Rattle.rest_query.specs.Lists as spec;
 
+use crate::address::{add_address_filters, address_filter};
+use crate::aggregate::{add_aggregate_filters, aggregate_filter};
 use crate::asked::Listing;
 use crate::prefix::{add_prefix_filters, prefix_filter};
-use crate::query::{add_value, value};
+use crate::query::value;
+use crate::range::{add_range_filters, range_filter};
 use crate::readings::{limit, offset};
+use crate::rir::{add_rir_filters, rir_filter};
+use crate::role::{add_role_filters, role_filter};
 use crate::vrf::{add_vrf_filters, vrf_filter};
 use form_urlencoded::Serializer;
 use ipam_data::calls::Filter;
@@ -31,12 +36,18 @@ fn filter_of(alloc: Global, kind: Kind, query: &[u8]) -> Result<Filter, Refusal>
             Ok(filter) => Ok(filter),
             Err(_) => Err(Refusal::Memory),
         },
-        Kind::Rirs => Err(Refusal::NoRoute),
-        Kind::Roles => Err(Refusal::NoRoute),
-        Kind::Aggregates => Err(Refusal::NoRoute),
+        Kind::Rirs => match rir_filter(alloc, query) {
+            Ok(filter) => Ok(filter),
+            Err(_) => Err(Refusal::Memory),
+        },
+        Kind::Roles => match role_filter(alloc, query) {
+            Ok(filter) => Ok(filter),
+            Err(_) => Err(Refusal::Memory),
+        },
+        Kind::Aggregates => aggregate_filter(alloc, query),
         Kind::Prefixes => prefix_filter(alloc, query),
-        Kind::Ranges => Err(Refusal::NoRoute),
-        Kind::Addresses => Err(Refusal::NoRoute),
+        Kind::Ranges => range_filter(alloc, query),
+        Kind::Addresses => address_filter(alloc, query),
     }
 }
 
@@ -75,7 +86,7 @@ fn listed(filter: Filter, limit: Option<u32>, offset: Option<u32>) -> Result<Lis
 }
 
 /// What the query of a list asks for. `Field` names the first parameter that is malformed, in the order of the kind's filters,
-/// then limit, then offset; `NoRoute` comes for a kind without filters, and `Memory` may come in place of any answer.
+/// then limit, then offset; `Memory` may come in place of any answer.
 pub fn read_listing(alloc: Global, kind: Kind, query: &[u8]) -> Result<Listing, Refusal>
     ensures listing { OrMemory (IsListing kind query.now) result }
     ensures kind { IfOk result (λ l. kind_of l.filter ≡ kind) }
@@ -104,12 +115,12 @@ fn add_filters(
 {
     match kind {
         Kind::Vrfs => add_vrf_filters(alloc, form, query),
-        Kind::Rirs => Ok(()),
-        Kind::Roles => Ok(()),
-        Kind::Aggregates => Ok(()),
+        Kind::Rirs => add_rir_filters(alloc, form, query),
+        Kind::Roles => add_role_filters(alloc, form, query),
+        Kind::Aggregates => add_aggregate_filters(alloc, form, query),
         Kind::Prefixes => add_prefix_filters(alloc, form, query),
-        Kind::Ranges => Ok(()),
-        Kind::Addresses => Ok(()),
+        Kind::Ranges => add_range_filters(alloc, form, query),
+        Kind::Addresses => add_address_filters(alloc, form, query),
     }
 }
 

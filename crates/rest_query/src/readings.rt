@@ -1,7 +1,7 @@
 //! How the text of a parameter is read. `None` is one that is malformed.
 
 ghost use Rattle.std.specs.Prelude.{◌≡◌, None, Some, bytes_eq, codes};
-ghost use Rattle.rest_query.specs.Readings.{test_of, IsIdTest, IsBlockTest, IsAreaTest, IsAreaOf, HasBlock, IsLimit, IsOffset, HasId, HasIdOrNull};
+ghost use Rattle.rest_query.specs.Readings.{test_of, IsIdTest, IsRowTest, IsBlockTest, IsAreaTest, IsAreaOf, HasBlock, IsLimit, IsOffset, HasId, HasIdOrNull};
 ghost use Rattle.rest_query.specs.Readings as spec;
 
 use crate::numbers::{is_decimal, number_below, number_of};
@@ -38,6 +38,26 @@ fn id_named(text: &str) -> Option<Option<Option<u32>>>
             Some(Some(Some(id as u32)))
         }
         _ => None,
+    }
+}
+
+/// The id that a text is.
+fn row_named(text: &str) -> Option<Option<u32>>
+    ensures { IsRowTest (Some text.now) result }
+{
+    match number_of(text) {
+        Some(id) if id > 0 && id < 4294967296 && is_decimal(text, id) => Some(Some(id as u32)),
+        _ => None,
+    }
+}
+
+/// The test of an id that each row has.
+pub(crate) fn row_test(text: &Option<Text>) -> Option<Option<u32>>
+    ensures { IsRowTest text.now result }
+{
+    match text {
+        None => Some(None),
+        Some(text) => row_named(text.as_str()),
     }
 }
 

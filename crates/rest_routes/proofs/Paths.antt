@@ -1,127 +1,83 @@
--- Whole paths: which routes a target can have.
-use Rattle.std.proofs.Common.{◌≡◌, ◌≢◌, ℕ, ◌+◌, ◌^◌, ◌<◌, List, [], ◌++◌, length, get_or, decimal, codes, Option, Some, None, sym, ◌∙◌, ap, subst, arith, refl, append-nil, length-append, IsUtf8}
-use Rattle.std.proofs.lemmas.Fmt.{decimal_nonempty, decimal_injective, IsAscii-decimal}
-use Rattle.std.proofs.lemmas.List.{append_cancel_left, append_cancel_right}
-use Rattle.std.proofs.lemmas.Str.{IsUtf8-from_ascii}
+-- Whole paths: a path has one stem and one id.
+use Rattle.std.proofs.Common.{◌≡◌, ◌≢◌, ℕ, ◌+◌, ◌^◌, ◌<◌, List, [], ◌∷◌, ◌++◌, length, drop, decimal, codes, Option, Some, None, false, sym, ◌∙◌, ap, subst, arith, refl, append-nil, append_assoc, length-append, ◌==◌, ◌||◌, ◌%◌}
+use Rattle.std.proofs.lemmas.Bool.Decides.{nat_tests}
+use Rattle.std.specs.List.{list_any}
+use Rattle.std.proofs.lemmas.Fmt.{decimal_nonempty, decimal_by_steps}
+use Rattle.std.proofs.lemmas.List.Folds.{list_any-append}
+use Rattle.route_table.specs.Paths.{IsPiece, IsOfForm}
+use Rattle.route_table.proofs.Search.{split_at_slash}
 use Rattle.ipam_data.specs.declared.kinds.Kind.{Kind}
-use Rattle.ipam_data.specs.declared.kinds.Kind.TheVariants.{Vrfs, Rirs, Roles, Aggregates, Prefixes, Ranges, Addresses}
 use Rattle.rest_routes.specs.declared.route.Route.{Route}
 use Rattle.rest_routes.specs.declared.route.Route.TheVariants.{Many, Single}
-use Rattle.rest_routes.specs.Routes.{rows_path, row_end, path_of, IsServed, IsRoute, IsPathOf, HasRoute, IsEnd, HasEnd}
+use Rattle.rest_routes.specs.declared.table.Stem.{Stem}
+use Rattle.rest_routes.specs.declared.table.Stem.TheVariants.{Rows, Row}
+use Rattle.ipam_data.specs.Answers.{kind_text}
+use Rattle.rest_routes.specs.Routes.{rows_path, path_of, IsRoute}
+use Rattle.rest_routes.specs.Stems.{stem_of, id_text, form_of}
+use Rattle.rest_routes.proofs.Names.{one_kind, kind_no_slash}
+use Rattle.rest_routes.proofs.Listed.{kind_of}
 
--- what follows the path of a kind's rows in that of a route, and the kind
-abbrev pub end_of : Route → List ℕ
-end_of (Many kind) = []
-end_of (Single kind id) = row_end id
+-- the kind of a path, and what follows
+front_is : (j k : Kind) (a b : List ℕ) → rows_path j ++ a ≡ rows_path k ++ b → (j ≡ k) × (a ≡ b)
+front_is j k a b e =
+    let cut : (kind_text j ++ codes "/") ++ a ≡ (kind_text k ++ codes "/") ++ b = ap (λ (z : List ℕ). drop 10 z) e in
+    let both : kind_text j ++ 47 ∷ a ≡ kind_text k ++ 47 ∷ b = sym (append_assoc (kind_text j) (codes "/") a) ∙ cut ∙ append_assoc (kind_text k) (codes "/") b in
+    let parts = split_at_slash (kind_text j) (kind_text k) a b (kind_no_slash j) (kind_no_slash k) both in
+    (one_kind j k parts.0, parts.1)
 
-abbrev pub kind_of : Route → Kind
-kind_of (Many kind) = kind
-kind_of (Single kind id) = kind
+-- what follows the front of a path
+abbrev IsTail : Stem → Option (List ℕ) → List ℕ → Type 0
+IsTail (Rows kind) text rest = (text ≡ None) × (rest ≡ [])
+IsTail (Row kind) text rest = (piece : List ℕ) × (text ≡ Some piece) × IsPiece piece × (rest ≡ piece ++ 47 ∷ [])
 
-path_is : (route : Route) → path_of route ≡ rows_path (kind_of route) ++ end_of route
-path_is (Many kind) = sym (append-nil (rows_path kind))
-path_is (Single kind id) = refl
+tail_of : (stem : Stem) (path : List ℕ) (text : Option (List ℕ)) → IsOfForm (form_of stem) path text → (rest : List ℕ) × (path ≡ rows_path (kind_of stem) ++ rest) × IsTail stem text rest
+tail_of (Rows kind) path None h = ([], h ∙ sym (append-nil (rows_path kind)), (refl, refl))
+tail_of (Rows kind) path (Some piece) h = absurd h
+tail_of (Row kind) path None h = absurd h
+tail_of (Row kind) path (Some piece) h = (piece ++ 47 ∷ [], h.1, (piece, refl, h.0, refl))
 
-kind_served : (route : Route) → IsRoute route → IsServed (kind_of route)
-kind_served (Many kind) h = h
-kind_served (Single kind id) h = h.0
-
-apart : (byte : ℕ) → byte ≡ 118 → byte ≡ 112 → ⊥
-apart byte v p = omega arith
-
--- the paths of two kinds that are served differ in the eleventh byte
-vrfs_apart : (a b : List ℕ) → rows_path Vrfs ++ a ≢ rows_path Prefixes ++ b
-vrfs_apart a b e = apart (get_or (rows_path Vrfs ++ a) 10 0) refl (ap (λ (text : List ℕ). get_or text 10 0) e)
-
-same_kind : (k j : Kind) (a b : List ℕ) → IsServed k → IsServed j → rows_path k ++ a ≡ rows_path j ++ b → k ≡ j
-same_kind Vrfs Vrfs a b h g e = refl
-same_kind Vrfs Prefixes a b h g e = absurd (vrfs_apart a b e)
-same_kind Prefixes Vrfs a b h g e = absurd (vrfs_apart b a (sym e))
-same_kind Prefixes Prefixes a b h g e = refl
-same_kind Vrfs Rirs a b h g e = absurd g
-same_kind Vrfs Roles a b h g e = absurd g
-same_kind Vrfs Aggregates a b h g e = absurd g
-same_kind Vrfs Ranges a b h g e = absurd g
-same_kind Vrfs Addresses a b h g e = absurd g
-same_kind Prefixes Rirs a b h g e = absurd g
-same_kind Prefixes Roles a b h g e = absurd g
-same_kind Prefixes Aggregates a b h g e = absurd g
-same_kind Prefixes Ranges a b h g e = absurd g
-same_kind Prefixes Addresses a b h g e = absurd g
-same_kind Rirs j a b h g e = absurd h
-same_kind Roles j a b h g e = absurd h
-same_kind Aggregates j a b h g e = absurd h
-same_kind Ranges j a b h g e = absurd h
-same_kind Addresses j a b h g e = absurd h
-
--- a target is the path of a kind's rows and the end of a route exactly where it is the path of the route
-whole : (kind : Kind) (target rest : List ℕ) (route : Route) → IsServed kind → target ≡ rows_path kind ++ rest → IsEnd kind rest route → IsPathOf target route
-whole kind target rest (Many k) served is h = record {
-  served = subst IsServed (sym h.0) served;
-  path = is ∙ ap (λ (more : List ℕ). rows_path kind ++ more) h.1 ∙ append-nil (rows_path kind) ∙ ap rows_path (sym h.0);
-}
-whole kind target rest (Single k id) served is h = record {
-  served = (subst IsServed (sym h.0) served, h.2, h.3);
-  path = is ∙ ap (λ (more : List ℕ). rows_path kind ++ more) h.1 ∙ ap (λ (j : Kind). rows_path j ++ row_end id) (sym h.0);
-}
-
-ends : (kind : Kind) (rest : List ℕ) (route : Route) → IsRoute route → kind_of route ≡ kind → rest ≡ end_of route → IsEnd kind rest route
-ends kind rest (Many k) h same end = (same, end)
-ends kind rest (Single k id) h same end = (same, end, h.1, h.2)
-
-parted : (kind : Kind) (target rest : List ℕ) (route : Route) → IsServed kind → target ≡ rows_path kind ++ rest → IsPathOf target route → IsEnd kind rest route
-parted kind target rest route served is h =
-    let both : rows_path (kind_of route) ++ end_of route ≡ rows_path kind ++ rest = sym (path_is route) ∙ sym h.path ∙ is in
-    let same : kind_of route ≡ kind = same_kind (kind_of route) kind (end_of route) rest (kind_served route h.served) served both in
-    let end : rest ≡ end_of route = sym (append_cancel_left (rows_path kind) (end_of route) rest (ap (λ (k : Kind). rows_path k ++ end_of route) (sym same) ∙ both)) in
-    ends kind rest route h.served same end
-
--- the route of the target is that of the kind which goes on so
-pub found : (kind : Kind) (target rest : List ℕ) (route : Option Route) → IsServed kind → target ≡ rows_path kind ++ rest → HasEnd kind rest route → HasRoute target route
-found kind target rest (Some route) served is h = whole kind target rest route served is h
-found kind target rest None served is h = λ route path. h route (parted kind target rest route served is path)
-
--- a target that begins with no path of a kind has no route
-no_path : (target : List ℕ) → ((rest : List ℕ) → target ≢ rows_path Vrfs ++ rest) → ((rest : List ℕ) → target ≢ rows_path Prefixes ++ rest)
-    → (kind : Kind) → IsServed kind → (rest : List ℕ) → target ≢ rows_path kind ++ rest
-no_path target no_vrfs no_prefixes Vrfs served rest = no_vrfs rest
-no_path target no_vrfs no_prefixes Prefixes served rest = no_prefixes rest
-no_path target no_vrfs no_prefixes Rirs served rest = absurd served
-no_path target no_vrfs no_prefixes Roles served rest = absurd served
-no_path target no_vrfs no_prefixes Aggregates served rest = absurd served
-no_path target no_vrfs no_prefixes Ranges served rest = absurd served
-no_path target no_vrfs no_prefixes Addresses served rest = absurd served
-
-pub lost : (target : List ℕ) → ((rest : List ℕ) → target ≢ rows_path Vrfs ++ rest) → ((rest : List ℕ) → target ≢ rows_path Prefixes ++ rest) → HasRoute target None
-lost target no_vrfs no_prefixes route h =
-    no_path target no_vrfs no_prefixes (kind_of route) (kind_served route h.served) (end_of route) (h.path ∙ path_is route)
-
--- two routes with one path are one
-decimal_longer : (id : ℕ) → id < 2 ^ 32 → row_end id ≢ []
-decimal_longer id fits e =
-    let some : 0 < length (decimal id) = decimal_nonempty id (omega arith) in
-    let none : length (decimal id) + 1 ≡ 0 = sym (length-append (decimal id) (codes "/")) ∙ ap length e in
+not_empty : (a : List ℕ) (x : ℕ) (b rest : List ℕ) → rest ≡ [] → rest ≢ a ++ x ∷ b
+not_empty a x b rest e q =
+    let n : 0 ≡ length a + length (x ∷ b) = sym (ap length e) ∙ ap length q ∙ length-append a (x ∷ b) in
     absurd (omega arith)
 
-one_end : (kind : Kind) (rest : List ℕ) (a b : Route) → IsEnd kind rest a → IsEnd kind rest b → a ≡ b
-one_end kind rest (Many k) (Many j) h g = ap Many (h.0 ∙ sym g.0)
-one_end kind rest (Many k) (Single j id) h g = absurd (decimal_longer id g.3 (sym g.1 ∙ h.1))
-one_end kind rest (Single k id) (Many j) h g = absurd (decimal_longer id h.3 (sym h.1 ∙ g.1))
-one_end kind rest (Single k id) (Single j other) h g =
-    let texts : decimal id ≡ decimal other = append_cancel_right (decimal id) (decimal other) (codes "/") (sym h.1 ∙ g.1) in
-    ap (λ (x : Kind). Single x id) (h.0 ∙ sym g.0) ∙ ap (Single j) (decimal_injective id other (omega arith) (omega arith) texts)
+one_tail : (s t : Stem) (a b : Option (List ℕ)) (rest : List ℕ) → kind_of s ≡ kind_of t → IsTail s a rest → IsTail t b rest → (s ≡ t) × (a ≡ b)
+one_tail (Rows j) (Rows k) a b rest e h g = (ap Rows e, h.0 ∙ sym g.0)
+one_tail (Rows j) (Row k) a b rest e h g = absurd (not_empty g.0 47 [] rest h.1 g.3)
+one_tail (Row j) (Rows k) a b rest e h g = absurd (not_empty h.0 47 [] rest g.1 h.3)
+one_tail (Row j) (Row k) a b rest e h g =
+    let s = split_at_slash h.0 g.0 [] [] h.2.no_slash g.2.no_slash (sym h.3 ∙ g.3) in
+    (ap Row e, h.1 ∙ ap Some s.0 ∙ sym g.1)
 
-one_path : (target : List ℕ) (a b : Route) → IsPathOf target a → IsPathOf target b → a ≡ b
-one_path target a b h g =
-    one_end (kind_of a) (end_of a) a b (ends (kind_of a) (end_of a) a h.served refl refl)
-    (parted (kind_of a) target (end_of a) b (kind_served a h.served) (h.path ∙ path_is a) g)
+-- a path has one stem, and one text of an id
+pub one_stem : (s t : Stem) (path : List ℕ) (a b : Option (List ℕ)) → IsOfForm (form_of s) path a → IsOfForm (form_of t) path b → (s ≡ t) × (a ≡ b)
+one_stem s t path a b h g =
+    let x = tail_of s path a h in
+    let y = tail_of t path b g in
+    let f = front_is (kind_of s) (kind_of t) x.0 y.0 (sym x.1 ∙ y.1) in
+    one_tail s t a b y.0 f.0 (subst (IsTail s a) f.1 x.2) y.2
 
-pub one_route : (target : List ℕ) (a b : Option Route) → HasRoute target a → HasRoute target b → a ≡ b
-one_route target (Some a) (Some b) h g = ap Some (one_path target a b h g)
-one_route target (Some a) None h g = absurd (g a h)
-one_route target None (Some b) h g = absurd (h b g)
-one_route target None None h g = refl
+-- a decimal is a piece
+digit_clear : (n : ℕ) → list_any (λ x. x == 47) ((48 + n) ∷ []) ≡ false
+digit_clear n = let e : ((48 + n) == 47) ≡ false = grind (arith, nat_tests) in rw e refl
 
--- the decimal text of a number is UTF-8
-pub decimal_is_text : (text : List ℕ) (id : ℕ) → id < 2 ^ 32 → text ≡ decimal id → IsUtf8 text
-decimal_is_text text id fits e = subst IsUtf8 (sym e) (IsUtf8-from_ascii (decimal id) (IsAscii-decimal id (omega arith)))
+IsClear : ℕ → List ℕ → Type 0
+IsClear n text = list_any (λ x. x == 47) text ≡ false
+
+decimal_clear : (id : ℕ) → id < 2 ^ 64 → list_any (λ x. x == 47) (decimal id) ≡ false
+unfolding IsClear
+decimal_clear id l =
+    decimal_by_steps IsClear (λ n _. digit_clear n)
+    (λ n ds _ ih. list_any-append (λ x. x == 47) ds ((48 + n % 10) ∷ []) ∙ ap (λ v. v || list_any (λ x. x == 47) ((48 + n % 10) ∷ [])) ih ∙ digit_clear (n % 10)) id l
+
+pub decimal_piece : (id : ℕ) → id < 2 ^ 32 → IsPiece (decimal id)
+decimal_piece id l = record { some = decimal_nonempty id (omega arith); no_slash = decimal_clear id (omega arith) }
+
+-- the path of a route is of its stem's form, and what is of the form is the path
+pub of_form : (route : Route) → IsRoute route → IsOfForm (form_of (stem_of route)) (path_of route) (id_text route)
+of_form (Many kind) h = refl
+of_form (Single kind id) h = (decimal_piece id h.1, refl)
+
+pub is_path : (route : Route) (path : List ℕ) → IsOfForm (form_of (stem_of route)) path (id_text route) → path ≡ path_of route
+is_path (Many kind) path h = h
+is_path (Single kind id) path h = h.1

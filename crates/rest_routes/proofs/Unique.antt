@@ -12,7 +12,7 @@ use Rattle.rest_routes.specs.Answers.{refused_answer}
 use Rattle.rest_routes.specs.Laws.{RequestIsOne}
 use Rattle.rest_query.specs.Query.{path_in, query_in}
 use Rattle.rest_query.proofs.Unique.{listing_is_one}
-use Rattle.rest_routes.proofs.Paths.{one_route}
+use Rattle.rest_routes.proofs.Routed.{one_route}
 
 one_of_rows : (kind : Kind) (method : Option Method) (query body : List ℕ) (a b : Asked) → IsRowsAsked kind method query body a → IsRowsAsked kind method query body b → a ≡ b
 one_of_rows kind (Some Get) query body a b h g = h.2 ∙ ap (asks_list kind query) (listing_is_one kind query h.0 g.0 h.1 g.1) ∙ sym g.2

@@ -5,7 +5,8 @@ ghost use Rattle.ipam_data.specs.Answers.{status_of, refusal_status_of};
 ghost use Rattle.http_session.specs.Replies.{answer_of};
 ghost use Rattle.rest_routes.specs.Answers.{IsRefusedAnswer, allow_of, end_of, finished_links, reply_answer, route_methods};
 
-use crate::route::{Route, route_of};
+use crate::route::Route;
+use crate::table::Routes;
 use http::StatusCode;
 use http_session::{Body, Reply as Answer};
 use ipam_data::calls::Call;
@@ -94,9 +95,11 @@ pub fn answer_of_reply(
     })
 }
 
-/// The answer of a refusal that the bytes of a request decide, before the register: it has no place. `Err` is want of memory.
-pub fn answer_of_refusal(
+/// The answer of a refusal that the bytes of a request decide, before the register, by a table of the routes that is lent: it has
+/// no place. `Err` is want of memory.
+pub fn answer_of_refusal_by(
     alloc: Global,
+    routes: &Routes,
     target: &[u8],
     refusal: &Refusal,
 ) -> Result<Answer, AllocError>
@@ -106,10 +109,22 @@ pub fn answer_of_refusal(
     let body = refusal_bytes(alloc, refusal)?;
     Ok(Answer {
         status: refusal_status(refusal),
-        allow: allowed(route_of(path), refusal),
+        allow: allowed(routes.route_of(path), refusal),
         place: None,
         body: Body::Written(body),
     })
+}
+
+/// The same of one refusal alone, for which the table is built.
+pub fn answer_of_refusal(
+    alloc: Global,
+    target: &[u8],
+    refusal: &Refusal,
+) -> Result<Answer, AllocError>
+    ensures { IfOk result (λ a. IsRefusedAnswer target.now refusal.now (answer_of a)) }
+{
+    let routes = Routes::new(alloc)?;
+    answer_of_refusal_by(alloc, &routes, target, refusal)
 }
 
 /// The number of rows up to the end of a page; 0 for a call that asks for none.

@@ -5,7 +5,8 @@ ghost use Rattle.ipam_json.specs.Bodies.{OrMemory};
 ghost use Rattle.rest_routes.specs.Requests.{IsListAsked, IsRowsAsked, IsRowAsked, IsRequest, IsWellMade, link_text, links_of};
 ghost use Rattle.rest_routes.specs.Requests as spec;
 
-use crate::route::{Method, Route, route_of};
+use crate::route::{Method, Route};
+use crate::table::Routes;
 use ipam_data::calls::Call;
 use ipam_data::kinds::Kind;
 use ipam_data::replies::Refusal;
@@ -141,10 +142,31 @@ fn call_of_row(
     }
 }
 
-/// What a request asks of the register, with the links to the pages after and before that of a list. `NoRoute` comes where the
-/// path has no route, then `Method` where the route does not have the method, and then the refusals of a body, or for a list
-/// those of a query; `Memory` may come in place of any answer. The body of a GET or a DELETE is
+/// What a request asks of the register, by a table of the routes that is lent, with the links to the pages after and before that of
+/// a list. `NoRoute` comes where the path has no route, then `Method` where the route does not have the method, and then the
+/// refusals of a body, or for a list those of a query; `Memory` may come in place of any answer. The body of a GET or a DELETE is
 /// ignored.
+pub fn read_call_by(
+    alloc: Global,
+    routes: &Routes,
+    method: &[u8],
+    target: &[u8],
+    body: &[u8],
+) -> Result<(Call, Links), Refusal>
+    ensures request { OrMemory (IsRequest method.now target.now body.now) result }
+    ensures well_made { IfOk result (λ asked. IsWellMade asked.0) }
+{
+    let (path, query) = cut(target);
+    match routes.route_of(path) {
+        None => Err(Refusal::NoRoute),
+        Some(Route::Many(kind)) => { call_of_rows(alloc, kind, Method::named(method), query, body) }
+        Some(Route::Single(kind, id)) => {
+            call_of_row(alloc, kind, id, Method::named(method), body)
+        }
+    }
+}
+
+/// The same of one request alone, for which the table is built.
 pub fn read_call(
     alloc: Global,
     method: &[u8],
@@ -154,12 +176,8 @@ pub fn read_call(
     ensures request { OrMemory (IsRequest method.now target.now body.now) result }
     ensures well_made { IfOk result (λ asked. IsWellMade asked.0) }
 {
-    let (path, query) = cut(target);
-    match route_of(path) {
-        None => Err(Refusal::NoRoute),
-        Some(Route::Many(kind)) => { call_of_rows(alloc, kind, Method::named(method), query, body) }
-        Some(Route::Single(kind, id)) => {
-            call_of_row(alloc, kind, id, Method::named(method), body)
-        }
+    match Routes::new(alloc) {
+        Ok(routes) => read_call_by(alloc, &routes, method, target, body),
+        Err(_) => Err(Refusal::Memory),
     }
 }

@@ -5,10 +5,14 @@ mod answer;
 mod call;
 mod laws;
 mod route;
+mod table;
 #[cfg(test)]
 mod tests;
 
-pub use answer::{answer_of_refusal, answer_of_reply, finish_links, page_end};
-pub use call::read_call;
+pub use answer::{
+    answer_of_refusal, answer_of_refusal_by, answer_of_reply, finish_links, page_end,
+};
+pub use call::{read_call, read_call_by};
 pub use laws::request_is_one;
-pub use route::{Method, Route, route_of};
+pub use route::{Method, Route};
+pub use table::Routes;

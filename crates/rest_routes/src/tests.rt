@@ -1,6 +1,8 @@
 //! Requests and answers, a case to a line.
 
-use crate::{answer_of_refusal, answer_of_reply, finish_links, page_end, read_call};
+use crate::{
+    Routes, answer_of_refusal_by, answer_of_reply, finish_links, page_end, read_call, read_call_by,
+};
 use ipam_data::calls::Call;
 use ipam_data::kinds::Kind;
 use ipam_data::replies::{Refusal, Reply, Views};
@@ -40,7 +42,24 @@ HEAD /api/ipam/prefixes/7/ = Method 405 GET, PATCH, DELETE
 POST /api/ipam/prefixes/7/ = Method 405 GET, PATCH, DELETE
 DELETE /api/ipam/vrfs/7/ = Delete { kind: Vrfs, id: 7 }
 PATCH /api/ipam/vrfs/7/?x = Change { id: 7, edit: Vrf { name: Some(Name { string: \"red\" }), rd: None, enforce_unique: None, description: None } }
-PATCH /api/ipam/rirs/7/ = NoRoute 404 
+PATCH /api/ipam/rirs/7/ = Change { id: 7, edit: Rir { name: Some(Name { string: \"red\" }), slug: None, is_private: None, description: None } }
+PATCH /api/ipam/ip-addresses/1/ = Change { id: 1, edit: IpAddress { host: None, vrf: None, status: None, role: None, dns_name: None, description: None } }
+POST /api/ipam/roles/ = Field(Slug) 400 
+DELETE /api/ipam/roles/1/ = Delete { kind: Roles, id: 1 }
+GET /api/ipam/ip-ranges/4294967295/ = Get { kind: Ranges, id: 4294967295 }
+PUT /api/ipam/aggregates/ = Method 405 GET, POST
+PUT /api/ipam/ip-addresses/7/ = Method 405 GET, PATCH, DELETE
+GET /api/ipam/rirs/?slug=arin&name=x = List { kind: Rirs, filter: Rirs { name: Some(Text { string: \"x\" }), slug: Some(Text { string: \"arin\" }) }, limit: 50, offset: 0 } /api/ipam/rirs/?name=x&slug=arin&limit=50&offset=50
+GET /api/ipam/roles/?name=x = List { kind: Roles, filter: Roles { name: Some(Text { string: \"x\" }), slug: None }, limit: 50, offset: 0 } /api/ipam/roles/?name=x&limit=50&offset=50
+GET /api/ipam/aggregates/?rir_id=3&family=4&offset=1 = List { kind: Aggregates, filter: Aggregates { family: Some(V4), rir_id: Some(3) }, limit: 50, offset: 1 } /api/ipam/aggregates/?family=4&rir_id=3&limit=50&offset=51 /api/ipam/aggregates/?family=4&rir_id=3&limit=50&offset=0
+GET /api/ipam/aggregates/?rir_id=null = Field(RirId) 400 
+GET /api/ipam/ip-ranges/?contains=10.0.0.0/30&status=reserved&vrf_id=2&limit=1 = List { kind: Ranges, filter: Ranges { family: None, vrf_id: Some(Some(2)), status: Some(Reserved), role_id: None, contains: Some(Block { first: 167772160, family: V4, len: 30 }) }, limit: 1, offset: 0 } /api/ipam/ip-ranges/?vrf_id=2&status=reserved&contains=10.0.0.0%2F30&limit=1&offset=1
+GET /api/ipam/ip-ranges/?role_id=x&status=container = Field(Status) 400 
+GET /api/ipam/ip-addresses/?dns_name=A.b&parent=2001:DB8::/32&role=vip&status=slaac = List { kind: Addresses, filter: Addresses { family: None, vrf_id: None, status: Some(Slaac), role: Some(Vip), parent: Some(Block { first: 42540766411282592856903984951653826560, family: V6, len: 32 }), dns_name: Some(Text { string: \"a.b\" }) }, limit: 50, offset: 0 } /api/ipam/ip-addresses/?status=slaac&role=vip&parent=2001%3ADB8%3A%3A%2F32&dns_name=A.b&limit=50&offset=50
+GET /api/ipam/ip-addresses/?parent=x&role= = Field(Role) 400 
+GET /api/ipam/ip-addresses/?parent=10.0.0.1 = Field(Parent) 400 
+GET /api/ipam/asns/ = NoRoute 404 
+GET /api/ipam/prefixes/7/utilization/ = NoRoute 404 
 GET /api/ipam/vrfs = NoRoute 404 
 GET /api/ipam/vrfs/7 = NoRoute 404 
 GET /api/ipam/vrfs// = NoRoute 404 
@@ -56,8 +75,13 @@ OPTIONS * = NoRoute 404
 GET  = NoRoute 404 ";
 
 /// A refusal with its status and its `Allow` field.
-fn refusal_text(alloc: Global, target: &[u8], refusal: &Refusal) -> Result<Vec<u8>, AllocError> {
-    let answer = answer_of_refusal(alloc, target, refusal)?;
+fn refusal_text(
+    alloc: Global,
+    routes: &Routes,
+    target: &[u8],
+    refusal: &Refusal,
+) -> Result<Vec<u8>, AllocError> {
+    let answer = answer_of_refusal_by(alloc, routes, target, refusal)?;
     let allow = String::from_utf8_lossy(alloc, answer.allow)?;
     let number = answer.status.as_u16();
     Ok(format!(in alloc; "{refusal:?} {number} {allow}")?.into_bytes())
@@ -79,11 +103,16 @@ fn call_words(alloc: Global, call: &Call, links: &Links) -> Result<Vec<u8>, Allo
 }
 
 /// What a request asks for, in words.
-fn told(alloc: Global, method: &[u8], target: &[u8]) -> Result<Vec<u8>, AllocError> {
+fn told(
+    alloc: Global,
+    routes: &Routes,
+    method: &[u8],
+    target: &[u8],
+) -> Result<Vec<u8>, AllocError> {
     let body = b"{\"name\":\"red\"}";
-    match read_call(alloc, method, target, body) {
+    match read_call_by(alloc, routes, method, target, body) {
         Ok((call, links)) => call_words(alloc, &call, &links),
-        Err(refusal) => refusal_text(alloc, target, &refusal),
+        Err(refusal) => refusal_text(alloc, routes, target, &refusal),
     }
 }
 
@@ -96,18 +125,19 @@ fn cut(line: &[u8], byte: u8) -> (&[u8], &[u8]) {
 }
 
 /// Sees that the request of a line asks for what the line says.
-fn check(rt: &impl Abort, alloc: Global, line: &[u8]) -> Result<(), AllocError> {
+fn check(rt: &impl Abort, alloc: Global, routes: &Routes, line: &[u8]) -> Result<(), AllocError> {
     let (method, rest) = cut(line, b' ');
     let (target, want) = cut(rest, b' ');
-    let text = told(alloc, method, target)?;
+    let text = told(alloc, routes, method, target)?;
     assert_eq!(rt; text.as_slice(), want.strip_prefix(b"= ").unwrap_or(want));
     Ok(())
 }
 
 #[test]
 fn requests(rt: HostRuntime) -> Result<(), Fail> {
+    let routes = Routes::new(rt.alloc())?;
     for line in REQUESTS.split(|byte| *byte == b'\n') {
-        check(&rt, rt.alloc(), line)?;
+        check(&rt, rt.alloc(), &routes, line)?;
     }
     Ok(())
 }

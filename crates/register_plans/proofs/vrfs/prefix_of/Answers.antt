@@ -2,7 +2,7 @@ use Rattle.std.proofs.Common.{◌≡◌, ◌∙◌, sym, ap, arith, Option, Some
 use Rattle.ipam_data.specs.declared.prefix.Prefix.{Prefix}
 use Rattle.ipam_data.specs.Rows.{prefix_id}
 use Rattle.ipam_data.specs.Tables.{is_named}
-use Rattle.prefix_rules.proofs.Searches.{some_within}
+use Rattle.placed_book.proofs.Searches.{some_within}
 use Rattle.register_plans.proofs.Finds.{find_this, find_next}
 use Rattle.register_plans.proofs.vrfs.prefix_of.Goals.{in-Some+else-names, in_default}
 use Rattle.register_plans.proofs.vrfs.prefix_of.Goals as goal

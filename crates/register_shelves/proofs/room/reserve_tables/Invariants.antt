@@ -1,6 +1,7 @@
 use Rattle.std.proofs.Common.{◌≡◌}
 use Rattle.ipam_data.specs.declared.kinds.Table.{Table}
-use Rattle.prefix_rules.specs.Book.{IsInOrder, spare_of}
+use Rattle.placed_book.specs.Book.{spare_of}
+use Rattle.prefix_rules.specs.Book.{IsInOrder}
 use Rattle.register_shelves.proofs.Counting.{IsReady}
 use Rattle.register_shelves.proofs.room.reserve_tables.Given as goal
 

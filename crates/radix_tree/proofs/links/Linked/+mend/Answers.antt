@@ -2,7 +2,7 @@ use Rattle.std.proofs.Common.{ℕ, false, not, IsTrue, Option, refl, sym, ap, su
 use Rattle.inet_num.specs.Net.{IsInside, IsStrictlyInside}
 use Rattle.radix_tree.specs.declared.links.Place.TheVariants.{Under}
 use Rattle.radix_tree.specs.Shape.{half, HasLink, rank}
-use Rattle.radix_tree.specs.Frees.{free_of, HasFreesIn}
+use Rattle.radix_tree.specs.Frees.{figures_of, HasFreesIn}
 use Rattle.radix_tree.proofs.Descent.{rank_child, right_half, strict_room}
 use Rattle.radix_tree.proofs.Mending.{refreed_one, refreed_both, refreed_link, refreed_tree, refreed_sound, mended_in, below_own, below_half, in_none, in_apart}
 use Rattle.radix_tree.proofs.links.Linked.+mend.Goals as goal
@@ -20,7 +20,7 @@ returns-then-not-contains-clause-frees g u c = λ place land link but.
 pub returns-then-is-clause-refrees : goal.returns-then-is-clause-refrees
 returns-then-is-clause-refrees g u c =
     let n = c.visit-node.result.now in
-    refreed_one c.args.self.now c.refree.new.self c.in-Some.id n (free_of c.args.self.now.pool n) c.visit-node.ensures.node (c.refree.ensures n c.visit-node.ensures.node)
+    refreed_one c.args.self.now c.refree.new.self c.in-Some.id n (figures_of c.args.self.now.pool n) c.visit-node.ensures.node (c.refree.ensures n c.visit-node.ensures.node)
 
 pub returns-then-is-clause-frees : goal.returns-then-is-clause-frees
 returns-then-is-clause-frees g u c = λ place land link but.
@@ -60,7 +60,7 @@ pub returns-clause-refrees : goal.returns-clause-refrees
 returns-clause-refrees g u c =
     let mid = c.mend.new.self in
     let kept = c.mend.ensures.refrees.kept c.in-Some.id c.visit-node.result.now c.visit-node.ensures.node in
-    refreed_both c.args.self.now mid c.refree-2.new.self c.mend.ensures.refrees (refreed_one mid c.refree-2.new.self c.in-Some.id kept.0 (free_of mid.pool kept.0) kept.1 (c.refree-2.ensures kept.0 kept.1))
+    refreed_both c.args.self.now mid c.refree-2.new.self c.mend.ensures.refrees (refreed_one mid c.refree-2.new.self c.in-Some.id kept.0 (figures_of mid.pool kept.0) kept.1 (c.refree-2.ensures kept.0 kept.1))
 
 pub returns-clause-frees : goal.returns-clause-frees
 returns-clause-frees g u c = λ place land link but.

@@ -1,0 +1,5 @@
+pub mod Connections
+pub mod ListLanes
+pub mod ListListeners
+pub mod Patience
+pub mod Tcp

@@ -1,7 +1,0 @@
-//! Edits that a body asks for, one file a kind.
-
-mod prefix;
-mod vrf;
-
-pub(crate) use prefix::prefix_edit;
-pub(crate) use vrf::vrf_edit;

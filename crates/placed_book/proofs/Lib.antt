@@ -1,0 +1,14 @@
+pub mod Lookups
+pub mod Added
+pub mod Orders
+pub mod Rows
+pub mod InOrder
+pub mod Around
+pub mod Inside
+pub mod Figures
+pub mod Searches
+pub mod Meetings
+pub mod Whole
+pub mod Swapped
+pub mod Places
+pub mod Moves

@@ -1,0 +1,141 @@
+//! Which rows are where another is: in its table, with its block.
+
+ghost use Rattle.std.specs.Prelude.{◌≡◌, ℕ, ◌+◌, ◌<◌, ◌≤◌, Some, drop, find, map, length, slice_get, option_map, not, ◌&&◌, ◌==◌};
+ghost use Rattle.ipam_data.specs.Shelf.{row_at, least};
+ghost use Rattle.ipam_data.specs.Tables.{table_of, same_table};
+ghost use Rattle.ipam_data.specs.Blocks.{same_family, same_block};
+ghost use Rattle.placed_book.specs.Book.{AreInOrder};
+ghost use Rattle.placed_book.specs.Rivals.{is_where, own_times, coincide_in, is_rival, stays_among};
+
+use crate::Located;
+use crate::tables::Tables;
+use block_space::Space;
+use indexed_book::IndexedBook;
+use inet_num::{Block, Family};
+use ipam_data::kinds::Table;
+use row_book::Book;
+
+/// Whether the two families are one.
+fn is_one_family(a: Family, b: Family) -> bool
+    ensures { result ≡ same_family a b }
+{
+    match (a, b) {
+        (Family::V4, Family::V4) => true,
+        (Family::V6, Family::V6) => true,
+        (Family::V4, Family::V6) => false,
+        (Family::V6, Family::V4) => false,
+    }
+}
+
+/// Whether the two blocks are one.
+fn is_one_block(a: &Block, b: &Block) -> bool
+    ensures { result ≡ same_block a.now b.now }
+{
+    is_one_family(a.family(), b.family())
+        && a.first().value() == b.first().value()
+        && a.len() == b.len()
+}
+
+/// Whether the two tables are one.
+fn is_one_table(a: Table, b: Table) -> bool
+    ensures { result ≡ same_table a b }
+{
+    match (a, b) {
+        (Table::Global, Table::Global) => true,
+        (Table::Of(a), Table::Of(b)) => a == b,
+        (Table::Global, Table::Of(_)) => false,
+        (Table::Of(_), Table::Global) => false,
+    }
+}
+
+/// Whether the other row is of the row's table and has its block.
+fn is_there<T: Located>(row: &T, other: &T) -> bool
+    ensures { result ≡ is_where (T.placed row.now) (T.placed other.now) }
+{
+    is_one_table(Table::of(other.vrf()), Table::of(row.vrf()))
+        && is_one_block(&other.block(), &row.block())
+}
+
+/// Whether the other row is so, and has another id.
+fn is_another<T: Located>(row: &T, other: &T) -> bool
+    ensures { result ≡ is_rival T.id_of T.placed row.now other.now }
+{
+    other.id() != row.id() && is_there(row, other)
+}
+
+/// Whether the row that is kept under the row's id, if any, is where the row is.
+pub fn is_in_place<T: Located + Drop>(rows: &IndexedBook<T>, row: &T) -> bool
+    ensures { result ≡ stays_among T.id_of T.placed rows.now.rows row.now }
+{
+    match rows.get(row.id()) {
+        Some(kept) => is_there(row, kept),
+        None => false,
+    }
+}
+
+/// How often a row meets itself: once, where the row that is kept under its id is where it is.
+pub fn times_itself<T: Located + Drop>(rows: &IndexedBook<T>, row: &T) -> u32
+    ensures { result ≡ own_times (T.placed row.now) (option_map T.placed (row_at T.id_of rows.now.rows (T.id_of row.now))) }
+{
+    if is_in_place(rows, row) { 1 } else { 0 }
+}
+
+/// The id of the first rival from an index on, looked for row by row.
+fn rival_from<T: Located + Drop>(rows: &IndexedBook<T>, from: u32, row: &T) -> Option<u32>
+    requires { from ≤ length rows.now.rows }
+    ensures { result ≡ least T.id_of (is_rival T.id_of T.placed row.now) (drop from rows.now.rows) }
+{
+    let count = rows.len();
+    'rows: for index in from..count {
+        if let Some(other) = rows.at(index) {
+            if is_another(row, other) {
+                return Some(other.id());
+            }
+        }
+    }
+    None
+}
+
+/// The same, where the table's space says that there may be one: it has the block more often than the row meets itself.
+pub fn least_rival<T: Located + Drop, S: Space + Drop>(
+    rows: &IndexedBook<T>,
+    tables: &Tables<S>,
+    from: u32,
+    row: &T,
+) -> Option<u32>
+    requires order { AreInOrder (map T.placed rows.now.rows) tables.now }
+    requires within { from ≤ length rows.now.rows }
+    ensures { result ≡ least T.id_of (is_rival T.id_of T.placed row.now) (drop from rows.now.rows) }
+{
+    let _ordered = rows.len();
+    if tables.times(Table::of(row.vrf()), row.block()) <= times_itself(rows, row) {
+        return None;
+    }
+    rival_from(rows, from, row)
+}
+
+/// The id of the row at an index and that of the first later row with its block, where both are of the table.
+pub fn pair_at<T: Located + Drop, S: Space + Drop>(
+    rows: &IndexedBook<T>,
+    tables: &Tables<S>,
+    index: u32,
+    table: Table,
+) -> Option<(u32, u32)>
+    requires order { AreInOrder (map T.placed rows.now.rows) tables.now }
+    requires within { index < length rows.now.rows }
+    ensures { (x : T) → slice_get rows.now.rows index ≡ Some x → result ≡ option_map (λ y. (T.id_of x, T.id_of y)) (find (coincide_in T.placed table x) (drop (index + 1) rows.now.rows)) }
+{
+    let _ordered = rows.len();
+    match rows.at(index) {
+        Some(row) => {
+            if !is_one_table(Table::of(row.vrf()), table) {
+                return None;
+            }
+            match least_rival(rows, tables, index + 1, row) {
+                Some(other) => Some((row.id(), other)),
+                None => None,
+            }
+        }
+        None => None,
+    }
+}

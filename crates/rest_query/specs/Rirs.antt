@@ -1,0 +1,13 @@
+-- The filter of a list of RIRs: the texts are compared as they stand.
+use Rattle.std.specs.Prelude.{ℕ, List}
+use Rattle.ipam_data.specs.declared.calls.Filter.{Filter}
+use Rattle.ipam_data.specs.declared.calls.Filter.TheVariants.{Rirs as SomeRirs}
+use Rattle.ipam_data.specs.declared.replies.FieldName.TheVariants.{Name, Slug}
+use Rattle.rest_query.specs.Query.{value_in, with_value}
+
+abbrev pub rir_filter : List ℕ → Filter
+rir_filter query = SomeRirs (value_in query Name) (value_in query Slug)
+
+-- a form with the filters that are given
+abbrev pub with_rir_filters : List ℕ → List ℕ → List ℕ
+with_rir_filters query form = with_value query Slug (with_value query Name form)

@@ -1,0 +1,100 @@
+//! Ranges.
+
+ghost use Rattle.std.specs.Prelude.{◌≡◌, IfOk, OnOk};
+ghost use Rattle.ipam_json.specs.Outcomes.{OrMemory};
+ghost use Rattle.ipam_json.specs.Words as words;
+ghost use Rattle.rest_query.specs.Ranges.{AreRangeTests, with_range_filters};
+ghost use Rattle.rest_query.specs.Ranges as spec;
+ghost use Rattle.rest_query.specs.Lists.{IsFilterOf, kind_of};
+ghost use Rattle.ipam_data.specs.declared.kinds.Kind.TheVariants.{Ranges};
+ghost use Rattle.rest_query.specs.Readings.{test_of};
+
+use crate::asked::RangeTests;
+use crate::query::{add_value, value};
+use crate::readings::{area_test, family_test, id_test};
+use form_urlencoded::Serializer;
+use ipam_data::calls::Filter;
+use ipam_data::range::RangeStatus;
+use ipam_data::replies::{FieldName, Refusal};
+use ipam_data::text::Text;
+use ipam_json::range_status_named;
+use std::alloc::{AllocError, Global};
+
+/// The test of a status.
+fn status_test(text: &Option<Text>) -> Option<Option<RangeStatus>>
+    ensures { result ≡ test_of words.range_status_named text.now }
+{
+    match text {
+        None => Some(None),
+        Some(text) => range_status_named(text.as_str()).map(Some),
+    }
+}
+
+/// The parameters of a list of ranges as they are read.
+fn range_tests(alloc: Global, query: &[u8]) -> Result<RangeTests, AllocError>
+    ensures { IfOk result (AreRangeTests query.now) }
+{
+    Ok(RangeTests {
+        family: family_test(&value(alloc, query, FieldName::Family)?),
+        vrf_id: id_test(&value(alloc, query, FieldName::VrfId)?),
+        status: status_test(&value(alloc, query, FieldName::Status)?),
+        role_id: id_test(&value(alloc, query, FieldName::RoleId)?),
+        contains: area_test(&value(alloc, query, FieldName::Contains)?),
+    })
+}
+
+/// The filter that these parameters are.
+fn tested(tests: &RangeTests) -> Result<Filter, Refusal>
+    ensures filter { spec.range_filter tests.now ≡ result }
+    ensures kind { IfOk result (λ f. kind_of f ≡ Ranges) }
+{
+    let Some(family) = tests.family else {
+        return Err(Refusal::Field(FieldName::Family));
+    };
+    let Some(vrf_id) = tests.vrf_id else {
+        return Err(Refusal::Field(FieldName::VrfId));
+    };
+    let Some(status) = tests.status else {
+        return Err(Refusal::Field(FieldName::Status));
+    };
+    let Some(role_id) = tests.role_id else {
+        return Err(Refusal::Field(FieldName::RoleId));
+    };
+    let Some(contains) = tests.contains else {
+        return Err(Refusal::Field(FieldName::Contains));
+    };
+    Ok(Filter::Ranges {
+        family,
+        vrf_id,
+        status,
+        role_id,
+        contains,
+    })
+}
+
+/// The filter of a list of ranges.
+pub(crate) fn range_filter(alloc: Global, query: &[u8]) -> Result<Filter, Refusal>
+    ensures filter { OrMemory (IsFilterOf Ranges query.now) result }
+    ensures kind { IfOk result (λ f. kind_of f ≡ Ranges) }
+{
+    match range_tests(alloc, query) {
+        Ok(tests) => tested(&tests),
+        Err(_) => Err(Refusal::Memory),
+    }
+}
+
+/// Adds the filters that are given to a form.
+pub(crate) fn add_range_filters(
+    alloc: Global,
+    form: &mut Serializer<Global>,
+    query: &[u8],
+) -> Result<(), AllocError>
+    ensures form { OnOk result (form.new.form ≡ with_range_filters query.now form.old.form) }
+    ensures prefix { OnOk result (form.new.prefix ≡ form.old.prefix) }
+{
+    add_value(alloc, form, query, FieldName::Family)?;
+    add_value(alloc, form, query, FieldName::VrfId)?;
+    add_value(alloc, form, query, FieldName::Status)?;
+    add_value(alloc, form, query, FieldName::RoleId)?;
+    add_value(alloc, form, query, FieldName::Contains)
+}
