@@ -1,7 +1,7 @@
 //! Calls over a keeper in memory: what they answer, what is noted, and what is found again where the tables are opened.
 
 use crate::{Register, Settings, open};
-use inet_num::read_block;
+use inet_num::{Addr, Block, Family, read_block};
 use ipam_data::calls::{Call, Draft, Edit, Filter};
 use ipam_data::kinds::Kind;
 use ipam_data::prefix::PrefixStatus;
@@ -12,14 +12,23 @@ use ipam_keeper::memory::MemoryKeeper;
 use std::alloc::{AllocError, Global};
 use std::test::Fail;
 
-/// The rows that some parts of a filter leave of the prefixes that the test makes, a count a line: a block, whether the status is
-/// `reserved`, and the count. There are 999 blocks of /24 in 10.0.0.0/8, without 10.0.1.0/24; 10.0.0.0/24 is reserved.
+/// A filter, its value, and how many rows it leaves of the prefixes that the test makes: a line each. There are 999 blocks of /24
+/// from 10.0.0.0/24 to 10.3.231.0/24, without 10.0.1.0/24; 10.0.0.0/24 is reserved, and none has a VRF or a role.
 const FILTERS: &str = "\
-10.0.0.0/8 any 999
-10.0.0.0/16 any 255
-10.0.0.0/16 reserved 1
-10.1.0.0/16 reserved 0
-192.0.2.0/24 any 0
+family 4 999
+family 6 0
+vrf_id null 999
+vrf_id 1 0
+status reserved 1
+role_id null 999
+role_id 1 0
+prefix 10.0.5.0/24 1
+prefix 10.0.1.0/24 0
+within 10.0.0.0/16 255
+within 10.0.5.0/24 0
+within_include 10.0.5.0/24 1
+contains 10.0.5.7/32 1
+contains 10.0.0.0/16 0
 ";
 
 fn settings() -> Settings {
@@ -63,26 +72,37 @@ fn reserve(id: u32) -> Call {
     }
 }
 
-/// The prefixes strictly inside a block, of this status where one is given.
-fn within(text: &str, status: Option<PrefixStatus>) -> Result<Call, AllocError> {
-    match read_block(text.as_bytes()) {
-        Ok(block) => Ok(Call::List {
-            kind: Kind::Prefixes,
-            filter: Filter::Prefixes {
-                family: None,
-                vrf_id: None,
-                status,
-                role_id: None,
-                prefix: None,
-                within: Some(block),
-                within_include: None,
-                contains: None,
-            },
-            limit: 1,
-            offset: 0,
-        }),
-        Err(_) => Err(AllocError),
-    }
+/// The value, where the filter is the one that is named.
+fn given<T: Copy>(name: &str, filter: &str, value: T) -> Option<T> {
+    if name == filter { Some(value) } else { None }
+}
+
+fn family_of(value: &str) -> Family {
+    if value == "6" { Family::V6 } else { Family::V4 }
+}
+
+/// The list of the prefixes that meet one filter; where the value is no block, a filter of blocks is 0.0.0.0/0.
+fn filtered(name: &str, value: &str) -> Option<Call> {
+    let id = value.parse::<u32>().ok();
+    let block = match read_block(value.as_bytes()) {
+        Ok(block) => block,
+        Err(_) => Block::of(Addr::of(Family::V4, 0)?, 0)?,
+    };
+    Some(Call::List {
+        kind: Kind::Prefixes,
+        filter: Filter::Prefixes {
+            family: given(name, "family", family_of(value)),
+            vrf_id: given(name, "vrf_id", id),
+            status: given(name, "status", PrefixStatus::Reserved),
+            role_id: given(name, "role_id", id),
+            prefix: given(name, "prefix", block),
+            within: given(name, "within", block),
+            within_include: given(name, "within_include", block),
+            contains: given(name, "contains", block),
+        },
+        limit: 1,
+        offset: 0,
+    })
 }
 
 /// A reply in one word; a page by its count.
@@ -203,15 +223,11 @@ fn counted(
     line: &str,
 ) -> Result<String, AllocError> {
     let mut words = line.split(' ');
-    let text = words.next().unwrap_or("");
-    let word = words.next().unwrap_or("");
-    let status = if word == "reserved" {
-        Some(PrefixStatus::Reserved)
-    } else {
-        None
-    };
-    let said = answer(alloc, register, within(text, status)?)?;
-    format!(in alloc; "{text} {word} {said}")
+    let name = words.next().unwrap_or("");
+    let value = words.next().unwrap_or("");
+    let call = filtered(name, value).ok_or(AllocError)?;
+    let said = answer(alloc, register, call)?;
+    format!(in alloc; "{name} {value} {said}")
 }
 
 /// The lines of the filters, with the counts that are answered.
