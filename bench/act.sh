@@ -1,7 +1,8 @@
 #!/usr/bin/env bash
 # Calls a second of the register, and memory of a record: 1,000 VRFs and prefixes made through `act`, then random ones read, then
 # pages of 1,000 rows listed. The prefixes are /32 blocks: `rising` and `random` are in the global table in rising order or in none,
-# `spread` are random ones over the tables of the 1,000 VRFs. Each time is the best of three runs; memory is the peak of the process
+# `spread` are random ones over the tables of the 1,000 VRFs, and of `nested` the first 1,000 are /18 blocks round the random ones, and
+# its pages are those of the 1,000. Each time is the best of three runs; memory is the peak of the process
 # less that of a run that opens a register and makes nothing, and so it has what the log keeps of each call.
 # A last run says how long `open` takes for the tables of as many rising prefixes.
 # It also sees that every prefix that is made is found, and that the 200,001st is refused.
@@ -35,8 +36,8 @@ echo 'act_bench: inet_num ipam_data ipam_keeper ipam_stored register_core anyhow
 bench=$scratch/crates/act_bench
 mkdir -p "$bench/src"
 cat > "$bench/src/main.rt" <<'E'
-//! Makes VRFs and prefixes in a register, reads random prefixes, and lists pages: `rising`, `random`, `spread` or `none`, and the
-//! number of prefixes. It prints the nanoseconds of the VRFs, the prefixes, as many reads, and 100 pages, and how many of the
+//! Makes VRFs and prefixes in a register, reads random prefixes, and lists pages: `rising`, `random`, `spread`, `nested` or `none`,
+//! and the number of prefixes. It prints the nanoseconds of the VRFs, the prefixes, as many reads, and 100 pages, and how many of the
 //! calls gave what they should; last, whether one more prefix is made.
 #![tactic(auto)]
 
@@ -61,6 +62,7 @@ enum Order {
     Rising,
     Random,
     Spread,
+    Nested,
     Nothing,
 }
 
@@ -74,6 +76,10 @@ fn mixed(n: u64) -> u64 {
 
 /// The n-th block: the numbers of 10.0.0.0/8 from the first, or mixed.
 fn block(order: Order, n: u32) -> Option<Block> {
+    if matches!(order, Order::Nested) && n < 1000 {
+        let low = u128::from(n & 0x3ff) * 0x4000;
+        return Block::of(Addr::of(Family::V4, 0x0a000000 | low)?, 18);
+    }
     let low = match order {
         Order::Rising => u128::from(n & 0xffffff),
         _ => u128::from(mixed(u64::from(n)) & 0xffffff),
@@ -171,10 +177,10 @@ fn read<K: Keeper>(register: &mut Register<K>, count: u32) -> u64 {
     done
 }
 
-fn list<K: Keeper>(register: &mut Register<K>, pages: u32, count: u32) -> u64 {
+fn list<K: Keeper>(register: &mut Register<K>, order: Order, pages: u32, count: u32) -> u64 {
     let mut done = 0u64;
     for n in 0..pages {
-        let offset = below(n, count);
+        let offset = if matches!(order, Order::Nested) { 0 } else { below(n, count) };
         let call = Call::List {
             kind: Kind::Prefixes,
             filter: Filter::Prefixes {
@@ -197,66 +203,88 @@ fn list<K: Keeper>(register: &mut Register<K>, pages: u32, count: u32) -> u64 {
     done
 }
 
-/// The nanoseconds in which the tables of as many rising prefixes are opened, or 0 where they are not.
+/// The register that is opened over a keeper.
+fn over(alloc: Global, keeper: MemoryKeeper) -> Result<Register<MemoryKeeper>, AllocError> {
+    match open(alloc, keeper, settings()) {
+        Ok(register) => Ok(register),
+        Err((keeper, _fault)) => {
+            drop(keeper);
+            Err(AllocError)
+        }
+    }
+}
+
+/// The nanoseconds in which the tables of as many rising prefixes are opened.
 fn time_open(rt: &HostRuntime, count: u32) -> anyhow::Result<u128> {
     let alloc = rt.alloc();
-    let settings = Settings { global_unique: false };
-    let keeper = MemoryKeeper::new(empty_tables(alloc)?, Vec::new(alloc));
-    let mut register = begin(alloc, keeper, settings);
-    let _made = make_prefixes(alloc, &mut register, Order::Rising, count)?;
+    let empty = empty_tables(alloc)?;
+    let mut register = over(alloc, MemoryKeeper::new(empty, Vec::new(alloc)))?;
+    let made = make_prefixes(alloc, &mut register, Order::Rising, count);
     let tables = register.into_keeper().into_tables();
+    let _made = made?;
     let keeper = MemoryKeeper::new(tables, Vec::new(alloc));
     let start = Instant::now(rt)?;
-    match open(alloc, keeper, settings) {
-        Ok(register) => {
-            drop(register);
-            Ok(start.elapsed(rt)?.as_nanos())
-        }
-        Err(refused) => {
-            drop(refused);
-            Ok(0)
-        }
+    let register = over(alloc, keeper)?;
+    drop(register);
+    Ok(start.elapsed(rt)?.as_nanos())
+}
+
+fn settings() -> Settings {
+    Settings { global_unique: false }
+}
+
+/// Makes, reads and lists, and prints the times.
+fn time_calls<K: Keeper>(
+    rt: &HostRuntime,
+    register: &mut Register<K>,
+    order: Order,
+    vrfs: u32,
+    count: u32,
+) -> anyhow::Result<()> {
+    let alloc = rt.alloc();
+    let start = Instant::now(rt)?;
+    let made_vrfs = make_vrfs(alloc, register, vrfs)?;
+    let for_vrfs = start.elapsed(rt)?.as_nanos();
+    let start = Instant::now(rt)?;
+    let made = make_prefixes(alloc, register, order, count)?;
+    let for_prefixes = start.elapsed(rt)?.as_nanos();
+    let start = Instant::now(rt)?;
+    let found = read(register, count);
+    let for_reads = start.elapsed(rt)?.as_nanos();
+    let start = Instant::now(rt)?;
+    let listed = list(register, order, if count > 0 { 100 } else { 0 }, count);
+    let for_pages = start.elapsed(rt)?.as_nanos();
+    let more = make_prefixes(alloc, register, order, if count > 0 { 1 } else { 0 })?;
+    println!(rt; "{for_vrfs} {for_prefixes} {for_reads} {for_pages} {made_vrfs} {made} {found} {listed} {more}")?;
+    Ok(())
+}
+
+fn order_named(word: &str) -> Order {
+    match word {
+        "rising" => Order::Rising,
+        "random" => Order::Random,
+        "spread" => Order::Spread,
+        "nested" => Order::Nested,
+        _ => Order::Nothing,
     }
 }
 
 fn main(rt: HostRuntime) -> anyhow::Result<()> {
     let mut words = env::args(&rt)?;
     let _ = words.next();
-    let order = words.next().expect(&rt, "rising, random, spread or none");
-    let mut count: u32 = words.next().expect(&rt, "prefixes").parse()?;
-    let order_is_open = order.as_str() == "open";
-    let order = match order.as_str() {
-        "rising" | "open" => Order::Rising,
-        "random" => Order::Random,
-        "spread" => Order::Spread,
-        _ => Order::Nothing,
-    };
-    let mut vrfs = 1000;
-    if matches!(order, Order::Nothing) {
-        count = 0;
-        vrfs = 0;
-    }
-    if order_is_open {
+    let order = words.next().expect(&rt, "rising, random, spread, nested, open or none");
+    let count: u32 = words.next().expect(&rt, "prefixes").parse()?;
+    if order.as_str() == "open" {
         let opened = time_open(&rt, count)?;
         println!(rt; "{opened}")?;
         return Ok(());
     }
-    let mut register = begin(rt.alloc(), Unkept::new(rt.alloc()), Settings { global_unique: false });
-    let start = Instant::now(&rt)?;
-    let made_vrfs = make_vrfs(rt.alloc(), &mut register, vrfs)?;
-    let for_vrfs = start.elapsed(&rt)?.as_nanos();
-    let start = Instant::now(&rt)?;
-    let made = make_prefixes(rt.alloc(), &mut register, order, count)?;
-    let for_prefixes = start.elapsed(&rt)?.as_nanos();
-    let start = Instant::now(&rt)?;
-    let found = read(&mut register, count);
-    let for_reads = start.elapsed(&rt)?.as_nanos();
-    let start = Instant::now(&rt)?;
-    let listed = list(&mut register, if count > 0 { 100 } else { 0 }, count);
-    let for_pages = start.elapsed(&rt)?.as_nanos();
-    let more = make_prefixes(rt.alloc(), &mut register, order, if count > 0 { 1 } else { 0 })?;
-    println!(rt; "{for_vrfs} {for_prefixes} {for_reads} {for_pages} {made_vrfs} {made} {found} {listed} {more}")?;
-    Ok(())
+    let order = order_named(order.as_str());
+    let (vrfs, count) = if matches!(order, Order::Nothing) { (0, 0) } else { (1000, count) };
+    let mut register = begin(rt.alloc(), Unkept::new(rt.alloc()), settings());
+    let timed = time_calls(&rt, &mut register, order, vrfs, count);
+    drop(register);
+    timed
 }
 E
 (cd "$bench" && rt fmt > /dev/null && rt run -- none 0 > "$scratch/log" 2>&1) || { grep -E 'error|no proof|not proved' "$scratch/log" >&2; exit 1; }
@@ -269,7 +297,7 @@ echo "load: $(uptime | sed 's/.*average: //')"
 echo
 echo '| prefixes | how many | VRFs a second | prefixes a second | reads a second | rows of pages a second | bytes a prefix |'
 echo '|---|---|---|---|---|---|---|'
-for order in rising random spread; do
+for order in rising random spread nested; do
     rm -f "$scratch/answers"
     for _ in 1 2 3; do
         full=$(peak "$program" "$order" "$prefixes")
