@@ -1,0 +1,17 @@
+//! Keepers of stored tables in SQLite files, and their opener.
+#![tactic(auto)]
+
+mod calls;
+mod connects;
+mod fault;
+mod keeper;
+mod loading;
+mod making;
+mod opener;
+mod order;
+mod storing;
+mod tables;
+
+pub use connects::Connects;
+pub use keeper::SqliteKeeper;
+pub use opener::{SqliteOpener, StoreKeeper};
