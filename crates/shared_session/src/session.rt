@@ -18,7 +18,9 @@ use ipam_edge::{Sink, Source};
 use ipam_json::Links;
 use ipam_keeper::keeper::Keeper;
 use register_core::Register;
-use rest_routes::{answer_of_refusal, answer_of_reply, finish_links, page_end, read_call};
+use rest_routes::{
+    Routes, answer_of_refusal_by, answer_of_reply, finish_links, page_end, read_call_by,
+};
 use std::alloc::{AllocError, Global};
 use std::marker::PhantomData;
 use std::sync::Wait;
@@ -104,18 +106,24 @@ fn ask<R: Wait, K: Keeper>(
 }
 
 /// Writes the answer to a refused request of this target. The one error is want of memory, in this call or as what was refused.
-fn refuse(alloc: Global, target: &[u8], refusal: &Refusal) -> Result<Answer, AllocError>
+fn refuse(
+    alloc: Global,
+    routes: &Routes,
+    target: &[u8],
+    refusal: &Refusal,
+) -> Result<Answer, AllocError>
     ensures { IfOk result (λ answer. (refusal.now ≢ Refusal.Memory) × IsRefusedAnswer target.now refusal.now (answer_of answer)) }
 {
     match refusal {
         Refusal::Memory => Err(AllocError),
-        _ => answer_of_refusal(alloc, target, refusal),
+        _ => answer_of_refusal_by(alloc, routes, target, refusal),
     }
 }
 
-/// The desk of the shared register: each request is answered through the seat.
+/// The desk of the shared register: each request is answered through the seat. The table of routes is lent to it.
 pub struct SharedRegister<'a, R: Wait, K: Keeper + 'a> {
     rt: &'a R,
+    routes: &'a Routes,
     of: PhantomData<K>,
 }
 
@@ -135,14 +143,20 @@ impl<'a, R: Wait, K: Keeper + 'a> Desk for SharedRegister<'a, R, K> {
         request: &HttpRequest,
     ) -> (Sitting<'a, K>, Result<Answer, AllocError>) {
         let Sitting { shared, seat } = seat;
-        match read_call(alloc, &request.method, &request.target, &request.body) {
+        match read_call_by(
+            alloc,
+            self.routes,
+            &request.method,
+            &request.target,
+            &request.body,
+        ) {
             Ok((call, links)) => {
                 let (seat, answer) = ask(self.rt, alloc, shared, seat, call, links);
                 (Sitting { shared, seat }, answer)
             }
             Err(refusal) => (
                 Sitting { shared, seat },
-                refuse(alloc, &request.target, &refusal),
+                refuse(alloc, self.routes, &request.target, &refusal),
             ),
         }
     }
@@ -153,6 +167,40 @@ impl<'a, R: Wait, K: Keeper + 'a> Desk for SharedRegister<'a, R, K> {
 /// answered; `SinkFault` where a write failed, with a shorter front of the last answer written; `Memory` where memory was wanting before
 /// a call reached the register, or for the text of a reply that tells something else: a reply that tells want of memory in the register
 /// is answered like any other.
+/// The table of routes is lent.
+pub fn serve_session_by<R: Wait, K: Keeper, So: Source, Si: Sink>(
+    rt: &R,
+    alloc: Global,
+    routes: &Routes,
+    shared: &Shared<Register<K>>,
+    seat: Seat<Register<K>>,
+    source: &mut So,
+    sink: &mut Si,
+) -> (Seat<Register<K>>, SessionEnd)
+    requires { seat.lock ≡ shared.now }
+    ensures session { IsSharedSession So.reads seat result.0 source.old source.new (So.left source.old) (So.left source.new) (Si.written sink.old) (Si.written sink.new) result.1 }
+    ensures source_later { So.faults source.old ≤ So.faults source.new }
+    ensures source { result.1 ≡ SessionEnd.SourceFault → Rose (So.faults source.old) (So.faults source.new) }
+    ensures sink_later { Si.faults sink.old ≤ Si.faults sink.new }
+    ensures sink { result.1 ≡ SessionEnd.SinkFault → Rose (Si.faults sink.old) (Si.faults sink.new) }
+{
+    let desk = SharedRegister {
+        rt,
+        routes,
+        of: PhantomData,
+    };
+    let (sitting, end) = serve(alloc, &desk, Sitting { shared, seat }, source, sink);
+    let SharedRegister {
+        rt: _,
+        routes: _,
+        of: _,
+    } = desk;
+    let Sitting { shared: _, seat } = sitting;
+    (seat, end)
+}
+
+/// The same with a table of routes of its own, which is built before the first read: where memory is wanting for it, the session ends
+/// as `Memory` with nothing read.
 pub fn serve_session<R: Wait, K: Keeper, So: Source, Si: Sink>(
     rt: &R,
     alloc: Global,
@@ -168,12 +216,8 @@ pub fn serve_session<R: Wait, K: Keeper, So: Source, Si: Sink>(
     ensures sink_later { Si.faults sink.old ≤ Si.faults sink.new }
     ensures sink { result.1 ≡ SessionEnd.SinkFault → Rose (Si.faults sink.old) (Si.faults sink.new) }
 {
-    let desk = SharedRegister {
-        rt,
-        of: PhantomData,
-    };
-    let (sitting, end) = serve(alloc, &desk, Sitting { shared, seat }, source, sink);
-    let SharedRegister { rt: _, of: _ } = desk;
-    let Sitting { shared: _, seat } = sitting;
-    (seat, end)
+    match Routes::new(alloc) {
+        Ok(routes) => serve_session_by(rt, alloc, &routes, shared, seat, source, sink),
+        Err(_) => (seat, SessionEnd::Memory),
+    }
 }

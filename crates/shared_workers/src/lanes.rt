@@ -1,22 +1,50 @@
 //! One worker over the connections of its lane.
-ghost use Rattle.std.specs.Prelude.{option_map, ◌≡◌, ◌≤◌, ◌<◌, ℕ, [], IfSome};
+ghost use Rattle.std.specs.Prelude.{option_map, ◌≡◌, ◌≤◌, ◌<◌, ℕ, List, [], Option, IfSome};
 ghost use Rattle.ipam_doors.specs.Connections.{Ends, IsLastOut, ends_of, last_finished};
+ghost use Rattle.ipam_edge.specs.Faults.{Rose};
+ghost use Rattle.shared_session.specs.Sessions.{IsSharedSession};
 ghost use Rattle.shared_session.specs.Told.{IsLater, standing_of};
 ghost use Rattle.shared_workers.specs.Served.{HasServed, IsServed};
 
 use history_lock::{Seat, Shared};
 use ipam_doors::{Gate, Lane};
-use ipam_edge::Failed;
+use http_session::SessionEnd;
+use ipam_edge::{Failed, Sink, Source};
 use ipam_keeper::keeper::Keeper;
 use register_core::Register;
-use shared_session::serve_session;
+use rest_routes::Routes;
+use shared_session::{serve_session, serve_session_by};
 use std::alloc::Global;
 use std::sync::Wait;
+
+/// Serves one connection over the worker's table of routes, or one of its own where the worker found no memory for it.
+fn serve_by<R: Wait, K: Keeper, So: Source, Si: Sink>(
+    rt: &R,
+    alloc: Global,
+    routes: &Option<Routes>,
+    shared: &Shared<Register<K>>,
+    seat: Seat<Register<K>>,
+    source: &mut So,
+    sink: &mut Si,
+) -> (Seat<Register<K>>, SessionEnd)
+    requires { seat.lock ≡ shared.now }
+    ensures session { IsSharedSession So.reads seat result.0 source.old source.new (So.left source.old) (So.left source.new) (Si.written sink.old) (Si.written sink.new) result.1 }
+    ensures source_later { So.faults source.old ≤ So.faults source.new }
+    ensures source { result.1 ≡ SessionEnd.SourceFault → Rose (So.faults source.old) (So.faults source.new) }
+    ensures sink_later { Si.faults sink.old ≤ Si.faults sink.new }
+    ensures sink { result.1 ≡ SessionEnd.SinkFault → Rose (Si.faults sink.old) (Si.faults sink.new) }
+{
+    match routes {
+        Some(routes) => serve_session_by(rt, alloc, routes, shared, seat, source, sink),
+        None => serve_session(rt, alloc, shared, seat, source, sink),
+    }
+}
 
 /// Serves one connection, between the two calls of the gate, and gives it back to its lane.
 fn serve_connection<R: Wait, K: Keeper, A: Lane, G: Gate>(
     rt: &R,
     alloc: Global,
+    routes: &Option<Routes>,
     shared: &Shared<Register<K>>,
     seat: Seat<Register<K>>,
     lane: &mut A,
@@ -36,7 +64,7 @@ fn serve_connection<R: Wait, K: Keeper, A: Lane, G: Gate>(
     let who = seat.who();
     let (mut source, mut sink) = pair;
     gate.before(who, nth);
-    let (seat, _) = serve_session(rt, alloc, shared, seat, &mut source, &mut sink);
+    let (seat, _) = serve_by(rt, alloc, routes, shared, seat, &mut source, &mut sink);
     gate.after(who, nth);
     lane.finish(source, sink);
     seat
@@ -46,6 +74,7 @@ fn serve_connection<R: Wait, K: Keeper, A: Lane, G: Gate>(
 pub fn serve_lane<R: Wait, K: Keeper, A: Lane, G: Gate>(
     rt: &R,
     alloc: Global,
+    routes: &Option<Routes>,
     shared: &Shared<Register<K>>,
     seat: Seat<Register<K>>,
     lane: &mut A,
@@ -63,7 +92,7 @@ pub fn serve_lane<R: Wait, K: Keeper, A: Lane, G: Gate>(
         match lane.accept() {
             Ok(None) => return seat,
             Ok(Some(pair)) => {
-                seat = serve_connection(rt, alloc, shared, seat, lane, pair, gate, nth);
+                seat = serve_connection(rt, alloc, routes, shared, seat, lane, pair, gate, nth);
                 nth = nth.saturating_add(1);
             }
             Err(Failed) => {}

@@ -7,6 +7,7 @@ use history_lock::{Seat, Shared};
 use ipam_doors::{Gate, Lane};
 use ipam_keeper::keeper::Keeper;
 use register_core::Register;
+use rest_routes::Routes;
 use std::alloc::Global;
 use std::marker::{Send, Sync};
 use std::sync::Wait;
@@ -18,7 +19,7 @@ pub struct Worker<K: Keeper, A> {
     pub lane: A,
 }
 
-/// One worker's work.
+/// One worker's work, over one table of routes.
 fn work<R: Wait, K: Keeper, A: Lane, G: Gate>(
     rt: &R,
     alloc: Global,
@@ -32,7 +33,16 @@ fn work<R: Wait, K: Keeper, A: Lane, G: Gate>(
     let Some(seat) = worker.seat.take() else {
         unreachable!()
     };
-    worker.seat = Some(serve_lane(rt, alloc, shared, seat, &mut worker.lane, gate));
+    let routes = Routes::new(alloc).ok();
+    worker.seat = Some(serve_lane(
+        rt,
+        alloc,
+        &routes,
+        shared,
+        seat,
+        &mut worker.lane,
+        gate,
+    ));
 }
 
 /// Serves the connections of all workers' lanes, each worker in a thread of its own; where no thread can be had they run one after

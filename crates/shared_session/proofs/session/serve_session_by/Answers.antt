@@ -1,6 +1,6 @@
 use Rattle.shared_session.proofs.Talks.{in_turn_is_later, in_turn_is_talk}
 use Rattle.shared_session.proofs.Plainly.{in_turn_is_plain}
-use Rattle.shared_session.proofs.session.serve_session.Goals as goal
+use Rattle.shared_session.proofs.session.serve_session_by.Goals as goal
 
 pub returns-clause-session : goal.returns-clause-session
 returns-clause-session g c =
