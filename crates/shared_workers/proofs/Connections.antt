@@ -3,22 +3,14 @@ use Rattle.std.specs.Prelude.{option_map}
 use Rattle.std.proofs.Common.{◌≡◌, ℕ, List, [], ◌∷◌, ◌++◌, Option, Some, None, IfSome, refl, sym, ap, ◌∙◌, subst}
 use mathlib.Core.List.{IsPrefix}
 use Rattle.ipam_doors.specs.Connections.{Connection, Ends, IsLastOut, finished, handed_out, last_finished}
-use Rattle.ipam_doors.proofs.Told.{last_finished_push, last_out_push}
+use Rattle.ipam_doors.proofs.Told.{last_finished_push, with_one_out, out_after}
 use Rattle.ipam_data.specs.State.{State}
 use Rattle.shared_session.specs.Told.{Caller, IsLater, Made, Standing, standing_of}
 use Rattle.shared_session.proofs.Talks.{later_refl, later_trans, talk_longer}
 use Rattle.shared_workers.specs.Served.{AreServed, HasServed, IsServed, IsServedWhole}
 
-abbrev pub with_one_out : Ends → Option (List Connection) → Option (List Connection)
-with_one_out before told = option_map (λ connections. connections ++ handed_out before ∷ []) told
-
 abbrev pub with_last_finished : Ends → Option (List Connection) → Option (List Connection)
 with_last_finished after told = option_map (λ connections. last_finished connections after) told
-
--- behind an accept the last connection is out
-pub out_after : (told : Option (List Connection)) (before : Ends) → IfSome (with_one_out before told) IsLastOut
-out_after None before = tt
-out_after (Some cs) before = last_out_push cs before
 
 told_more : (told : Option (List Connection)) (before after : Ends) (cs : List Connection) → IfSome told (λ all. all ≡ cs)
     → IfSome (with_last_finished after (with_one_out before told)) (λ all. all ≡ cs ++ finished before after ∷ [])
