@@ -15,3 +15,6 @@ mod tables;
 pub use connects::Connects;
 pub use keeper::SqliteKeeper;
 pub use opener::{SqliteOpener, StoreKeeper};
+
+#[cfg(test)]
+mod tests;
