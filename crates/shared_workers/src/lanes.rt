@@ -7,8 +7,8 @@ ghost use Rattle.shared_session.specs.Told.{IsLater, standing_of};
 ghost use Rattle.shared_workers.specs.Served.{HasServed, IsServed};
 
 use history_lock::{Seat, Shared};
-use ipam_doors::{Gate, Lane};
 use http_session::SessionEnd;
+use ipam_doors::{Gate, Lane};
 use ipam_edge::{Failed, Sink, Source};
 use ipam_keeper::keeper::Keeper;
 use register_core::Register;

@@ -34,15 +34,7 @@ fn work<R: Wait, K: Keeper, A: Lane, G: Gate>(
         unreachable!()
     };
     let routes = Routes::new(alloc).ok();
-    worker.seat = Some(serve_lane(
-        rt,
-        alloc,
-        &routes,
-        shared,
-        seat,
-        &mut worker.lane,
-        gate,
-    ));
+    worker.seat = Some(serve_lane(rt, alloc, &routes, shared, seat, &mut worker.lane, gate));
 }
 
 /// Serves the connections of all workers' lanes, each worker in a thread of its own; where no thread can be had they run one after
