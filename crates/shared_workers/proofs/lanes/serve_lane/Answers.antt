@@ -1,7 +1,8 @@
 use Rattle.std.proofs.Common.{◌≡◌, ◌≤◌, IfSome, List, Option, arith, sym, ap, ◌∙◌, subst}
 use Rattle.ipam_doors.specs.Connections.{Connection, Ends, IsLastOut, ends_of}
 use Rattle.shared_workers.specs.Served.{HasServed}
-use Rattle.shared_workers.proofs.Connections.{none_yet, one_more, out_after, with_last_finished, with_one_out}
+use Rattle.ipam_doors.proofs.Told.{out_after, with_one_out}
+use Rattle.shared_workers.proofs.Connections.{none_yet, one_more, with_last_finished}
 use Rattle.shared_workers.proofs.lanes.serve_lane.Goals as goal
 
 pub loop-seat-init : goal.loop-seat-init
