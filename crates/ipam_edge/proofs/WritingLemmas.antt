@@ -1,8 +1,9 @@
 -- What a writer's sink gained, step by step.
-use Rattle.std.proofs.Common.{◌∙◌, arith, length-append, List, ◌++◌, ℕ, Option, Result, Ok, Err, IsErr, sym, ap, append_assoc}
+use Rattle.std.proofs.Common.{◌≡◌, ◌∙◌, arith, length-append, List, [], ◌∷◌, ◌++◌, ℕ, Option, Result, Ok, Err, IsErr, refl, sym, ap, subst, append_assoc}
 use Rattle.std.specs.Io.KnownBytes.{Appends}
 use Rattle.std.proofs.KnownBytes.{Appends-trans}
-use Rattle.ipam_edge.specs.Writing.{AppendsFront, AppendsLess, IsFrontOf, WritesAll}
+use Rattle.ipam_edge.specs.Reading.{Step}
+use Rattle.ipam_edge.specs.Writing.{AppendsFront, AppendsLess, ByWrites, IsFrontOf, Writes, WritesAll}
 
 pub writes_at_err : {E : Type 0} (old new : Option (List ℕ)) (r : Result (Unit {0}) E) (text : List ℕ) → IsErr r → AppendsFront old new text → WritesAll old new r text
 writes_at_err old new (Ok x) text h f = cc h
@@ -43,3 +44,20 @@ appends_less_after old mid new before text h f =
       some = f.some;
       appended = Appends-trans _ _ _ _ _ h f.appended;
     }
+
+module _ {S : Type 0} (step : Step S) where
+  writes_joined : (s : S) (ps : List (Option (List ℕ))) (m : S) (qs : List (Option (List ℕ))) (t : S) → Writes step s ps m → Writes step m qs t → Writes step s (ps ++ qs) t
+  writes_joined s [] m qs t first second = subst (λ (x : S). Writes step x qs t) first second
+  writes_joined s (p ∷ ps) m qs t (mid, stepped, rest) second = (mid, stepped, writes_joined mid ps m qs t rest second)
+
+  -- no write
+  pub write_nothing : (s t : S) → t ≡ s → ByWrites step s t
+  write_nothing s t e = record { pieces = []; writes = e }
+
+  -- one write
+  pub write_piece : (s t : S) (piece : Option (List ℕ)) → step s piece t → ByWrites step s t
+  write_piece s t piece stepped = record { pieces = piece ∷ []; writes = (t, stepped, refl) }
+
+  -- writes behind writes
+  pub write_then : (s m t : S) → ByWrites step s m → ByWrites step m t → ByWrites step s t
+  write_then s m t first second = record { pieces = first.pieces ++ second.pieces; writes = writes_joined s first.pieces m second.pieces t first.writes second.writes }

@@ -11,7 +11,7 @@ ghost use Rattle.std.specs.Prelude.{◌≡◌, ◌<◌, ◌≤◌, ℕ, List, Op
 ghost use Rattle.std.specs.Io.KnownBytes.{ReadConsumes, WriteAppends};
 ghost use Rattle.ipam_edge.specs.Faults.{HasCause};
 ghost use Rattle.ipam_edge.specs.Reading.{given};
-ghost use Rattle.ipam_edge.specs.Writing.{AppendsLess, WritesAll};
+ghost use Rattle.ipam_edge.specs.Writing.{AppendsLess, ByWrites, WritesAll, taken};
 
 pub use memory::{BytesSink, BytesSource};
 pub use streams::{StdSink, StdSource, standard_error, standard_input, standard_output};
@@ -52,12 +52,17 @@ pub trait Sink {
     /// How often it has failed so far: a count that never falls.
     ghost faults: { Self → ℕ };
 
+    /// Which writes the object admits: from one state, with the bytes that are taken (`None` where it
+    /// fails), to the next. So what stands on a sink can say when it writes.
+    ghost writes: { Self → Option (List ℕ) → Self → Type 0 } = { λ _ _ _. Unit {0} };
+
     /// Writes bytes from the front of the piece, and says how many: at least one, where the piece
     /// is not empty. `Failed` wrote nothing.
     fn write(&mut self, from: &[u8]) -> Result<usize, Failed>
         ensures most { IfOk result (λ n. n ≤ length from.now) }
         ensures some { IfOk result (λ n. 0 < length from.now → 0 < n) }
         ensures gave { WriteAppends (written self.old) (written self.new) result from.now }
+        ensures step { writes self.old (taken result from.now) self.new }
         ensures cause { HasCause (faults self.old) (faults self.new) result };
 }
 
@@ -66,6 +71,7 @@ pub trait Sink {
 pub fn write_all<S: Sink>(sink: &mut S, bytes: &[u8]) -> Result<(), Failed>
     ensures told { WritesAll (S.written sink.old) (S.written sink.new) result bytes.now }
     ensures less { OnErr result (AppendsLess (S.written sink.old) (S.written sink.new) bytes.now) }
+    ensures writes { ByWrites S.writes sink.old sink.new }
     ensures cause { HasCause (S.faults sink.old) (S.faults sink.new) result }
 {
     let mut done = 0;

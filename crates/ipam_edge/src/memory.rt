@@ -188,6 +188,7 @@ impl Sink for BytesSink {
         ensures most { IfOk result (λ n. n ≤ length from.now) }
         ensures some { IfOk result (λ n. 0 < length from.now → 0 < n) }
         ensures gave { WriteAppends (Some (sink_bytes self.old)) (Some (sink_bytes self.new)) result from.now }
+        ensures step { Unit {0} }
         ensures cause { HasCause (sink_faults self.old) (sink_faults self.new) result }
 
         // The call fails exactly where its number is one of those given, or where the sink is full.

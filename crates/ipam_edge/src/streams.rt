@@ -81,6 +81,7 @@ impl<W: Write> Sink for StdSink<W> {
         ensures most { IfOk result (λ n. n ≤ length from.now) }
         ensures some { IfOk result (λ n. 0 < length from.now → 0 < n) }
         ensures gave { WriteAppends (W.contents self.old.stream) (W.contents self.new.stream) result from.now }
+        ensures step { Unit {0} }
         ensures cause { HasCause self.old.faults self.new.faults result }
 
         // The count rises exactly where the call fails.
