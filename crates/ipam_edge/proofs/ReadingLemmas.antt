@@ -1,5 +1,5 @@
 -- Reads, one after another.
-use Rattle.std.proofs.Common.{◌≡◌, ◌∙◌, ◌<◌, ◌++◌, ℕ, List, [], ◌∷◌, length, Some, None, refl, sym, ap, subst, append_assoc, append-nil}
+use Rattle.std.proofs.Common.{◌≡◌, ◌∙◌, ◌<◌, ◌++◌, ℕ, List, [], ◌∷◌, length, Option, Some, None, refl, sym, ap, subst, append_assoc, append-nil}
 use Rattle.ipam_edge.specs.Reading.{Step, Last, Open, Told, Failed, Reads, joined, GrownByReads}
 
 joined-append : (ps qs : List (List ℕ)) → joined (ps ++ qs) ≡ joined ps ++ joined qs
@@ -64,3 +64,24 @@ module _ {S : Type 0} (step : Step S) where
   -- the last read said no more than bytes
   pub read_open : (P : List ℕ → Type 0) (s t : S) (old new : List ℕ) (last : Last) → last ≡ Open → GrownByReads step P s t old new last → GrownByReads step P s t old new Open
   read_open P s t old new last e reads = subst (λ (l : Last). GrownByReads step P s t old new l) e reads
+
+  -- what a read leaves as it was is so after reads
+  kept_in_reads : {A : Type 0} (f : S → A) → ((a b : S) (g : Option (List ℕ)) → step a g b → f b ≡ f a) → (P : List ℕ → Type 0) (s : S) (so_far : List ℕ) (ps : List (List ℕ)) (last : Last) (t : S) → Reads step P s so_far ps last t → f t ≡ f s
+  kept_in_reads f law P s so_far [] Open t e = ap f e
+  kept_in_reads f law P s so_far [] Told t (here, stepped) = law s t (Some []) stepped
+  kept_in_reads f law P s so_far [] Failed t (here, stepped) = law s t None stepped
+  kept_in_reads f law P s so_far (p ∷ ps) last t (mid, here, some, stepped, rest) = kept_in_reads f law P mid (so_far ++ p) ps last t rest ∙ law s mid (Some p) stepped
+
+  pub kept_by_reads : {A : Type 0} (f : S → A) → ((a b : S) (g : Option (List ℕ)) → step a g b → f b ≡ f a) → (P : List ℕ → Type 0) (s t : S) (old new : List ℕ) (last : Last) → GrownByReads step P s t old new last → f t ≡ f s
+  kept_by_reads f law P s t old new last reads = kept_in_reads f law P s old reads.pieces last t reads.reads
+
+-- the same reads, seen on a part of the object
+module _ {S T : Type 0} (step : Step S) (part : Step T) (f : S → T) (law : (a b : S) (g : Option (List ℕ)) → step a g b → part (f a) g (f b)) where
+  reads_of_part : (P : List ℕ → Type 0) (s : S) (so_far : List ℕ) (ps : List (List ℕ)) (last : Last) (t : S) → Reads step P s so_far ps last t → Reads part P (f s) so_far ps last (f t)
+  reads_of_part P s so_far [] Open t e = ap f e
+  reads_of_part P s so_far [] Told t (here, stepped) = (here, law s t (Some []) stepped)
+  reads_of_part P s so_far [] Failed t (here, stepped) = (here, law s t None stepped)
+  reads_of_part P s so_far (p ∷ ps) last t (mid, here, some, stepped, rest) = (f mid, here, some, law s mid (Some p) stepped, reads_of_part P mid (so_far ++ p) ps last t rest)
+
+  pub read_by_part : (P : List ℕ → Type 0) (s t : S) (old new : List ℕ) (last : Last) → GrownByReads step P s t old new last → GrownByReads part P (f s) (f t) old new last
+  read_by_part P s t old new last reads = record { pieces = reads.pieces; reads = reads_of_part P s old reads.pieces last t reads.reads; grown = reads.grown }

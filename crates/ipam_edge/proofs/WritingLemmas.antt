@@ -61,3 +61,11 @@ module _ {S : Type 0} (step : Step S) where
   -- writes behind writes
   pub write_then : (s m t : S) → ByWrites step s m → ByWrites step m t → ByWrites step s t
   write_then s m t first second = record { pieces = first.pieces ++ second.pieces; writes = writes_joined s first.pieces m second.pieces t first.writes second.writes }
+
+  -- what a write leaves as it was is so after writes
+  kept_in_writes : {A : Type 0} (f : S → A) → ((a b : S) (g : Option (List ℕ)) → step a g b → f b ≡ f a) → (s : S) (ps : List (Option (List ℕ))) (t : S) → Writes step s ps t → f t ≡ f s
+  kept_in_writes f law s [] t e = ap f e
+  kept_in_writes f law s (p ∷ ps) t (mid, stepped, rest) = kept_in_writes f law mid ps t rest ∙ law s mid p stepped
+
+  pub kept_by_writes : {A : Type 0} (f : S → A) → ((a b : S) (g : Option (List ℕ)) → step a g b → f b ≡ f a) → (s t : S) → ByWrites step s t → f t ≡ f s
+  kept_by_writes f law s t writes = kept_in_writes f law s writes.pieces t writes.writes

@@ -2,6 +2,7 @@
 //! standard streams. Every failure is counted, so that a program can show why it failed.
 #![tactic(auto)]
 
+mod line;
 mod memory;
 mod streams;
 #[cfg(test)]
@@ -13,6 +14,7 @@ ghost use Rattle.ipam_edge.specs.Faults.{HasCause};
 ghost use Rattle.ipam_edge.specs.Reading.{given};
 ghost use Rattle.ipam_edge.specs.Writing.{AppendsLess, ByWrites, WritesAll, taken};
 
+pub use line::{Both, Line};
 pub use memory::{BytesSink, BytesSource};
 pub use streams::{StdSink, StdSource, standard_error, standard_input, standard_output};
 
