@@ -10,4 +10,5 @@ pub mod PenLemmas
 pub mod Pieces
 pub mod Talks
 pub mod Texts
+pub mod TurnLemmas
 pub mod Unique

@@ -1,6 +1,6 @@
 -- One more read.
 use Rattle.std.proofs.Common.{List, ℕ, Ok, Err, refl}
-use Rattle.ipam_edge.specs.Reading.{GrownByReads, Last, Open, Told, Failed, Step}
+use Rattle.ipam_edge.specs.Reading.{GrownByReads, Open, Told, Failed, Step}
 use Rattle.ipam_edge.proofs.ReadingLemmas.{read_end, read_fault, read_nothing, read_piece, read_then}
 use Rattle.http_session.specs.declared.wait.Short.TheVariants as short
 use Rattle.http_session.specs.declared.wait.Short.{Short}

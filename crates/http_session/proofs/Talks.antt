@@ -17,22 +17,23 @@ use Rattle.std.proofs.lemmas.Bool.Decides.{nat_tests}
 use Rattle.http_session.specs.Steps.{Grown, IsReadWhile, next_number}
 use Rattle.http_session.proofs.ItemLemmas.{all_open_more, ends_closed, items_more, items_wait}
 use Rattle.http_session.specs.Talk.{Answer, Answered, May, Run, is_head, texts, refusal_answer, refusal_body, refusal_status, text_of}
+use Rattle.http_session.specs.Turns.{HasNoMoreThan}
 use Rattle.http_session.specs.Ends.{HasNoNext, IsBetween, IsEnd, IsLastRead, IsLeft, IsLost, IsReadAsNeeded, IsClosed, IsCutShort, IsSession, IsStarved, IsTalk, IsUnsaid}
 
-run_more : {S : Type 0} (may : May S) (s : S) (items : List Item) (answers : List Answer) (t : S) (item : Item) (a : Answer) (u : S) → Run may s items answers t → Answered may t item a u → Run may s (items ++ item ∷ []) (answers ++ a ∷ []) u
+pub run_more : {S : Type 0} (may : May S) (s : S) (items : List Item) (answers : List Answer) (t : S) (item : Item) (a : Answer) (u : S) → Run may s items answers t → Answered may t item a u → Run may s (items ++ item ∷ []) (answers ++ a ∷ []) u
 run_more may s [] [] t item a u run h = (u, subst (λ x. Answered may x item a u) run h, refl)
 run_more may s [] (b ∷ bs) t item a u run h = absurd run
 run_more may s (i ∷ is) [] t item a u run h = absurd run
 run_more may s (i ∷ is) (b ∷ bs) t item a u run h = (run.0, run.1, run_more may run.0 is bs t item a u run.2 h)
 
-texts_more : {S : Type 0} (may : May S) (s : S) (items : List Item) (answers : List Answer) (t : S) (item : Item) (a : Answer) → Run may s items answers t → texts (items ++ item ∷ []) (answers ++ a ∷ []) ≡ texts items answers ++ text_of a item
+pub texts_more : {S : Type 0} (may : May S) (s : S) (items : List Item) (answers : List Answer) (t : S) (item : Item) (a : Answer) → Run may s items answers t → texts (items ++ item ∷ []) (answers ++ a ∷ []) ≡ texts items answers ++ text_of a item
 texts_more may s [] [] t item a run = append-nil (text_of a item)
 texts_more may s [] (b ∷ bs) t item a run = absurd run
 texts_more may s (i ∷ is) [] t item a run = absurd run
 texts_more may s (i ∷ is) (b ∷ bs) t item a run = ap (λ l. text_of b i ++ l) (texts_more may run.0 is bs t item a run.2) ∙ sym (append_assoc (text_of b i) (texts is bs) (text_of a item))
 
 -- a request depends on no end
-open_any : (n : ℕ) (bytes : List ℕ) (E F : Type 0) (item : Item) (rest : List ℕ) → closes item ≡ false → IsItem n bytes E item rest → IsItem n bytes F item rest
+pub open_any : (n : ℕ) (bytes : List ℕ) (E F : Type 0) (item : Item) (rest : List ℕ) → closes item ≡ false → IsItem n bytes E item rest → IsItem n bytes F item rest
 open_any n bytes E F (Asks r) rest o q = q
 open_any n bytes E F (Refuses fault) rest o q = cc o
 
@@ -65,19 +66,19 @@ total a b c bytes rest all first more =
     record { got = first.got ++ more.got; consumes = Consumes-trans a b c first.got more.got first.consumes more.consumes; grown = ap (λ l. l ++ more.got) first.grown }
 
 module _ {S : Type 0} (may : May S) (s t : S) (old now : Option (List ℕ)) (bytes rest : List ℕ) (n : ℕ) (so_far : IsBetween may s t old now bytes rest n) (got all : List ℕ) (is_all : all ≡ rest ++ got) where
-  next_items : (E : Type 0) (item : Item) (kept : List ℕ) → IsItem n all E item kept → AreItems 0 (bytes ++ got) E (so_far.items ++ item ∷ []) kept
+  pub next_items : (E : Type 0) (item : Item) (kept : List ℕ) → IsItem n all E item kept → AreItems 0 (bytes ++ got) E (so_far.items ++ item ∷ []) kept
   next_items E item kept q =
       let number : n ≡ 0 + length so_far.items = so_far.count ∙ sym (zero-add (length so_far.items)) in
       items_more 0 bytes got rest ⊥ E so_far.items item kept so_far.open_ so_far.items_are
       (subst (λ (k : ℕ). IsItem k (rest ++ got) E item kept) number (subst (λ (b : List ℕ). IsItem n b E item kept) is_all q))
 
-  waiting : (E : Type 0) → AreItems 0 (bytes ++ got) E so_far.items all
+  pub waiting : (E : Type 0) → AreItems 0 (bytes ++ got) E so_far.items all
   waiting E = subst (AreItems 0 (bytes ++ got) E so_far.items) (sym is_all) (items_wait 0 bytes got rest ⊥ E so_far.items so_far.open_ so_far.items_are)
 
-  counted : (item : Item) → n + 1 ≡ length (so_far.items ++ item ∷ [])
+  pub counted : (item : Item) → n + 1 ≡ length (so_far.items ++ item ∷ [])
   counted item = omega (arith, so_far.count, length-append so_far.items (item ∷ []))
 
-  talked : (item : Item) (a : Answer) (u : S) (new : Option (List ℕ)) (text : List ℕ) → Appends now new text → text ≡ text_of a item → Answered may t item a u → IsTalk may s u old new (so_far.items ++ item ∷ [])
+  unfoldable pub talked : (item : Item) (a : Answer) (u : S) (new : Option (List ℕ)) (text : List ℕ) → Appends now new text → text ≡ text_of a item → Answered may t item a u → IsTalk may s u old new (so_far.items ++ item ∷ [])
   talked item a u new text said e h =
       record {
         answers = so_far.talk.answers ++ a ∷ [];
@@ -109,6 +110,11 @@ module _ {S : Type 0} (may : May S) (s t : S) (old now : Option (List ℕ)) (byt
   no_next more h =
       record { items = so_far.items; rest = rest ++ more; items_are = items_wait 0 bytes more rest ⊥ ⊥ so_far.items so_far.open_ so_far.items_are; open_ = so_far.open_; unfinished = h }
 
+  -- and what is unfinished behind the items that were answered is no whole item but those
+  pub no_more : (more : List ℕ) → IsUnfinished (rest ++ more) → HasNoMoreThan (length so_far.items) (bytes ++ more)
+  unfolding no_next
+  no_more more h = record { next = no_next more h; count = refl }
+
   -- each read was made while the bytes so far had no whole next item
   pub still_no_next : {R : Type 0} (step : Step R) (from mid to : R) (last : Last) → GrownByReads step HasNoNext from mid [] bytes Open → GrownByReads step IsUnfinished mid to rest all last → GrownByReads step HasNoNext from to [] (bytes ++ got) last
   still_no_next step from mid to last before reads =
@@ -131,7 +137,7 @@ module _ {S : Type 0} (may : May S) (s t : S) (old now : Option (List ℕ)) (byt
       }
 
   -- the next item was answered, and the connection stays open
-  pub goes_on : (E : Type 0) (item : Item) (kept : List ℕ) (a : Answer) (u : S) (new : Option (List ℕ)) (text : List ℕ) → IsItem n all E item kept → closes item ≡ false → n + 1 ≤ 999
+  unfoldable pub goes_on : (E : Type 0) (item : Item) (kept : List ℕ) (a : Answer) (u : S) (new : Option (List ℕ)) (text : List ℕ) → IsItem n all E item kept → closes item ≡ false → n + 1 ≤ 999
       → Appends now new text → text ≡ text_of a item → Answered may t item a u → IsBetween may s u old new (bytes ++ got) kept (n + 1)
   goes_on E item kept a u new text q o few said e h =
       record {

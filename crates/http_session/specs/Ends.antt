@@ -3,7 +3,7 @@ use Rattle.std.specs.Prelude.{◌≡◌, ℕ, ◌≤◌, ◌⊎◌, List, [], �
 use Rattle.std.specs.Io.KnownBytes.{Appends, IsAtEnd}
 use Rattle.ipam_edge.specs.Reading.{GrownByReads, Last, Open, Told, Failed, Step}
 use Rattle.ipam_edge.specs.Writing.{AppendsLess}
-use Rattle.http_session.specs.Requests.{AllOpen, AreItems, AreAllItems, Framed, IsUnfinished, Item, closes}
+use Rattle.http_session.specs.Requests.{AllOpen, AreItems, AreAllItems, Framed, IsUnfinished, Item}
 use Rattle.http_session.specs.Steps.{Grown}
 use Rattle.http_session.specs.Talk.{Answer, Answered, May, Run, texts, text_of}
 use Rattle.http_session.specs.declared.session.SessionEnd.{SessionEnd}

@@ -6,3 +6,4 @@ pub mod Replies
 pub mod Requests
 pub mod Steps
 pub mod Talk
+pub mod Turns

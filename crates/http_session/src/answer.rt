@@ -1,5 +1,6 @@
 //! The text of an answer, written to a sink. It takes no memory.
 ghost use Rattle.std.specs.Prelude.{◌≡◌, Bool, [], if◌then◌else◌, length, codes, ℕ, List, Option, ◌≤◌, ◌++◌};
+ghost use Rattle.ipam_edge.specs.Writing.{ByWrites};
 ghost use Rattle.http_session.specs.Answers.{HasPutCause, IsPutEnd, answer_text, phrase_of, sent_body};
 
 use crate::pen::Pen;
@@ -48,6 +49,7 @@ pub fn put_answer<S: Sink>(
 ) -> PutEnd
     ensures told { IsPutEnd (S.written sink.old) (S.written sink.new) result (answer_text status allow.now place close bare body.now) }
     ensures cause { HasPutCause (S.faults sink.old) (S.faults sink.new) result }
+    ensures writes { ByWrites S.writes sink.old sink.new }
 {
     let mut room = Buffer::new();
     let mut pen = Pen::new();

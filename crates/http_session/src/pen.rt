@@ -1,5 +1,6 @@
 //! A text that is written in few large pieces: small ones are gathered first, without memory.
 ghost use Rattle.std.specs.Prelude.{◌≡◌, Bool, [], if◌then◌else◌, codes, ℕ, List, Option, ◌≤◌, ◌++◌};
+ghost use Rattle.ipam_edge.specs.Writing.{ByWrites};
 ghost use Rattle.http_session.specs.Answers.{HasPutCause, IsGathered, IsPutEnd, line_where};
 ghost use Rattle.http_session.specs.declared.answer.PutEnd.TheVariants.{Whole};
 
@@ -18,6 +19,7 @@ pub struct Pen {
 fn write_both<S: Sink>(sink: &mut S, first: &[u8], second: &[u8]) -> PutEnd
     ensures told { IsPutEnd (S.written sink.old) (S.written sink.new) result (first.now ++ second.now) }
     ensures cause { HasPutCause (S.faults sink.old) (S.faults sink.new) result }
+    ensures writes { ByWrites S.writes sink.old sink.new }
 {
     match write_all(sink, first) {
         Ok(()) => {}
@@ -44,6 +46,7 @@ impl Pen {
     pub fn put<S: Sink>(&mut self, sink: &mut S, bytes: &[u8])
         ensures told { (start : Option (List ℕ)) (before : List ℕ) → IsGathered start (S.written sink.old) self.old.end self.old.gathered.items before → IsGathered start (S.written sink.new) self.new.end self.new.gathered.items (before ++ bytes.now) }
         ensures cause { (start : ℕ) → HasPutCause start (S.faults sink.old) self.old.end → HasPutCause start (S.faults sink.new) self.new.end }
+        ensures writes { ByWrites S.writes sink.old sink.new }
     {
         match self.end {
             PutEnd::SinkFault => return,
@@ -62,6 +65,7 @@ impl Pen {
     pub fn put_line<S: Sink>(&mut self, sink: &mut S, there: bool, name: &[u8], text: &[u8])
         ensures told { (start : Option (List ℕ)) (before : List ℕ) → IsGathered start (S.written sink.old) self.old.end self.old.gathered.items before → IsGathered start (S.written sink.new) self.new.end self.new.gathered.items (before ++ line_where there name.now text.now) }
         ensures cause { (start : ℕ) → HasPutCause start (S.faults sink.old) self.old.end → HasPutCause start (S.faults sink.new) self.new.end }
+        ensures writes { ByWrites S.writes sink.old sink.new }
     {
         if there {
             self.put(sink, name);
@@ -74,6 +78,7 @@ impl Pen {
     pub fn finish<S: Sink>(self, sink: &mut S) -> PutEnd
         ensures told { (start : Option (List ℕ)) (text : List ℕ) → IsGathered start (S.written sink.old) self.end self.gathered.items text → IsPutEnd start (S.written sink.new) result text }
         ensures cause { (start : ℕ) → HasPutCause start (S.faults sink.old) self.end → HasPutCause start (S.faults sink.new) result }
+        ensures writes { ByWrites S.writes sink.old sink.new }
     {
         match self.end {
             PutEnd::SinkFault => PutEnd::SinkFault,

@@ -5,11 +5,12 @@ ghost use Rattle.http_session.specs.Requests.{Framed};
 ghost use Rattle.http_session.specs.Steps.{framed};
 ghost use Rattle.http_session.specs.Talk.{Answer, is_head, refusal_status, refusal_body};
 ghost use Rattle.http_session.specs.Ends.{IsLeft, IsSession};
+ghost use Rattle.http_session.specs.Turns.{HasEndCause, IsLineSession};
 ghost use Rattle.http_session.specs.Replies.{answer_of};
 
 use crate::{Asked, Fault, HttpRequest, Inbox, PutEnd, Reply, next_request, put_answer};
 use http::StatusCode;
-use ipam_edge::{Sink, Source};
+use ipam_edge::{Both, Line, Sink, Source};
 use std::alloc::{AllocError, Global};
 
 /// What answers the requests of one connection, each with a seat that is taken and given back.
@@ -79,27 +80,22 @@ fn is_head(method: &[u8]) -> bool
     method == b"HEAD".as_slice()
 }
 
-/// Serves one connection to its end: answers its requests in order, until one closes, or the bytes
-/// are refused, or the input ends. The answer to HEAD is the head alone. `SourceFault` comes where a read failed, with all requests that
-/// lay whole in the bytes read answered; `SinkFault` where a write failed, with a front of the last
-/// answer written; `Memory` where memory was wanting.
-pub fn serve<D: Desk, R: Source, W: Sink>(
+/// Serves one connection to its end, over a line. Each read is made while the bytes so far have no
+/// whole item but those whose answers were written whole before, so that no client waits for an
+/// answer while the session waits for its bytes. The ends are those of `serve`.
+pub fn serve_line<D: Desk, L: Line>(
     alloc: Global,
     desk: &D,
     seat: D::Seat,
-    source: &mut R,
-    sink: &mut W,
+    line: &mut L,
 ) -> (D::Seat, SessionEnd)
-    ensures session { IsSession D.may R.reads (D.view seat) (D.view result.0) source.old source.new (R.left source.old) (R.left source.new) (W.written sink.old) (W.written sink.new) result.1 }
-    ensures source_later { R.faults source.old ≤ R.faults source.new }
-    ensures source { result.1 ≡ SessionEnd.SourceFault → Rose (R.faults source.old) (R.faults source.new) }
-    ensures sink_later { W.faults sink.old ≤ W.faults sink.new }
-    ensures sink { result.1 ≡ SessionEnd.SinkFault → Rose (W.faults sink.old) (W.faults sink.new) }
+    ensures session { IsLineSession D.may L.reads L.writes L.left L.written (D.view seat) (D.view result.0) line.old line.new result.1 }
+    ensures cause { HasEndCause (⟦<L as Source>⟧.faults line.old) (⟦<L as Source>⟧.faults line.new) (⟦<L as Sink>⟧.faults line.old) (⟦<L as Sink>⟧.faults line.new) result.1 }
 {
     let mut inbox = Inbox::new(alloc);
     let mut seat = seat;
     loop {
-        match next_request(alloc, source, &mut inbox) {
+        match next_request(alloc, line, &mut inbox) {
             Asked::Request(request) => {
                 let (next, reply) = desk.answer(alloc, seat, &request);
                 seat = next;
@@ -107,7 +103,7 @@ pub fn serve<D: Desk, R: Source, W: Sink>(
                     return (seat, SessionEnd::Memory);
                 };
                 match put_answer(
-                    sink,
+                    line,
                     reply.status,
                     reply.allow,
                     reply.place,
@@ -124,7 +120,7 @@ pub fn serve<D: Desk, R: Source, W: Sink>(
             }
             Asked::Bad(fault) => {
                 match put_answer(
-                    sink,
+                    line,
                     status_of(fault),
                     b"",
                     None,
@@ -141,4 +137,44 @@ pub fn serve<D: Desk, R: Source, W: Sink>(
             Asked::Memory => return (seat, SessionEnd::Memory),
         }
     }
+}
+
+/// Serves two objects as one line.
+fn serve_both<D: Desk, R: Source, W: Sink>(
+    alloc: Global,
+    desk: &D,
+    seat: D::Seat,
+    line: &mut Both<'_, R, W>,
+) -> (D::Seat, SessionEnd)
+    ensures source_lent { line.new.source.ghost_name ≡ line.old.source.ghost_name }
+    ensures sink_lent { line.new.sink.ghost_name ≡ line.old.sink.ghost_name }
+    ensures session { IsSession D.may R.reads (D.view seat) (D.view result.0) line.old.source.now line.new.source.now (R.left line.old.source.now) (R.left line.new.source.now) (W.written line.old.sink.now) (W.written line.new.sink.now) result.1 }
+    ensures source_later { R.faults line.old.source.now ≤ R.faults line.new.source.now }
+    ensures source { result.1 ≡ SessionEnd.SourceFault → Rose (R.faults line.old.source.now) (R.faults line.new.source.now) }
+    ensures sink_later { W.faults line.old.sink.now ≤ W.faults line.new.sink.now }
+    ensures sink { result.1 ≡ SessionEnd.SinkFault → Rose (W.faults line.old.sink.now) (W.faults line.new.sink.now) }
+{
+    serve_line(alloc, desk, seat, line)
+}
+
+/// Serves one connection to its end: answers its requests in order, until one closes, or the bytes
+/// are refused, or the input ends. The answer to HEAD is the head alone. `SourceFault` comes where a read failed, with all requests that
+/// lay whole in the bytes read answered; `SinkFault` where a write failed, with a front of the last
+/// answer written; `Memory` where memory was wanting. It serves the two as one line, as `serve_line` does, which says which reads came
+/// before which writes.
+pub fn serve<D: Desk, R: Source, W: Sink>(
+    alloc: Global,
+    desk: &D,
+    seat: D::Seat,
+    source: &mut R,
+    sink: &mut W,
+) -> (D::Seat, SessionEnd)
+    ensures session { IsSession D.may R.reads (D.view seat) (D.view result.0) source.old source.new (R.left source.old) (R.left source.new) (W.written sink.old) (W.written sink.new) result.1 }
+    ensures source_later { R.faults source.old ≤ R.faults source.new }
+    ensures source { result.1 ≡ SessionEnd.SourceFault → Rose (R.faults source.old) (R.faults source.new) }
+    ensures sink_later { W.faults sink.old ≤ W.faults sink.new }
+    ensures sink { result.1 ≡ SessionEnd.SinkFault → Rose (W.faults sink.old) (W.faults sink.new) }
+{
+    let mut line = Both { source, sink };
+    serve_both(alloc, desk, seat, &mut line)
 }

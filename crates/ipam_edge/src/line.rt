@@ -26,12 +26,13 @@ pub struct Both<'a, R, W> {
 }
 
 impl<'a, R: Source, W: Sink> Source for Both<'a, R, W> {
+    ghost use Rattle.ipam_edge.specs.Lines.{IsBothRead};
+
     ghost left = { λ b. R.left b.source.now };
 
     ghost faults = { λ b. R.faults b.source.now };
 
-    // the source is read, and all else of the two stays
-    ghost reads = { λ b g c. R.reads b.source.now g c.source.now × (c.sink.now ≡ b.sink.now) × (c.sink.ghost_name ≡ b.sink.ghost_name) × (c.source.ghost_name ≡ b.source.ghost_name) };
+    ghost reads = { λ b g c. IsBothRead R.reads b g c };
 
     fn read(&mut self, into: &mut [u8]) -> Result<usize, Failed> {
         self.source.read(into)
@@ -39,12 +40,13 @@ impl<'a, R: Source, W: Sink> Source for Both<'a, R, W> {
 }
 
 impl<'a, R: Source, W: Sink> Sink for Both<'a, R, W> {
+    ghost use Rattle.ipam_edge.specs.Lines.{IsBothWrite};
+
     ghost written = { λ b. W.written b.sink.now };
 
     ghost faults = { λ b. W.faults b.sink.now };
 
-    // the sink is written to, and all else of the two stays
-    ghost writes = { λ b g c. W.writes b.sink.now g c.sink.now × (c.source.now ≡ b.source.now) × (c.sink.ghost_name ≡ b.sink.ghost_name) × (c.source.ghost_name ≡ b.source.ghost_name) };
+    ghost writes = { λ b g c. IsBothWrite W.writes b g c };
 
     fn write(&mut self, from: &[u8]) -> Result<usize, Failed> {
         self.sink.write(from)
@@ -54,11 +56,11 @@ impl<'a, R: Source, W: Sink> Sink for Both<'a, R, W> {
 impl<'a, R: Source, W: Sink> Line for Both<'a, R, W> {
     ghost use Rattle.std.proofs.Common.{ap};
 
-    ghost read_writes_nothing = { λ s t g h. ap W.Sink.written h.1 };
+    ghost read_writes_nothing = { λ s t g h. ap W.Sink.written h.sink };
 
-    ghost read_counts_for_itself = { λ s t g h. ap W.Sink.faults h.1 };
+    ghost read_counts_for_itself = { λ s t g h. ap W.Sink.faults h.sink };
 
-    ghost write_reads_nothing = { λ s t g h. ap R.Source.left h.1 };
+    ghost write_reads_nothing = { λ s t g h. ap R.Source.left h.source };
 
-    ghost write_counts_for_itself = { λ s t g h. ap R.Source.faults h.1 };
+    ghost write_counts_for_itself = { λ s t g h. ap R.Source.faults h.source };
 }

@@ -1,5 +1,6 @@
 use Rattle.std.proofs.Common.{rules, [], sym}
 use Rattle.std.proofs.KnownBytes.{Appends-nil}
+use Rattle.ipam_edge.proofs.WritingLemmas.{write_then}
 use Rattle.http_session.specs.Answers.{IsGathered}
 use Rattle.http_session.proofs.Texts.{text_is, put_text}
 use Rattle.http_session.proofs.answer.put_answer.Goals as goal
@@ -29,3 +30,12 @@ returns-clause-cause g c =
     let h5 = c.put_line-3.ensures.cause n (c.put_line-2.ensures.cause n (c.put_line.ensures.cause n h2)) in
     let h8 = c.put_line-6.ensures.cause n (c.put_line-5.ensures.cause n (c.put_line-4.ensures.cause n h5)) in
     c.finish.ensures.cause n (c.put-4.ensures.cause n (c.put-3.ensures.cause n h8))
+
+pub returns-clause-writes : goal.returns-clause-writes
+returns-clause-writes g c =
+    let h2 = write_then _ _ _ _ c.put.ensures.writes c.put-2.ensures.writes in
+    let h4 = write_then _ _ _ _ (write_then _ _ _ _ h2 c.put_line.ensures.writes) c.put_line-2.ensures.writes in
+    let h6 = write_then _ _ _ _ (write_then _ _ _ _ h4 c.put_line-3.ensures.writes) c.put_line-4.ensures.writes in
+    let h8 = write_then _ _ _ _ (write_then _ _ _ _ h6 c.put_line-5.ensures.writes) c.put_line-6.ensures.writes in
+    let h10 = write_then _ _ _ _ (write_then _ _ _ _ h8 c.put-3.ensures.writes) c.put-4.ensures.writes in
+    write_then _ _ _ _ h10 c.finish.ensures.writes

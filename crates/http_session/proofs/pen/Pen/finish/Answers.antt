@@ -1,3 +1,5 @@
+use Rattle.std.proofs.Common.{refl}
+use Rattle.ipam_edge.proofs.WritingLemmas.{write_nothing}
 use Rattle.http_session.proofs.PenLemmas.{all_written}
 use Rattle.http_session.proofs.pen.Pen.finish.Goals as goal
 
@@ -8,3 +10,6 @@ pub returns-in-Whole-clause-told : goal.returns-in-Whole-clause-told
 returns-in-Whole-clause-told g c = λ start text h.
     let p = rw c.in-Whole.is at h in
     all_written start _ _ _ text p.0 c.args.self.gathered.items p.1 p.2 (rw c.as_slice.ensures.value at c.write_both.ensures.told)
+
+pub returns-in-SinkFault-clause-writes : goal.returns-in-SinkFault-clause-writes
+returns-in-SinkFault-clause-writes g c = write_nothing _ _ _ refl

@@ -1,5 +1,5 @@
-use Rattle.std.proofs.Common.{◌≡◌, ◌∙◌, ◌++◌, sym, ap, append_assoc}
-use Rattle.ipam_edge.proofs.WritingLemmas.{appends_less_longer}
+use Rattle.std.proofs.Common.{◌≡◌, ◌∙◌, ◌++◌, refl, sym, ap, append_assoc}
+use Rattle.ipam_edge.proofs.WritingLemmas.{appends_less_longer, write_nothing}
 use Rattle.http_session.proofs.PenLemmas.{gathered_after}
 use Rattle.http_session.proofs.pen.Pen.put.Goals as goal
 
@@ -16,3 +16,9 @@ returns-in-Err-clause-told g c = λ start before h.
     let p = rw c.in-Whole.is at h in
     let same : c.as_slice.result.now ≡ c.args.self.now.gathered.items = c.as_slice.ensures.value ∙ ap (λ v. v.items) c.in-Err.ensures.err in
     gathered_after start _ _ _ before p.0 c.args.self.now.gathered.items c.args.bytes.now _ p.1 p.2 (rw same at c.write_both-self.ensures.told) c.clear.ensures
+
+pub returns-in-SinkFault-clause-writes : goal.returns-in-SinkFault-clause-writes
+returns-in-SinkFault-clause-writes g c = write_nothing _ _ _ refl
+
+pub returns-in-Ok-clause-writes : goal.returns-in-Ok-clause-writes
+returns-in-Ok-clause-writes g c = write_nothing _ _ _ refl
