@@ -9,7 +9,7 @@ use Rattle.http_session.specs.Steps.{framed}
 use Rattle.http_session.specs.Replies.{answer_of}
 use Rattle.http_session.specs.Talk.{is_head}
 use Rattle.http_session.proofs.Growth.{Grown-refl}
-use Rattle.http_session.proofs.Talks.{closes_now, cut_short, ends, few_after, goes_on, number_is, refused_text, reply_text, session_of, starved, starved_at, still_needed, still_no_next, total, unsaid}
+use Rattle.http_session.proofs.Talks.{closes_now, cut_short, ends, few_after, goes_on, number_is, reply_text, session_of, starved, starved_at, still_needed, still_no_next, total, unsaid}
 use Rattle.http_session.proofs.session.serve.Goals as goal
 
 pub returns-in_default-clause-session : goal.returns-in_default-clause-session
@@ -23,7 +23,7 @@ pub returns-in-SinkFault-clause-session : goal.returns-in-SinkFault-clause-sessi
 returns-in-SinkFault-clause-session g c =
     let so_far = c.loop-request.invariant.talk in
     let item = c.in-Request.ensures.item in
-    let text = reply_text c.in-Ok.reply _ (framed c.in-Request.request) _ c.bytes.ensures (c.is_head.ensures ∙ ap is_head c.deref.ensures.value) in
+    let text = reply_text c.in-Ok.reply (framed c.in-Request.request) _ (c.is_head.ensures ∙ ap is_head c.deref.ensures.value) in
     let answered = rw c.in-Ok.is at c.answer-next.ensures.answer in
     session_of _ _ _ _ _ _ _ _ so_far.2 item.1.got item.0 item.1.grown _ _ _ _ _ _ _ _ _ SinkFault item.4.0 so_far.1 item.1.consumes so_far.3 item.3 so_far.4 item.4.2 (inl item.4.1)
     (unsaid _ _ _ _ _ _ _ _ so_far.2 item.1.got item.0 item.1.grown _ (Asks (framed c.in-Request.request)) _ (answer_of c.in-Ok.reply) _ _ _ item.2.0 c.in-SinkFault.ensures.told text answered)
@@ -32,7 +32,7 @@ pub returns-then-request-clause-session : goal.returns-then-request-clause-sessi
 returns-then-request-clause-session g c =
     let so_far = c.loop-request.invariant.talk in
     let item = c.in-Request.ensures.item in
-    let text = reply_text c.in-Ok.reply _ (framed c.in-Request.request) _ c.bytes.ensures (c.is_head.ensures ∙ ap is_head c.deref.ensures.value) in
+    let text = reply_text c.in-Ok.reply (framed c.in-Request.request) _ (c.is_head.ensures ∙ ap is_head c.deref.ensures.value) in
     let answered = rw c.in-Ok.is at c.answer-next.ensures.answer in
     let counted = number_is _ _ item.2.1 so_far.2.few in
     let closed = closes_now _ _ _ _ _ _ _ _ so_far.2 item.1.got item.0 item.1.grown _ (Asks (framed c.in-Request.request)) _ (answer_of c.in-Ok.reply) _ _ _ item.2.0 c.if-request.true c.in-Whole.ensures.told text answered in
@@ -43,7 +43,7 @@ pub loop-request-preserved : goal.loop-request-preserved
 loop-request-preserved g c =
     let so_far = c.loop-request.invariant.talk in
     let item = c.in-Request.ensures.item in
-    let text = reply_text c.in-Ok.reply _ (framed c.in-Request.request) _ c.bytes.ensures (c.is_head.ensures ∙ ap is_head c.deref.ensures.value) in
+    let text = reply_text c.in-Ok.reply (framed c.in-Request.request) _ (c.is_head.ensures ∙ ap is_head c.deref.ensures.value) in
     let answered = rw c.in-Ok.is at c.answer-next.ensures.answer in
     let few = few_after _ _ _ _ item.2.0 c.if-request.false in
     let counted = number_is _ _ item.2.1 so_far.2.few in
@@ -64,17 +64,15 @@ pub returns-in-SinkFault-put_answer-clause-session : goal.returns-in-SinkFault-p
 returns-in-SinkFault-put_answer-clause-session g c =
     let so_far = c.loop-request.invariant.talk in
     let item = c.in-Bad.ensures.item in
-    let text = refused_text c.in-Bad.fault _ _ c.status_of.ensures c.body_of.ensures in
     session_of _ _ _ _ _ _ _ _ so_far.2 item.1.got item.0 item.1.grown _ _ _ _ _ _ _ _ _ SinkFault item.4.0 so_far.1 item.1.consumes so_far.3 item.3 so_far.4 item.4.2 (item.4.1)
-    (unsaid _ _ _ _ _ _ _ _ so_far.2 item.1.got item.0 item.1.grown _ (Refuses c.in-Bad.fault) _ _ _ _ _ item.2.0 c.in-SinkFault-put_answer.ensures.told text (refl, refl))
+    (unsaid _ _ _ _ _ _ _ _ so_far.2 item.1.got item.0 item.1.grown _ (Refuses c.in-Bad.fault) _ (answer_of c.refuse-reply.result) _ _ _ item.2.0 c.in-SinkFault-put_answer.ensures.told refl (c.refuse-reply.ensures.refused, refl))
 
 pub returns-in-Whole-put_answer-clause-session : goal.returns-in-Whole-put_answer-clause-session
 returns-in-Whole-put_answer-clause-session g c =
     let so_far = c.loop-request.invariant.talk in
     let item = c.in-Bad.ensures.item in
-    let text = refused_text c.in-Bad.fault _ _ c.status_of.ensures c.body_of.ensures in
     let counted = number_is _ _ item.2.1 so_far.2.few in
-    let closed = closes_now _ _ _ _ _ _ _ _ so_far.2 item.1.got item.0 item.1.grown _ (Refuses c.in-Bad.fault) _ _ _ _ _ item.2.0 refl c.in-Whole-put_answer.ensures.told text (refl, refl) in
+    let closed = closes_now _ _ _ _ _ _ _ _ so_far.2 item.1.got item.0 item.1.grown _ (Refuses c.in-Bad.fault) _ (answer_of c.refuse-reply.result) _ _ _ item.2.0 refl c.in-Whole-put_answer.ensures.told refl (c.refuse-reply.ensures.refused, refl) in
     session_of _ _ _ _ _ _ _ _ so_far.2 item.1.got item.0 item.1.grown _ _ _ _ _ _ _ _ _ (Closed c.number-in-Whole-put_answer.result) item.4.0 so_far.1 item.1.consumes so_far.3 item.3 so_far.4 item.4.2 (item.4.1)
     (rw (c.number-in-Whole-put_answer.ensures, counted) closed)
 
