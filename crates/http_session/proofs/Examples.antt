@@ -3,7 +3,7 @@ use Rattle.std.proofs.Common.{◌≡◌, ◌++◌, ℕ, Bool, List, Option, [], 
 use Rattle.httparse.specs.Grammar.{trim_ows}
 use Rattle.http_session.specs.declared.request.Fault.TheVariants.{BadHead, LargeBody, Coding}
 use Rattle.http_session.specs.Fields.{names_close, is_close, length_from, is_length_text, length_by, values_of, is_named, close_by}
-use Rattle.http_session.specs.Answers.{answer_text, head_text, phrase_of}
+use Rattle.http_session.specs.Answers.{NamedNumber, answer_text, head_text, phrase_of}
 use Rattle.http_session.specs.Talk.{is_head}
 
 close_among_tokens : names_close (codes "keep-alive, CLOSE") ≡ true
@@ -46,17 +46,17 @@ closes_at_version_1_0 : close_by 0 [] ≡ true
 unfolding close_by
 closes_at_version_1_0 = refl
 
-with_methods : answer_text 405 (codes "GET, POST") None true false [] ≡ codes "HTTP/1.1 405 Method Not Allowed\r\nAllow: GET, POST\r\nConnection: close\r\n\r\n"
+with_methods : answer_text 405 (codes "GET, POST") None (codes "text/plain") true false [] ≡ codes "HTTP/1.1 405 Method Not Allowed\r\nAllow: GET, POST\r\nConnection: close\r\n\r\n"
 unfolding head_text phrase_of
 with_methods = refl
 
-no_body : answer_text 204 [] None false false [] ≡ codes "HTTP/1.1 204 No Content\r\n\r\n"
+no_body : answer_text 204 [] None (codes "text/plain") false false [] ≡ codes "HTTP/1.1 204 No Content\r\n\r\n"
 unfolding head_text phrase_of
 no_body = refl
 
 -- an answer is the bare one, and then its body
-head_alone : (status : ℕ) (allow : List ℕ) (place : Option ℕ) (close : Bool) (body : List ℕ) → answer_text status allow place close false body ≡ answer_text status allow place close true body ++ body
-head_alone status allow place close body = ap (λ l. l ++ body) (sym (append-nil (head_text status allow place close body)))
+head_alone : (status : ℕ) (allow : List ℕ) (field : Option NamedNumber) (media : List ℕ) (close : Bool) (body : List ℕ) → answer_text status allow field media close false body ≡ answer_text status allow field media close true body ++ body
+head_alone status allow field media close body = ap (λ l. l ++ body) (sym (append-nil (head_text status allow field media close body)))
 
 head_in_capitals : is_head (codes "HEAD") ≡ true
 head_in_capitals = refl

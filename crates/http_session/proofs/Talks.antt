@@ -1,5 +1,5 @@
 -- How a talk goes on, and how it ends.
-use Rattle.std.proofs.Common.{◌≡◌, ◌∙◌, ◌+◌, ◌≤◌, ◌⊎◌, ◌||◌, nat_le, None, ℕ, Bool, true, false, List, [], ◌∷◌, ◌++◌, length, Option, inl, inr, refl, sym, ap, subst, arith, append_assoc, append-nil, zero-add, length-append}
+use Rattle.std.proofs.Common.{◌≡◌, ◌∙◌, ◌+◌, ◌≤◌, ◌⊎◌, ◌||◌, nat_le, ℕ, Bool, true, false, List, [], ◌∷◌, ◌++◌, length, Option, inl, inr, refl, sym, ap, subst, arith, append_assoc, append-nil, zero-add, length-append}
 use Rattle.std.proofs.lemmas.List.{append_cancel_left}
 use Rattle.std.specs.Io.KnownBytes.{Appends, Consumes}
 use Rattle.std.proofs.KnownBytes.{Appends-trans, Consumes-trans}
@@ -8,15 +8,13 @@ use Rattle.ipam_edge.specs.Writing.{AppendsLess}
 use Rattle.ipam_edge.proofs.ReadingLemmas.{read_as, read_then}
 use Rattle.http_session.specs.Requests.{AreItems, Framed, IsItem, IsRequest, IsUnfinished, Item, Asks, Refuses, closes}
 use Rattle.http_session.specs.Fields.{asks_close}
-use Rattle.http_session.specs.declared.request.Fault.{Fault}
 use Rattle.http_session.specs.declared.session.SessionEnd.{SessionEnd}
-use Rattle.http_session.specs.Answers.{answer_text}
 use Rattle.http_session.specs.declared.reply.Reply.{Reply}
-use Rattle.http_session.specs.Replies.{answer_of, body_bytes}
+use Rattle.http_session.specs.Replies.{answer_of}
 use Rattle.std.proofs.lemmas.Bool.Decides.{nat_tests}
 use Rattle.http_session.specs.Steps.{Grown, IsReadWhile, next_number}
 use Rattle.http_session.proofs.ItemLemmas.{all_open_more, ends_closed, items_more, items_wait}
-use Rattle.http_session.specs.Talk.{Answer, Answered, May, Run, is_head, texts, refusal_answer, refusal_body, refusal_status, text_of}
+use Rattle.http_session.specs.Talk.{Answer, Answered, May, Run, framed_text, is_head, texts, text_of}
 use Rattle.http_session.specs.Turns.{HasNoMoreThan}
 use Rattle.http_session.specs.Ends.{HasNoNext, IsBetween, IsEnd, IsLastRead, IsLeft, IsLost, IsReadAsNeeded, IsClosed, IsCutShort, IsSession, IsStarved, IsTalk, IsUnsaid}
 
@@ -38,12 +36,9 @@ open_any n bytes E F (Asks r) rest o q = q
 open_any n bytes E F (Refuses fault) rest o q = cc o
 
 -- a reply in its frame
-pub reply_text : (reply : Reply) (body : List ℕ) (request : Framed) (bare : Bool) → body ≡ body_bytes reply.body → bare ≡ is_head request.method
-    → answer_text reply.status reply.allow.now reply.place request.close bare body ≡ text_of (answer_of reply) (Asks request)
-reply_text reply body request bare e h = rw (e, h) refl
-
-pub refused_text : (fault : Fault) (status : ℕ) (body : List ℕ) → status ≡ refusal_status fault → body ≡ refusal_body fault → answer_text status [] None true false body ≡ text_of (refusal_answer fault) (Refuses fault)
-refused_text fault status body hs hb = rw (hs, hb) refl
+pub reply_text : (reply : Reply) (request : Framed) (bare : Bool) → bare ≡ is_head request.method
+    → framed_text (answer_of reply) request.close bare ≡ text_of (answer_of reply) (Asks request)
+reply_text reply request bare h = rw h refl
 
 -- an item that leaves the connection open is not the 1,000th
 by_or : (a b : Bool) → (a || b) ≡ false → b ≡ false

@@ -19,19 +19,24 @@ line_where there name text = if there then name ++ text ++ codes "\r\n" else []
 abbrev pub is_there : List ℕ → Bool
 is_there text = nat_lt 0 (length text)
 
--- the line of the answer's place, where it has one
-abbrev pub place_line : Option ℕ → List ℕ
-place_line None = []
-place_line (Some n) = codes "Ipam-Place: " ++ decimal n ++ codes "\r\n"
+-- a field that the desk names, with a number for its value
+pub record NamedNumber : Type 0 where
+  pub name : List ℕ
+  pub number : ℕ
+
+-- the line of a field that the desk names, where there is one
+abbrev pub field_line : Option NamedNumber → List ℕ
+field_line None = []
+field_line (Some field) = field.name ++ codes ": " ++ decimal field.number ++ codes "\r\n"
 
 -- the head of an answer: status line, fields (two of them tell of the body, sent or not), and the empty line
-unfoldable pub head_text : ℕ → List ℕ → Option ℕ → Bool → List ℕ → List ℕ
-head_text status allow place close body =
+unfoldable pub head_text : ℕ → List ℕ → Option NamedNumber → List ℕ → Bool → List ℕ → List ℕ
+head_text status allow field media close body =
     codes "HTTP/1.1 " ++ code_digits status ++ codes " " ++ phrase_of status ++ codes "\r\n"
-    ++ line_where (is_there body) (codes "Content-Type: ") (codes "application/json")
+    ++ line_where (is_there body) (codes "Content-Type: ") media
     ++ line_where (is_there body) (codes "Content-Length: ") (decimal (length body))
     ++ line_where (is_there allow) (codes "Allow: ") allow
-    ++ place_line place
+    ++ field_line field
     ++ line_where close (codes "Connection: ") (codes "close")
     ++ codes "\r\n"
 
@@ -40,8 +45,8 @@ abbrev pub sent_body : Bool → List ℕ → List ℕ
 sent_body bare body = if bare then [] else body
 
 -- an answer: the same head, whether it is bare or not, and the body where it is not
-abbrev pub answer_text : ℕ → List ℕ → Option ℕ → Bool → Bool → List ℕ → List ℕ
-answer_text status allow place close bare body = head_text status allow place close body ++ sent_body bare body
+abbrev pub answer_text : ℕ → List ℕ → Option NamedNumber → List ℕ → Bool → Bool → List ℕ → List ℕ
+answer_text status allow field media close bare body = head_text status allow field media close body ++ sent_body bare body
 
 -- a whole answer was written, or a front of it that is shorter
 abbrev pub IsPutEnd : Option (List ℕ) → Option (List ℕ) → PutEnd → List ℕ → Type 0

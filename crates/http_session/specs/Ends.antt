@@ -114,7 +114,7 @@ pub record IsSession {S R : Type 0} (may : May S) (step : Step R) (s t : S) (fro
 
 -- where memory is wanting, a request was not acted on, or it was and its answer is lost
 abbrev pub IsLeft : {S : Type 0} → May S → S → Framed → S → Type 0
-IsLeft may s r t = (t ≡ s) ⊎ ((a : Answer) × may s r a t)
+IsLeft may s r t = (t ≡ s) ⊎ ((a : Answer) × may.answers s r a t)
 
 -- what holds between two items
 pub record IsBetween {S : Type 0} (may : May S) (s t : S) (old new : Option (List ℕ)) (bytes rest : List ℕ) (number : ℕ) : Type 0 where

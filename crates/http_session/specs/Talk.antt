@@ -1,16 +1,16 @@
 -- What is answered to the items of a connection, one after another, and the text of it.
-use Rattle.std.specs.Prelude.{◌≡◌, ℕ, Bool, false, List, [], ◌∷◌, ◌++◌, Option, None, codes}
+use Rattle.std.specs.Prelude.{◌≡◌, ℕ, Bool, false, List, [], ◌∷◌, ◌++◌, Option, codes}
 use Rattle.std.specs.Str.{bytes_eq}
 use Rattle.http_session.specs.declared.request.Fault.{Fault}
-use Rattle.http_session.specs.declared.request.Fault.TheVariants.{BadHead, LargeHead, LargeBody, Coding}
 use Rattle.http_session.specs.Requests.{Framed, Item, Asks, Refuses, closes}
-use Rattle.http_session.specs.Answers.{answer_text}
+use Rattle.http_session.specs.Answers.{NamedNumber, answer_text}
 
 -- what an answer says, before its frame
 pub record Answer : Type 0 where
   pub status : ℕ
   pub allow : List ℕ
-  pub place : Option ℕ
+  pub field : Option NamedNumber
+  pub media : List ℕ
   pub body : List ℕ
 
 -- the method HEAD, in this case alone (RFC 9110, section 9.1)
@@ -23,36 +23,23 @@ abbrev pub is_bare : Item → Bool
 is_bare (Asks r) = is_head r.method
 is_bare (Refuses fault) = false
 
+-- the bytes of an answer that closes the connection or not, and is bare or not
+abbrev pub framed_text : Answer → Bool → Bool → List ℕ
+framed_text a close bare = answer_text a.status a.allow a.field a.media close bare a.body
+
 -- the bytes of the answer to an item
 abbrev pub text_of : Answer → Item → List ℕ
-text_of a item = answer_text a.status a.allow a.place (closes item) (is_bare item) a.body
+text_of a item = framed_text a (closes item) (is_bare item)
 
--- the status of a refusal of the bytes
-abbrev pub refusal_status : Fault → ℕ
-refusal_status BadHead = 400
-refusal_status LargeHead = 413
-refusal_status LargeBody = 413
-refusal_status Coding = 501
+-- what a desk may answer: a request, from one state to the next, and bytes that are refused in the place of a request
+pub record May (S : Type 0) : Type 1 where
+  pub answers : S → Framed → Answer → S → Type 0
+  pub refuses : Fault → Answer → Type 0
 
--- its code and detail, in JSON
-abbrev pub refusal_body : Fault → List ℕ
-refusal_body BadHead = codes "{\"code\":\"bad_head\",\"detail\":\"the request could not be read\"}"
-refusal_body LargeHead = codes "{\"code\":\"too_large\",\"detail\":\"the head exceeds 16384 bytes\"}"
-refusal_body LargeBody = codes "{\"code\":\"too_large\",\"detail\":\"the body exceeds 4194304 bytes\"}"
-refusal_body Coding = codes "{\"code\":\"coding\",\"detail\":\"transfer codings are not served\"}"
-
--- a refusal has no place
-abbrev pub refusal_answer : Fault → Answer
-refusal_answer fault = record { status = refusal_status fault; allow = []; place = None; body = refusal_body fault }
-
--- what a request may be answered, from one state to the next
-abbrev pub May : Type 0 → Type 1
-May S = S → Framed → Answer → S → Type 0
-
--- an item may be answered so
+-- an item may be answered so; a refusal changes no state
 abbrev pub Answered : {S : Type 0} → May S → S → Item → Answer → S → Type 0
-Answered may s (Asks r) a t = may s r a t
-Answered may s (Refuses fault) a t = (a ≡ refusal_answer fault) × (t ≡ s)
+Answered may s (Asks r) a t = may.answers s r a t
+Answered may s (Refuses fault) a t = may.refuses fault a × (t ≡ s)
 
 -- the items are answered one after another
 abbrev pub Run : {S : Type 0} → May S → S → List Item → List Answer → S → Type 0

@@ -1,8 +1,11 @@
 //! The text of an answer, written to a sink. It takes no memory.
 ghost use Rattle.std.specs.Prelude.{◌≡◌, Bool, [], if◌then◌else◌, length, codes, ℕ, List, Option, ◌≤◌, ◌++◌};
 ghost use Rattle.ipam_edge.specs.Writing.{ByWrites};
-ghost use Rattle.http_session.specs.Answers.{HasPutCause, IsPutEnd, answer_text, phrase_of, sent_body};
+ghost use Rattle.http_session.specs.Answers.{HasPutCause, IsPutEnd, phrase_of, sent_body};
+ghost use Rattle.http_session.specs.Replies.{answer_of};
+ghost use Rattle.http_session.specs.Talk.{framed_text};
 
+use crate::Reply;
 use crate::pen::Pen;
 use http::StatusCode;
 use ipam_edge::Sink;
@@ -34,35 +37,27 @@ fn sent_body(bare: bool, body: &[u8]) -> &[u8]
 }
 
 /// Writes an answer: the status line, then `Content-Type` and `Content-Length` where there is a
-/// body, `Allow` where there are methods, `Ipam-Place` where there is a place and `Connection:
-/// close` where the connection closes, and then the body. A bare answer, to a HEAD request, has the
-/// same head and no body behind it. `SinkFault` comes where a write failed, and then a front of the
-/// answer was written.
-pub fn put_answer<S: Sink>(
-    sink: &mut S,
-    status: StatusCode,
-    allow: &[u8],
-    place: Option<u64>,
-    close: bool,
-    bare: bool,
-    body: &[u8],
-) -> PutEnd
-    ensures told { IsPutEnd (S.written sink.old) (S.written sink.new) result (answer_text status allow.now place close bare body.now) }
+/// body, `Allow` where there are methods, the field that the desk names where there is one and
+/// `Connection: close` where the connection closes, and then the body. A bare answer, to a HEAD
+/// request, has the same head and no body behind it. `SinkFault` comes where a write failed, and
+/// then a front of the answer was written.
+pub fn put_answer<S: Sink>(sink: &mut S, reply: &Reply, close: bool, bare: bool) -> PutEnd
+    ensures told { IsPutEnd (S.written sink.old) (S.written sink.new) result (framed_text (answer_of reply.now) close bare) }
     ensures cause { HasPutCause (S.faults sink.old) (S.faults sink.new) result }
     ensures writes { ByWrites S.writes sink.old sink.new }
 {
     let mut room = Buffer::new();
     let mut pen = Pen::new();
     pen.put(sink, b"HTTP/1.1 ");
-    pen.put(sink, status.as_str().as_bytes());
-    pen.put_line(sink, true, b" ", phrase(status));
+    pen.put(sink, reply.status.as_str().as_bytes());
+    pen.put_line(sink, true, b" ", phrase(reply.status));
+    let body = reply.body.bytes();
     let there = !body.is_empty();
-    pen.put_line(sink, there, b"Content-Type: ", b"application/json");
+    pen.put_line(sink, there, b"Content-Type: ", reply.media);
     let length = room.format(body.len()).as_bytes();
     pen.put_line(sink, there, b"Content-Length: ", length);
-    pen.put_line(sink, !allow.is_empty(), b"Allow: ", allow);
-    let number = room.format(place.unwrap_or(0)).as_bytes();
-    pen.put_line(sink, place.is_some(), b"Ipam-Place: ", number);
+    pen.put_line(sink, !reply.allow.is_empty(), b"Allow: ", reply.allow);
+    pen.put_field(sink, &reply.field);
     pen.put_line(sink, close, b"Connection: ", b"close");
     pen.put(sink, b"\r\n");
     pen.put(sink, sent_body(bare, body));

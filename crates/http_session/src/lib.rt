@@ -17,6 +17,6 @@ mod wait;
 
 pub use answer::{PutEnd, put_answer};
 pub use laws::{cut_anywhere, more_bytes, one_list, one_reading};
-pub use reply::{Body, Reply};
+pub use reply::{Body, NumberField, Reply};
 pub use request::{Asked, Fault, HttpRequest, Inbox, next_request};
 pub use session::{Desk, SessionEnd, serve};

@@ -1,12 +1,14 @@
 //! A text that is written in few large pieces: small ones are gathered first, without memory.
-ghost use Rattle.std.specs.Prelude.{◌≡◌, Bool, [], if◌then◌else◌, codes, ℕ, List, Option, ◌≤◌, ◌++◌};
+ghost use Rattle.std.specs.Prelude.{◌≡◌, Bool, [], if◌then◌else◌, codes, ℕ, List, Option, option_map, ◌≤◌, ◌++◌};
 ghost use Rattle.ipam_edge.specs.Writing.{ByWrites};
-ghost use Rattle.http_session.specs.Answers.{HasPutCause, IsGathered, IsPutEnd, line_where};
+ghost use Rattle.http_session.specs.Answers.{HasPutCause, IsGathered, IsPutEnd, field_line, line_where};
+ghost use Rattle.http_session.specs.Replies.{field_of};
 ghost use Rattle.http_session.specs.declared.answer.PutEnd.TheVariants.{Whole};
 
-use crate::PutEnd;
+use crate::{NumberField, PutEnd};
 use arrayvec::ArrayVec;
 use ipam_edge::{Failed, Sink, write_all};
+use itoa::Buffer;
 
 /// What is gathered and not written yet, and whether a write has failed.
 #[derive(Drop)]
@@ -71,6 +73,24 @@ impl Pen {
             self.put(sink, name);
             self.put(sink, text);
             self.put(sink, b"\r\n");
+        }
+    }
+
+    /// Goes on with a field that the desk names, where there is one.
+    pub fn put_field<S: Sink>(&mut self, sink: &mut S, field: &Option<NumberField>)
+        ensures told { (start : Option (List ℕ)) (before : List ℕ) → IsGathered start (S.written sink.old) self.old.end self.old.gathered.items before → IsGathered start (S.written sink.new) self.new.end self.new.gathered.items (before ++ field_line (option_map field_of field.now)) }
+        ensures cause { (start : ℕ) → HasPutCause start (S.faults sink.old) self.old.end → HasPutCause start (S.faults sink.new) self.new.end }
+        ensures writes { ByWrites S.writes sink.old sink.new }
+    {
+        match field {
+            Some(field) => {
+                let mut room = Buffer::new();
+                self.put(sink, field.name);
+                self.put(sink, b": ");
+                self.put(sink, room.format(field.number).as_bytes());
+                self.put(sink, b"\r\n");
+            }
+            None => {}
         }
     }
 

@@ -1,13 +1,14 @@
 //! An answer before its frame.
 ghost use Rattle.std.specs.Prelude.{◌≡◌};
 
+use arrayvec::ArrayVec;
 use http::StatusCode;
 
-/// The bytes of an answer: written for it, or fixed, for an answer that takes no memory.
+/// The bytes of an answer: written for it, or short, for an answer that takes no memory.
 #[derive(Drop)]
 pub enum Body {
     Written(Vec<u8>),
-    Fixed(&'static [u8]),
+    Short(ArrayVec<u8, 128>),
 }
 
 impl Body {
@@ -19,17 +20,25 @@ impl Body {
     {
         match self {
             Body::Written(bytes) => bytes.as_slice(),
-            Body::Fixed(bytes) => bytes,
+            Body::Short(bytes) => bytes.as_slice(),
         }
     }
 }
 
-/// What a desk answers: the status, the methods of the path for status 405 (and else no bytes), the
-/// place of the answer where it has one, and the body, which is JSON or empty.
+/// A field of an answer that its desk names, with a number for its value.
+#[derive(Clone, Copy, Debug, Drop)]
+pub struct NumberField {
+    pub name: &'static [u8],
+    pub number: u64,
+}
+
+/// What a desk answers: the status, the methods of the path for status 405 (and else no bytes), a field of its own where it has
+/// one, and the body with its media type (RFC 9110 8.3), which is told where there is a body.
 #[derive(Drop)]
 pub struct Reply {
     pub status: StatusCode,
     pub allow: &'static [u8],
-    pub place: Option<u64>,
+    pub field: Option<NumberField>,
+    pub media: &'static [u8],
     pub body: Body,
 }

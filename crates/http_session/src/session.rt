@@ -1,19 +1,18 @@
 //! One connection, from its first byte to its end.
 ghost use Rattle.std.specs.Prelude.{◌≡◌, ◌≤◌, ◌<◌, ℕ, List, [], Option, IfOk, OnErr};
 ghost use Rattle.ipam_edge.specs.Faults.{Rose};
-ghost use Rattle.http_session.specs.Requests.{Framed};
 ghost use Rattle.http_session.specs.Steps.{framed};
-ghost use Rattle.http_session.specs.Talk.{Answer, is_head, refusal_status, refusal_body};
+ghost use Rattle.http_session.specs.Talk.{May, is_head};
 ghost use Rattle.http_session.specs.Ends.{IsLeft, IsSession};
 ghost use Rattle.http_session.specs.Turns.{HasEndCause, IsLineSession};
 ghost use Rattle.http_session.specs.Replies.{answer_of};
 
 use crate::{Asked, Fault, HttpRequest, Inbox, PutEnd, Reply, next_request, put_answer};
-use http::StatusCode;
 use ipam_edge::{Both, Line, Sink, Source};
 use std::alloc::{AllocError, Global};
 
-/// What answers the requests of one connection, each with a seat that is taken and given back.
+/// What answers the requests of one connection, each with a seat that is taken and given back, and
+/// the bytes that are refused in the place of a request.
 pub trait Desk {
     /// What the desk works on for this connection.
     type Seat;
@@ -23,8 +22,9 @@ pub trait Desk {
 
     ghost view: { Self.Seat → View };
 
-    /// From one view of a seat the request may be answered so, and the seat is then seen so.
-    ghost may: { View → Framed → Answer → View → Type 0 };
+    /// From one view of a seat a request may be answered so, and the seat is then seen so; and bytes
+    /// that are refused may be answered so.
+    ghost may: { May View };
 
     /// Answers a request. After `AllocError` the seat is seen as before, or the request was acted
     /// on and its answer is lost.
@@ -34,8 +34,12 @@ pub trait Desk {
         seat: Self::Seat,
         request: &HttpRequest,
     ) -> (Self::Seat, Result<Reply, AllocError>)
-        ensures answer { IfOk result.1 (λ r. may (view seat) (framed request.now) (answer_of r) (view result.0)) }
+        ensures answer { IfOk result.1 (λ r. may.answers (view seat) (framed request.now) (answer_of r) (view result.0)) }
         ensures err { OnErr result.1 (IsLeft may (view seat) (framed request.now) (view result.0)) };
+
+    /// Answers bytes that are refused in the place of a request, without a seat. It takes no memory.
+    fn refuse(&self, fault: Fault) -> Reply
+        ensures refused { may.refuses fault (answer_of result) };
 }
 
 /// How a session ended.
@@ -46,31 +50,6 @@ pub enum SessionEnd {
     SourceFault,
     SinkFault,
     Memory,
-}
-
-/// The status of a refusal.
-fn status_of(fault: Fault) -> StatusCode
-    ensures { result ≡ refusal_status fault }
-{
-    match fault {
-        Fault::BadHead => StatusCode::BAD_REQUEST,
-        Fault::LargeHead => StatusCode::PAYLOAD_TOO_LARGE,
-        Fault::LargeBody => StatusCode::PAYLOAD_TOO_LARGE,
-        Fault::Coding => StatusCode::NOT_IMPLEMENTED,
-    }
-}
-
-/// The body of a refusal: a code and a detail, in JSON.
-fn body_of(fault: Fault) -> &'static [u8]
-    ensures { result.now ≡ refusal_body fault }
-{
-    match fault {
-        Fault::BadHead => b"{\"code\":\"bad_head\",\"detail\":\"the request could not be read\"}",
-        Fault::LargeHead => b"{\"code\":\"too_large\",\"detail\":\"the head exceeds 16384 bytes\"}",
-        Fault::LargeBody =>
-            b"{\"code\":\"too_large\",\"detail\":\"the body exceeds 4194304 bytes\"}",
-        Fault::Coding => b"{\"code\":\"coding\",\"detail\":\"transfer codings are not served\"}",
-    }
 }
 
 /// Whether the method is HEAD, whose answers have no byte behind their head.
@@ -102,15 +81,7 @@ pub fn serve_line<D: Desk, L: Line>(
                 let Ok(reply) = reply else {
                     return (seat, SessionEnd::Memory);
                 };
-                match put_answer(
-                    line,
-                    reply.status,
-                    reply.allow,
-                    reply.place,
-                    request.close,
-                    is_head(&request.method),
-                    reply.body.bytes(),
-                ) {
+                match put_answer(line, &reply, request.close, is_head(&request.method)) {
                     PutEnd::SinkFault => return (seat, SessionEnd::SinkFault),
                     PutEnd::Whole => {}
                 }
@@ -119,15 +90,8 @@ pub fn serve_line<D: Desk, L: Line>(
                 }
             }
             Asked::Bad(fault) => {
-                match put_answer(
-                    line,
-                    status_of(fault),
-                    b"",
-                    None,
-                    true,
-                    false,
-                    body_of(fault),
-                ) {
+                let reply = desk.refuse(fault);
+                match put_answer(line, &reply, true, false) {
                     PutEnd::SinkFault => return (seat, SessionEnd::SinkFault),
                     PutEnd::Whole => return (seat, SessionEnd::Closed(inbox.number())),
                 }

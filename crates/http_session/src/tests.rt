@@ -2,6 +2,7 @@
 ghost use Rattle.std.specs.Prelude.{ℕ, ◌<◌};
 
 use super::*;
+use arrayvec::ArrayVec;
 use http::StatusCode;
 use ipam_edge::{BytesSink, BytesSource};
 use std::alloc::{AllocError, Global};
@@ -9,16 +10,16 @@ use std::process::Abort;
 use std::test::Fail;
 
 const BAD_HEAD: &str =
-    "HTTP/1.1 400 Bad Request\r\nContent-Type: application/json\r\nContent-Length: 60\r\nConnection: close\r\n\r\n{\"code\":\"bad_head\",\"detail\":\"the request could not be read\"}";
+    "HTTP/1.1 400 Bad Request\r\nContent-Type: text/plain\r\nContent-Length: 8\r\nConnection: close\r\n\r\nbad head";
 
 const LARGE_HEAD: &str =
-    "HTTP/1.1 413 Payload Too Large\r\nContent-Type: application/json\r\nContent-Length: 60\r\nConnection: close\r\n\r\n{\"code\":\"too_large\",\"detail\":\"the head exceeds 16384 bytes\"}";
+    "HTTP/1.1 413 Payload Too Large\r\nContent-Type: text/plain\r\nContent-Length: 10\r\nConnection: close\r\n\r\nlarge head";
 
 const LARGE_BODY: &str =
-    "HTTP/1.1 413 Payload Too Large\r\nContent-Type: application/json\r\nContent-Length: 62\r\nConnection: close\r\n\r\n{\"code\":\"too_large\",\"detail\":\"the body exceeds 4194304 bytes\"}";
+    "HTTP/1.1 413 Payload Too Large\r\nContent-Type: text/plain\r\nContent-Length: 10\r\nConnection: close\r\n\r\nlarge body";
 
 const CODING: &str =
-    "HTTP/1.1 501 Not Implemented\r\nContent-Type: application/json\r\nContent-Length: 60\r\nConnection: close\r\n\r\n{\"code\":\"coding\",\"detail\":\"transfer codings are not served\"}";
+    "HTTP/1.1 501 Not Implemented\r\nContent-Type: text/plain\r\nContent-Length: 6\r\nConnection: close\r\n\r\ncoding";
 
 /// Answers GET with the target, POST with the body, DELETE with none, and no other method. The seat
 /// counts the answers.
@@ -31,7 +32,7 @@ impl Desk for Echo {
 
     ghost view = { λ s. s };
 
-    ghost may = { λ s r a t. Unit {0} };
+    ghost may = { record { answers = λ s r a t. Unit {0}; refuses = λ fault a. Unit {0} } };
 
     fn answer(
         &self,
@@ -54,22 +55,43 @@ impl Desk for Echo {
                 Ok(Reply {
                     status,
                     allow: b"",
-                    place: Some(seat),
+                    field: Some(NumberField {
+                        name: b"Echo-Count",
+                        number: seat,
+                    }),
+                    media: b"text/plain",
                     body: Body::Written(bytes),
                 }),
             ),
             Err(error) => (seat, Err(error)),
         }
     }
+
+    fn refuse(&self, fault: Fault) -> Reply {
+        match fault {
+            Fault::BadHead => short(StatusCode::BAD_REQUEST, b"", b"bad head"),
+            Fault::LargeHead => short(StatusCode::PAYLOAD_TOO_LARGE, b"", b"large head"),
+            Fault::LargeBody => short(StatusCode::PAYLOAD_TOO_LARGE, b"", b"large body"),
+            Fault::Coding => short(StatusCode::NOT_IMPLEMENTED, b"", b"coding"),
+        }
+    }
+}
+
+/// An answer without a field of the desk's own.
+fn short(status: StatusCode, allow: &'static [u8], text: &[u8]) -> Reply {
+    let mut bytes = ArrayVec::new();
+    let _whole = bytes.try_extend_from_slice(text);
+    Reply {
+        status,
+        allow,
+        field: None,
+        media: b"text/plain",
+        body: Body::Short(bytes),
+    }
 }
 
 fn not_allowed() -> Reply {
-    Reply {
-        status: StatusCode::METHOD_NOT_ALLOWED,
-        allow: b"GET, POST",
-        place: None,
-        body: Body::Fixed(b"{}"),
-    }
+    short(StatusCode::METHOD_NOT_ALLOWED, b"GET, POST", b"{}")
 }
 
 /// What a session over the input writes, how it ends and how many bytes are not read.
@@ -116,67 +138,67 @@ fn requests_are_answered_in_order(rt: HostRuntime) -> Result<(), Fail> {
         ("", "", 0),
         (
             "HEAD /a HTTP/1.1\r\n\r\nGET /a HTTP/1.1\r\n\r\n",
-            "HTTP/1.1 405 Method Not Allowed\r\nContent-Type: application/json\r\nContent-Length: 2\r\nAllow: GET, POST\r\n\r\nHTTP/1.1 200 OK\r\nContent-Type: application/json\r\nContent-Length: 2\r\nIpam-Place: 0\r\n\r\n/a",
+            "HTTP/1.1 405 Method Not Allowed\r\nContent-Type: text/plain\r\nContent-Length: 2\r\nAllow: GET, POST\r\n\r\nHTTP/1.1 200 OK\r\nContent-Type: text/plain\r\nContent-Length: 2\r\nEcho-Count: 0\r\n\r\n/a",
             2,
         ),
         (
             "HEAD /a HTTP/1.0\r\n\r\n",
-            "HTTP/1.1 405 Method Not Allowed\r\nContent-Type: application/json\r\nContent-Length: 2\r\nAllow: GET, POST\r\nConnection: close\r\n\r\n",
+            "HTTP/1.1 405 Method Not Allowed\r\nContent-Type: text/plain\r\nContent-Length: 2\r\nAllow: GET, POST\r\nConnection: close\r\n\r\n",
             1,
         ),
         (
             "GET /a HTTP/1.1\r\n\r\n",
-            "HTTP/1.1 200 OK\r\nContent-Type: application/json\r\nContent-Length: 2\r\nIpam-Place: 0\r\n\r\n/a",
+            "HTTP/1.1 200 OK\r\nContent-Type: text/plain\r\nContent-Length: 2\r\nEcho-Count: 0\r\n\r\n/a",
             1,
         ),
         (
             "GET /a HTTP/1.1\nHost: x\n\n",
-            "HTTP/1.1 200 OK\r\nContent-Type: application/json\r\nContent-Length: 2\r\nIpam-Place: 0\r\n\r\n/a",
+            "HTTP/1.1 200 OK\r\nContent-Type: text/plain\r\nContent-Length: 2\r\nEcho-Count: 0\r\n\r\n/a",
             1,
         ),
         (
             "\r\n\nGET /a HTTP/1.1\r\n\r\n",
-            "HTTP/1.1 200 OK\r\nContent-Type: application/json\r\nContent-Length: 2\r\nIpam-Place: 0\r\n\r\n/a",
+            "HTTP/1.1 200 OK\r\nContent-Type: text/plain\r\nContent-Length: 2\r\nEcho-Count: 0\r\n\r\n/a",
             1,
         ),
         (
             "GET /a HTTP/1.1\r\n\r\nPOST /b HTTP/1.1\r\nContent-Length: 5\r\n\r\nhello",
-            "HTTP/1.1 200 OK\r\nContent-Type: application/json\r\nContent-Length: 2\r\nIpam-Place: 0\r\n\r\n/aHTTP/1.1 201 Created\r\nContent-Type: application/json\r\nContent-Length: 5\r\nIpam-Place: 1\r\n\r\nhello",
+            "HTTP/1.1 200 OK\r\nContent-Type: text/plain\r\nContent-Length: 2\r\nEcho-Count: 0\r\n\r\n/aHTTP/1.1 201 Created\r\nContent-Type: text/plain\r\nContent-Length: 5\r\nEcho-Count: 1\r\n\r\nhello",
             2,
         ),
         (
             "POST /b HTTP/1.1\r\ncontent-LENGTH: 0000005 \r\n\r\nhello",
-            "HTTP/1.1 201 Created\r\nContent-Type: application/json\r\nContent-Length: 5\r\nIpam-Place: 0\r\n\r\nhello",
+            "HTTP/1.1 201 Created\r\nContent-Type: text/plain\r\nContent-Length: 5\r\nEcho-Count: 0\r\n\r\nhello",
             1,
         ),
         (
             "DELETE /a HTTP/1.1\r\n\r\nPUT /a HTTP/1.1\r\n\r\n",
-            "HTTP/1.1 204 No Content\r\nIpam-Place: 0\r\n\r\nHTTP/1.1 405 Method Not Allowed\r\nContent-Type: application/json\r\nContent-Length: 2\r\nAllow: GET, POST\r\n\r\n{}",
+            "HTTP/1.1 204 No Content\r\nEcho-Count: 0\r\n\r\nHTTP/1.1 405 Method Not Allowed\r\nContent-Type: text/plain\r\nContent-Length: 2\r\nAllow: GET, POST\r\n\r\n{}",
             2,
         ),
         (
             "GET /a HTTP/1.0\r\nConnection: keep-alive\r\n\r\nGET /b HTTP/1.1\r\n\r\n",
-            "HTTP/1.1 200 OK\r\nContent-Type: application/json\r\nContent-Length: 2\r\nIpam-Place: 0\r\nConnection: close\r\n\r\n/a",
+            "HTTP/1.1 200 OK\r\nContent-Type: text/plain\r\nContent-Length: 2\r\nEcho-Count: 0\r\nConnection: close\r\n\r\n/a",
             1,
         ),
         (
             "GET /a HTTP/1.1\r\nConnection: keep-alive, CLOSE\r\n\r\nGET /b HTTP/1.1\r\n\r\n",
-            "HTTP/1.1 200 OK\r\nContent-Type: application/json\r\nContent-Length: 2\r\nIpam-Place: 0\r\nConnection: close\r\n\r\n/a",
+            "HTTP/1.1 200 OK\r\nContent-Type: text/plain\r\nContent-Length: 2\r\nEcho-Count: 0\r\nConnection: close\r\n\r\n/a",
             1,
         ),
         (
             "GET /a HTTP/1.1\r\nconnection: x\r\nCONNECTION: ,\t close ,\r\n\r\nGET /b",
-            "HTTP/1.1 200 OK\r\nContent-Type: application/json\r\nContent-Length: 2\r\nIpam-Place: 0\r\nConnection: close\r\n\r\n/a",
+            "HTTP/1.1 200 OK\r\nContent-Type: text/plain\r\nContent-Length: 2\r\nEcho-Count: 0\r\nConnection: close\r\n\r\n/a",
             1,
         ),
         (
             "GET /a HTTP/1.1\r\nConnection: closed, clos e\r\nX: close\r\n\r\n",
-            "HTTP/1.1 200 OK\r\nContent-Type: application/json\r\nContent-Length: 2\r\nIpam-Place: 0\r\n\r\n/a",
+            "HTTP/1.1 200 OK\r\nContent-Type: text/plain\r\nContent-Length: 2\r\nEcho-Count: 0\r\n\r\n/a",
             1,
         ),
         (
             "DELETE /a HTTP/1.1\r\nConnection: close\r\n\r\n",
-            "HTTP/1.1 204 No Content\r\nIpam-Place: 0\r\nConnection: close\r\n\r\n",
+            "HTTP/1.1 204 No Content\r\nEcho-Count: 0\r\nConnection: close\r\n\r\n",
             1,
         ),
     ];
@@ -198,13 +220,13 @@ fn bytes_that_are_no_request_are_refused(rt: HostRuntime) -> Result<(), Fail> {
         ),
         (
             "GET /a HTTP/1.1\r\n\r\n\r\n",
-            "HTTP/1.1 200 OK\r\nContent-Type: application/json\r\nContent-Length: 2\r\nIpam-Place: 0\r\n\r\n/a",
+            "HTTP/1.1 200 OK\r\nContent-Type: text/plain\r\nContent-Length: 2\r\nEcho-Count: 0\r\n\r\n/a",
             BAD_HEAD,
             2,
         ),
         (
             "GET /a HTTP/1.1\r\n\r\nPOST /b HTTP/1.1\r\nContent-Length: 5\r\n\r\nhell",
-            "HTTP/1.1 200 OK\r\nContent-Type: application/json\r\nContent-Length: 2\r\nIpam-Place: 0\r\n\r\n/a",
+            "HTTP/1.1 200 OK\r\nContent-Type: text/plain\r\nContent-Length: 2\r\nEcho-Count: 0\r\n\r\n/a",
             BAD_HEAD,
             2,
         ),
@@ -276,7 +298,7 @@ fn long_head(alloc: Global, letters_to: usize, end: &[u8]) -> Result<Vec<u8>, Al
 }
 
 const ROOT: &str =
-    "HTTP/1.1 200 OK\r\nContent-Type: application/json\r\nContent-Length: 1\r\nIpam-Place: 0\r\n\r\n/";
+    "HTTP/1.1 200 OK\r\nContent-Type: text/plain\r\nContent-Length: 1\r\nEcho-Count: 0\r\n\r\n/";
 
 #[test]
 fn the_limit_of_a_head(rt: HostRuntime) -> Result<(), Fail> {
@@ -329,7 +351,7 @@ fn the_thousandth_answer_closes(rt: HostRuntime) -> Result<(), Fail> {
                 ""
             };
             let text = format!(in rt.alloc();
-                "HTTP/1.1 204 No Content\r\nIpam-Place: {number}\r\n{close}\r\n"
+                "HTTP/1.1 204 No Content\r\nEcho-Count: {number}\r\n{close}\r\n"
             )?;
             want.extend_from_slice(text.as_bytes())?;
         }
@@ -343,7 +365,7 @@ fn the_thousandth_answer_closes(rt: HostRuntime) -> Result<(), Fail> {
 #[test]
 fn faults_end_the_session(rt: HostRuntime) -> Result<(), Fail> {
     let a =
-        "HTTP/1.1 200 OK\r\nContent-Type: application/json\r\nContent-Length: 2\r\nIpam-Place: 0\r\n\r\n/a";
+        "HTTP/1.1 200 OK\r\nContent-Type: text/plain\r\nContent-Length: 2\r\nEcho-Count: 0\r\n\r\n/a";
     let source = SessionEnd::SourceFault;
     let cases: [(&str, &[u32], usize, &str, SessionEnd); 11] = [
         ("GET /a HTTP/1.1\r\n\r\n", &[0], 999, "", source),

@@ -2,3 +2,4 @@ pub mod Pieces
 pub mod Fields
 pub mod Unique
 pub mod Examples
+pub mod FixedTexts

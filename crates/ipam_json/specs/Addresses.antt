@@ -13,7 +13,7 @@ use Rattle.ipam_data.specs.Answers.{field_text}
 use Rattle.serde_json.specs.Data.{Data, null, object}
 use Rattle.ipam_json.specs.Outcomes.{then, read_member, read_given}
 use Rattle.ipam_json.specs.Members.{description_of, dns_name_of, id_of, address_status_of, address_role_of}
-use Rattle.ipam_json.specs.Words.{address_status_label, address_status_value, address_role_label, address_role_value}
+use Rattle.ipam_words.specs.Words.{address_status_label, address_status_value, address_role_label, address_role_value}
 use Rattle.ipam_json.specs.Values.{members, choice_data, host_text, Named, id_named, text_named, reference_named, family_named}
 
 -- the body of an address, whose member `address` comes first and gives this host or refusal

@@ -1,5 +1,4 @@
 pub mod Outcomes
-pub mod Words
 pub mod Members
 pub mod Blocks
 pub mod Hosts

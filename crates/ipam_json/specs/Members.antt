@@ -10,7 +10,7 @@ use Rattle.ipam_data.specs.declared.range.RangeStatus.TheVariants.{Active as Act
 use Rattle.ipam_data.specs.declared.address.AddressStatus.{AddressStatus}
 use Rattle.ipam_data.specs.declared.address.AddressStatus.TheVariants.{Active as ActiveAddress}
 use Rattle.ipam_data.specs.declared.address.AddressRole.{AddressRole}
-use Rattle.ipam_json.specs.Words.{prefix_status_named, range_status_named, address_status_named, address_role_named}
+use Rattle.ipam_words.specs.Words.{prefix_status_named, range_status_named, address_status_named, address_role_named}
 use Rattle.serde_json.specs.Data.{Data}
 use Rattle.serde_json.specs.Find.{as_null, as_bool, as_number, as_str, as_u64}
 

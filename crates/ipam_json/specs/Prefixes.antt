@@ -13,7 +13,7 @@ use Rattle.ipam_data.specs.Answers.{field_text}
 use Rattle.serde_json.specs.Data.{Data, object}
 use Rattle.ipam_json.specs.Outcomes.{then, read_member, read_given}
 use Rattle.ipam_json.specs.Members.{description_of, flag_of, id_of, prefix_status_of}
-use Rattle.ipam_json.specs.Words.{prefix_status_label, prefix_status_value}
+use Rattle.ipam_words.specs.Words.{prefix_status_label, prefix_status_value}
 use Rattle.ipam_json.specs.Values.{members, number_data, choice_data, Named, id_named, text_named, flag_named, reference_named, family_named}
 
 -- the body of a prefix, whose member `prefix` comes first and gives this block or refusal

@@ -13,7 +13,7 @@ use Rattle.serde_json.specs.Data.{Data, object}
 use Rattle.ipam_json.specs.Outcomes.{then, read_member, read_given}
 use Rattle.ipam_json.specs.Members.{description_of, flag_of, id_of, range_status_of}
 use Rattle.ipam_json.specs.Sizes.{range_size}
-use Rattle.ipam_json.specs.Words.{range_status_label, range_status_value}
+use Rattle.ipam_words.specs.Words.{range_status_label, range_status_value}
 use Rattle.ipam_json.specs.Values.{members, number_data, choice_data, host_text, Named, id_named, text_named, flag_named, reference_named, family_named}
 
 -- the body of a range, whose members `start_address` and `end_address` come first and give these hosts or refusals

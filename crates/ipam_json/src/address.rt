@@ -4,7 +4,7 @@ ghost use Rattle.std.specs.Prelude.{◌≡◌, IfOk, string_bytes};
 ghost use Rattle.ipam_json.specs.Addresses.{address_data, address_role_data};
 ghost use Rattle.ipam_json.specs.Values.{choice_data};
 ghost use Rattle.ipam_json.specs.Values as values;
-ghost use Rattle.ipam_json.specs.Words.{address_status_label as label_of, address_status_value as value_of};
+ghost use Rattle.ipam_words.specs.Words.{address_status_label as label_of, address_status_value as value_of};
 ghost use Rattle.ipam_json.specs.Written.{Puts, pieces_of};
 ghost use Rattle.serde_json.specs.View.{view};
 ghost use Rattle.ipam_json.specs.Outcomes.{OrMemory};
@@ -16,13 +16,13 @@ use crate::members::{description, dns_name, given_description, given_dns_name};
 use crate::nets::{given_host, host};
 use crate::numbers::{given_id, id};
 use crate::texts::host_text;
-use crate::words::{
-    address_role_label, address_role_value, address_status_label, address_status_value,
-};
 use crate::writing::{put_choice, put_family, put_id, put_name, put_reference, put_text};
 use ipam_data::address::{AddressRole, AddressStatus, IpAddress};
 use ipam_data::calls::{Draft, Edit};
 use ipam_data::replies::{FieldName, Refusal};
+use ipam_words::{
+    address_role_label, address_role_value, address_status_label, address_status_value,
+};
 use json::Writer;
 use serde_json::Value;
 use std::alloc::{AllocError, Global};

@@ -7,20 +7,23 @@ ghost use Rattle.ipam_json.specs.Outcomes.{read_member, read_given};
 ghost use Rattle.ipam_data.specs.declared.replies.FieldName.TheVariants.{Role as RoleField, Status as StatusField};
 
 use crate::members::member;
-use crate::words::{
-    address_role_named, address_status_named, prefix_status_named, range_status_named,
-};
 use ipam_data::address::{AddressRole, AddressStatus};
 use ipam_data::prefix::PrefixStatus;
 use ipam_data::range::RangeStatus;
 use ipam_data::replies::{FieldName, Refusal};
+use ipam_words::{
+    address_role_named, address_status_named, prefix_status_named, range_status_named,
+};
 use serde_json::Value;
 
 /// The status of a prefix that a value is.
 fn prefix_status_in(value: &Value) -> Option<PrefixStatus>
     ensures { result ≡ prefix_status_of (Some (view value.now)) }
 {
-    value.as_str().and_then(prefix_status_named)
+    match value.as_str() {
+        Some(word) => prefix_status_named(word),
+        None => None,
+    }
 }
 
 /// The status of a prefix, which may be absent.
@@ -53,7 +56,10 @@ pub(crate) fn given_prefix_status(body: &Value) -> Result<Option<PrefixStatus>, 
 fn range_status_in(value: &Value) -> Option<RangeStatus>
     ensures { result ≡ range_status_of (Some (view value.now)) }
 {
-    value.as_str().and_then(range_status_named)
+    match value.as_str() {
+        Some(word) => range_status_named(word),
+        None => None,
+    }
 }
 
 /// The status of a range, which may be absent.
@@ -86,7 +92,10 @@ pub(crate) fn given_range_status(body: &Value) -> Result<Option<RangeStatus>, Re
 fn address_status_in(value: &Value) -> Option<AddressStatus>
     ensures { result ≡ address_status_of (Some (view value.now)) }
 {
-    value.as_str().and_then(address_status_named)
+    match value.as_str() {
+        Some(word) => address_status_named(word),
+        None => None,
+    }
 }
 
 /// The status of an address, which may be absent.

@@ -6,7 +6,7 @@ mod aggregate;
 mod available;
 mod bodies;
 mod choices;
-mod details;
+mod fixed;
 mod laws;
 mod members;
 mod nets;
@@ -21,13 +21,9 @@ mod rows;
 mod tests;
 mod texts;
 mod vrf;
-mod words;
 mod writing;
 
 pub use bodies::{read_body, read_edit};
+pub use fixed::fixed_refusal_bytes;
 pub use laws::{body_is_one, bounds_are_those, edit_is_one, rows_are_in_order};
 pub use replies::{Links, refusal_bytes, reply_bytes, write_reply};
-pub use words::{
-    address_role_named, address_status_named, field_name, kind_name, prefix_status_named,
-    range_status_named,
-};

@@ -9,9 +9,9 @@ ghost use Rattle.ipam_json.specs.Members.{within, name_of, slug_of, description_
 ghost use Rattle.ipam_json.specs.Outcomes.{OrMemory, field, value_of, read_member, read_given};
 ghost use Rattle.ipam_data.specs.declared.replies.FieldName.TheVariants.{Description as DescriptionField, DnsName as DnsNameField, Name as NameField, Rd as RdField, Slug as SlugField};
 
-use crate::words::field_name;
 use ipam_data::replies::{FieldName, Refusal};
 use ipam_data::text::{Description, Distinguisher, DnsText, Name, Slug};
+use ipam_words::field_name;
 use serde_json::Value;
 use std::alloc::Global;
 

@@ -4,7 +4,7 @@ ghost use Rattle.std.specs.Prelude.{◌≡◌};
 ghost use Rattle.inet_num.specs.Text.{block_text_of};
 ghost use Rattle.ipam_json.specs.Prefixes.{prefix_data};
 ghost use Rattle.ipam_json.specs.Values.{choice_data};
-ghost use Rattle.ipam_json.specs.Words.{prefix_status_label as label_of, prefix_status_value as value_of};
+ghost use Rattle.ipam_words.specs.Words.{prefix_status_label as label_of, prefix_status_value as value_of};
 ghost use Rattle.ipam_json.specs.Written.{Puts, pieces_of};
 ghost use Rattle.serde_json.specs.View.{view};
 ghost use Rattle.ipam_json.specs.Outcomes.{OrMemory};
@@ -16,13 +16,13 @@ use crate::members::{description, flag, given_description, given_flag};
 use crate::nets::{block, given_block};
 use crate::numbers::{given_id, id};
 use crate::texts::block_text;
-use crate::words::{prefix_status_label, prefix_status_value};
 use crate::writing::{
     put_choice, put_family, put_flag, put_id, put_name, put_number, put_reference, put_text,
 };
 use ipam_data::calls::{Draft, Edit};
 use ipam_data::prefix::{Prefix, PrefixStatus};
 use ipam_data::replies::{FieldName, Refusal};
+use ipam_words::{prefix_status_label, prefix_status_value};
 use json::Writer;
 use serde_json::Value;
 use std::alloc::{AllocError, Global};

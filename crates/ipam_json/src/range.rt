@@ -6,7 +6,7 @@ ghost use Rattle.ipam_json.specs.Ranges.{range_data};
 ghost use Rattle.ipam_json.specs.Sizes as sizes;
 ghost use Rattle.ipam_json.specs.Values.{choice_data};
 ghost use Rattle.ipam_json.specs.Values as values;
-ghost use Rattle.ipam_json.specs.Words.{range_status_label as label_of, range_status_value as value_of};
+ghost use Rattle.ipam_words.specs.Words.{range_status_label as label_of, range_status_value as value_of};
 ghost use Rattle.ipam_json.specs.Written.{Puts, pieces_of};
 ghost use Rattle.serde_json.specs.View.{view};
 ghost use Rattle.ipam_json.specs.Outcomes.{OrMemory};
@@ -18,7 +18,6 @@ use crate::members::{description, flag, given_description, given_flag};
 use crate::nets::{given_host, host};
 use crate::numbers::{given_id, id};
 use crate::texts::host_text;
-use crate::words::{range_status_label, range_status_value};
 use crate::writing::{
     put_choice, put_family, put_flag, put_id, put_name, put_number, put_reference, put_text,
 };
@@ -27,6 +26,7 @@ use ipam_data::calls::{Draft, Edit};
 use ipam_data::host::Ends;
 use ipam_data::range::{IpRange, RangeStatus};
 use ipam_data::replies::{FieldName, Refusal};
+use ipam_words::{range_status_label, range_status_value};
 use json::Writer;
 use serde_json::Value;
 use std::alloc::{AllocError, Global};

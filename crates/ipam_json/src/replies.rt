@@ -6,11 +6,11 @@ ghost use Rattle.ipam_json.specs.Written.{Puts, pieces_of, value_pieces};
 ghost use Rattle.ipam_data.specs.Answers.{detail_of};
 
 use crate::available::{put_addrs, put_blocks};
-use crate::details::{code, detail};
 use crate::rows::{put_rows, put_view};
 use crate::writing::{put_link, put_number};
 use ipam_data::replies::{Refusal, Reply, View};
 use ipam_data::text::Text;
+use ipam_words::{code, detail};
 use json::Writer;
 use std::alloc::{AllocError, Global};
 use std::marker::Model;

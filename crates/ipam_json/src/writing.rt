@@ -7,10 +7,10 @@ ghost use Rattle.ipam_json.specs.Values.{id_data, text_data, choice_data, versio
 ghost use Rattle.ipam_json.specs.Written.{Puts, pieces_of};
 ghost use Rattle.ipam_data.specs.declared.replies.FieldName.TheVariants.{Family as FamilyField};
 
-use crate::words::field_name;
 use inet_num::Family;
 use ipam_data::replies::FieldName;
 use ipam_data::text::Text;
+use ipam_words::field_name;
 use json::Writer;
 use std::alloc::AllocError;
 

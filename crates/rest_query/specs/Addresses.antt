@@ -6,7 +6,7 @@ use Rattle.ipam_data.specs.declared.calls.Filter.{Filter}
 use Rattle.ipam_data.specs.declared.calls.Filter.TheVariants.{Addresses as SomeAddresses}
 use Rattle.ipam_data.specs.declared.replies.FieldName.TheVariants.{DnsName, Family, Parent, Role as RoleField, Status, VrfId}
 use Rattle.ipam_data.specs.declared.replies.Refusal.{Refusal}
-use Rattle.ipam_json.specs.Words.{address_status_named, address_role_named}
+use Rattle.ipam_words.specs.Words.{address_status_named, address_role_named}
 use Rattle.ipam_json.specs.Outcomes.{then, field}
 use Rattle.rest_query.specs.declared.asked.AddressTests.{AddressTests}
 use Rattle.rest_query.specs.Query.{value_in, with_value}

@@ -4,7 +4,7 @@ use Rattle.ipam_data.specs.declared.calls.Filter.{Filter}
 use Rattle.ipam_data.specs.declared.calls.Filter.TheVariants.{Prefixes as SomePrefixes}
 use Rattle.ipam_data.specs.declared.replies.FieldName.TheVariants.{Contains, Family, Prefix as PrefixField, RoleId, Status, VrfId, Within, WithinInclude}
 use Rattle.ipam_data.specs.declared.replies.Refusal.{Refusal}
-use Rattle.ipam_json.specs.Words.{prefix_status_named}
+use Rattle.ipam_words.specs.Words.{prefix_status_named}
 use Rattle.ipam_json.specs.Outcomes.{then, field}
 use Rattle.rest_query.specs.declared.asked.PrefixTests.{PrefixTests}
 use Rattle.rest_query.specs.Query.{value_in, with_value}

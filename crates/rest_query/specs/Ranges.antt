@@ -4,7 +4,7 @@ use Rattle.ipam_data.specs.declared.calls.Filter.{Filter}
 use Rattle.ipam_data.specs.declared.calls.Filter.TheVariants.{Ranges as SomeRanges}
 use Rattle.ipam_data.specs.declared.replies.FieldName.TheVariants.{Contains, Family, RoleId, Status, VrfId}
 use Rattle.ipam_data.specs.declared.replies.Refusal.{Refusal}
-use Rattle.ipam_json.specs.Words.{range_status_named}
+use Rattle.ipam_words.specs.Words.{range_status_named}
 use Rattle.ipam_json.specs.Outcomes.{then, field}
 use Rattle.rest_query.specs.declared.asked.RangeTests.{RangeTests}
 use Rattle.rest_query.specs.Query.{value_in, with_value}

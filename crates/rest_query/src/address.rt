@@ -2,7 +2,7 @@
 
 ghost use Rattle.std.specs.Prelude.{◌≡◌, IfOk, OnOk};
 ghost use Rattle.ipam_json.specs.Outcomes.{OrMemory};
-ghost use Rattle.ipam_json.specs.Words as words;
+ghost use Rattle.ipam_words.specs.Words as words;
 ghost use Rattle.rest_query.specs.Addresses.{AreAddressTests, with_address_filters, lower};
 ghost use Rattle.rest_query.specs.Addresses as spec;
 ghost use Rattle.rest_query.specs.Lists.{IsFilterOf, kind_of};
@@ -19,7 +19,7 @@ use ipam_data::address::{AddressRole, AddressStatus};
 use ipam_data::calls::Filter;
 use ipam_data::replies::{FieldName, Refusal};
 use ipam_data::text::Text;
-use ipam_json::{address_role_named, address_status_named};
+use ipam_words::{address_role_named, address_status_named};
 use std::alloc::{AllocError, Global};
 
 /// The test of a status.

@@ -22,7 +22,7 @@ use form_urlencoded::Serializer;
 use ipam_data::calls::Filter;
 use ipam_data::kinds::Kind;
 use ipam_data::replies::{FieldName, Refusal};
-use ipam_json::field_name;
+use ipam_words::field_name;
 use itoa::Buffer;
 use std::alloc::{AllocError, Global};
 

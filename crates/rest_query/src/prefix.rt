@@ -2,7 +2,7 @@
 
 ghost use Rattle.std.specs.Prelude.{◌≡◌, IfOk, OnOk};
 ghost use Rattle.ipam_json.specs.Outcomes.{OrMemory};
-ghost use Rattle.ipam_json.specs.Words as words;
+ghost use Rattle.ipam_words.specs.Words as words;
 ghost use Rattle.rest_query.specs.Prefixes.{ArePrefixTests, with_prefix_filters};
 ghost use Rattle.rest_query.specs.Prefixes as spec;
 ghost use Rattle.rest_query.specs.Lists.{IsFilterOf, kind_of};
@@ -17,7 +17,7 @@ use ipam_data::calls::Filter;
 use ipam_data::prefix::PrefixStatus;
 use ipam_data::replies::{FieldName, Refusal};
 use ipam_data::text::Text;
-use ipam_json::prefix_status_named;
+use ipam_words::prefix_status_named;
 use std::alloc::{AllocError, Global};
 
 /// The test of a status.

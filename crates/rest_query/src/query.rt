@@ -8,7 +8,7 @@ ghost use Rattle.rest_query.specs.Query.{path_in, query_in, text_of, newest, par
 use form_urlencoded::{Serializer, decode, raw_pairs};
 use ipam_data::replies::FieldName;
 use ipam_data::text::Text;
-use ipam_json::field_name;
+use ipam_words::field_name;
 use std::alloc::{AllocError, Global};
 
 /// What stands before the first question mark of a target, and what stands behind it, which is nothing where it has none.

@@ -1,40 +1,33 @@
 //! The answer to a request, before its frame.
 
-ghost use Rattle.std.specs.Prelude.{◌≡◌, IfOk};
-ghost use Rattle.ipam_data.specs.Answers.{status_of, refusal_status_of};
-ghost use Rattle.http_session.specs.Replies.{answer_of};
-ghost use Rattle.rest_routes.specs.Answers.{IsRefusedAnswer, allow_of, end_of, finished_links, reply_answer, route_methods};
+ghost use Rattle.std.specs.Prelude.{◌≡◌, IfOk, true};
+ghost use Rattle.ipam_data.specs.Answers.{status_of};
+ghost use Rattle.http_session.specs.Replies.{answer_of, field_of};
+ghost use Rattle.ipam_words.specs.Lines.{is_fixed};
+ghost use Rattle.rest_routes.specs.Answers.{IsFramingAnswer, IsRefusedAnswer, allow_of, end_of, finished_links, json_type, place_field, reply_answer, route_methods};
+ghost use Rattle.rest_routes.specs.Answers as spec;
 
 use crate::route::Route;
 use crate::table::Routes;
 use http::StatusCode;
-use http_session::{Body, Reply as Answer};
+use http_session::{Body, Fault, NumberField, Reply as Answer};
 use ipam_data::calls::Call;
-use ipam_data::replies::{Refusal, Reply};
-use ipam_json::{Links, refusal_bytes, reply_bytes};
+use ipam_data::replies::{Part, Refusal, Reply};
+use ipam_json::{Links, fixed_refusal_bytes, refusal_bytes, reply_bytes};
+use ipam_words::status;
 use rest_query::cut;
 use std::alloc::{AllocError, Global};
 
-/// The status of a refusal.
-fn refusal_status(refusal: &Refusal) -> StatusCode
-    ensures { result ≡ refusal_status_of refusal.now }
+/// The media type of each body (RFC 8259 11).
+const JSON: &[u8] = b"application/json";
+
+/// The field that tells the place of an answer.
+fn place_at(place: u64) -> NumberField
+    ensures { field_of result ≡ place_field place }
 {
-    match refusal {
-        Refusal::BadHead => StatusCode::BAD_REQUEST,
-        Refusal::TooLarge(_) => StatusCode::PAYLOAD_TOO_LARGE,
-        Refusal::Coding => StatusCode::NOT_IMPLEMENTED,
-        Refusal::NoRoute => StatusCode::NOT_FOUND,
-        Refusal::Method => StatusCode::METHOD_NOT_ALLOWED,
-        Refusal::BadJson => StatusCode::BAD_REQUEST,
-        Refusal::Field(_) => StatusCode::BAD_REQUEST,
-        Refusal::NotFound(_, _) => StatusCode::NOT_FOUND,
-        Refusal::Rule(_) => StatusCode::BAD_REQUEST,
-        Refusal::InUse(_, _) => StatusCode::CONFLICT,
-        Refusal::NoSpace(_) => StatusCode::CONFLICT,
-        Refusal::Limit(_, _) => StatusCode::INSUFFICIENT_STORAGE,
-        Refusal::Keeper => StatusCode::SERVICE_UNAVAILABLE,
-        Refusal::Memory => StatusCode::INTERNAL_SERVER_ERROR,
-        Refusal::Row(_, _) => StatusCode::BAD_REQUEST,
+    NumberField {
+        name: b"Ipam-Place",
+        number: place,
     }
 }
 
@@ -53,7 +46,7 @@ fn reply_status(reply: &Reply) -> StatusCode
         Reply::Blocks { .. } => StatusCode::OK,
         Reply::Addrs { .. } => StatusCode::OK,
         Reply::Percent(_) => StatusCode::OK,
-        Reply::Refused(refusal) => refusal_status(refusal),
+        Reply::Refused(refusal) => status(refusal),
     }
 }
 
@@ -90,7 +83,8 @@ pub fn answer_of_reply(
     Ok(Answer {
         status: reply_status(reply),
         allow: b"",
-        place: Some(place),
+        field: Some(place_at(place)),
+        media: JSON,
         body: Body::Written(body),
     })
 }
@@ -108,9 +102,10 @@ pub fn answer_of_refusal_by(
     let (path, _) = cut(target);
     let body = refusal_bytes(alloc, refusal)?;
     Ok(Answer {
-        status: refusal_status(refusal),
+        status: status(refusal),
         allow: allowed(routes.route_of(path), refusal),
-        place: None,
+        field: None,
+        media: JSON,
         body: Body::Written(body),
     })
 }
@@ -125,6 +120,46 @@ pub fn answer_of_refusal(
 {
     let routes = Routes::new(alloc)?;
     answer_of_refusal_by(alloc, &routes, target, refusal)
+}
+
+/// The refusal of bytes that stand in the place of a request and are none.
+fn refusal_of(fault: Fault) -> Refusal
+    ensures refusal { result ≡ spec.refusal_of fault }
+    ensures fixed { is_fixed result ≡ true }
+{
+    match fault {
+        Fault::BadHead => Refusal::BadHead,
+        Fault::LargeHead => Refusal::TooLarge(Part::Head),
+        Fault::LargeBody => Refusal::TooLarge(Part::Body),
+        Fault::Coding => Refusal::Coding,
+    }
+}
+
+/// The answer to bytes that stand in the place of a request and are none: it has no place. It takes no memory.
+pub fn answer_of_fault(fault: Fault) -> Answer
+    ensures { IsFramingAnswer fault (answer_of result) }
+{
+    let refusal = refusal_of(fault);
+    Answer {
+        status: status(&refusal),
+        allow: b"",
+        field: None,
+        media: JSON,
+        body: Body::Short(fixed_refusal_bytes(&refusal)),
+    }
+}
+
+/// The answer where memory is wanting in the register, which takes none itself.
+pub fn answer_of_want(place: u64) -> Answer
+    ensures { (links : Links) → answer_of result ≡ reply_answer (Reply.Refused Refusal.Memory) links place }
+{
+    Answer {
+        status: status(&Refusal::Memory),
+        allow: b"",
+        field: Some(place_at(place)),
+        media: JSON,
+        body: Body::Short(fixed_refusal_bytes(&Refusal::Memory)),
+    }
 }
 
 /// The number of rows up to the end of a page; 0 for a call that asks for none.

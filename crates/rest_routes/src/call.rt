@@ -11,7 +11,8 @@ use ipam_data::calls::Call;
 use ipam_data::kinds::Kind;
 use ipam_data::replies::Refusal;
 use ipam_data::text::Text;
-use ipam_json::{Links, kind_name, read_body, read_edit};
+use ipam_json::{Links, read_body, read_edit};
+use ipam_words::kind_name;
 use rest_query::{cut, link_query, read_listing};
 use std::alloc::{AllocError, Global};
 

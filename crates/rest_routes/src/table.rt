@@ -7,7 +7,7 @@ ghost use Rattle.rest_routes.specs.Stems.{Lists, IsRouteAt};
 
 use crate::route::Route;
 use ipam_data::kinds::Kind;
-use ipam_json::kind_name;
+use ipam_words::kind_name;
 use itoa::Buffer;
 use route_table::RouteTable;
 use std::alloc::{AllocError, Global};

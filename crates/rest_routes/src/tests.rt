@@ -1,12 +1,15 @@
 //! Requests and answers, a case to a line.
 
 use crate::{
-    Routes, answer_of_refusal_by, answer_of_reply, finish_links, page_end, read_call, read_call_by,
+    Routes, answer_of_fault, answer_of_refusal_by, answer_of_reply, answer_of_want, finish_links,
+    page_end, read_call, read_call_by,
 };
+use http_session::{Fault, Reply as Answer, put_answer};
 use ipam_data::calls::Call;
 use ipam_data::kinds::Kind;
 use ipam_data::replies::{Refusal, Reply, Views};
 use ipam_data::text::Text;
+use ipam_edge::BytesSink;
 use ipam_json::Links;
 use std::alloc::{AllocError, Global};
 use std::process::Abort;
@@ -151,7 +154,10 @@ fn answered(alloc: Global, reply: &Reply) -> Result<String, AllocError> {
     let answer = answer_of_reply(alloc, reply, &links, 3)?;
     let body = String::from_utf8_lossy(alloc, answer.body.bytes())?;
     let number = answer.status.as_u16();
-    let place = answer.place.unwrap_or(0);
+    let place = match &answer.field {
+        Some(field) => field.number,
+        None => 0,
+    };
     let fields = answer.allow.len();
     format!(in alloc; "{number} {fields} {place} {body}")
 }
@@ -168,6 +174,30 @@ fn replies(rt: HostRuntime) -> Result<(), Fail> {
     let text = answered(rt.alloc(), &used)?;
     let want = "409 0 3 {\"code\":\"in_use\",\"detail\":\"named by ip-addresses 1\"}";
     assert_eq!(rt; text.as_str(), want);
+    Ok(())
+}
+
+/// The answers to bytes that are refused in the place of a request, one after another.
+const FAULTS: &[u8] =
+    b"HTTP/1.1 400 Bad Request\r\nContent-Type: application/json\r\nContent-Length: 60\r\nConnection: close\r\n\r\n{\"code\":\"bad_head\",\"detail\":\"the request could not be read\"}HTTP/1.1 413 Payload Too Large\r\nContent-Type: application/json\r\nContent-Length: 60\r\nConnection: close\r\n\r\n{\"code\":\"too_large\",\"detail\":\"the head exceeds 16384 bytes\"}HTTP/1.1 413 Payload Too Large\r\nContent-Type: application/json\r\nContent-Length: 62\r\nConnection: close\r\n\r\n{\"code\":\"too_large\",\"detail\":\"the body exceeds 4194304 bytes\"}HTTP/1.1 501 Not Implemented\r\nContent-Type: application/json\r\nContent-Length: 60\r\nConnection: close\r\n\r\n{\"code\":\"coding\",\"detail\":\"transfer codings are not served\"}HTTP/1.1 500 Internal Server Error\r\nContent-Type: application/json\r\nContent-Length: 38\r\nIpam-Place: 7\r\nConnection: close\r\n\r\n{\"code\":\"memory\",\"detail\":\"no memory\"}";
+
+/// Appends the bytes of an answer that closes its connection.
+fn put(alloc: Global, answer: &Answer, text: &mut Vec<u8>) -> Result<(), AllocError> {
+    let mut sink = BytesSink::new(alloc, Vec::new(alloc), 4096, 4096)?;
+    let _whole = put_answer(&mut sink, answer, true, false);
+    text.extend_from_slice(sink.bytes())
+}
+
+#[test]
+fn answers_without_memory(rt: HostRuntime) -> Result<(), Fail> {
+    let alloc = rt.alloc();
+    let mut text = Vec::new(alloc);
+    put(alloc, &answer_of_fault(Fault::BadHead), &mut text)?;
+    put(alloc, &answer_of_fault(Fault::LargeHead), &mut text)?;
+    put(alloc, &answer_of_fault(Fault::LargeBody), &mut text)?;
+    put(alloc, &answer_of_fault(Fault::Coding), &mut text)?;
+    put(alloc, &answer_of_want(7), &mut text)?;
+    assert_eq!(rt; text.as_slice(), FAULTS);
     Ok(())
 }
 

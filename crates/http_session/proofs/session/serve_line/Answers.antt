@@ -7,7 +7,7 @@ use Rattle.http_session.specs.Steps.{framed}
 use Rattle.http_session.specs.Replies.{answer_of}
 use Rattle.http_session.specs.Talk.{is_head}
 use Rattle.http_session.proofs.Growth.{Grown-refl}
-use Rattle.http_session.proofs.Talks.{few_after, number_is, refused_text, reply_text}
+use Rattle.http_session.proofs.Talks.{few_after, number_is, reply_text}
 use Rattle.http_session.proofs.TurnLemmas.{cause_put, cause_waited, line_closes, line_cut_short, line_ends, line_goes_on, line_needed, line_starved, line_starved_at, line_total, line_unsaid, sink_put, source_put}
 use Rattle.http_session.proofs.session.serve_line.Goals as goal
 
@@ -27,7 +27,7 @@ pub returns-in-SinkFault-clause-session : goal.returns-in-SinkFault-clause-sessi
 returns-in-SinkFault-clause-session g c =
     let so_far = c.loop-request.invariant.talk in
     let item = c.in-Request.ensures.item in
-    let text = reply_text c.in-Ok.reply _ (framed c.in-Request.request) _ c.bytes.ensures (c.is_head.ensures ∙ ap is_head c.deref.ensures.value) in
+    let text = reply_text c.in-Ok.reply (framed c.in-Request.request) _ (c.is_head.ensures ∙ ap is_head c.deref.ensures.value) in
     let answered = rw c.in-Ok.is at c.answer-next.ensures.answer in
     line_unsaid g.D.Desk.may g.L.Source.reads g.L.Sink.writes g.L.Source.left g.L.Sink.written g.met.L.Line.read_writes_nothing g.met.L.Line.write_reads_nothing _ _ c.args.line.now c.loop-request.line _ _ _ so_far.2 so_far.4 so_far.1 so_far.3 _ item.0 item.1 item.3 item.4.0 item.4.2 _ _ (Asks (framed c.in-Request.request)) _ (answer_of c.in-Ok.reply) _ c.in-SinkFault.ensures.writes (inl item.4.1) item.2.0 c.in-SinkFault.ensures.told text answered
 
@@ -41,7 +41,7 @@ pub returns-then-request-clause-session : goal.returns-then-request-clause-sessi
 returns-then-request-clause-session g c =
     let so_far = c.loop-request.invariant.talk in
     let item = c.in-Request.ensures.item in
-    let text = reply_text c.in-Ok.reply _ (framed c.in-Request.request) _ c.bytes.ensures (c.is_head.ensures ∙ ap is_head c.deref.ensures.value) in
+    let text = reply_text c.in-Ok.reply (framed c.in-Request.request) _ (c.is_head.ensures ∙ ap is_head c.deref.ensures.value) in
     let answered = rw c.in-Ok.is at c.answer-next.ensures.answer in
     let counted = number_is _ _ item.2.1 so_far.2.few in
     line_closes g.D.Desk.may g.L.Source.reads g.L.Sink.writes g.L.Source.left g.L.Sink.written g.met.L.Line.read_writes_nothing g.met.L.Line.write_reads_nothing _ _ c.args.line.now c.loop-request.line _ _ _ so_far.2 so_far.4 so_far.1 so_far.3 _ item.0 item.1 item.3 item.4.0 item.4.2 _ _ (Asks (framed c.in-Request.request)) _ (answer_of c.in-Ok.reply) _ _ c.in-Whole.ensures.writes (inl item.4.1) item.2.0 c.if-request.true c.in-Whole.ensures.told text answered (c.number.ensures ∙ counted)
@@ -56,7 +56,7 @@ pub loop-request-preserved : goal.loop-request-preserved
 loop-request-preserved g c =
     let so_far = c.loop-request.invariant.talk in
     let item = c.in-Request.ensures.item in
-    let text = reply_text c.in-Ok.reply _ (framed c.in-Request.request) _ c.bytes.ensures (c.is_head.ensures ∙ ap is_head c.deref.ensures.value) in
+    let text = reply_text c.in-Ok.reply (framed c.in-Request.request) _ (c.is_head.ensures ∙ ap is_head c.deref.ensures.value) in
     let answered = rw c.in-Ok.is at c.answer-next.ensures.answer in
     let few = few_after _ _ _ _ item.2.0 c.if-request.false in
     let counted = number_is _ _ item.2.1 so_far.2.few in
@@ -71,8 +71,7 @@ pub returns-in-SinkFault-put_answer-clause-session : goal.returns-in-SinkFault-p
 returns-in-SinkFault-put_answer-clause-session g c =
     let so_far = c.loop-request.invariant.talk in
     let item = c.in-Bad.ensures.item in
-    let text = refused_text c.in-Bad.fault _ _ c.status_of.ensures c.body_of.ensures in
-    line_unsaid g.D.Desk.may g.L.Source.reads g.L.Sink.writes g.L.Source.left g.L.Sink.written g.met.L.Line.read_writes_nothing g.met.L.Line.write_reads_nothing _ _ c.args.line.now c.loop-request.line _ _ _ so_far.2 so_far.4 so_far.1 so_far.3 _ item.0 item.1 item.3 item.4.0 item.4.2 _ _ (Refuses c.in-Bad.fault) _ _ _ c.in-SinkFault-put_answer.ensures.writes item.4.1 item.2.0 c.in-SinkFault-put_answer.ensures.told text (refl, refl)
+    line_unsaid g.D.Desk.may g.L.Source.reads g.L.Sink.writes g.L.Source.left g.L.Sink.written g.met.L.Line.read_writes_nothing g.met.L.Line.write_reads_nothing _ _ c.args.line.now c.loop-request.line _ _ _ so_far.2 so_far.4 so_far.1 so_far.3 _ item.0 item.1 item.3 item.4.0 item.4.2 _ _ (Refuses c.in-Bad.fault) _ (answer_of c.refuse-reply.result) _ c.in-SinkFault-put_answer.ensures.writes item.4.1 item.2.0 c.in-SinkFault-put_answer.ensures.told refl (c.refuse-reply.ensures.refused, refl)
 
 pub returns-in-SinkFault-put_answer-clause-cause : goal.returns-in-SinkFault-put_answer-clause-cause
 returns-in-SinkFault-put_answer-clause-cause g c =
@@ -84,9 +83,8 @@ pub returns-in-Whole-put_answer-clause-session : goal.returns-in-Whole-put_answe
 returns-in-Whole-put_answer-clause-session g c =
     let so_far = c.loop-request.invariant.talk in
     let item = c.in-Bad.ensures.item in
-    let text = refused_text c.in-Bad.fault _ _ c.status_of.ensures c.body_of.ensures in
     let counted = number_is _ _ item.2.1 so_far.2.few in
-    line_closes g.D.Desk.may g.L.Source.reads g.L.Sink.writes g.L.Source.left g.L.Sink.written g.met.L.Line.read_writes_nothing g.met.L.Line.write_reads_nothing _ _ c.args.line.now c.loop-request.line _ _ _ so_far.2 so_far.4 so_far.1 so_far.3 _ item.0 item.1 item.3 item.4.0 item.4.2 _ _ (Refuses c.in-Bad.fault) _ _ _ _ c.in-Whole-put_answer.ensures.writes item.4.1 item.2.0 refl c.in-Whole-put_answer.ensures.told text (refl, refl) (c.number-in-Whole-put_answer.ensures ∙ counted)
+    line_closes g.D.Desk.may g.L.Source.reads g.L.Sink.writes g.L.Source.left g.L.Sink.written g.met.L.Line.read_writes_nothing g.met.L.Line.write_reads_nothing _ _ c.args.line.now c.loop-request.line _ _ _ so_far.2 so_far.4 so_far.1 so_far.3 _ item.0 item.1 item.3 item.4.0 item.4.2 _ _ (Refuses c.in-Bad.fault) _ (answer_of c.refuse-reply.result) _ _ c.in-Whole-put_answer.ensures.writes item.4.1 item.2.0 refl c.in-Whole-put_answer.ensures.told refl (c.refuse-reply.ensures.refused, refl) (c.number-in-Whole-put_answer.ensures ∙ counted)
 
 pub returns-in-Whole-put_answer-clause-cause : goal.returns-in-Whole-put_answer-clause-cause
 returns-in-Whole-put_answer-clause-cause g c =

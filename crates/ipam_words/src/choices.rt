@@ -1,72 +1,14 @@
-//! What is named by a word: kinds, members and parameters, statuses, and the roles of addresses.
+//! Statuses, and roles of addresses, in words: the value that names each, and the label that is shown.
 
 ghost use Rattle.std.specs.Prelude.{◌≡◌};
-ghost use Rattle.ipam_data.specs.Answers.{kind_text, field_text};
-ghost use Rattle.ipam_json.specs.Words as spec;
+ghost use Rattle.ipam_words.specs.Words as spec;
 
 use ipam_data::address::{AddressRole, AddressStatus};
-use ipam_data::kinds::Kind;
 use ipam_data::prefix::PrefixStatus;
 use ipam_data::range::RangeStatus;
-use ipam_data::replies::FieldName;
-
-/// A kind by its name in a path.
-pub fn kind_name(kind: Kind) -> &'static str
-    ensures { result.now ≡ kind_text kind }
-{
-    match kind {
-        Kind::Vrfs => "vrfs",
-        Kind::Rirs => "rirs",
-        Kind::Roles => "roles",
-        Kind::Aggregates => "aggregates",
-        Kind::Prefixes => "prefixes",
-        Kind::Ranges => "ip-ranges",
-        Kind::Addresses => "ip-addresses",
-    }
-}
-
-/// A member or a parameter by its printed name.
-pub fn field_name(field: FieldName) -> &'static str
-    ensures { result.now ≡ field_text field }
-{
-    match field {
-        FieldName::Address => "address",
-        FieldName::Body => "body",
-        FieldName::Column => "column",
-        FieldName::Contains => "contains",
-        FieldName::Description => "description",
-        FieldName::DnsName => "dns_name",
-        FieldName::EndAddress => "end_address",
-        FieldName::EnforceUnique => "enforce_unique",
-        FieldName::Family => "family",
-        FieldName::IsPool => "is_pool",
-        FieldName::IsPrivate => "is_private",
-        FieldName::Limit => "limit",
-        FieldName::MarkUtilized => "mark_utilized",
-        FieldName::Name => "name",
-        FieldName::Offset => "offset",
-        FieldName::Parent => "parent",
-        FieldName::Prefix => "prefix",
-        FieldName::PrefixLength => "prefix_length",
-        FieldName::Rd => "rd",
-        FieldName::Rir => "rir",
-        FieldName::RirId => "rir_id",
-        FieldName::Role => "role",
-        FieldName::RoleId => "role_id",
-        FieldName::Row => "row",
-        FieldName::Slug => "slug",
-        FieldName::StartAddress => "start_address",
-        FieldName::Status => "status",
-        FieldName::Vrf => "vrf",
-        FieldName::VrfId => "vrf_id",
-        FieldName::Weight => "weight",
-        FieldName::Within => "within",
-        FieldName::WithinInclude => "within_include",
-    }
-}
 
 /// The status of a prefix by the word that names it.
-pub(crate) fn prefix_status_value(word: PrefixStatus) -> &'static str
+pub fn prefix_status_value(word: PrefixStatus) -> &'static str
     ensures { result.now ≡ spec.prefix_status_value word }
 {
     match word {
@@ -78,7 +20,7 @@ pub(crate) fn prefix_status_value(word: PrefixStatus) -> &'static str
 }
 
 /// The status of a prefix by the word that is shown.
-pub(crate) fn prefix_status_label(word: PrefixStatus) -> &'static str
+pub fn prefix_status_label(word: PrefixStatus) -> &'static str
     ensures { result.now ≡ spec.prefix_status_label word }
 {
     match word {
@@ -90,7 +32,7 @@ pub(crate) fn prefix_status_label(word: PrefixStatus) -> &'static str
 }
 
 /// The status of a range by the word that names it.
-pub(crate) fn range_status_value(word: RangeStatus) -> &'static str
+pub fn range_status_value(word: RangeStatus) -> &'static str
     ensures { result.now ≡ spec.range_status_value word }
 {
     match word {
@@ -101,7 +43,7 @@ pub(crate) fn range_status_value(word: RangeStatus) -> &'static str
 }
 
 /// The status of a range by the word that is shown.
-pub(crate) fn range_status_label(word: RangeStatus) -> &'static str
+pub fn range_status_label(word: RangeStatus) -> &'static str
     ensures { result.now ≡ spec.range_status_label word }
 {
     match word {
@@ -112,7 +54,7 @@ pub(crate) fn range_status_label(word: RangeStatus) -> &'static str
 }
 
 /// The status of an address by the word that names it.
-pub(crate) fn address_status_value(word: AddressStatus) -> &'static str
+pub fn address_status_value(word: AddressStatus) -> &'static str
     ensures { result.now ≡ spec.address_status_value word }
 {
     match word {
@@ -125,7 +67,7 @@ pub(crate) fn address_status_value(word: AddressStatus) -> &'static str
 }
 
 /// The status of an address by the word that is shown.
-pub(crate) fn address_status_label(word: AddressStatus) -> &'static str
+pub fn address_status_label(word: AddressStatus) -> &'static str
     ensures { result.now ≡ spec.address_status_label word }
 {
     match word {
@@ -138,7 +80,7 @@ pub(crate) fn address_status_label(word: AddressStatus) -> &'static str
 }
 
 /// The role of an address by the word that names it.
-pub(crate) fn address_role_value(word: AddressRole) -> &'static str
+pub fn address_role_value(word: AddressRole) -> &'static str
     ensures { result.now ≡ spec.address_role_value word }
 {
     match word {
@@ -154,7 +96,7 @@ pub(crate) fn address_role_value(word: AddressRole) -> &'static str
 }
 
 /// The role of an address by the word that is shown.
-pub(crate) fn address_role_label(word: AddressRole) -> &'static str
+pub fn address_role_label(word: AddressRole) -> &'static str
     ensures { result.now ≡ spec.address_role_label word }
 {
     match word {
