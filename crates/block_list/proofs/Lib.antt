@@ -5,3 +5,4 @@ pub mod Widening
 pub mod Covering
 pub mod Changes
 pub mod Inner
+pub mod Around

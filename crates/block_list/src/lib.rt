@@ -17,7 +17,7 @@ use block_space::{Space, Steps};
 use cover::count_covered;
 use fit::lowest_fit;
 use inet_num::{Addr, Block, Family};
-use search::{beginning_by, beginning_in, count_inside, index_of, times_in};
+use search::{beginning_by, beginning_in, count_around, count_inside, index_of, times_in};
 use std::alloc::{AllocError, Global};
 use std::marker::Model;
 use std::sync::ledger::Ledger;
@@ -107,6 +107,11 @@ impl Space for BlockList {
 
     fn times(&self, block: Block) -> u32 {
         times_in(&self.blocks, &block) as u32
+    }
+
+    fn around(&self, block: Block) -> u32 {
+        let _short = block.len();
+        count_around(&self.blocks, block) as u32
     }
 
     fn counting(&self, within: Block, strict: bool) -> u32 {

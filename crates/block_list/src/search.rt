@@ -4,7 +4,7 @@ ghost use Rattle.std.specs.Prelude.{◌≡◌, ℕ, ◌+◌, ◌-◌, ◌<◌, �
 ghost use Rattle.std.specs.List.{AllByRecursion, list_any, position};
 ghost use Rattle.inet_num.specs.Net.{Cidr, size_of};
 ghost use Rattle.inet_num.specs.Free.{meets};
-ghost use Rattle.block_space.specs.Listed.{AreBlocksOf, counts, counting_of, is_same, times_of};
+ghost use Rattle.block_space.specs.Listed.{AreBlocksOf, around_of, counts, counting_of, is_same, times_of};
 ghost use Rattle.block_list.specs.Listing.{Rises};
 
 use inet_num::Block;
@@ -154,6 +154,22 @@ pub fn times_in(blocks: &[Block], block: &Block) -> usize
     let first = block.first().value();
     let (from, to) = beginning_in(blocks, first, first);
     count_equal(&blocks[from..to], block)
+}
+
+/// How many different ones of the sorted blocks contain a block and are not it: the one of each shorter length is looked for.
+pub fn count_around(blocks: &[Block], block: Block) -> usize
+    requires { Rises 0 blocks.now }
+    ensures counted { result ≡ around_of blocks.now block }
+    ensures bound { result ≤ block.len }
+{
+    let _lawful = block.len();
+    let mut count = 0;
+    let mut wide = block;
+    'widen: while let Some(wider) = wide.enclosing() {
+        wide = wider;
+        count += times_in(blocks, &wide).min(1);
+    }
+    count
 }
 
 /// Where a block stands among sorted ones, or `None` where it does not.

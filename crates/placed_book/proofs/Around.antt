@@ -1,21 +1,18 @@
 -- The blocks that contain a block strictly: of each length there is at most one, so they can be counted length by length.
-use Rattle.std.proofs.Common.{◌≡◌, ℕ, ◌+◌, ◌-◌, ◌<◌, ◌≤◌, ◌==◌, ◌&&◌, ◌||◌, nat_lt, nat_le, Bool, true, false, cond, List, [], ◌∷◌, filter, refl, ap, sym, subst, ◌∙◌, arith, inl, inr, if◌then◌else◌, IsPermutation}
+use Rattle.std.proofs.Common.{◌≡◌, ℕ, zero, suc, ◌+◌, ◌<◌, ◌≤◌, ◌==◌, min, ◌&&◌, ◌||◌, nat_lt, nat_le, Bool, true, false, cond, List, [], ◌∷◌, filter, refl, ap, sym, ◌∙◌, arith, if◌then◌else◌, IsPermutation}
 use Rattle.std.specs.List.{list_any}
 use Rattle.std.proofs.lemmas.Bool.Decides.{nat_tests}
-use Rattle.std.proofs.lemmas.Nat.{pow_pos}
 use Rattle.std.proofs.lemmas.Map.Views.{any-filter_same}
 use Rattle.std.proofs.lemmas.List.Elements.{All-from_recursion, recursion_from_All}
-use Rattle.std.proofs.lemmas.List.Sorted.{All-permutation, IsPermutation-sym, list_any-IsPermutation}
+use Rattle.std.proofs.lemmas.List.Sorted.{All-permutation, IsPermutation-sym}
 use Rattle.inet_num.specs.declared.Family.{Family}
-use Rattle.inet_num.specs.Net.{width_of, Cidr, IsBlock, IsInside, enclosing_of, last_of}
+use Rattle.inet_num.specs.Net.{Cidr, IsBlock, IsInside, last_of}
 use Rattle.inet_num.proofs.Numbers.{strictly_by_len}
-use Rattle.inet_num.proofs.Aligned.{nested}
-use Rattle.inet_num.proofs.Nested.{inside_trans, same_by_len}
-use Rattle.block_space.proofs.InAvailable.{enclosing_lawful, inside_enclosing}
-use Rattle.block_space.specs.Listed.{IsBlockOf, AreBlocksOf, is_same, times_of}
+use Rattle.block_space.proofs.Around.{wider_lawful, inside_wider, one_of_length, around_next, around_none}
+use Rattle.block_space.specs.Listed.{IsBlockOf, AreBlocksOf, is_same, times_of, wider_of, around_below, around_of}
 use Rattle.ipam_data.specs.Blocks.{same_family, same_block, distinct, is_strictly_inside}
 use Rattle.ipam_data.proofs.Insides.{inside_is_by_ends}
-use Rattle.placed_book.proofs.Orders.{both, is_block, same_block-refl, same_family-refl, count_yes, count_no}
+use Rattle.placed_book.proofs.Orders.{both, is_block, same_block-refl, same_family-refl, count_yes, count_no, count_alike}
 
 -- strictly around, and of this length at least
 abbrev pub is_around : Cidr → ℕ → Cidr → Bool
@@ -52,17 +49,6 @@ all_around block (b ∷ bs) = go (is_strictly_inside block b) (all_around block 
       → cond (t && nat_le 0 b.len) (b ∷ filter (is_around block 0) bs) (filter (is_around block 0) bs) ≡ cond t (b ∷ filter (λ x. is_strictly_inside block x) bs) (filter (λ x. is_strictly_inside block x) bs)
   go true e = (let yes : nat_le 0 b.len ≡ true = grind (arith, nat_tests) in rw yes (ap (λ (xs : List Cidr). b ∷ xs) e))
   go false e = e
-
--- two blocks of one length around a block are one
-one_of_length : (block b e : Cidr) → IsBlock b → IsBlock e → IsInside block b → IsInside block e → b.len ≡ e.len → b ≡ e
-one_of_length block b e hb he i j same =
-    let some = pow_pos (width_of block.family - block.len) in
-    let at_b = i.each block.first (omega arith, omega arith) in
-    let at_e = j.each block.first (omega arith, omega arith) in
-    elim (nested b e hb he (sym i.family ∙ j.family) block.first at_b at_e) [
-      | inl k ↦ same_by_len b e k (omega arith) hb.short he.short
-      | inr k ↦ sym (same_by_len e b k (omega arith) he.short hb.short)
-    ]
 
 -- ---- how often, and whether
 
@@ -163,34 +149,41 @@ module _ (block e : Cidr) (n : ℕ) (family : Family) (hb : IsBlock block) (he :
 pub same_blocks : (family : Family) (xs ys : List Cidr) → IsPermutation xs ys → AreBlocksOf family ys → AreBlocksOf family xs
 same_blocks family xs ys p h = recursion_from_All (IsBlockOf family) xs (All-permutation (IsBlockOf family) ys xs (IsPermutation-sym xs ys p) (All-from_recursion (IsBlockOf family) ys h))
 
--- what is so of the next wider block, where it was of this one
-pub record IsWidened (block wider : Cidr) (len count : ℕ) (held : List Cidr) : Type 0 where
-  pub lawful : IsBlock wider
-  pub inside : IsInside block wider
-  pub len_is : wider.len + 1 ≡ len
-  pub counted : (blocks : List Cidr) → IsPermutation blocks held → count ≡ distinct (filter (is_around block wider.len) blocks)
+-- the lengths below one, and the rest
+summed : (family : Family) (block : Cidr) (blocks : List Cidr) → IsBlock block → block.family ≡ family → AreBlocksOf family blocks → (n : ℕ) → n ≤ block.len
+    → distinct (filter (is_around block 0) blocks) ≡ around_below blocks block n + distinct (filter (is_around block n) blocks)
+summed family block blocks hb own h zero le = (let none = around_none blocks block in omega arith)
+summed family block blocks hb own h (suc n) le =
+    let so_far = summed family block blocks hb own h n (omega arith) in
+    let e = wider_of block n in
+    let step = one_length block e n family hb (wider_lawful block n hb (omega arith)) (inside_wider block n hb (omega arith)) refl (omega arith) own blocks h in
+    let found = ap (λ (t : Bool). let k : ℕ = cond t 1 0 in k) (times_any family e blocks own h) in
+    let once : min (times_of blocks e) 1 ≡ cond (nat_lt 0 (times_of blocks e)) 1 0 = grind (arith, nat_tests) in
+    let next = around_next blocks block n in
+    let same : suc n ≡ n + 1 = omega arith in
+    let here = ap (around_below blocks block) same in
+    let rest : distinct (filter (is_around block (suc n)) blocks) ≡ distinct (filter (is_around block (n + 1)) blocks) = ap (λ (k : ℕ). distinct (filter (is_around block k) blocks)) same in
+    omega arith
 
-pub widened : (family : Family) (block wide wider : Cidr) (held : List Cidr) (count times : ℕ) → IsBlock block → IsBlock wide → IsInside block wide → 0 < wide.len → wider ≡ enclosing_of wide → wide.len ≤ block.len → block.family ≡ family
-    → AreBlocksOf family held → times ≡ times_of held wider → ((blocks : List Cidr) → IsPermutation blocks held → count ≡ distinct (filter (is_around block wide.len) blocks))
-    → IsWidened block wider wide.len (count + cond (nat_lt 0 times) 1 0) held
-widened family block wide wider held count times hb hw inside some is le own h counted_times counted =
-    let lawful : IsBlock wider = subst IsBlock (sym is) (enclosing_lawful wide hw) in
-    let outer : IsInside wide wider = subst (λ (b : Cidr). IsInside wide b) (sym is) (inside_enclosing wide hw) in
-    let around = inside_trans block wide wider inside outer in
-    let len : wider.len ≡ wide.len - 1 = ap (λ (b : Cidr). b.len) is in
-    let next : wide.len ≡ wider.len + 1 = omega arith in
-    record {
-      lawful = lawful;
-      inside = around;
-      len_is = omega arith;
-      counted = λ blocks p.
-          let step = one_length block wider wider.len family hb lawful around refl (omega arith) (sym around.family ∙ own) blocks (same_blocks family blocks held p h) in
-          let before : count ≡ distinct (filter (is_around block (wider.len + 1)) blocks) = counted blocks p ∙ ap (λ (n : ℕ). distinct (filter (is_around block n) blocks)) next in
-          let found : nat_lt 0 times ≡ list_any (same_block wider) blocks = ap (λ (n : ℕ). nat_lt 0 n) counted_times ∙ times_any family wider held (sym around.family ∙ own) h ∙ sym (list_any-IsPermutation (same_block wider) blocks held p) in
-          ap (λ (n : ℕ). n + cond (nat_lt 0 times) 1 0) before ∙ ap (λ (t : Bool). distinct (filter (is_around block (wider.len + 1)) blocks) + cond t 1 0) found ∙ sym step;
-    }
+-- in any order
+alike : (block : Cidr) (blocks held : List Cidr) → IsPermutation blocks held → (n : ℕ) → around_below held block n ≡ around_below blocks block n
+alike block blocks held p zero = around_none held block ∙ sym (around_none blocks block)
+alike block blocks held p (suc n) =
+    let so_far = alike block blocks held p n in
+    let times = count_alike (is_same (wider_of block n)) blocks held p in
+    let once : min (times_of blocks (wider_of block n)) 1 ≡ min (times_of held (wider_of block n)) 1 = ap (λ (k : ℕ). min k 1) times in
+    let one = around_next held block n in
+    let other = around_next blocks block n in
+    let same : suc n ≡ n + 1 = omega arith in
+    let left = ap (around_below held block) same in
+    let right = ap (around_below blocks block) same in
+    omega arith
 
--- the walk ends at the block of length 0
-pub all_widened : (block : Cidr) (n count : ℕ) (held : List Cidr) → n ≡ 0 → ((blocks : List Cidr) → IsPermutation blocks held → count ≡ distinct (filter (is_around block n) blocks))
-    → (blocks : List Cidr) → IsPermutation blocks held → count ≡ distinct (filter (λ b. is_strictly_inside block b) blocks)
-all_widened block n count held e counted blocks p = counted blocks p ∙ ap (λ (k : ℕ). distinct (filter (is_around block k) blocks)) e ∙ ap distinct (all_around block blocks)
+pub around_any_order : (family : Family) (block : Cidr) (held blocks : List Cidr) → IsBlock block → block.family ≡ family → AreBlocksOf family held → IsPermutation blocks held
+    → around_of held block ≡ distinct (filter (λ b. is_strictly_inside block b) blocks)
+around_any_order family block held blocks hb own h p =
+    let all = summed family block blocks hb own (same_blocks family blocks held p h) block.len (omega arith) in
+    let past = none_around block block.len blocks (omega arith) in
+    let same = alike block blocks held p block.len in
+    let every = ap distinct (all_around block blocks) in
+    omega arith

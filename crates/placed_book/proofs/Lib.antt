@@ -12,3 +12,5 @@ pub mod Whole
 pub mod Swapped
 pub mod Places
 pub mod Moves
+pub mod Leasts
+pub mod Listed

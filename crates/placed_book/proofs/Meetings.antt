@@ -1,5 +1,5 @@
 -- Rows that coincide: what the blocks of their table say of them.
-use Rattle.std.proofs.Common.{◌≡◌, ℕ, ◌+◌, ◌<◌, ◌≤◌, ◌==◌, ◌&&◌, Bool, true, false, not, cond, List, [], ◌∷◌, map, length, drop, drop_of_length-le, Option, Some, None, IsSome, find, slice_get, refl, ap, sym, subst, ◌∙◌, arith, option_map, if◌then◌else◌}
+use Rattle.std.proofs.Common.{◌≡◌, ℕ, ◌+◌, ◌<◌, ◌≤◌, ◌==◌, ◌&&◌, Bool, true, false, not, cond, List, [], ◌∷◌, map, length, drop, drop_of_length-le, Option, Some, None, IsSome, find, slice_get, refl, ap, sym, subst, ◌∙◌, arith, option_map}
 use Rattle.std.specs.List.{count_by}
 use Rattle.std.proofs.lemmas.Bool.Decides.{nat_tests}
 use Rattle.std.specs.Option.{option_or}
@@ -31,7 +31,7 @@ where_agrees row x =
     and_groups (same_table (table_of x.vrf) (table_of row.vrf)) (same_family x.block.family row.block.family) (x.block.first == row.block.first) (x.block.len == row.block.len)
     ∙ ap (λ (t : Bool). is_of (table_of row.vrf) row.block.family x && t) (block_test x.block row.block)
 
-where_times : (rows : List Placed) (tables : List TableBlocks) (row : Placed) → AreInOrder rows tables → count_by (is_where row) rows ≡ times_of (blocks_at tables (table_of row.vrf) row.block.family) row.block
+pub where_times : (rows : List Placed) (tables : List TableBlocks) (row : Placed) → AreInOrder rows tables → count_by (is_where row) rows ≡ times_of (blocks_at tables (table_of row.vrf) row.block.family) row.block
 where_times rows tables row h =
     through_count (table_of row.vrf) row.block.family (is_where row) (is_same row.block) (where_agrees row) rows ∙ count_alike (is_same row.block) _ _ (h.blocks (table_of row.vrf) row.block.family)
 
@@ -41,7 +41,7 @@ and_first true a b = refl
 and_first false a b = refl
 
 module _ {T : Type 0} (id : T → ℕ) (placed : T → Placed) where
-  rival_where : (row x : T) → is_rival id placed row x ≡ (not (id x == id row) && is_where (placed row) (placed x))
+  pub rival_where : (row x : T) → is_rival id placed row x ≡ (not (id x == id row) && is_where (placed row) (placed x))
   rival_where row x = and_first (not (id x == id row)) (in_one_table (placed row) (placed x)) (same_block (placed x).block (placed row).block)
 
   own_apart : (low : ℕ) (rows : List T) (row : T) → Rises id low rows

@@ -1,6 +1,6 @@
 -- Numbers for what contracts see of a book, made of those of its rows.
 use Rattle.std.specs.Prelude.{◌≡◌, ℕ, zero, suc, List, refl}
-use Rattle.std.specs.Coded.{Coded, code_by, coded×, coded⊎, coded_ℕ, coded_list}
+use Rattle.std.specs.Coded.{Coded, code_by, coded×, coded_ℕ, coded_list}
 use Rattle.inet_num.specs.declared.Family.{Family}
 use Rattle.inet_num.specs.declared.Family.TheVariants.{V4, V6}
 use Rattle.inet_num.specs.Net.{Cidr}

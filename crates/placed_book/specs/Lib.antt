@@ -5,3 +5,4 @@ pub mod Rivals
 pub mod Figures
 pub mod Codes
 pub mod Kinds
+pub mod Firsts

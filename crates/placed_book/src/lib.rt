@@ -7,7 +7,7 @@
 //! book in order, and leaves it so; only the two swaps do neither. Only `reserve` and `reserve_table` take memory.
 #![tactic(auto)]
 
-ghost use Rattle.std.specs.Prelude.{◌≡◌, ◌↔◌, ℕ, ◌+◌, ◌^◌, ◌<◌, ◌≤◌, true, false, None, IfSome, IsSome, OnOk, OnErr, MatchBool, IsPermutation, length, map, option_copied, option_map, slice_get};
+ghost use Rattle.std.specs.Prelude.{◌≡◌, ◌↔◌, ℕ, ◌+◌, ◌^◌, ◌<◌, ◌≤◌, true, false, None, IfSome, IsSome, IfOk, OnOk, OnErr, MatchBool, IsPermutation, length, map, option_copied, option_map, slice_get};
 ghost use Rattle.inet_num.specs.declared.Family.{Family};
 ghost use Rattle.ipam_data.specs.declared.kinds.Table.{Table};
 ghost use Rattle.ipam_data.specs.Shelf.{row_at, row_after, with_row, without, least, least_pair, Rises};
@@ -17,21 +17,25 @@ ghost use Rattle.placed_book.specs.Book.{Placed, TabledRows, empty_book, table_a
 ghost use Rattle.placed_book.specs.Changes.{IsSwapped, IsChangedAt};
 ghost use Rattle.placed_book.specs.Rivals.{coincide_in, is_rival, stays_among};
 ghost use Rattle.placed_book.specs.Figures.{around, inside};
+ghost use Rattle.placed_book.specs.Firsts.{HasFirsts, ids_at, room_of};
 
+mod firsts;
 mod kinds;
 mod rivals;
 mod spaces;
 mod tables;
 
 use block_space::Space;
+use firsts::{Firsts, change_first, drop_first, note_first, spot_at};
 use indexed_book::IndexedBook;
 use inet_num::{Block, Family};
 use ipam_data::kinds::{HasId, Table};
 pub use kinds::host_block;
-use rivals::{is_in_place, least_rival, pair_at, times_itself};
+use rivals::{first_rival, ids_among, is_in_place, pair_at, times_itself};
 use row_book::Book;
 use spaces::TableSpaces;
 use std::alloc::{AllocError, Global};
+use std::collections::HashMap;
 use std::marker::Model;
 use tables::Tables;
 
@@ -86,6 +90,28 @@ fn forget_in_all<T: Located + Drop, S: Space + Drop>(
     }
 }
 
+/// Takes the row of an id out of the first ids of the places; where there is no such row, nothing.
+fn forget_first<T: Located + Drop, S: Space + Drop>(
+    rows: &IndexedBook<T>,
+    tables: &Tables<S>,
+    firsts: &mut Firsts,
+    id: u32,
+)
+    requires order { AreInOrder (map T.placed rows.now.rows) tables.now }
+    requires firsts { HasFirsts (map T.placed rows.now.rows) firsts.old }
+    ensures firsts { HasFirsts (map T.placed (without T.id_of rows.now.rows id)) firsts.new }
+    ensures room { room_of firsts.old ≤ room_of firsts.new }
+{
+    let _ordered = rows.len();
+    if let Some(row) = rows.get(id) {
+        let spot = spot_at(Table::of(row.vrf()), &row.block());
+        match first_rival(rows, tables, firsts, row) {
+            Some(other) => change_first(firsts, spot, other),
+            None => drop_first(firsts, spot),
+        }
+    }
+}
+
 /// Rows in the order of their ids, and the spaces of their tables.
 ///
 /// A contract sees the rows, the spare (how many more rows can be put without memory), the tables that are there, each with a
@@ -95,12 +121,14 @@ pub struct PlacedBook<T: Located, S: Space> {
     rows: IndexedBook<T>,
     tables: Tables<S>,
     all: TableSpaces<S>,
+    firsts: Firsts,
     spare: u32,
 }
 
 impl<T: Located, S: Space> Model for PlacedBook<T, S> {
-    ghost use Rattle.std.specs.Prelude.{◌≤◌};
+    ghost use Rattle.std.specs.Prelude.{◌≤◌, map};
     ghost use Rattle.placed_book.specs.Book.{TabledRows};
+    ghost use Rattle.placed_book.specs.Firsts.{HasFirsts, room_of};
     ghost use Rattle.placed_book.specs.Codes.{book_code};
 
     ghost Value = { TabledRows T };
@@ -109,7 +137,7 @@ impl<T: Located, S: Space> Model for PlacedBook<T, S> {
 
     ghost view = { λ b. record { rows = b.rows.rows; spare = b.spare; tables = b.tables; all = b.all } };
 
-    ghost invariant = { λ b. (b.spare ≤ b.rows.spare) × (b.spare ≤ b.all.spare) };
+    ghost invariant = { λ b. (b.spare ≤ b.rows.spare) × (b.spare ≤ b.all.spare) × (b.spare ≤ room_of b.firsts) × HasFirsts (map T.placed b.rows.rows) b.firsts };
 }
 
 impl<T: Located + Drop, S: Space + Drop> PlacedBook<T, S> {
@@ -122,6 +150,7 @@ impl<T: Located + Drop, S: Space + Drop> PlacedBook<T, S> {
             rows: IndexedBook::new(alloc),
             tables: Tables::new(alloc),
             all: TableSpaces::new(alloc, Table::Global),
+            firsts: HashMap::new(alloc),
             spare: 0,
         }
     }
@@ -170,6 +199,7 @@ impl<T: Located + Drop, S: Space + Drop> PlacedBook<T, S> {
     {
         let _few = self.rows.len();
         self.rows.reserve(n)?;
+        self.firsts.reserve(n as usize)?;
         self.all.reserve(n)?;
         if self.spare < n {
             self.spare = n;
@@ -214,10 +244,12 @@ impl<T: Located + Drop, S: Space + Drop> PlacedBook<T, S> {
         let id = row.id();
         let table = Table::of(row.vrf());
         let block = row.block();
+        forget_first(&self.rows, &self.tables, &mut self.firsts, id);
         forget(&self.rows, &mut self.tables, id);
         forget_in_all(&self.rows, &mut self.all, id);
         self.tables.insert(table, block);
         self.all.insert(block);
+        note_first(&mut self.firsts, spot_at(table, &block), id);
         self.rows.put(row);
         self.spare -= 1;
     }
@@ -274,6 +306,7 @@ impl<T: Located + Drop, S: Space + Drop> PlacedBook<T, S> {
         ensures there { (t : Table) → is_there self.new.tables t ≡ is_there self.old.tables t }
         ensures spares { (t : Table) → spare_of self.old.tables t ≤ spare_of self.new.tables t }
     {
+        forget_first(&self.rows, &self.tables, &mut self.firsts, id);
         forget(&self.rows, &mut self.tables, id);
         forget_in_all(&self.rows, &mut self.all, id);
         self.rows.cut(id)
@@ -292,13 +325,30 @@ impl<T: Located + Drop, S: Space + Drop> PlacedBook<T, S> {
         false
     }
 
-    /// The least id of another row of the row's table with the row's block. It takes no memory, and looks at the rows only where
-    /// the table has the block once more.
+    /// The least id of another row of the row's table with the row's block. It takes no memory, and is one look-up of the least id
+    /// there; only where that is the row's own, and the table has the block once more, it looks at the rows.
     pub fn rival(&self, row: &T) -> Option<u32>
         requires { IsInOrder T.placed self.now }
         ensures { result ≡ least T.id_of (is_rival T.id_of T.placed row.now) self.now.rows }
     {
-        least_rival(&self.rows, &self.tables, 0, row)
+        first_rival(&self.rows, &self.tables, &self.firsts, row)
+    }
+
+    /// The ids of the rows of a table with this block, in their order. Where the table has the block once or never, that is one
+    /// look-up of the least id there; else it looks at the rows. The one error is want of memory.
+    pub fn ids_at(&self, alloc: Global, table: Table, block: Block) -> Result<Vec<u32>, AllocError>
+        requires { IsInOrder T.placed self.now }
+        ensures { IfOk result (λ v. v.items ≡ ids_at (map T.placed self.now.rows) table block) }
+    {
+        let mut ids = Vec::new(alloc);
+        let Some(first) = self.firsts.get(&spot_at(table, &block)) else {
+            return Ok(ids);
+        };
+        if self.tables.times(table, block) == 1 {
+            ids.push(*first)?;
+            return Ok(ids);
+        }
+        ids_among(alloc, &self.rows, table, &block)
     }
 
     /// The least ids of two rows of the table with one block, or `None` where it has each block once: the lesser id is the least
@@ -316,8 +366,8 @@ impl<T: Located + Drop, S: Space + Drop> PlacedBook<T, S> {
         None
     }
 
-    /// How many different blocks of a row's table contain its block strictly, whether or not the row is there. It asks for each
-    /// shorter length once.
+    /// How many different blocks of a row's table contain its block strictly, whether or not the row is there. It asks the table's
+    /// space once.
     pub fn count_around(&self, row: &T) -> u32
         requires { IsInOrder T.placed self.now }
         ensures { result ≡ around (map T.placed self.now.rows) (T.placed row.now) }

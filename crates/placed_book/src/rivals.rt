@@ -1,19 +1,22 @@
 //! Which rows are where another is: in its table, with its block.
 
-ghost use Rattle.std.specs.Prelude.{◌≡◌, ℕ, ◌+◌, ◌<◌, ◌≤◌, Some, drop, find, map, length, slice_get, option_map, not, ◌&&◌, ◌==◌};
+ghost use Rattle.std.specs.Prelude.{◌≡◌, ◌++◌, IfOk, OnOk, ℕ, ◌+◌, ◌<◌, ◌≤◌, Some, drop, find, map, length, slice_get, option_map, not, ◌&&◌, ◌==◌};
 ghost use Rattle.ipam_data.specs.Shelf.{row_at, least};
 ghost use Rattle.ipam_data.specs.Tables.{table_of, same_table};
 ghost use Rattle.ipam_data.specs.Blocks.{same_family, same_block};
 ghost use Rattle.placed_book.specs.Book.{AreInOrder};
+ghost use Rattle.placed_book.specs.Firsts.{HasFirsts, is_at, ids_at, one_if};
 ghost use Rattle.placed_book.specs.Rivals.{is_where, own_times, coincide_in, is_rival, stays_among};
 
 use crate::Located;
+use crate::firsts::{Firsts, spot_at};
 use crate::tables::Tables;
 use block_space::Space;
 use indexed_book::IndexedBook;
 use inet_num::{Block, Family};
 use ipam_data::kinds::Table;
 use row_book::Book;
+use std::alloc::{AllocError, Global};
 
 /// Whether the two families are one.
 fn is_one_family(a: Family, b: Family) -> bool
@@ -61,6 +64,42 @@ fn is_another<T: Located>(row: &T, other: &T) -> bool
     ensures { result ≡ is_rival T.id_of T.placed row.now other.now }
 {
     other.id() != row.id() && is_there(row, other)
+}
+
+/// Whether the row is in the table and has the block.
+fn is_here<T: Located>(row: &T, table: Table, block: &Block) -> bool
+    ensures { result ≡ is_at table block.now (T.placed row.now) }
+{
+    is_one_table(Table::of(row.vrf()), table) && is_one_block(&row.block(), block)
+}
+
+/// Appends the id, where it is one of those that are looked for.
+fn push_if(ids: &mut Vec<u32>, is_one: bool, id: u32) -> Result<(), AllocError>
+    ensures { OnOk result (ids.new.items ≡ ids.old.items ++ one_if is_one id) }
+{
+    if is_one {
+        ids.push(id)?;
+    }
+    Ok(())
+}
+
+/// The ids of the rows of a table with a block, looked for row by row.
+pub fn ids_among<T: Located + Drop>(
+    alloc: Global,
+    rows: &IndexedBook<T>,
+    table: Table,
+    block: &Block,
+) -> Result<Vec<u32>, AllocError>
+    ensures { IfOk result (λ v. v.items ≡ ids_at (map T.placed rows.now.rows) table block.now) }
+{
+    let mut ids = Vec::new(alloc);
+    let count = rows.len();
+    'rows: for index in 0..count {
+        if let Some(row) = rows.at(index) {
+            push_if(&mut ids, is_here(row, table, block), row.id())?;
+        }
+    }
+    Ok(ids)
 }
 
 /// Whether the row that is kept under the row's id, if any, is where the row is.
@@ -112,6 +151,25 @@ pub fn least_rival<T: Located + Drop, S: Space + Drop>(
         return None;
     }
     rival_from(rows, from, row)
+}
+
+/// The least id of a rival: the first one at the row's place, or, where that is the row's own, what a look at the rows finds.
+pub fn first_rival<T: Located + Drop, S: Space + Drop>(
+    rows: &IndexedBook<T>,
+    tables: &Tables<S>,
+    firsts: &Firsts,
+    row: &T,
+) -> Option<u32>
+    requires order { AreInOrder (map T.placed rows.now.rows) tables.now }
+    requires firsts { HasFirsts (map T.placed rows.now.rows) firsts.now }
+    ensures { result ≡ least T.id_of (is_rival T.id_of T.placed row.now) rows.now.rows }
+{
+    if let Some(first) = firsts.get(&spot_at(Table::of(row.vrf()), &row.block())) {
+        if *first != row.id() {
+            return Some(*first);
+        }
+    }
+    least_rival(rows, tables, 0, row)
 }
 
 /// The id of the row at an index and that of the first later row with its block, where both are of the table.

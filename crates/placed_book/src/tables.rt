@@ -20,7 +20,7 @@ use std::alloc::{AllocError, Global};
 use std::marker::Model;
 
 /// The number by which a table stands in its place.
-fn number(table: Table) -> u64
+pub fn number(table: Table) -> u64
     ensures { result ≡ number_of table }
 {
     match table {
@@ -73,21 +73,13 @@ fn count_strictly_inside<S: Space>(space: &S, block: Block) -> u32
     space.counting(block, true)
 }
 
-/// How many different blocks of a space contain a block strictly: at most one has each shorter length, so each is asked for.
+/// How many different blocks of a space contain a block strictly.
 fn count_different_around<S: Space>(space: &S, block: Block) -> u32
     requires { block.family ≡ S.family_of space.now }
     ensures { (blocks : List Cidr) → IsPermutation blocks (S.held space.now) → result ≡ distinct (filter (λ b. is_strictly_inside block b) blocks) }
 {
     let _lawful = (space.family(), block.len());
-    let mut count = 0u32;
-    let mut wide = block;
-    'widen: while let Some(wider) = wide.enclosing() {
-        wide = wider;
-        if space.times(wide) > 0 {
-            count += 1;
-        }
-    }
-    count
+    space.around(block)
 }
 
 /// The tables that are there: the global one, and those of VRFs in the order of the VRFs' ids.

@@ -11,6 +11,7 @@ ghost use Rattle.radix_tree.specs.Frees.{HasLeastFrees};
 ghost use Rattle.radix_tree.specs.Covering.{ListsCovering};
 ghost use Rattle.radix_tree.specs.Inside.{ListsInside};
 
+mod around;
 mod available;
 mod counting;
 mod fits;
@@ -19,6 +20,7 @@ mod links;
 mod mends;
 mod walk;
 
+use around::around_counted;
 use block_space::{Space, Steps};
 use counting::count_counted;
 use inet_num::{Addr, Block, Family};
@@ -181,6 +183,11 @@ impl Space for Tree {
     fn times(&self, block: Block) -> u32 {
         let _lawful = block.len();
         times_counted::<Brand>(&self.linked, &block, Blank::new(1))
+    }
+
+    fn around(&self, block: Block) -> u32 {
+        let _lawful = block.len();
+        around_counted::<Brand>(&self.linked, &block, Blank::new(1))
     }
 
     fn counting(&self, within: Block, strict: bool) -> u32 {

@@ -1,4 +1,4 @@
-use Rattle.std.proofs.Common.{◌≡◌, None, IsSome, List, arith, ap, ◌∙◌, sym, subst}
+use Rattle.std.proofs.Common.{◌≡◌, None, IsSome, arith, ap, ◌∙◌, sym, subst}
 use Rattle.ipam_data.specs.Shelf.{least}
 use Rattle.ipam_data.specs.Tables.{table_of}
 use Rattle.placed_book.specs.Book.{TabledRows, IsInOrder}

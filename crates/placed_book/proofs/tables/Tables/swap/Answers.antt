@@ -1,5 +1,5 @@
 use Rattle.std.proofs.Common.{◌≡◌, ◌∷◌, ◌∙◌, sym, ap, subst, set, List, Option, Some, None}
-use Rattle.placed_book.specs.Book.{Placed, placed_id, TableBlocks, table_at, blocks_in}
+use Rattle.placed_book.specs.Book.{TableBlocks, table_at, blocks_in}
 use Rattle.placed_book.specs.Changes.{IsSwapped, IsChangedAt}
 use Rattle.placed_book.proofs.Lookups.{at_found, at_none, changed_at, rises_at, none_there}
 use Rattle.placed_book.proofs.tables.Tables.swap.Goals as goal
