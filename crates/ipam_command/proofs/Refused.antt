@@ -1,11 +1,11 @@
 -- What a session leaves whose opening was refused, as the command's record has it.
-use Rattle.std.proofs.Common.{◌≡◌, ℕ, ◌⊎◌, List, inl, inr, Option, Some, None, Bool, true, false, bytes_eq, refl, subst, sym, arith}
+use Rattle.std.proofs.Common.{◌≡◌, ℕ, ◌≤◌, ◌⊎◌, List, inl, inr, Option, Some, None, Bool, true, false, bytes_eq, refl, subst, sym, arith}
 use Rattle.std.proofs.lemmas.Slice.Eq.{bytes_eq-Decides}
 use Rattle.ipam_stored.specs.declared.tables.Tables.{Tables}
 use Rattle.ipam_stored.specs.declared.opening.OpenFault.{OpenFault}
 use Rattle.ipam_stored.specs.declared.opening.OpenFault.TheVariants.{Keeper, BadTables, Memory, BadRow, Version, BadNext, Limit}
 use Rattle.ipam_stored.specs.Opening.{IsOfTables}
-use Rattle.ipam_keeper.specs.Keeping.{started, tables_at, IsReturned, AreGiven}
+use Rattle.ipam_keeper.specs.Keeping.{Rose, IsRaised, started, tables_at, IsReturned, AreGiven}
 use Rattle.register_core.specs.Opened.{IsUnopened}
 use Rattle.command_words.specs.declared.asked.Store.{Store}
 use Rattle.command_streams.specs.Streams.{EndsWith}
@@ -119,3 +119,13 @@ back_again (Some path) told (Some entries) None is returned = absurd returned.1
 back_again (Some path) told (Some entries) (Some new) is returned = λ other.
     beside path other entries new (bytes_eq other path) refl
     (subst (λ (t : Option Tables). AreGiven path t (Some new)) is returned.0) returned.1
+
+-- where a keeper that went back had failed, the opener's count rose
+pub raised_rose : (old mid few more new : ℕ) → old ≤ mid → Rose few more → IsRaised mid more new → Rose old new
+raised_rose old mid few more new later (inl above) (inl is) = inl (omega arith)
+raised_rose old mid few more new later (inr last) (inl is) = inr (omega arith)
+raised_rose old mid few more new later rose (inr is) = inr (let e = is.1 in omega arith)
+
+pub raised_later : (old mid more new : ℕ) → old ≤ mid → IsRaised mid more new → old ≤ new
+raised_later old mid more new later (inl is) = omega arith
+raised_later old mid more new later (inr is) = (let e = is.0 in omega arith)
