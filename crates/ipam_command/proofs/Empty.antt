@@ -39,7 +39,7 @@ is_empty {T} shelf f none one =
 next_at : List (Kind × ℕ) → ℕ → ℕ
 next_at nexts k = (get_or nexts k (Vrfs, 0)).1
 
-state : Shelf Vrf → Shelf Rir → Shelf Role → Shelf Aggregate → Shelf Prefix → Shelf IpRange → Shelf IpAddress → Bool → ℕ → State
+abbrev state : Shelf Vrf → Shelf Rir → Shelf Role → Shelf Aggregate → Shelf Prefix → Shelf IpRange → Shelf IpAddress → Bool → ℕ → State
 state a b c d e f g unique spent =
     record { vrfs = a; rirs = b; roles = c; aggregates = d; prefixes = e; ranges = f; addresses = g; global_unique = unique; spent = spent }
 

@@ -208,7 +208,7 @@ of_memory words old new status five same =
       complete = λ command a stands well. inr (inr five);
       exact = λ within a well. always old.streams.input.bytes _ (λ bytes. inl five);
       later = subst (λ (t : Outside). NoCountFalls old t) (sym same)
-      (record { streams = record { input = omega arith; output = omega arith; errors = omega arith }; stores = omega arith });
+          (record { streams = record { input = omega arith; output = omega arith; errors = omega arith }; stores = omega arith });
     }
 
 pub runs_have_clauses : RunsHaveClauses

@@ -68,7 +68,7 @@ serves step from to store old new how state first seen failed count mid told loa
       ends = ends;
       bounded = bounded old.stores.faults mid count new.stores.faults failed few later raised;
       plain = λ well. end_plainly (fresh state) (standing seen failed) old.streams.output.bytes new.streams.output.bytes talk.bytes new.streams.input.bytes how ends
-      (none_failed old.stores.faults mid count new.stores.faults failed few later raised well);
+          (none_failed old.stores.faults mid count new.stores.faults failed few later raised well);
       needed = talk.needed;
       holds = (told, tells, returned);
       silent = silent;

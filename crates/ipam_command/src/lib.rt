@@ -11,9 +11,9 @@ mod entry;
 mod session;
 #[cfg(test)]
 mod session_tests;
-mod store_words;
 #[cfg(test)]
 mod store_tests;
+mod store_words;
 #[cfg(test)]
 mod tests;
 

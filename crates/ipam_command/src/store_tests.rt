@@ -142,9 +142,11 @@ fn is_as_said(alloc: Global, opener: &mut MemoryOpener, line: &str) -> Result<bo
     let left = ran(alloc, opener, line)?;
     let answers = answers_of(alloc, line)?;
     let message = message_of(alloc, line)?;
-    Ok(u32::from(left.status) == number(part(line, 0))
-        && left.output.as_slice() == answers.as_slice()
-        && left.errors.as_slice() == message.as_bytes())
+    Ok(
+        u32::from(left.status) == number(part(line, 0))
+            && left.output.as_slice() == answers.as_slice()
+            && left.errors.as_slice() == message.as_bytes(),
+    )
 }
 
 /// The first line of a case that does not leave what it says.

@@ -1,6 +1,6 @@
 -- The answers of a register over a keeper that one connection has for itself: those of the plain register, one after another; but where
 -- the keeper fails a call that no check refuses is answered so, and all stays.
-use Rattle.std.specs.Prelude.{◌≡◌, ◌⊎◌, ℕ, [], length, None, Result, Ok, Err}
+use Rattle.std.specs.Prelude.{◌≡◌, ◌⊎◌, ℕ, List, [], length, None, Result, Ok, Err}
 use Rattle.ipam_data.specs.declared.calls.Call.{Call}
 use Rattle.ipam_data.specs.declared.replies.Reply.{Reply}
 use Rattle.ipam_data.specs.declared.replies.Reply.TheVariants.{Refused}
