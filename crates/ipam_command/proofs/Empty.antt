@@ -14,7 +14,7 @@ use Rattle.ipam_data.specs.Shelf.{Shelf}
 use Rattle.ipam_data.specs.State.{State, empty_shelf, empty_state}
 use Rattle.ipam_stored.specs.declared.tables.Row.{Row}
 use Rattle.ipam_stored.specs.declared.tables.Tables.{Tables}
-use Rattle.ipam_stored.specs.Stored.{tables_of, stored_rows}
+use Rattle.ipam_stored.specs.Stored.{tables_of, stored_rows, stored_vrf, stored_rir, stored_role, stored_aggregate, stored_prefix, stored_range, stored_address}
 use Rattle.ipam_stored.specs.Order.{empty_tables}
 use Rattle.ipam_stored.specs.Opening.{IsOpening}
 
@@ -36,7 +36,7 @@ is_empty {T} shelf f none one =
     ap (λ (rows : List T). record { rows = rows; next = shelf.next }) (none_mapped f shelf.rows none) ∙ ap (λ (n : ℕ). record { rows = []; next = n }) one
 
 -- the next id that stands at an index
-next_at : List (Kind × ℕ) → ℕ → ℕ
+abbrev next_at : List (Kind × ℕ) → ℕ → ℕ
 next_at nexts k = (get_or nexts k (Vrfs, 0)).1
 
 abbrev state : Shelf Vrf → Shelf Rir → Shelf Role → Shelf Aggregate → Shelf Prefix → Shelf IpRange → Shelf IpAddress → Bool → ℕ → State
@@ -75,11 +75,11 @@ empty_opened tables unique s is opening =
     let r6 = other_kinds s Prefixes _ r5 in
     let r7 = other_kinds s Ranges _ r6 in
     same_state s unique
-    (is_empty s.vrfs _ (first_kind s Vrfs _ r1) (ap (λ (l : List (Kind × ℕ)). next_at l 0) nexts))
-    (is_empty s.rirs _ (first_kind s Rirs _ r2) (ap (λ (l : List (Kind × ℕ)). next_at l 1) nexts))
-    (is_empty s.roles _ (first_kind s Roles _ r3) (ap (λ (l : List (Kind × ℕ)). next_at l 2) nexts))
-    (is_empty s.aggregates _ (first_kind s Aggregates _ r4) (ap (λ (l : List (Kind × ℕ)). next_at l 3) nexts))
-    (is_empty s.prefixes _ (first_kind s Prefixes _ r5) (ap (λ (l : List (Kind × ℕ)). next_at l 4) nexts))
-    (is_empty s.ranges _ (first_kind s Ranges _ r6) (ap (λ (l : List (Kind × ℕ)). next_at l 5) nexts))
-    (is_empty s.addresses _ (first_kind s Addresses _ r7) (ap (λ (l : List (Kind × ℕ)). next_at l 6) nexts))
+    (is_empty s.vrfs stored_vrf (first_kind s Vrfs _ r1) (ap (λ (l : List (Kind × ℕ)). next_at l 0) nexts))
+    (is_empty s.rirs stored_rir (first_kind s Rirs _ r2) (ap (λ (l : List (Kind × ℕ)). next_at l 1) nexts))
+    (is_empty s.roles stored_role (first_kind s Roles _ r3) (ap (λ (l : List (Kind × ℕ)). next_at l 2) nexts))
+    (is_empty s.aggregates stored_aggregate (first_kind s Aggregates _ r4) (ap (λ (l : List (Kind × ℕ)). next_at l 3) nexts))
+    (is_empty s.prefixes stored_prefix (first_kind s Prefixes _ r5) (ap (λ (l : List (Kind × ℕ)). next_at l 4) nexts))
+    (is_empty s.ranges stored_range (first_kind s Ranges _ r6) (ap (λ (l : List (Kind × ℕ)). next_at l 5) nexts))
+    (is_empty s.addresses stored_address (first_kind s Addresses _ r7) (ap (λ (l : List (Kind × ℕ)). next_at l 6) nexts))
     opening.unique opening.spent

@@ -1,5 +1,5 @@
 -- What a session leaves whose opening was refused, as the command's record has it.
-use Rattle.std.proofs.Common.{◌≡◌, ℕ, ◌≤◌, ◌⊎◌, List, inl, inr, Option, Some, None, Bool, true, false, bytes_eq, refl, subst, sym, arith}
+use Rattle.std.proofs.Common.{◌≡◌, ℕ, ◌≤◌, ◌⊎◌, List, inl, inr, Option, Some, None, Bool, true, false, bytes_eq, refl, subst, sym, ◌∙◌, arith}
 use Rattle.std.proofs.lemmas.Slice.Eq.{bytes_eq-Decides}
 use Rattle.ipam_stored.specs.declared.tables.Tables.{Tables}
 use Rattle.ipam_stored.specs.declared.opening.OpenFault.{OpenFault}
@@ -8,7 +8,7 @@ use Rattle.ipam_stored.specs.Opening.{IsOfTables}
 use Rattle.ipam_keeper.specs.Keeping.{Rose, IsRaised, started, tables_at, IsReturned, AreGiven}
 use Rattle.register_core.specs.Opened.{IsUnopened}
 use Rattle.command_words.specs.declared.asked.Store.{Store}
-use Rattle.command_streams.specs.Streams.{EndsWith}
+use Rattle.command_streams.specs.Streams.{Told, EndsWith}
 use Rattle.ipam_command.specs.Outside.{Outside, StoreFailed, AreSame, IsUnused, NoCountFalls}
 use Rattle.ipam_command.specs.StoreWords.{IsSaid, fault_line}
 use Rattle.ipam_command.specs.Session.{found_tables, IsBadStore, IsSession}
@@ -129,3 +129,21 @@ raised_rose old mid few more new later rose (inr is) = inr (let e = is.1 in omeg
 pub raised_later : (old mid more new : ℕ) → old ≤ mid → IsRaised mid more new → old ≤ new
 raised_later old mid more new later (inl is) = omega arith
 raised_later old mid more new later (inr is) = (let e = is.0 in omega arith)
+
+-- the same, with what is known of the opener and of the keeper by then
+pub back_after : (db : Option (List ℕ)) (lent : Option (Option (List ℕ))) (told last : Option Tables) (old mid new : Option (List (List ℕ × Tables)))
+    → lent ≡ Some db → mid ≡ old → last ≡ told → told ≡ started old db → IsReturned lent last mid new → AreSame old new
+back_after db lent told last old mid new out stays same is returned =
+    let here = subst (λ (l : Option (Option (List ℕ))). IsReturned l last mid new) out returned in
+    back_again db last old new (same ∙ is) (subst (λ (s : Option (List (List ℕ × Tables))). IsReturned (Some db) last s new) stays here)
+
+-- a fault of tables was said
+pub said_of_tables : (fault : OpenFault) (old new : Told) (message : List ℕ) (status : ℕ) → ¬ (fault ≡ Keeper) → ¬ (fault ≡ Memory) → message ≡ fault_line fault
+    → EndsWith old new message 1 status → IsSaid fault old new status
+said_of_tables Keeper old new message status k m is ends = absurd (k refl)
+said_of_tables Memory old new message status k m is ends = absurd (m refl)
+said_of_tables (BadTables kind n rule) old new message status k m is ends = inl (subst (λ (t : List ℕ). EndsWith old new t 1 status) is ends)
+said_of_tables (BadRow kind n) old new message status k m is ends = inl (subst (λ (t : List ℕ). EndsWith old new t 1 status) is ends)
+said_of_tables (Version n) old new message status k m is ends = inl (subst (λ (t : List ℕ). EndsWith old new t 1 status) is ends)
+said_of_tables (BadNext kind) old new message status k m is ends = inl (subst (λ (t : List ℕ). EndsWith old new t 1 status) is ends)
+said_of_tables (Limit which n) old new message status k m is ends = inl (subst (λ (t : List ℕ). EndsWith old new t 1 status) is ends)

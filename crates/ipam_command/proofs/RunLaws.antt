@@ -129,7 +129,7 @@ of_session : (words : List (List ℕ)) (old new : Outside) (status : ℕ) (store
     → IsSession store old new status → HasClauses words old new status
 of_session words old new status store asks s = record {
   status_ = elim s.statuses [ inl e ↦ omega arith | inr a ↦ elim a [ inl e ↦ omega arith | inr b ↦ elim b [ inl e ↦ omega arith | inr c ↦ elim c [ inl e ↦ omega arith | inr e ↦ omega arith ] ] ] ];
-  done = λ z. (let t = s.done z in (inr (store, asks, t.serves.state, t.serves.loaded, t.prints, t.plain), t.serves.silent));
+  done = λ z. (let t = s.done z in (inr (store, asks, (t.serves.state, t.serves.loaded, t.prints, t.plain)), t.serves.silent));
   refused = λ z. inr (store, asks, s.refused z);
   usage = λ z. absurd (elim s.statuses [ inl e ↦ omega arith | inr a ↦ elim a [ inl e ↦ omega arith | inr b ↦ elim b [ inl e ↦ omega arith | inr c ↦ elim c [ inl e ↦ omega arith | inr e ↦ omega arith ] ] ] ]);
   usage_first = λ n. absurd (n (Session store) asks tt);

@@ -119,3 +119,25 @@ of_served store old new Memory s source sink later = record {
   memory = λ z. (s.silent, inr s);
   later = later;
 }
+
+pub of_ended : (store : Store) (old new : Outside) (how : SessionEnd) (status : ℕ) → status ≡ end_status how → Serves store old new how
+    → (how ≡ SourceFault → Failed old.streams.input new.streams.input) → (how ≡ SinkFault → Failed old.streams.output new.streams.output)
+    → NoCountFalls old new → IsSession store old new status
+of_ended store old new how status is s source sink later = subst (λ (n : ℕ). IsSession store old new n) (sym is) (of_served store old new how s source sink later)
+
+-- a session that was served, by what is known of the opener that lent its keeper
+pub serves_back : {R : Type 0} {K : Type 0} (step : Step R) (from to : R) (store : Store) (old new : Outside) (how : SessionEnd) (state : State) (first seen : Seen)
+    (told_by : K → Option Tables) (faults_by : K → ℕ) (kept keeper : K) (mid : ℕ) (lent : Option (Option (List ℕ))) (mid_stored : Option (List (List ℕ × Tables)))
+    → IsLoaded store old state → first ≡ (fresh state).seen
+    → (failed : ℕ) × (failed ≤ faults_by keeper)
+    × IsTalkSession answers_kept step (standing first 0) (standing seen failed) from to old.streams.input.bytes new.streams.input.bytes
+    old.streams.output.bytes new.streams.output.bytes how
+    → kept ≡ keeper → old.stores.faults ≤ mid → IsRaised mid (faults_by kept) new.stores.faults → Tells (told_by keeper) seen.state
+    → lent ≡ Some store.db → old.stores.stored ≡ mid_stored → IsReturned lent (told_by kept) mid_stored new.stores.stored
+    → new.streams.errors ≡ old.streams.errors → Serves store old new how
+serves_back {R} {K} step from to store old new how state first seen told_by faults_by kept keeper mid lent mid_stored loaded begins talk same later raised tells out stays returned silent =
+    let raised' = subst (λ (k : K). IsRaised mid (faults_by k) new.stores.faults) same raised in
+    let back = subst (λ (k : K). IsReturned lent (told_by k) mid_stored new.stores.stored) same returned in
+    let here = subst (λ (l : Option (Option (List ℕ))). IsReturned l (told_by keeper) mid_stored new.stores.stored) out back in
+    let there = subst (λ (s : Option (List (List ℕ × Tables))). IsReturned (Some store.db) (told_by keeper) s new.stores.stored) (sym stays) here in
+    serves step from to store old new how state first seen talk.0 (faults_by keeper) mid (told_by keeper) loaded begins talk.2 talk.1 later raised' tells there silent

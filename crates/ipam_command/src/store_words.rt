@@ -143,13 +143,19 @@ fn row_words(alloc: Global, kind: Kind, id: u32) -> Result<String, AllocError>
     format!(in alloc; "{kind} {id}")
 }
 
+/// A row and the code of what is wrong with it, in words.
+fn breach_front(alloc: Global, kind: Kind, id: u32, code: &str) -> Result<String, AllocError>
+    ensures { IfOk result (λ s. string_bytes s ≡ kind_text kind ++ codes " " ++ decimal id ++ codes ": " ++ code.now ++ codes ": ") }
+{
+    let kind = kind_name(kind);
+    format!(in alloc; "{kind} {id}: {code}: ")
+}
+
 /// A row that breaks a rule, in words.
 fn breach_words(alloc: Global, kind: Kind, id: u32, rule: &Rule) -> Result<String, AllocError>
     ensures { IfOk result (λ s. string_bytes s ≡ fault_words (OpenFault.BadTables kind id rule.now)) }
 {
-    let row = row_words(alloc, kind, id)?;
-    let code = rule_word(rule);
-    let front = format!(in alloc; "{row}: {code}: ")?;
+    let front = breach_front(alloc, kind, id, rule_word(rule))?;
     let detail = rule_words(alloc, rule)?;
     format!(in alloc; "{front}{detail}")
 }

@@ -1,5 +1,5 @@
 -- Where memory was wanting, the call of a request was not made, or it was and its answer is lost.
-use Rattle.std.proofs.Common.{◌≡◌, ℕ, List, OnErr, Result, Ok, Err, subst, inl, inr}
+use Rattle.std.proofs.Common.{◌≡◌, ℕ, List, OnErr, Result, Ok, Err, subst, refl, inl, inr, length, IfOk}
 use Rattle.ipam_data.specs.declared.calls.Call.{Call}
 use Rattle.ipam_json.specs.Bodies.{OrMemory}
 use Rattle.ipam_json.specs.declared.replies.Links.{Links}
@@ -7,7 +7,10 @@ use Rattle.http_session.specs.declared.reply.Reply.{Reply}
 use Rattle.http_session.specs.Requests.{Framed}
 use Rattle.http_session.specs.Ends.{IsLeft}
 use Rattle.rest_routes.specs.Requests.{Asked, IsRequest}
-use Rattle.kept_session.specs.Answered.{Standing, IsActed, answers_kept}
+use Rattle.ipam_data.specs.declared.replies.Reply.{Reply as Said}
+use Rattle.http_session.specs.Replies.{answer_of}
+use Rattle.rest_routes.specs.Answers.{reply_answer, finished_links, end_of}
+use Rattle.kept_session.specs.Answered.{Standing, IsReplied, IsActed, answers_kept}
 
 -- what a request asks for, by texts that are its own
 abbrev IsRead : List ℕ → List ℕ → List ℕ → Asked → Type 0
@@ -29,3 +32,13 @@ lost_kept old new request method target body call links (Err e) m t b read acted
   | inl same ↦ inl same
   | inr made ↦ inr (made.0, (Ok (call, links), own request method target body (Ok (call, links)) m t b read, made.1))
 ]
+
+-- a call that was replied to, with the answer of that reply, or without one
+pub acted : {E : Type 0} (old new : Standing) (call : Call) (links : Links) (said : Said) (result : Result Reply E) (end place : ℕ) → IsReplied old call said new
+    → end ≡ end_of call → place ≡ length old.seen.log → IfOk result (λ a. answer_of a ≡ reply_answer said (finished_links said end links) place)
+    → IsActed old call links result new
+acted old new call links said (Ok a) end place replied ends stands is =
+    let there = subst (λ (n : ℕ). answer_of a ≡ reply_answer said (finished_links said n links) place) ends is in
+    (said, replied, subst (λ (n : ℕ). answer_of a ≡ reply_answer said (finished_links said (end_of call) links) n) stands there)
+acted old new call links said (Err e) end place replied ends stands is =
+    inr (reply_answer said (finished_links said (end_of call) links) (length old.seen.log), (said, replied, refl))

@@ -1,15 +1,13 @@
 //! One connection that has a register over a keeper for itself.
 
-ghost use Rattle.std.specs.Prelude.{◌≡◌, ◌≢◌, ◌≤◌, ℕ, List, [], None, length, IfOk, OnErr, MatchBool};
+ghost use Rattle.std.specs.Prelude.{◌≡◌, ◌≢◌, ◌≤◌, ℕ, List, [], length, IfOk, OnErr, MatchBool};
 ghost use Rattle.ipam_edge.specs.Faults.{Rose};
-ghost use Rattle.ipam_data.specs.Steps.{plain_step, verdict};
-ghost use Rattle.ipam_keeper.specs.Keeping.{IsRaised};
 ghost use Rattle.http_session.specs.Steps.{framed};
 ghost use Rattle.http_session.specs.Ends.{IsLeft, IsSession};
 ghost use Rattle.http_session.specs.Replies.{answer_of};
 ghost use Rattle.rest_routes.specs.Answers.{IsRefusedAnswer, reply_answer, finished_links};
-ghost use Rattle.rest_ipam.specs.Answered.{seen_of, stepped};
-ghost use Rattle.kept_session.specs.Answered.{Standing, standing, IsPlain, IsUnstored, IsActed, answers_kept};
+ghost use Rattle.rest_ipam.specs.Answered.{seen_of};
+ghost use Rattle.kept_session.specs.Answered.{Standing, standing, IsReplied, IsActed, answers_kept};
 
 use http_session::{Desk, HttpRequest, Reply as Answer, SessionEnd, serve};
 use ipam_data::calls::Call;
@@ -66,15 +64,38 @@ fn ask<K: Keeper>(register: &mut Register<K>, failed: &mut u64, call: Call) -> R
     requires few { failed.old ≤ K.faults register.old.keeper }
     ensures few { failed.new ≤ K.faults register.new.keeper }
     ensures memory { result ≡ Reply.Refused Refusal.Memory → standing (seen_of register.new) failed.new ≡ standing (seen_of register.old) failed.old }
-    ensures keeper { result ≡ Reply.Refused Refusal.Keeper → IsUnstored (standing (seen_of register.old) failed.old) call result (standing (seen_of register.new) failed.new) }
-    ensures plain { result ≢ Reply.Refused Refusal.Memory → result ≢ Reply.Refused Refusal.Keeper
-        → IsPlain (standing (seen_of register.old) failed.old) call result (standing (seen_of register.new) failed.new) }
+    ensures replied { result ≢ Reply.Refused Refusal.Memory
+        → IsReplied (standing (seen_of register.old) failed.old) call result (standing (seen_of register.new) failed.new) }
 {
     let reply = register.act(CALLER, call);
     if is_failed(&reply) {
         *failed = failed.saturating_add(1);
+        return reply;
     }
     reply
+}
+
+/// The answer of a reply, which stands at this place, and whose page ends with so many rows. `Err` is want of memory.
+fn answer_to(
+    alloc: Global,
+    reply: &Reply,
+    end: u64,
+    links: Links,
+    place: u64,
+) -> Result<Answer, AllocError>
+    ensures { IfOk result (λ a. answer_of a ≡ reply_answer reply.now (finished_links reply.now end links) place) }
+{
+    let links = finish_links(reply, end, links);
+    let answer = answer_of_reply(alloc, reply, &links, place);
+    drop(links);
+    answer
+}
+
+/// The place of the next answer: the number of accepted changes.
+fn place_of<K: Keeper>(register: &Register<K>) -> u64
+    ensures { result ≡ length register.now.log }
+{
+    register.log().len() as u64
 }
 
 /// Lets the register answer a call, and writes the answer. The one error is want of memory: the register is then as before, or
@@ -90,7 +111,7 @@ fn act<K: Keeper>(
     ensures few { failed.new ≤ K.faults register.new.keeper }
     ensures acted { IsActed (standing (seen_of register.old) failed.old) call links result (standing (seen_of register.new) failed.new) }
 {
-    let place = register.log().len() as u64;
+    let place = place_of(register);
     let end = page_end(&call);
     let reply = ask(register, failed, call);
     if is_memory(&reply) {
@@ -98,10 +119,8 @@ fn act<K: Keeper>(
         drop(links);
         return Err(AllocError);
     }
-    let links = finish_links(&reply, end, links);
-    let answer = answer_of_reply(alloc, &reply, &links, place);
+    let answer = answer_to(alloc, &reply, end, links, place);
     drop(reply);
-    drop(links);
     answer
 }
 
