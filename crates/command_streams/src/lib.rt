@@ -14,6 +14,8 @@ pub const REFUSED: u8 = 1;
 pub const USAGE: u8 = 2;
 /// The input, the output or the messages failed.
 pub const FAULT: u8 = 3;
+/// The store failed.
+pub const STORE: u8 = 4;
 /// Want of memory.
 pub const MEMORY: u8 = 5;
 

@@ -1,3 +1,5 @@
 pub mod Sessions
+pub mod Refused
+pub mod Empty
 pub mod RunLaws
 pub mod Parts

@@ -1,3 +1,5 @@
+pub mod Outside
+pub mod StoreWords
 pub mod Session
 pub mod Runs
 pub mod Clauses

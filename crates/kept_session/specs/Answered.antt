@@ -1,0 +1,66 @@
+-- The answers of a register over a keeper that one connection has for itself: those of the plain register, one after another; but where
+-- the keeper fails a call that no check refuses is answered so, and all stays.
+use Rattle.std.specs.Prelude.{◌≡◌, ◌⊎◌, ℕ, List, [], length, None, Result, Ok, Err}
+use Rattle.ipam_data.specs.declared.calls.Call.{Call}
+use Rattle.ipam_data.specs.declared.replies.Reply.{Reply}
+use Rattle.ipam_data.specs.declared.replies.Reply.TheVariants.{Refused}
+use Rattle.ipam_data.specs.declared.replies.Refusal.TheVariants.{Keeper}
+use Rattle.ipam_data.specs.State.{State}
+use Rattle.ipam_data.specs.Steps.{plain_step, verdict}
+use Rattle.http_session.specs.declared.reply.Reply.{Reply as Written}
+use Rattle.http_session.specs.Replies.{answer_of}
+use Rattle.http_session.specs.Requests.{Framed}
+use Rattle.http_session.specs.Talk.{Answer}
+use Rattle.ipam_json.specs.declared.replies.Links.{Links}
+use Rattle.ipam_keeper.specs.Keeping.{IsRaised}
+use Rattle.rest_routes.specs.Requests.{Asked, IsRequest}
+use Rattle.rest_routes.specs.Answers.{IsRefusedAnswer, reply_answer, finished_links, end_of}
+use Rattle.rest_ipam.specs.Answered.{Seen, stepped}
+
+-- what is seen of the register, and how many calls were answered by a failed keeper, as far as the count goes
+pub record Standing : Type 0 where
+  pub seen : Seen
+  pub failed : ℕ
+
+abbrev pub standing : Seen → ℕ → Standing
+standing seen failed = record { seen = seen; failed = failed }
+
+-- the reply to a call is the plain step's
+pub record IsPlain (old : Standing) (call : Call) (reply : Reply) (new : Standing) : Type 0 where
+  pub reply_is : reply ≡ (plain_step old.seen.state call).1
+  pub seen : new.seen ≡ stepped old.seen call
+  pub failed : new.failed ≡ old.failed
+
+-- no check refuses the call, the keeper failed, and the register is as before
+pub record IsUnstored (old : Standing) (call : Call) (reply : Reply) (new : Standing) : Type 0 where
+  pub reply_is : reply ≡ Refused Keeper
+  pub allowed : verdict old.seen.state call ≡ None
+  pub seen : new.seen ≡ old.seen
+  pub failed : IsRaised old.failed 1 new.failed
+
+abbrev pub IsReplied : Standing → Call → Reply → Standing → Type 0
+IsReplied old call reply new = IsPlain old call reply new ⊎ IsUnstored old call reply new
+
+-- the answer to a call, whose page has these links as far as there are rows
+abbrev pub IsTold : Standing → Call → Links → Answer → Standing → Type 0
+IsTold old call links answer new =
+    (reply : Reply) × IsReplied old call reply new × (answer ≡ reply_answer reply (finished_links reply (end_of call) links) (length old.seen.log))
+
+-- the answer to what a request of this target asks for
+abbrev pub IsAnswer : Standing → List ℕ → Asked → Answer → Standing → Type 0
+IsAnswer old target (Ok asked) answer new = IsTold old asked.0 asked.1 answer new
+IsAnswer old target (Err refusal) answer new = IsRefusedAnswer target refusal answer × (new ≡ old)
+
+-- a request is answered as the plain register would, or the keeper failed
+abbrev pub answers_kept : Standing → Framed → Answer → Standing → Type 0
+answers_kept old request answer new =
+    (asked : Asked) × IsRequest request.method request.target request.body asked × IsAnswer old request.target asked answer new
+
+-- a call was made and its answer is this; or memory was wanting, and all is as before, or the answer is lost
+abbrev pub IsActed : {E : Type 0} → Standing → Call → Links → Result Written E → Standing → Type 0
+IsActed old call links (Ok reply) new = IsTold old call links (answer_of reply) new
+IsActed old call links (Err e) new = (new ≡ old) ⊎ ((answer : Answer) × IsTold old call links answer new)
+
+-- a register that was opened with this state, before its first request
+abbrev pub fresh : State → Standing
+fresh state = standing (record { state = state; log = [] }) 0

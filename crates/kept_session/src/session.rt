@@ -1,0 +1,232 @@
+//! One connection that has a register over a keeper for itself.
+
+ghost use Rattle.std.specs.Prelude.{◌≡◌, ◌≢◌, ◌≤◌, ℕ, List, [], length, IfOk, OnErr, MatchBool};
+ghost use Rattle.ipam_edge.specs.Faults.{Rose};
+ghost use Rattle.http_session.specs.Steps.{framed};
+ghost use Rattle.http_session.specs.Ends.{IsLeft, IsSession};
+ghost use Rattle.http_session.specs.Replies.{answer_of};
+ghost use Rattle.rest_routes.specs.Answers.{IsRefusedAnswer, reply_answer, finished_links};
+ghost use Rattle.rest_ipam.specs.Answered.{seen_of};
+ghost use Rattle.kept_session.specs.Answered.{Standing, standing, IsReplied, IsActed, answers_kept};
+
+use http_session::{Desk, HttpRequest, Reply as Answer, SessionEnd, serve};
+use ipam_data::calls::Call;
+use ipam_data::replies::{Refusal, Reply};
+use ipam_edge::{Sink, Source};
+use ipam_json::Links;
+use ipam_keeper::keeper::Keeper;
+use register_core::Register;
+use rest_routes::{
+    Routes, answer_of_refusal_by, answer_of_reply, finish_links, page_end, read_call_by,
+};
+use std::alloc::{AllocError, Global};
+use std::marker::PhantomData;
+
+/// The number under which the one caller's changes are noted.
+const CALLER: u32 = 0;
+
+/// Whether a refusal is want of memory.
+fn is_want(refusal: &Refusal) -> bool
+    ensures { MatchBool result (refusal.now ≡ Refusal.Memory) (refusal.now ≢ Refusal.Memory) }
+{
+    matches!(refusal, Refusal::Memory)
+}
+
+/// Whether a refusal is that the keeper failed.
+fn is_keepers(refusal: &Refusal) -> bool
+    ensures { MatchBool result (refusal.now ≡ Refusal.Keeper) (refusal.now ≢ Refusal.Keeper) }
+{
+    matches!(refusal, Refusal::Keeper)
+}
+
+/// Whether a reply is want of memory.
+fn is_memory(reply: &Reply) -> bool
+    ensures { MatchBool result (reply.now ≡ Reply.Refused Refusal.Memory) (reply.now ≢ Reply.Refused Refusal.Memory) }
+{
+    match reply {
+        Reply::Refused(refusal) => is_want(refusal),
+        _ => false,
+    }
+}
+
+/// Whether a reply is that the keeper failed.
+fn is_failed(reply: &Reply) -> bool
+    ensures { MatchBool result (reply.now ≡ Reply.Refused Refusal.Keeper) (reply.now ≢ Reply.Refused Refusal.Keeper) }
+{
+    match reply {
+        Reply::Refused(refusal) => is_keepers(refusal),
+        _ => false,
+    }
+}
+
+/// Lets the register answer a call, and counts the answer where the keeper failed.
+fn ask<K: Keeper>(register: &mut Register<K>, failed: &mut u64, call: Call) -> Reply
+    requires few { failed.old ≤ K.faults register.old.keeper }
+    ensures few { failed.new ≤ K.faults register.new.keeper }
+    ensures memory { result ≡ Reply.Refused Refusal.Memory → standing (seen_of register.new) failed.new ≡ standing (seen_of register.old) failed.old }
+    ensures replied { result ≢ Reply.Refused Refusal.Memory
+        → IsReplied (standing (seen_of register.old) failed.old) call result (standing (seen_of register.new) failed.new) }
+{
+    let reply = register.act(CALLER, call);
+    if is_failed(&reply) {
+        *failed = failed.saturating_add(1);
+        return reply;
+    }
+    reply
+}
+
+/// The answer of a reply, which stands at this place, and whose page ends with so many rows. `Err` is want of memory.
+fn answer_to(
+    alloc: Global,
+    reply: &Reply,
+    end: u64,
+    links: Links,
+    place: u64,
+) -> Result<Answer, AllocError>
+    ensures { IfOk result (λ a. answer_of a ≡ reply_answer reply.now (finished_links reply.now end links) place) }
+{
+    let links = finish_links(reply, end, links);
+    let answer = answer_of_reply(alloc, reply, &links, place);
+    drop(links);
+    answer
+}
+
+/// The place of the next answer: the number of accepted changes.
+fn place_of<K: Keeper>(register: &Register<K>) -> u64
+    ensures { result ≡ length register.now.log }
+{
+    register.log().len() as u64
+}
+
+/// Lets the register answer a call, and writes the answer. The one error is want of memory: the register is then as before, or
+/// the call was made and its answer is lost.
+fn act<K: Keeper>(
+    alloc: Global,
+    register: &mut Register<K>,
+    failed: &mut u64,
+    call: Call,
+    links: Links,
+) -> Result<Answer, AllocError>
+    requires few { failed.old ≤ K.faults register.old.keeper }
+    ensures few { failed.new ≤ K.faults register.new.keeper }
+    ensures acted { IsActed (standing (seen_of register.old) failed.old) call links result (standing (seen_of register.new) failed.new) }
+{
+    let place = place_of(register);
+    let end = page_end(&call);
+    let reply = ask(register, failed, call);
+    if is_memory(&reply) {
+        drop(reply);
+        drop(links);
+        return Err(AllocError);
+    }
+    let answer = answer_to(alloc, &reply, end, links, place);
+    drop(reply);
+    answer
+}
+
+/// Writes the answer to a refused request of this target. The one error is want of memory, in this call or as what was refused.
+fn refuse(
+    alloc: Global,
+    routes: &Routes,
+    target: &[u8],
+    refusal: &Refusal,
+) -> Result<Answer, AllocError>
+    ensures { IfOk result (λ answer. (refusal.now ≢ Refusal.Memory) × IsRefusedAnswer target.now refusal.now (answer_of answer)) }
+{
+    match refusal {
+        Refusal::Memory => Err(AllocError),
+        _ => answer_of_refusal_by(alloc, routes, target, refusal),
+    }
+}
+
+/// A register, and how many of its calls were answered by a failed keeper, as far as the count goes.
+pub struct Sitting<K: Keeper> {
+    register: Register<K>,
+    failed: u64,
+    ghost few: { failed ≤ K.faults register.keeper },
+}
+
+/// The desk of a connection that has a register over a keeper for itself. The table of routes is lent to it.
+pub struct KeptDesk<'a, K: Keeper> {
+    routes: &'a Routes,
+    of: PhantomData<K>,
+}
+
+impl<'a, K: Keeper> Desk for KeptDesk<'a, K> {
+    type Seat = Sitting<K>;
+
+    ghost View = { Standing };
+
+    ghost view = { λ s. standing (seen_of s.register) s.failed };
+
+    ghost may = { answers_kept };
+
+    fn answer(
+        &self,
+        alloc: Global,
+        seat: Sitting<K>,
+        request: &HttpRequest,
+    ) -> (Sitting<K>, Result<Answer, AllocError>) {
+        let Sitting {
+            mut register,
+            mut failed,
+        } = seat;
+        match read_call_by(
+            alloc,
+            self.routes,
+            &request.method,
+            &request.target,
+            &request.body,
+        ) {
+            Ok((call, links)) => {
+                let answer = act(alloc, &mut register, &mut failed, call, links);
+                (Sitting { register, failed }, answer)
+            }
+            Err(refusal) => (
+                Sitting { register, failed },
+                refuse(alloc, self.routes, &request.target, &refusal),
+            ),
+        }
+    }
+}
+
+/// Serves one connection with a register of its own, from its first byte to its end, and notes its changes under the number 0. The
+/// table of routes is lent. `SourceFault` comes where a read failed, with all requests that lay whole in the bytes read answered;
+/// `SinkFault` where a write failed, with a shorter front of the last answer written; `Memory` where memory was wanting, before a call
+/// reached the register or after its reply was made. As many answers as `failed` says tell that the keeper failed, and the keeper
+/// failed at least as often.
+pub fn serve_kept<K: Keeper, So: Source, Si: Sink>(
+    alloc: Global,
+    routes: &Routes,
+    register: Register<K>,
+    source: &mut So,
+    sink: &mut Si,
+) -> (Register<K>, SessionEnd)
+    ensures session { (failed : ℕ) × (failed ≤ K.faults result.0.keeper)
+        × IsSession answers_kept So.reads (standing (seen_of register) 0) (standing (seen_of result.0) failed) source.old source.new (So.left source.old) (So.left source.new) (Si.written sink.old) (Si.written sink.new) result.1 }
+    ensures source_later { So.faults source.old ≤ So.faults source.new }
+    ensures source { result.1 ≡ SessionEnd.SourceFault → Rose (So.faults source.old) (So.faults source.new) }
+    ensures sink_later { Si.faults sink.old ≤ Si.faults sink.new }
+    ensures sink { result.1 ≡ SessionEnd.SinkFault → Rose (Si.faults sink.old) (Si.faults sink.new) }
+{
+    let desk = KeptDesk {
+        routes,
+        of: PhantomData,
+    };
+    let (sitting, end) = serve(
+        alloc,
+        &desk,
+        Sitting {
+            register,
+            failed: 0,
+        },
+        source,
+        sink,
+    );
+    let KeptDesk { routes: _, of: _ } = desk;
+    let Sitting {
+        register,
+        failed: _,
+    } = sitting;
+    (register, end)
+}
