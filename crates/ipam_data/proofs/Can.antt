@@ -5,10 +5,10 @@ use Rattle.ipam_data.specs.declared.kinds.Kind.TheVariants.{Vrfs, Rirs, Roles, A
 use Rattle.ipam_data.specs.declared.calls.Filter.{Filter}
 use Rattle.ipam_data.specs.declared.calls.Filter.TheVariants.{Vrfs as SomeVrfs, Rirs as SomeRirs, Roles as SomeRoles, Aggregates as SomeAggregates, Prefixes as SomePrefixes, Ranges as SomeRanges, Addresses as SomeAddresses}
 use Rattle.ipam_data.specs.declared.calls.Draft.{Draft}
-use Rattle.ipam_data.specs.declared.calls.Draft.TheVariants.{Vrf as VrfDraft, Rir as RirDraft, Role as RoleDraft, Aggregate as AggregateDraft, Prefix as PrefixDraft, IpRange as RangeDraft, IpAddress as AddressDraft}
 use Rattle.ipam_data.specs.declared.calls.Edit.{Edit}
-use Rattle.ipam_data.specs.declared.calls.Edit.TheVariants.{Vrf as VrfEdit, Rir as RirEdit, Role as RoleEdit, Aggregate as AggregateEdit, Prefix as PrefixEdit, IpRange as RangeEdit, IpAddress as AddressEdit}
 use Rattle.ipam_data.specs.declared.replies.Rule.{Rule}
+use Rattle.ipam_data.specs.declared.replies.View.{View}
+use Rattle.ipam_data.specs.declared.replies.View.TheVariants.{Vrf as VrfView, Rir as RirView, Role as RoleView, Aggregate as AggregateView, Prefix as PrefixView, IpRange as RangeView, IpAddress as AddressView}
 use Rattle.ipam_data.specs.Rows.{HasVrfBounds, HasRirBounds, HasRoleBounds, HasAggregateBounds, HasPrefixBounds, HasRangeBounds, HasAddressBounds}
 use Rattle.ipam_data.specs.Shelf.{row_at, AllBelow}
 use Rattle.ipam_data.specs.Checks.{no_log}
@@ -21,15 +21,18 @@ use Rattle.ipam_data.specs.Rirs.{rir_rules}
 use Rattle.ipam_data.specs.Roles.{role_rules}
 use Rattle.ipam_data.specs.Aggregates.{aggregate_rules}
 use Rattle.ipam_data.specs.Prefixes.{prefix_rules}
-use Rattle.ipam_data.specs.Ranges.{range_rules, range_told}
+use Rattle.ipam_data.specs.Ranges.{range_rules}
 use Rattle.ipam_data.specs.Addresses.{address_rules}
-use Rattle.ipam_data.specs.Steps.{create_plan, change_plan, delete_plan, get_plan, list_plan, told_of_change}
+use Rattle.ipam_data.specs.ByKind.{by_view}
+use Rattle.ipam_data.specs.Fields.{drafted, told_of_draft, kind_of_edit, edited_vrf, edited_rir, edited_role, edited_aggregate, edited_prefix, edited_range, edited_address, told_of_change}
+use Rattle.ipam_data.specs.Steps.{next_for, create_plan, change_of_kind, change_plan, delete_plan, get_plan, list_plan}
 use Rattle.ipam_data.specs.Lawful.{IsLawful}
 use Rattle.ipam_data.proofs.Shelves.{id_below}
 use Rattle.ipam_data.proofs.Kept.{found_there}
 use Rattle.ipam_data.proofs.Placed.{id_above}
 use Rattle.ipam_data.proofs.Verdicts.{none_left, none_right, room_from}
 use Rattle.ipam_data.proofs.Sound.{IsSound}
+use Rattle.ipam_data.proofs.DraftLaws.{drafted_next, vrf_stays, rir_stays, role_stays, aggregate_stays, prefix_stays, range_stays, address_stays}
 use Rattle.ipam_data.proofs.VrfLaws.{vrfs_sound}
 use Rattle.ipam_data.proofs.RirLaws.{rirs_sound}
 use Rattle.ipam_data.proofs.RoleLaws.{roles_sound}
@@ -102,23 +105,30 @@ module _ {T : Type 0} (rules : KindRules T) where
       go None = nothing_can s
       go (Some row) = nothing_can s
 
+view_can : (s : State) (told : List (Option Rule)) (view : View) → IsLawful s → by_view view (λ T rules row. rules.id row) ≡ by_view view (λ T rules row. (rules.shelf s).next)
+    → verdict_of (by_view view (λ T rules row. create rules s told row)) ≡ None → CanUpdate s (by_view view (λ T rules row. create rules s told row)).update
+view_can s told (VrfView row) h e v = create_can vrf_rules HasVrfBounds vrfs_sound s told row h e v
+view_can s told (RirView row) h e v = create_can rir_rules HasRirBounds rirs_sound s told row h e v
+view_can s told (RoleView row) h e v = create_can role_rules HasRoleBounds roles_sound s told row h e v
+view_can s told (AggregateView row) h e v = create_can aggregate_rules HasAggregateBounds aggregates_sound s told row h e v
+view_can s told (PrefixView row depth children) h e v = create_can prefix_rules HasPrefixBounds prefixes_sound s told row h e v
+view_can s told (RangeView row) h e v = create_can range_rules HasRangeBounds ranges_sound s told row h e v
+view_can s told (AddressView row) h e v = create_can address_rules HasAddressBounds addresses_sound s told row h e v
+
 pub create_all : (s : State) (draft : Draft) → IsLawful s → verdict_of (create_plan s draft) ≡ None → CanUpdate s (create_plan s draft).update
-create_all s (VrfDraft name rd enforce_unique description) h v = create_can vrf_rules HasVrfBounds vrfs_sound s [] _ h refl v
-create_all s (RirDraft name slug is_private description) h v = create_can rir_rules HasRirBounds rirs_sound s [] _ h refl v
-create_all s (RoleDraft name slug weight description) h v = create_can role_rules HasRoleBounds roles_sound s [] _ h refl v
-create_all s (AggregateDraft block rir description) h v = create_can aggregate_rules HasAggregateBounds aggregates_sound s [] _ h refl v
-create_all s (PrefixDraft block vrf status role is_pool mark_utilized description) h v = create_can prefix_rules HasPrefixBounds prefixes_sound s [] _ h refl v
-create_all s (RangeDraft start end vrf status role mark_utilized description) h v = create_can range_rules HasRangeBounds ranges_sound s (range_told start end) _ h refl v
-create_all s (AddressDraft host vrf status role dns_name description) h v = create_can address_rules HasAddressBounds addresses_sound s [] _ h refl v
+create_all s draft h v = view_can s (told_of_draft draft) (drafted (next_for s draft) draft) h (drafted_next s draft) v
+
+kind_can : (s : State) (n : ℕ) (edit : Edit) (kind : Kind) → IsLawful s → CanUpdate s (change_of_kind s n edit kind).update
+kind_can s n edit Vrfs h = change_can vrf_rules HasVrfBounds vrfs_sound s n nothing_told (edited_vrf edit) h (vrf_stays edit)
+kind_can s n edit Rirs h = change_can rir_rules HasRirBounds rirs_sound s n nothing_told (edited_rir edit) h (rir_stays edit)
+kind_can s n edit Roles h = change_can role_rules HasRoleBounds roles_sound s n nothing_told (edited_role edit) h (role_stays edit)
+kind_can s n edit Aggregates h = change_can aggregate_rules HasAggregateBounds aggregates_sound s n nothing_told (edited_aggregate edit) h (aggregate_stays edit)
+kind_can s n edit Prefixes h = change_can prefix_rules HasPrefixBounds prefixes_sound s n nothing_told (edited_prefix edit) h (prefix_stays edit)
+kind_can s n edit Ranges h = change_can range_rules HasRangeBounds ranges_sound s n (told_of_change edit) (edited_range edit) h (range_stays edit)
+kind_can s n edit Addresses h = change_can address_rules HasAddressBounds addresses_sound s n nothing_told (edited_address edit) h (address_stays edit)
 
 pub change_all : (s : State) (n : ℕ) (edit : Edit) → IsLawful s → CanUpdate s (change_plan s n edit).update
-change_all s n (VrfEdit name rd enforce_unique description) h = change_can vrf_rules HasVrfBounds vrfs_sound s n nothing_told _ h (λ old. refl)
-change_all s n (RirEdit name slug is_private description) h = change_can rir_rules HasRirBounds rirs_sound s n nothing_told _ h (λ old. refl)
-change_all s n (RoleEdit name slug weight description) h = change_can role_rules HasRoleBounds roles_sound s n nothing_told _ h (λ old. refl)
-change_all s n (AggregateEdit block rir description) h = change_can aggregate_rules HasAggregateBounds aggregates_sound s n nothing_told _ h (λ old. refl)
-change_all s n (PrefixEdit block vrf status role is_pool mark_utilized description) h = change_can prefix_rules HasPrefixBounds prefixes_sound s n nothing_told _ h (λ old. refl)
-change_all s n (RangeEdit start end vrf status role mark_utilized description) h = change_can range_rules HasRangeBounds ranges_sound s n (told_of_change start end) _ h (λ old. refl)
-change_all s n (AddressEdit host vrf status role dns_name description) h = change_can address_rules HasAddressBounds addresses_sound s n nothing_told _ h (λ old. refl)
+change_all s n edit h = kind_can s n edit (kind_of_edit edit) h
 
 pub delete_all : (s : State) (kind : Kind) (n : ℕ) → IsLawful s → CanUpdate s (delete_plan s kind n).update
 delete_all s Vrfs n h = delete_can vrf_rules HasVrfBounds vrfs_sound s n h

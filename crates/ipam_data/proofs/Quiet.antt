@@ -1,5 +1,5 @@
 -- A plan that answers no accepted change does nothing; so a call whose reply is none leaves the state.
-use Rattle.std.proofs.Common.{◌≡◌, ℕ, Bool, true, false, List, [], Option, Some, None, refl, ap, sym, ◌∙◌}
+use Rattle.std.proofs.Common.{◌≡◌, ℕ, Bool, true, false, List, Option, Some, None, refl, ap, sym, ◌∙◌}
 use Rattle.ipam_data.specs.declared.kinds.Kind.{Kind}
 use Rattle.ipam_data.specs.declared.kinds.Kind.TheVariants.{Vrfs, Rirs, Roles, Aggregates, Prefixes, Ranges, Addresses}
 use Rattle.ipam_data.specs.declared.calls.Call.{Call}
@@ -7,10 +7,10 @@ use Rattle.ipam_data.specs.declared.calls.Call.TheVariants.{List as ListOf, Get,
 use Rattle.ipam_data.specs.declared.calls.Filter.{Filter}
 use Rattle.ipam_data.specs.declared.calls.Filter.TheVariants.{Vrfs as SomeVrfs, Rirs as SomeRirs, Roles as SomeRoles, Aggregates as SomeAggregates, Prefixes as SomePrefixes, Ranges as SomeRanges, Addresses as SomeAddresses}
 use Rattle.ipam_data.specs.declared.calls.Draft.{Draft}
-use Rattle.ipam_data.specs.declared.calls.Draft.TheVariants.{Vrf as VrfDraft, Rir as RirDraft, Role as RoleDraft, Aggregate as AggregateDraft, Prefix as PrefixDraft, IpRange as RangeDraft, IpAddress as AddressDraft}
 use Rattle.ipam_data.specs.declared.calls.Edit.{Edit}
-use Rattle.ipam_data.specs.declared.calls.Edit.TheVariants.{Vrf as VrfEdit, Rir as RirEdit, Role as RoleEdit, Aggregate as AggregateEdit, Prefix as PrefixEdit, IpRange as RangeEdit, IpAddress as AddressEdit}
 use Rattle.ipam_data.specs.declared.replies.Rule.{Rule}
+use Rattle.ipam_data.specs.declared.replies.View.{View}
+use Rattle.ipam_data.specs.declared.replies.View.TheVariants.{Vrf as VrfView, Rir as RirView, Role as RoleView, Aggregate as AggregateView, Prefix as PrefixView, IpRange as RangeView, IpAddress as AddressView}
 use Rattle.ipam_data.specs.declared.replies.Refusal.{Refusal}
 use Rattle.ipam_data.specs.declared.replies.Reply.{Reply}
 use Rattle.ipam_data.specs.declared.replies.Reply.TheVariants.{Made, MadeMany, Changed, Gone, Imported, One, Page, Blocks, Addrs, Percent, Refused}
@@ -23,9 +23,11 @@ use Rattle.ipam_data.specs.Rirs.{rir_rules, meets_rir}
 use Rattle.ipam_data.specs.Roles.{role_rules, meets_role}
 use Rattle.ipam_data.specs.Aggregates.{aggregate_rules, meets_aggregate}
 use Rattle.ipam_data.specs.Prefixes.{prefix_rules, meets_prefix}
-use Rattle.ipam_data.specs.Ranges.{range_rules, meets_range, range_told}
+use Rattle.ipam_data.specs.Ranges.{range_rules, meets_range}
 use Rattle.ipam_data.specs.Addresses.{address_rules, meets_address}
-use Rattle.ipam_data.specs.Steps.{plan_of, create_plan, change_plan, delete_plan, get_plan, list_plan, told_of_change}
+use Rattle.ipam_data.specs.ByKind.{by_view}
+use Rattle.ipam_data.specs.Fields.{drafted, told_of_draft, kind_of_edit, edited_vrf, edited_rir, edited_role, edited_aggregate, edited_prefix, edited_range, edited_address, told_of_change}
+use Rattle.ipam_data.specs.Steps.{plan_of, next_for, create_plan, change_of_kind, change_plan, delete_plan, get_plan, list_plan}
 use Rattle.ipam_data.specs.Replays.{is_accepted}
 use Rattle.ipam_data.specs.Lawful.{StepsStay}
 use Rattle.ipam_data.proofs.Sound.{nothing_done}
@@ -89,23 +91,29 @@ module _ {T : Type 0} (rules : KindRules T) where
 
 -- ---- the calls
 
+view_quiet : (s : State) (told : List (Option Rule)) (view : View) → IsQuiet (by_view view (λ T rules row. create rules s told row))
+view_quiet s told (VrfView row) = create_quiet vrf_rules s told row
+view_quiet s told (RirView row) = create_quiet rir_rules s told row
+view_quiet s told (RoleView row) = create_quiet role_rules s told row
+view_quiet s told (AggregateView row) = create_quiet aggregate_rules s told row
+view_quiet s told (PrefixView row depth children) = create_quiet prefix_rules s told row
+view_quiet s told (RangeView row) = create_quiet range_rules s told row
+view_quiet s told (AddressView row) = create_quiet address_rules s told row
+
 create_all : (s : State) (draft : Draft) → IsQuiet (create_plan s draft)
-create_all s (VrfDraft name rd enforce_unique description) = create_quiet vrf_rules s [] _
-create_all s (RirDraft name slug is_private description) = create_quiet rir_rules s [] _
-create_all s (RoleDraft name slug weight description) = create_quiet role_rules s [] _
-create_all s (AggregateDraft block rir description) = create_quiet aggregate_rules s [] _
-create_all s (PrefixDraft block vrf status role is_pool mark_utilized description) = create_quiet prefix_rules s [] _
-create_all s (RangeDraft start end vrf status role mark_utilized description) = create_quiet range_rules s (range_told start end) _
-create_all s (AddressDraft host vrf status role dns_name description) = create_quiet address_rules s [] _
+create_all s draft = view_quiet s (told_of_draft draft) (drafted (next_for s draft) draft)
+
+kind_quiet : (s : State) (n : ℕ) (edit : Edit) (kind : Kind) → IsQuiet (change_of_kind s n edit kind)
+kind_quiet s n edit Vrfs = change_quiet vrf_rules s n nothing_told (edited_vrf edit)
+kind_quiet s n edit Rirs = change_quiet rir_rules s n nothing_told (edited_rir edit)
+kind_quiet s n edit Roles = change_quiet role_rules s n nothing_told (edited_role edit)
+kind_quiet s n edit Aggregates = change_quiet aggregate_rules s n nothing_told (edited_aggregate edit)
+kind_quiet s n edit Prefixes = change_quiet prefix_rules s n nothing_told (edited_prefix edit)
+kind_quiet s n edit Ranges = change_quiet range_rules s n (told_of_change edit) (edited_range edit)
+kind_quiet s n edit Addresses = change_quiet address_rules s n nothing_told (edited_address edit)
 
 change_all : (s : State) (n : ℕ) (edit : Edit) → IsQuiet (change_plan s n edit)
-change_all s n (VrfEdit name rd enforce_unique description) = change_quiet vrf_rules s n nothing_told _
-change_all s n (RirEdit name slug is_private description) = change_quiet rir_rules s n nothing_told _
-change_all s n (RoleEdit name slug weight description) = change_quiet role_rules s n nothing_told _
-change_all s n (AggregateEdit block rir description) = change_quiet aggregate_rules s n nothing_told _
-change_all s n (PrefixEdit block vrf status role is_pool mark_utilized description) = change_quiet prefix_rules s n nothing_told _
-change_all s n (RangeEdit start end vrf status role mark_utilized description) = change_quiet range_rules s n (told_of_change start end) _
-change_all s n (AddressEdit host vrf status role dns_name description) = change_quiet address_rules s n nothing_told _
+change_all s n edit = kind_quiet s n edit (kind_of_edit edit)
 
 delete_all : (s : State) (kind : Kind) (n : ℕ) → IsQuiet (delete_plan s kind n)
 delete_all s Vrfs n = delete_quiet vrf_rules s n

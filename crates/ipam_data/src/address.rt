@@ -1,8 +1,13 @@
 //! Addresses: single hosts with a mask.
 
 ghost use Rattle.std.specs.Prelude.{◌≡◌, ℕ, IfOk};
+ghost use Rattle.ipam_data.specs.declared.kinds.Kind.TheVariants.{Addresses};
+ghost use Rattle.ipam_data.specs.declared.replies.View.TheVariants.{IpAddress as AddressView};
 ghost use Rattle.ipam_data.specs.Rows.{HasAddressBounds, address_status_number, address_role_number};
+ghost use Rattle.ipam_data.specs.Fields.{drafted, kind_of_draft, edited_address};
 
+use crate::calls::{Draft, Edit};
+use crate::edits::{edited_description, edited_dns_name, edited_value};
 use crate::host::Host;
 use crate::kinds::HasId;
 use crate::text::{Description, DnsName};
@@ -87,6 +92,58 @@ impl IpAddress {
         self.host.bounds();
         self.dns_name.bounds();
         self.description.bounds();
+    }
+
+    /// The address that a draft of one makes under an id. `Err` is want of memory.
+    pub fn drafted(id: u32, draft: &Draft) -> Result<IpAddress, AllocError>
+        requires { kind_of_draft draft.now ≡ Addresses }
+        ensures { IfOk result (λ row. drafted id draft.now ≡ AddressView row) }
+    {
+        match draft {
+            Draft::IpAddress {
+                host,
+                vrf,
+                status,
+                role,
+                dns_name,
+                description,
+            } => Ok(IpAddress {
+                id,
+                host: *host,
+                vrf: *vrf,
+                status: *status,
+                role: *role,
+                dns_name: dns_name.lowered()?,
+                description: description.copy()?,
+            }),
+            _ => unreachable!(),
+        }
+    }
+
+    /// The address that an edit leaves: a field that is not given stays, and an edit of another kind changes nothing. `Err` is
+    /// want of memory.
+    pub fn edited(&self, edit: &Edit) -> Result<IpAddress, AllocError>
+        ensures { IfOk result (λ row. row ≡ edited_address edit.now self.now) }
+    {
+        match edit {
+            Edit::IpAddress {
+                host,
+                vrf,
+                status,
+                role,
+                dns_name,
+                description,
+            } => Ok(IpAddress {
+                id: self.id,
+                host: edited_value(*host, self.host),
+                vrf: edited_value(*vrf, self.vrf),
+                status: edited_value(*status, self.status),
+                role: edited_value(*role, self.role),
+                dns_name: edited_dns_name(dns_name, &self.dns_name)?,
+                description: edited_description(description, &self.description)?,
+            }),
+            _ => self.copy(),
+        }
     }
 
     /// The same row again. `Err` is want of memory.

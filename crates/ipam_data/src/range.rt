@@ -1,9 +1,16 @@
 //! Ranges: runs of addresses of one table.
 
-ghost use Rattle.std.specs.Prelude.{◌≡◌, ℕ, IfOk};
+ghost use Rattle.std.specs.Prelude.{◌≡◌, ℕ, None, IfOk};
+ghost use Rattle.ipam_data.specs.declared.kinds.Kind.TheVariants.{Ranges};
+ghost use Rattle.ipam_data.specs.declared.replies.View.TheVariants.{IpRange as RangeView};
 ghost use Rattle.ipam_data.specs.Rows.{HasRangeBounds, range_status_number};
+ghost use Rattle.ipam_data.specs.Checks.{first};
+ghost use Rattle.ipam_data.specs.Ranges.{range_told, ends_of};
+ghost use Rattle.ipam_data.specs.Fields.{drafted, kind_of_draft, told_of_draft, edited_range, told_of_change, start_of, end_of};
 
-use crate::host::Ends;
+use crate::calls::{Draft, Edit};
+use crate::edits::{edited_description, edited_value};
+use crate::host::{Ends, Host};
 use crate::kinds::HasId;
 use crate::text::Description;
 use std::alloc::AllocError;
@@ -45,6 +52,17 @@ pub struct IpRange {
     pub description: Description,
 }
 
+/// The ends with the mask of the first, of which nothing is told.
+fn ends(start: Host, end: Host) -> Ends
+    requires { first (range_told start end) ≡ None }
+    ensures { result ≡ ends_of start end }
+{
+    match Ends::of(start.addr(), end.addr(), start.len()) {
+        Some(ends) => ends,
+        None => unreachable!(),
+    }
+}
+
 impl IpRange {
     /// The ends and the description of a row are in their bounds, by their types: a law, for callers that make states of
     /// rows.
@@ -53,6 +71,86 @@ impl IpRange {
     {
         self.ends.bounds();
         self.description.bounds();
+    }
+
+    /// The range that a draft of one makes under an id, where its ends are of one family and have one mask. `Err` is want of
+    /// memory.
+    pub fn drafted(id: u32, draft: &Draft) -> Result<IpRange, AllocError>
+        requires kind { kind_of_draft draft.now ≡ Ranges }
+        requires told { first (told_of_draft draft.now) ≡ None }
+        ensures { IfOk result (λ row. drafted id draft.now ≡ RangeView row) }
+    {
+        match draft {
+            Draft::IpRange {
+                start,
+                end,
+                vrf,
+                status,
+                role,
+                mark_utilized,
+                description,
+            } => Ok(IpRange {
+                id,
+                ends: ends(*start, *end),
+                vrf: *vrf,
+                status: *status,
+                role: *role,
+                mark_utilized: *mark_utilized,
+                description: description.copy()?,
+            }),
+            _ => unreachable!(),
+        }
+    }
+
+    /// Its start with its mask.
+    pub fn start(&self) -> Host
+        ensures { result ≡ start_of self.now }
+    {
+        match Host::of(self.ends.start(), self.ends.len()) {
+            Some(host) => host,
+            None => unreachable!(),
+        }
+    }
+
+    /// Its end with its mask.
+    pub fn end(&self) -> Host
+        ensures { result ≡ end_of self.now }
+    {
+        match Host::of(self.ends.end(), self.ends.len()) {
+            Some(host) => host,
+            None => unreachable!(),
+        }
+    }
+
+    /// The range that an edit leaves, where its ends are of one family and have one mask: a field that is not given stays, an end
+    /// that is not given keeps the row's mask, and an edit of another kind changes nothing. `Err` is want of memory.
+    pub fn edited(&self, edit: &Edit) -> Result<IpRange, AllocError>
+        requires { first (told_of_change edit.now self.now) ≡ None }
+        ensures { IfOk result (λ row. row ≡ edited_range edit.now self.now) }
+    {
+        match edit {
+            Edit::IpRange {
+                start,
+                end,
+                vrf,
+                status,
+                role,
+                mark_utilized,
+                description,
+            } => Ok(IpRange {
+                id: self.id,
+                ends: ends(
+                    edited_value(*start, self.start()),
+                    edited_value(*end, self.end()),
+                ),
+                vrf: edited_value(*vrf, self.vrf),
+                status: edited_value(*status, self.status),
+                role: edited_value(*role, self.role),
+                mark_utilized: edited_value(*mark_utilized, self.mark_utilized),
+                description: edited_description(description, &self.description)?,
+            }),
+            _ => self.copy(),
+        }
     }
 
     /// The same row again. `Err` is want of memory.

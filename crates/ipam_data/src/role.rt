@@ -1,8 +1,13 @@
 //! Roles that prefixes and ranges may have.
 
 ghost use Rattle.std.specs.Prelude.{◌≡◌, ℕ, IfOk};
+ghost use Rattle.ipam_data.specs.declared.kinds.Kind.TheVariants.{Roles};
+ghost use Rattle.ipam_data.specs.declared.replies.View.TheVariants.{Role as RoleView};
 ghost use Rattle.ipam_data.specs.Rows.{HasRoleBounds};
+ghost use Rattle.ipam_data.specs.Fields.{drafted, kind_of_draft, edited_role};
 
+use crate::calls::{Draft, Edit};
+use crate::edits::{edited_description, edited_name, edited_slug, edited_weight};
 use crate::kinds::HasId;
 use crate::text::{Description, Name, Slug, Weight};
 use std::alloc::AllocError;
@@ -29,6 +34,50 @@ impl Role {
         self.slug.bounds();
         self.weight.bounds();
         self.description.bounds();
+    }
+
+    /// The role that a draft of one makes under an id. `Err` is want of memory.
+    pub fn drafted(id: u32, draft: &Draft) -> Result<Role, AllocError>
+        requires { kind_of_draft draft.now ≡ Roles }
+        ensures { IfOk result (λ row. drafted id draft.now ≡ RoleView row) }
+    {
+        match draft {
+            Draft::Role {
+                name,
+                slug,
+                weight,
+                description,
+            } => Ok(Role {
+                id,
+                name: name.copy()?,
+                slug: slug.copy()?,
+                weight: *weight,
+                description: description.copy()?,
+            }),
+            _ => unreachable!(),
+        }
+    }
+
+    /// The role that an edit leaves: a field that is not given stays, and an edit of another kind changes nothing. `Err` is
+    /// want of memory.
+    pub fn edited(&self, edit: &Edit) -> Result<Role, AllocError>
+        ensures { IfOk result (λ row. row ≡ edited_role edit.now self.now) }
+    {
+        match edit {
+            Edit::Role {
+                name,
+                slug,
+                weight,
+                description,
+            } => Ok(Role {
+                id: self.id,
+                name: edited_name(name, &self.name)?,
+                slug: edited_slug(slug, &self.slug)?,
+                weight: edited_weight(weight, self.weight),
+                description: edited_description(description, &self.description)?,
+            }),
+            _ => self.copy(),
+        }
     }
 
     /// The same row again. `Err` is want of memory.

@@ -4,8 +4,8 @@ ghost use Rattle.std.specs.Prelude.{◌≡◌, IfOk};
 ghost use Rattle.std.specs.Str.{str_to_ascii_lowercase};
 ghost use Rattle.ipam_data.specs.Plans.{edited};
 
-use ipam_data::text::{Description, Distinguisher, DnsName, DnsText, Name, Slug, Weight};
-use ipam_data::vrf::copy_distinguisher;
+use crate::text::{Description, Distinguisher, DnsName, DnsText, Name, Slug, Weight};
+use crate::vrf::copy_distinguisher;
 use std::alloc::AllocError;
 
 /// The name.
