@@ -43,6 +43,7 @@ carried = record {
   ahead = λ s r a t h x. tt;
   behind = λ s r a t h none. answer_behind s r.target h.0 a t h.2 none;
   carry = λ s r a t h x none. (h.0, h.1, answer_plainly s r.target h.0 a t h.2 none);
+  refuse = λ why a k. k;
 }
 
 pub end_plainly : (s t : Standing) (old new : Option (List ℕ)) (bytes : List ℕ) (left : Option (List ℕ)) (how : SessionEnd)

@@ -9,12 +9,11 @@ use Rattle.ipam_data.specs.State.{State}
 use Rattle.ipam_data.specs.Steps.{plain_step, verdict}
 use Rattle.http_session.specs.declared.reply.Reply.{Reply as Written}
 use Rattle.http_session.specs.Replies.{answer_of}
-use Rattle.http_session.specs.Requests.{Framed}
-use Rattle.http_session.specs.Talk.{Answer}
+use Rattle.http_session.specs.Talk.{Answer, May}
 use Rattle.ipam_json.specs.declared.replies.Links.{Links}
 use Rattle.ipam_keeper.specs.Keeping.{IsRaised}
 use Rattle.rest_routes.specs.Requests.{Asked, IsRequest}
-use Rattle.rest_routes.specs.Answers.{IsRefusedAnswer, reply_answer, finished_links, end_of}
+use Rattle.rest_routes.specs.Answers.{IsFramingAnswer, IsRefusedAnswer, reply_answer, finished_links, end_of}
 use Rattle.rest_ipam.specs.Answered.{Seen, stepped}
 
 -- what is seen of the register, and how many calls were answered by a failed keeper, as far as the count goes
@@ -51,10 +50,13 @@ abbrev pub IsAnswer : Standing → List ℕ → Asked → Answer → Standing �
 IsAnswer old target (Ok asked) answer new = IsTold old asked.0 asked.1 answer new
 IsAnswer old target (Err refusal) answer new = IsRefusedAnswer target refusal answer × (new ≡ old)
 
--- a request is answered as the plain register would, or the keeper failed
-abbrev pub answers_kept : Standing → Framed → Answer → Standing → Type 0
-answers_kept old request answer new =
-    (asked : Asked) × IsRequest request.method request.target request.body asked × IsAnswer old request.target asked answer new
+-- a request is answered as the plain register would, or the keeper failed; bytes that are none are answered by their refusal
+abbrev pub answers_kept : May Standing
+answers_kept =
+    record {
+      answers = λ old request answer new. (asked : Asked) × IsRequest request.method request.target request.body asked × IsAnswer old request.target asked answer new;
+      refuses = IsFramingAnswer;
+    }
 
 -- a call was made and its answer is this; or memory was wanting, and all is as before, or the answer is lost
 abbrev pub IsActed : {E : Type 0} → Standing → Call → Links → Result Written E → Standing → Type 0

@@ -9,7 +9,7 @@ ghost use Rattle.rest_routes.specs.Answers.{IsRefusedAnswer, reply_answer, finis
 ghost use Rattle.rest_ipam.specs.Answered.{seen_of};
 ghost use Rattle.kept_session.specs.Answered.{Standing, standing, IsReplied, IsActed, answers_kept};
 
-use http_session::{Desk, HttpRequest, Reply as Answer, SessionEnd, serve};
+use http_session::{Desk, Fault, HttpRequest, Reply as Answer, SessionEnd, serve};
 use ipam_data::calls::Call;
 use ipam_data::replies::{Refusal, Reply};
 use ipam_edge::{Sink, Source};
@@ -17,7 +17,8 @@ use ipam_json::Links;
 use ipam_keeper::keeper::Keeper;
 use register_core::Register;
 use rest_routes::{
-    Routes, answer_of_refusal_by, answer_of_reply, finish_links, page_end, read_call_by,
+    Routes, answer_of_fault, answer_of_refusal_by, answer_of_reply, finish_links, page_end,
+    read_call_by,
 };
 use std::alloc::{AllocError, Global};
 use std::marker::PhantomData;
@@ -187,6 +188,10 @@ impl<'a, K: Keeper> Desk for KeptDesk<'a, K> {
                 refuse(alloc, self.routes, &request.target, &refusal),
             ),
         }
+    }
+
+    fn refuse(&self, fault: Fault) -> Answer {
+        answer_of_fault(fault)
     }
 }
 
