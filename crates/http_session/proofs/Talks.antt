@@ -1,22 +1,19 @@
 -- How a talk goes on, and how it ends.
 use Rattle.std.proofs.Common.{◌≡◌, ◌∙◌, ◌+◌, ◌≤◌, ◌⊎◌, ◌||◌, nat_le, ℕ, Bool, true, false, List, [], ◌∷◌, ◌++◌, length, Option, inl, inr, refl, sym, ap, subst, arith, append_assoc, append-nil, zero-add, length-append}
 use Rattle.std.proofs.lemmas.List.{append_cancel_left}
-use Rattle.std.specs.Io.KnownBytes.{Appends, Consumes}
-use Rattle.std.proofs.KnownBytes.{Appends-trans, Consumes-trans}
-use Rattle.ipam_edge.specs.Reading.{GrownByReads, Last, Open, Step, joined}
+use Rattle.std.specs.Io.KnownBytes.{Appends}
+use Rattle.std.proofs.KnownBytes.{Appends-trans}
 use Rattle.ipam_edge.specs.Writing.{AppendsLess}
-use Rattle.ipam_edge.proofs.ReadingLemmas.{read_as, read_then}
 use Rattle.http_session.specs.Requests.{AreItems, Framed, IsItem, IsRequest, IsUnfinished, Item, Asks, Refuses, closes}
 use Rattle.http_session.specs.Fields.{asks_close}
-use Rattle.http_session.specs.declared.session.SessionEnd.{SessionEnd}
 use Rattle.http_session.specs.declared.reply.Reply.{Reply}
 use Rattle.http_session.specs.Replies.{answer_of}
 use Rattle.std.proofs.lemmas.Bool.Decides.{nat_tests}
-use Rattle.http_session.specs.Steps.{Grown, IsReadWhile, next_number}
+use Rattle.http_session.specs.Steps.{IsReadWhile, next_number}
 use Rattle.http_session.proofs.ItemLemmas.{all_open_more, ends_closed, items_more, items_wait}
 use Rattle.http_session.specs.Talk.{Answer, Answered, May, Run, framed_text, is_head, texts, text_of}
 use Rattle.http_session.specs.Turns.{HasNoMoreThan}
-use Rattle.http_session.specs.Ends.{HasNoNext, IsBetween, IsEnd, IsLastRead, IsLeft, IsLost, IsReadAsNeeded, IsClosed, IsCutShort, IsSession, IsStarved, IsTalk, IsUnsaid}
+use Rattle.http_session.specs.Ends.{HasNoNext, IsBetween, IsLeft, IsLost, IsReadAsNeeded, IsClosed, IsCutShort, IsStarved, IsTalk, IsUnsaid}
 
 pub run_more : {S : Type 0} (may : May S) (s : S) (items : List Item) (answers : List Answer) (t : S) (item : Item) (a : Answer) (u : S) → Run may s items answers t → Answered may t item a u → Run may s (items ++ item ∷ []) (answers ++ a ∷ []) u
 run_more may s [] [] t item a u run h = (u, subst (λ x. Answered may x item a u) run h, refl)
@@ -54,11 +51,6 @@ few_after n bytes r rest q o = few_yet (asks_close q.head) r.close n q.close o
 -- the inbox has counted one more
 pub number_is : (n number : ℕ) → number ≡ next_number n → n ≤ 999 → number ≡ n + 1
 number_is n number e few = omega arith
-
--- all that the source gave
-pub total : (a b c : Option (List ℕ)) (bytes rest all : List ℕ) → Grown a b [] bytes → (more : Grown b c rest all) → Grown a c [] (bytes ++ more.got)
-total a b c bytes rest all first more =
-    record { got = first.got ++ more.got; consumes = Consumes-trans a b c first.got more.got first.consumes more.consumes; grown = ap (λ l. l ++ more.got) first.grown }
 
 module _ {S : Type 0} (may : May S) (s t : S) (old now : Option (List ℕ)) (bytes rest : List ℕ) (n : ℕ) (so_far : IsBetween may s t old now bytes rest n) (got all : List ℕ) (is_all : all ≡ rest ++ got) where
   pub next_items : (E : Type 0) (item : Item) (kept : List ℕ) → IsItem n all E item kept → AreItems 0 (bytes ++ got) E (so_far.items ++ item ∷ []) kept
@@ -109,27 +101,6 @@ module _ {S : Type 0} (may : May S) (s t : S) (old now : Option (List ℕ)) (byt
   pub no_more : (more : List ℕ) → IsUnfinished (rest ++ more) → HasNoMoreThan (length so_far.items) (bytes ++ more)
   unfolding no_next
   no_more more h = record { next = no_next more h; count = refl }
-
-  -- each read was made while the bytes so far had no whole next item
-  pub still_no_next : {R : Type 0} (step : Step R) (from mid to : R) (last : Last) → GrownByReads step HasNoNext from mid [] bytes Open → GrownByReads step IsUnfinished mid to rest all last → GrownByReads step HasNoNext from to [] (bytes ++ got) last
-  still_no_next step from mid to last before reads =
-      let same = append_cancel_left rest got (joined reads.pieces) (sym is_all ∙ reads.grown) in
-      read_then step HasNoNext from mid to [] bytes (bytes ++ got) last before (read_as step IsUnfinished HasNoNext mid to rest bytes all got last (λ more h. no_next more h) reads same)
-
-  -- the session ends here
-  pub session_of : {R : Type 0} (step : Step R) (from mid to : R) (left_old left_mid left_new new : Option (List ℕ)) (u : S) (end_ : SessionEnd) (last : Last) → Grown left_old left_mid [] bytes → Consumes left_mid left_new got
-      → IsReadAsNeeded bytes → IsReadWhile IsUnfinished rest all → GrownByReads step HasNoNext from mid [] bytes Open → GrownByReads step IsUnfinished mid to rest all last → IsLastRead end_ last
-      → IsEnd may s u old new (bytes ++ got) left_new end_ → IsSession may step s u from to left_old left_new old new end_
-  session_of step from mid to left_old left_mid left_new new u end_ last first more needed was before reads said ends =
-      record {
-        bytes = bytes ++ got;
-        grown = record { got = first.got ++ got; consumes = Consumes-trans left_old left_mid left_new first.got got first.consumes more; grown = ap (λ l. l ++ got) first.grown };
-        ends = ends;
-        needed = still_needed needed was;
-        last = last;
-        last_is = said;
-        reads = still_no_next step from mid to last before reads;
-      }
 
   -- the next item was answered, and the connection stays open
   unfoldable pub goes_on : (E : Type 0) (item : Item) (kept : List ℕ) (a : Answer) (u : S) (new : Option (List ℕ)) (text : List ℕ) → IsItem n all E item kept → closes item ≡ false → n + 1 ≤ 999

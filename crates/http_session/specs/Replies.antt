@@ -1,5 +1,5 @@
 -- What the answer of a desk says.
-use Rattle.std.specs.Prelude.{ℕ, List, Option, option_map}
+use Rattle.std.specs.Prelude.{ℕ, List, option_map}
 use Rattle.http_session.specs.declared.reply.Body.{Body}
 use Rattle.http_session.specs.declared.reply.Body.TheVariants.{Written, Short}
 use Rattle.http_session.specs.declared.reply.NumberField.{NumberField}
