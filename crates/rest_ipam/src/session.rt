@@ -8,7 +8,7 @@ ghost use Rattle.http_session.specs.Replies.{answer_of};
 ghost use Rattle.rest_routes.specs.Answers.{IsRefusedAnswer};
 ghost use Rattle.rest_ipam.specs.Answered.{Seen, seen_of, opened, answers_plainly, IsActed};
 
-use http_session::{Desk, HttpRequest, Reply as Answer, SessionEnd, serve};
+use http_session::{Desk, Fault, HttpRequest, Reply as Answer, SessionEnd, serve};
 use ipam_data::calls::Call;
 use ipam_data::replies::{Refusal, Reply};
 use ipam_edge::{Sink, Source};
@@ -16,7 +16,8 @@ use ipam_json::Links;
 use ipam_keeper::unkept::Unkept;
 use register_core::{Register, Settings, begin};
 use rest_routes::{
-    Routes, answer_of_refusal_by, answer_of_reply, finish_links, page_end, read_call_by,
+    Routes, answer_of_fault, answer_of_refusal_by, answer_of_reply, finish_links, page_end,
+    read_call_by,
 };
 use std::alloc::{AllocError, Global};
 use std::mem;
@@ -129,6 +130,10 @@ impl<'a> Desk for OwnDesk<'a> {
                 refuse(alloc, self.routes, &request.target, &refusal),
             ),
         }
+    }
+
+    fn refuse(&self, fault: Fault) -> Answer {
+        answer_of_fault(fault)
     }
 }
 

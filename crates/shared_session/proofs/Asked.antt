@@ -25,7 +25,7 @@ own request method target body asked m t b read =
 
 pub told_in_turn : {E : Type 0} (v w : Caller) (request : Framed) (method target body : List ℕ) (call : Call) (links : Links) (result : Result Written E)
     → method ≡ request.method → target ≡ request.target → body ≡ request.body → IsRead method target body (Ok (call, links))
-    → IsAsked v call links result w → IfOk result (λ r. answers_in_turn v request (answer_of r) w)
+    → IsAsked v call links result w → IfOk result (λ r. answers_in_turn.answers v request (answer_of r) w)
 told_in_turn v w request method target body call links (Ok a) m t b read asked =
     (Ok (call, links), own request method target body (Ok (call, links)) m t b read, (asked.0, asked.1, asked.2, asked.3))
 told_in_turn v w request method target body call links (Err e) m t b read asked = tt

@@ -72,6 +72,7 @@ alone n =
       ahead = λ v r a w k x. stays_alone n v r.target k.0 a w k.2 x;
       behind = λ v r a w k y. y;
       carry = λ v r a w k x y. (k.0, k.1, plain_answer n v r.target k.0 a w x k.2);
+      refuse = λ why a k. k;
     }
 
 pub in_turn_is_plain : (v w : Caller) (old new : Option (List ℕ)) (bytes : List ℕ) (left : Option (List ℕ)) (how : SessionEnd)

@@ -81,6 +81,7 @@ longer o h g n p =
       ahead = λ s r a t k x. x;
       behind = λ s r a t k y. y;
       carry = λ s r a t k x y. (k.0, k.1, answer_longer o h g n s r.target k.0 a t p k.2);
+      refuse = λ why a k. k;
     }
 
 pub talk_longer : (o : State) (h g : List Made) (n : ℕ) (s t : Standing) (old new : Option (List ℕ)) (bytes : List ℕ) (left : Option (List ℕ)) (how : SessionEnd) → IsPrefix h g
@@ -129,6 +130,7 @@ module _ (w : Caller) where
         ahead = λ s r a t k x. x;
         behind = λ s r a t k y. later_trans s t w (answer_later s r.target k.0 a t k.2) y;
         carry = λ s r a t k x y. (k.0, k.1, told_in s r.target k.0 a t y k.2);
+        refuse = λ why a k. k;
       }
 
 pub in_turn_is_talk : (v w : Caller) (old new : Option (List ℕ)) (bytes : List ℕ) (left : Option (List ℕ)) (how : SessionEnd)
@@ -143,6 +145,7 @@ since v =
       ahead = λ s r a t k x. later_trans v s t x (answer_later s r.target k.0 a t k.2);
       behind = λ s r a t k y. y;
       carry = λ s r a t k x y. k;
+      refuse = λ why a k. k;
     }
 
 pub in_turn_is_later : (v w : Caller) (old new : Option (List ℕ)) (bytes : List ℕ) (left : Option (List ℕ)) (how : SessionEnd)

@@ -8,7 +8,7 @@ use Rattle.ipam_data.specs.State.{State}
 use Rattle.ipam_data.specs.Steps.{plain_step}
 use Rattle.http_session.specs.Talk.{Answer, May}
 use Rattle.rest_routes.specs.Requests.{Asked, IsRequest}
-use Rattle.rest_routes.specs.Answers.{IsRefusedAnswer}
+use Rattle.rest_routes.specs.Answers.{IsFramingAnswer, IsRefusedAnswer}
 use Rattle.register_core.specs.Machines.{kind_of}
 use Rattle.shared_session.specs.Told.{Caller, Made, told_answer}
 
@@ -38,8 +38,11 @@ IsPlainAnswer number old target (Err refusal) answer new = IsRefusedAnswer targe
 
 -- a request is answered as the plain register would
 abbrev pub answers_plainly : ℕ → May Plain
-answers_plainly number old request answer new =
-    (asked : Asked) × IsRequest request.method request.target request.body asked × IsPlainAnswer number old request.target asked answer new
+answers_plainly number =
+    record {
+      answers = λ old request answer new. (asked : Asked) × IsRequest request.method request.target request.body asked × IsPlainAnswer number old request.target asked answer new;
+      refuses = IsFramingAnswer;
+    }
 
 -- the register as a seat has seen it
 abbrev pub plain_of : Caller → Plain

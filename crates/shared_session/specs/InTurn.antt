@@ -9,7 +9,7 @@ use Rattle.http_session.specs.Replies.{answer_of}
 use Rattle.http_session.specs.Talk.{Answer, May}
 use Rattle.ipam_json.specs.declared.replies.Links.{Links}
 use Rattle.rest_routes.specs.Requests.{Asked, IsRequest}
-use Rattle.rest_routes.specs.Answers.{IsRefusedAnswer}
+use Rattle.rest_routes.specs.Answers.{IsFramingAnswer, IsRefusedAnswer}
 use Rattle.register_core.specs.Machines.{kind_of}
 use Rattle.shared_session.specs.Told.{Caller, told_answer}
 
@@ -21,8 +21,11 @@ IsAnswerNow v target (Err refusal) answer w = IsRefusedAnswer target refusal ans
 
 -- what a request may be answered through a seat
 abbrev pub answers_in_turn : May Caller
-answers_in_turn v request answer w =
-    (asked : Asked) × IsRequest request.method request.target request.body asked × IsAnswerNow v request.target asked answer w
+answers_in_turn =
+    record {
+      answers = λ v request answer w. (asked : Asked) × IsRequest request.method request.target request.body asked × IsAnswerNow v request.target asked answer w;
+      refuses = IsFramingAnswer;
+    }
 
 -- a call was made through the seat; its answer is this, or is lost for want of memory
 abbrev pub IsAsked : {E : Type 0} → Caller → Call → Links → Result Written E → Caller → Type 0

@@ -11,7 +11,7 @@ use Rattle.ipam_data.specs.State.{State}
 use Rattle.ipam_data.specs.Steps.{plain_step}
 use Rattle.http_session.specs.Talk.{Answer, May}
 use Rattle.rest_routes.specs.Requests.{Asked, IsRequest}
-use Rattle.rest_routes.specs.Answers.{IsRefusedAnswer, end_of, finished_links, reply_answer}
+use Rattle.rest_routes.specs.Answers.{IsFramingAnswer, IsRefusedAnswer, end_of, finished_links, reply_answer}
 use Rattle.ipam_json.specs.declared.replies.Links.{Links}
 use Rattle.register_core.specs.Machines.{kind_of}
 
@@ -68,8 +68,11 @@ IsAnswerIn opening history number before target (Err refusal) answer after = IsR
 
 -- what a request may be answered in this history
 abbrev pub answers_in : State → List Made → ℕ → May Standing
-answers_in opening history number before request answer after =
-    (asked : Asked) × IsRequest request.method request.target request.body asked × IsAnswerIn opening history number before request.target asked answer after
+answers_in opening history number =
+    record {
+      answers = λ before request answer after. (asked : Asked) × IsRequest request.method request.target request.body asked × IsAnswerIn opening history number before request.target asked answer after;
+      refuses = IsFramingAnswer;
+    }
 
 -- a seat as it was and as it is after some calls of its own
 pub record IsLater (v w : Caller) : Type 0 where

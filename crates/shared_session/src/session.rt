@@ -10,8 +10,7 @@ ghost use Rattle.shared_session.specs.InTurn.{IsAsked, answers_in_turn};
 ghost use Rattle.shared_session.specs.Sessions.{IsSharedSession};
 
 use history_lock::{Seat, Shared};
-use http::StatusCode;
-use http_session::{Body, Desk, HttpRequest, Reply as Answer, SessionEnd, serve};
+use http_session::{Desk, Fault, HttpRequest, Reply as Answer, SessionEnd, serve};
 use ipam_data::calls::Call;
 use ipam_data::replies::{Refusal, Reply};
 use ipam_edge::{Sink, Source};
@@ -19,7 +18,8 @@ use ipam_json::Links;
 use ipam_keeper::keeper::Keeper;
 use register_core::Register;
 use rest_routes::{
-    Routes, answer_of_refusal_by, answer_of_reply, finish_links, page_end, read_call_by,
+    Routes, answer_of_fault, answer_of_refusal_by, answer_of_reply, answer_of_want, finish_links,
+    page_end, read_call_by,
 };
 use std::alloc::{AllocError, Global};
 use std::marker::PhantomData;
@@ -31,9 +31,6 @@ pub struct Sitting<'a, K: Keeper + 'a> {
     seat: Seat<Register<K>>,
     ghost fits: { seat.lock ≡ shared.now },
 }
-
-/// The body of the answer where memory is wanting in the register.
-const NO_MEMORY: &[u8] = b"{\"code\":\"memory\",\"detail\":\"no memory\"}";
 
 /// Whether a refusal is want of memory.
 fn is_want(refusal: &Refusal) -> bool
@@ -49,18 +46,6 @@ fn is_memory(reply: &Reply) -> bool
     match reply {
         Reply::Refused(refusal) => is_want(refusal),
         _ => false,
-    }
-}
-
-/// The answer where memory is wanting in the register, which takes none itself.
-fn answer_of_want(place: u64) -> Answer
-    ensures { (links : Links) → answer_of result ≡ reply_answer (Reply.Refused Refusal.Memory) links place }
-{
-    Answer {
-        status: StatusCode::INTERNAL_SERVER_ERROR,
-        allow: b"",
-        place: Some(place),
-        body: Body::Fixed(NO_MEMORY),
     }
 }
 
@@ -159,6 +144,10 @@ impl<'a, R: Wait, K: Keeper + 'a> Desk for SharedRegister<'a, R, K> {
                 refuse(alloc, self.routes, &request.target, &refusal),
             ),
         }
+    }
+
+    fn refuse(&self, fault: Fault) -> Answer {
+        answer_of_fault(fault)
     }
 }
 
