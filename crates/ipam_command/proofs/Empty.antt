@@ -68,18 +68,18 @@ empty_opened tables unique s is opening =
     let told = opening.tables_are ∙ sym is in
     let nexts = ap (λ (t : Tables). t.next) told in
     let r1 = ap (λ (t : Tables). t.rows) told in
-    let r2 = other_kinds s Vrfs _ r1 in
-    let r3 = other_kinds s Rirs _ r2 in
-    let r4 = other_kinds s Roles _ r3 in
-    let r5 = other_kinds s Aggregates _ r4 in
-    let r6 = other_kinds s Prefixes _ r5 in
-    let r7 = other_kinds s Ranges _ r6 in
+    let r2 = other_kinds s Vrfs (Rirs ∷ Roles ∷ Aggregates ∷ Prefixes ∷ Ranges ∷ Addresses ∷ []) r1 in
+    let r3 = other_kinds s Rirs (Roles ∷ Aggregates ∷ Prefixes ∷ Ranges ∷ Addresses ∷ []) r2 in
+    let r4 = other_kinds s Roles (Aggregates ∷ Prefixes ∷ Ranges ∷ Addresses ∷ []) r3 in
+    let r5 = other_kinds s Aggregates (Prefixes ∷ Ranges ∷ Addresses ∷ []) r4 in
+    let r6 = other_kinds s Prefixes (Ranges ∷ Addresses ∷ []) r5 in
+    let r7 = other_kinds s Ranges (Addresses ∷ []) r6 in
     same_state s unique
-    (is_empty s.vrfs stored_vrf (first_kind s Vrfs _ r1) (ap (λ (l : List (Kind × ℕ)). next_at l 0) nexts))
-    (is_empty s.rirs stored_rir (first_kind s Rirs _ r2) (ap (λ (l : List (Kind × ℕ)). next_at l 1) nexts))
-    (is_empty s.roles stored_role (first_kind s Roles _ r3) (ap (λ (l : List (Kind × ℕ)). next_at l 2) nexts))
-    (is_empty s.aggregates stored_aggregate (first_kind s Aggregates _ r4) (ap (λ (l : List (Kind × ℕ)). next_at l 3) nexts))
-    (is_empty s.prefixes stored_prefix (first_kind s Prefixes _ r5) (ap (λ (l : List (Kind × ℕ)). next_at l 4) nexts))
-    (is_empty s.ranges stored_range (first_kind s Ranges _ r6) (ap (λ (l : List (Kind × ℕ)). next_at l 5) nexts))
-    (is_empty s.addresses stored_address (first_kind s Addresses _ r7) (ap (λ (l : List (Kind × ℕ)). next_at l 6) nexts))
+    (is_empty s.vrfs stored_vrf (first_kind s Vrfs (Rirs ∷ Roles ∷ Aggregates ∷ Prefixes ∷ Ranges ∷ Addresses ∷ []) r1) (ap (λ (l : List (Kind × ℕ)). next_at l 0) nexts))
+    (is_empty s.rirs stored_rir (first_kind s Rirs (Roles ∷ Aggregates ∷ Prefixes ∷ Ranges ∷ Addresses ∷ []) r2) (ap (λ (l : List (Kind × ℕ)). next_at l 1) nexts))
+    (is_empty s.roles stored_role (first_kind s Roles (Aggregates ∷ Prefixes ∷ Ranges ∷ Addresses ∷ []) r3) (ap (λ (l : List (Kind × ℕ)). next_at l 2) nexts))
+    (is_empty s.aggregates stored_aggregate (first_kind s Aggregates (Prefixes ∷ Ranges ∷ Addresses ∷ []) r4) (ap (λ (l : List (Kind × ℕ)). next_at l 3) nexts))
+    (is_empty s.prefixes stored_prefix (first_kind s Prefixes (Ranges ∷ Addresses ∷ []) r5) (ap (λ (l : List (Kind × ℕ)). next_at l 4) nexts))
+    (is_empty s.ranges stored_range (first_kind s Ranges (Addresses ∷ []) r6) (ap (λ (l : List (Kind × ℕ)). next_at l 5) nexts))
+    (is_empty s.addresses stored_address (first_kind s Addresses [] r7) (ap (λ (l : List (Kind × ℕ)). next_at l 6) nexts))
     opening.unique opening.spent

@@ -50,8 +50,8 @@ fn args_given(rt: &HostRuntime) -> Result<Vec<String>, NoArgs> {
     Ok(args)
 }
 
-/// Runs the program over its arguments, the standard streams and an opener of stores. Arguments that are no UTF-8 are no words of a command; where
-/// memory is wanting to read them the status is that of want of memory.
+/// Runs the program over its arguments, the standard streams and an opener of stores. Arguments that are no UTF-8 are no words of a
+/// command; where memory is wanting to read them the status is that of want of memory.
 pub fn program<O: KeeperOpener>(rt: &HostRuntime, opener: &mut O) -> ExitCode {
     let status = match args_given(rt) {
         Ok(args) => run_args(rt, &args, opener),

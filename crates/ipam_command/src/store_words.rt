@@ -147,8 +147,11 @@ fn row_words(alloc: Global, kind: Kind, id: u32) -> Result<String, AllocError>
 fn breach_front(alloc: Global, kind: Kind, id: u32, code: &str) -> Result<String, AllocError>
     ensures { IfOk result (λ s. string_bytes s ≡ kind_text kind ++ codes " " ++ decimal id ++ codes ": " ++ code.now ++ codes ": ") }
 {
-    let kind = kind_name(kind);
-    format!(in alloc; "{kind} {id}: {code}: ")
+    let mut text = row_words(alloc, kind, id)?;
+    text.push_str(": ")?;
+    text.push_str(code)?;
+    text.push_str(": ")?;
+    Ok(text)
 }
 
 /// A row that breaks a rule, in words.

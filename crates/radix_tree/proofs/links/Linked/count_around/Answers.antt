@@ -1,6 +1,5 @@
-use Rattle.std.proofs.Common.{◌≡◌, ℕ, ◌+◌, false, not, IsTrue, refl, sym, ap, subst, arith, ◌∙◌}
+use Rattle.std.proofs.Common.{ℕ, ◌+◌, false, not, IsTrue, refl, sym, ap, subst, arith, ◌∙◌}
 use Rattle.inet_num.specs.Net.{Cidr, IsBlock, IsInside, IsStrictlyInside}
-use Rattle.inet_num.proofs.Numbers.{width_small}
 use Rattle.radix_tree.specs.Shape.{rank}
 use Rattle.radix_tree.proofs.Sides.{whole_in, whole_lawful}
 use Rattle.radix_tree.proofs.Order.{not_both, some_same, one_node}
