@@ -24,8 +24,8 @@ copy() {
         [ ! -d "$top/crates/$word" ] || copy "$word"
     done
     if [ ! -d "$scratch/crates/$crate" ]; then
-        cp -r "$top/crates/$crate" "$scratch/crates/"
-        rm -rf "$scratch/crates/$crate/must-fail" "$scratch/crates/$crate/out"
+        mkdir "$scratch/crates/$crate"
+        (cd "$top/crates/$crate" && cp -r src specs proofs "$scratch/crates/$crate/")
     fi
     echo "$line" >> "$scratch/crates.txt"
 }
