@@ -16,4 +16,4 @@ returns-in-Some-told_drafted c =
     view_told s (told_of_draft c.args.draft.now) (drafted (next_for s c.args.draft.now) c.args.draft.now) c.in-Some-told_drafted.rule (sym c.missing_drafted.ensures ∙ c.in_default.is) (sym c.told_drafted.ensures ∙ c.in-Some-told_drafted.is)
 
 pub returns : goal.returns
-returns c = range_drafted (state_of c.args.shelves.now) c.args.draft.now c.in_ok-row.row c.plan_create.result c.requires c.in_ok-row.ensures (sym c.told_drafted.ensures ∙ c.in_default-2.is) c.plan_create.ensures
+returns c = range_drafted (state_of c.args.shelves.now) c.args.draft.now c.in_ok-row.row c.plan_create.result c.requires c.in_ok-row.ensures (sym c.told_drafted.ensures ∙ c.in_default-told_drafted.is) c.plan_create.ensures

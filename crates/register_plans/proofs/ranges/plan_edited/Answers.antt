@@ -18,4 +18,4 @@ returns-in-Some-told_edited c =
     (sym c.missing_edited.ensures ∙ c.in_default.is) (sym c.told_edited.ensures ∙ c.in-Some-told_edited.is)
 
 pub returns : goal.returns
-returns c = range_edited (state_of c.args.shelves.now) c.args.old.now c.args.edit.now c.in_ok-row.row c.plan_replace.result c.requires c.in_ok-row.ensures (sym c.told_edited.ensures ∙ c.in_default-2.is) c.plan_replace.ensures
+returns c = range_edited (state_of c.args.shelves.now) c.args.old.now c.args.edit.now c.in_ok-row.row c.plan_replace.result c.requires c.in_ok-row.ensures (sym c.told_edited.ensures ∙ c.in_default-told_edited.is) c.plan_replace.ensures
