@@ -7,10 +7,10 @@ use Rattle.ipam_data.specs.declared.calls.Call.TheVariants.{List as ListOf, Get,
 use Rattle.ipam_data.specs.declared.calls.Filter.{Filter}
 use Rattle.ipam_data.specs.declared.calls.Filter.TheVariants.{Vrfs as SomeVrfs, Rirs as SomeRirs, Roles as SomeRoles, Aggregates as SomeAggregates, Prefixes as SomePrefixes, Ranges as SomeRanges, Addresses as SomeAddresses}
 use Rattle.ipam_data.specs.declared.calls.Draft.{Draft}
-use Rattle.ipam_data.specs.declared.calls.Draft.TheVariants.{Vrf as VrfDraft, Rir as RirDraft, Role as RoleDraft, Aggregate as AggregateDraft, Prefix as PrefixDraft, IpRange as RangeDraft, IpAddress as AddressDraft}
 use Rattle.ipam_data.specs.declared.calls.Edit.{Edit}
-use Rattle.ipam_data.specs.declared.calls.Edit.TheVariants.{Vrf as VrfEdit, Rir as RirEdit, Role as RoleEdit, Aggregate as AggregateEdit, Prefix as PrefixEdit, IpRange as RangeEdit, IpAddress as AddressEdit}
 use Rattle.ipam_data.specs.declared.replies.Rule.{Rule}
+use Rattle.ipam_data.specs.declared.replies.View.{View}
+use Rattle.ipam_data.specs.declared.replies.View.TheVariants.{Vrf as VrfView, Rir as RirView, Role as RoleView, Aggregate as AggregateView, Prefix as PrefixView, IpRange as RangeView, IpAddress as AddressView}
 use Rattle.ipam_data.specs.declared.replies.Which.{Which}
 use Rattle.ipam_data.specs.declared.replies.Refusal.{Refusal}
 use Rattle.ipam_data.specs.declared.replies.Refusal.TheVariants.{Keeper, Limit, InUse}
@@ -25,10 +25,12 @@ use Rattle.ipam_data.specs.Rirs.{rir_rules}
 use Rattle.ipam_data.specs.Roles.{role_rules}
 use Rattle.ipam_data.specs.Aggregates.{aggregate_rules}
 use Rattle.ipam_data.specs.Prefixes.{prefix_rules}
-use Rattle.ipam_data.specs.Ranges.{range_rules, range_told}
+use Rattle.ipam_data.specs.Ranges.{range_rules}
 use Rattle.ipam_data.specs.Addresses.{address_rules}
 use Rattle.ipam_data.specs.Updates.{updated, answered, outcome}
-use Rattle.ipam_data.specs.Steps.{create_plan, change_plan, delete_plan, get_plan, list_plan, plan_of, plain_step, told_of_change}
+use Rattle.ipam_data.specs.ByKind.{by_view}
+use Rattle.ipam_data.specs.Fields.{drafted, told_of_draft, kind_of_edit, edited_vrf, edited_rir, edited_role, edited_aggregate, edited_prefix, edited_range, edited_address, told_of_change}
+use Rattle.ipam_data.specs.Steps.{next_for, create_plan, change_of_kind, change_plan, delete_plan, get_plan, list_plan, plan_of, plain_step}
 
 -- of two lists of checks neither of which refuses so, none does together
 never_append : (xs ys : List (Option Refusal)) → first xs ≢ Some Keeper → first ys ≢ Some Keeper → first (xs ++ ys) ≢ Some Keeper
@@ -121,23 +123,29 @@ module _ {T : Type 0} (rules : KindRules T) (s : State) where
   list_rules : (meets : T → Bool) (limit offset : ℕ) → IsOfRules (list rules s meets limit offset)
   list_rules meets limit offset = record { checks = λ e. cc; reply = λ v refusal e. cc }
 
+view_of_rules : (s : State) (told : List (Option Rule)) (view : View) → IsOfRules (by_view view (λ T rules row. create rules s told row))
+view_of_rules s told (VrfView row) = create_rules vrf_rules s told row
+view_of_rules s told (RirView row) = create_rules rir_rules s told row
+view_of_rules s told (RoleView row) = create_rules role_rules s told row
+view_of_rules s told (AggregateView row) = create_rules aggregate_rules s told row
+view_of_rules s told (PrefixView row depth children) = create_rules prefix_rules s told row
+view_of_rules s told (RangeView row) = create_rules range_rules s told row
+view_of_rules s told (AddressView row) = create_rules address_rules s told row
+
 create_all : (s : State) (draft : Draft) → IsOfRules (create_plan s draft)
-create_all s (VrfDraft name rd enforce_unique description) = create_rules vrf_rules s [] _
-create_all s (RirDraft name slug is_private description) = create_rules rir_rules s [] _
-create_all s (RoleDraft name slug weight description) = create_rules role_rules s [] _
-create_all s (AggregateDraft block rir description) = create_rules aggregate_rules s [] _
-create_all s (PrefixDraft block vrf status role is_pool mark_utilized description) = create_rules prefix_rules s [] _
-create_all s (RangeDraft start end vrf status role mark_utilized description) = create_rules range_rules s (range_told start end) _
-create_all s (AddressDraft host vrf status role dns_name description) = create_rules address_rules s [] _
+create_all s draft = view_of_rules s (told_of_draft draft) (drafted (next_for s draft) draft)
+
+kind_of_rules : (s : State) (n : ℕ) (edit : Edit) (kind : Kind) → IsOfRules (change_of_kind s n edit kind)
+kind_of_rules s n edit Vrfs = change_rules vrf_rules s n nothing_told (edited_vrf edit)
+kind_of_rules s n edit Rirs = change_rules rir_rules s n nothing_told (edited_rir edit)
+kind_of_rules s n edit Roles = change_rules role_rules s n nothing_told (edited_role edit)
+kind_of_rules s n edit Aggregates = change_rules aggregate_rules s n nothing_told (edited_aggregate edit)
+kind_of_rules s n edit Prefixes = change_rules prefix_rules s n nothing_told (edited_prefix edit)
+kind_of_rules s n edit Ranges = change_rules range_rules s n (told_of_change edit) (edited_range edit)
+kind_of_rules s n edit Addresses = change_rules address_rules s n nothing_told (edited_address edit)
 
 change_all : (s : State) (n : ℕ) (edit : Edit) → IsOfRules (change_plan s n edit)
-change_all s n (VrfEdit name rd enforce_unique description) = change_rules vrf_rules s n nothing_told _
-change_all s n (RirEdit name slug is_private description) = change_rules rir_rules s n nothing_told _
-change_all s n (RoleEdit name slug weight description) = change_rules role_rules s n nothing_told _
-change_all s n (AggregateEdit block rir description) = change_rules aggregate_rules s n nothing_told _
-change_all s n (PrefixEdit block vrf status role is_pool mark_utilized description) = change_rules prefix_rules s n nothing_told _
-change_all s n (RangeEdit start end vrf status role mark_utilized description) = change_rules range_rules s n (told_of_change start end) _
-change_all s n (AddressEdit host vrf status role dns_name description) = change_rules address_rules s n nothing_told _
+change_all s n edit = kind_of_rules s n edit (kind_of_edit edit)
 
 vrf_users : (s : State) (n : ℕ) → first (vrf_rules.users s n) ≢ Some Keeper
 vrf_users s n = never_append (used Prefixes _ ∷ []) (used Ranges _ ∷ used Addresses _ ∷ []) (never_one _ (never_used Prefixes _))

@@ -1,3 +1,4 @@
 pub mod Verdicts
 pub mod Paging
 pub mod Finds
+mod Drafted

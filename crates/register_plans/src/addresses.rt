@@ -7,14 +7,13 @@ ghost use Rattle.ipam_data.specs.Rows.{address_id, address_status_number, addres
 ghost use Rattle.ipam_data.specs.Tables.{table_of, is_enforcing};
 ghost use Rattle.ipam_data.specs.Checks.{asks};
 ghost use Rattle.ipam_data.specs.Plans.{change, nothing_told};
-ghost use Rattle.ipam_data.specs.Edits.{edited_address};
+ghost use Rattle.ipam_data.specs.Fields.{edited_address};
 ghost use Rattle.ipam_data.specs.Addresses.{address_rules, address_fault, is_shared_role, is_shared, clash, clashes, clash_in, clash_of, is_slaac_of_v4, has_role};
 ghost use Rattle.register_shelves.specs.Held.{state_of};
 ghost use Rattle.register_plans.specs.Planned.{IsPlanned};
 ghost use Rattle.register_plans.specs.Meets.{address_meets};
 
 use crate::calls::plan_replace;
-use crate::edits::{edited_description, edited_dns_name, edited_value};
 use crate::filters::{asks_family, asks_name, asks_parent, asks_text};
 use crate::planned::Planned;
 use crate::references::missing_vrf;
@@ -22,12 +21,10 @@ use crate::registered::Registered;
 use crate::same::{is_one_address, is_one_table};
 use inet_num::Family;
 use ipam_data::address::{AddressRole, AddressStatus, IpAddress, MOST_ADDRESSES};
-use ipam_data::calls::Filter;
-use ipam_data::host::Host;
+use ipam_data::calls::{Edit, Filter};
 use ipam_data::host_names::is_dns_name;
 use ipam_data::kinds::{Kind, Table};
 use ipam_data::replies::{Refusal, Rule, View};
-use ipam_data::text::{Description, DnsText};
 use register_shelves::Shelves;
 use row_book::Book;
 use std::alloc::AllocError;
@@ -250,44 +247,12 @@ impl Registered for IpAddress {
     }
 }
 
-/// The address that an edit leaves. `Err` is want of memory.
-fn edited_row(
-    old: &IpAddress,
-    host: Option<Host>,
-    vrf: Option<Option<u32>>,
-    status: Option<AddressStatus>,
-    role: Option<Option<AddressRole>>,
-    dns_name: &Option<DnsText>,
-    description: &Option<Description>,
-) -> Result<IpAddress, AllocError>
-    ensures { IfOk result (λ row. row ≡ edited_address host vrf status role dns_name.now description.now old.now) }
-{
-    Ok(IpAddress {
-        id: old.id,
-        host: edited_value(host, old.host),
-        vrf: edited_value(vrf, old.vrf),
-        status: edited_value(status, old.status),
-        role: edited_value(role, old.role),
-        dns_name: edited_dns_name(dns_name, &old.dns_name)?,
-        description: edited_description(description, &old.description)?,
-    })
-}
-
-/// Plans the address of an id with the given fields changed. `Err` is want of memory.
-pub fn plan_edit(
-    shelves: &Shelves,
-    id: u32,
-    host: Option<Host>,
-    vrf: Option<Option<u32>>,
-    status: Option<AddressStatus>,
-    role: Option<Option<AddressRole>>,
-    dns_name: &Option<DnsText>,
-    description: &Option<Description>,
-) -> Result<Planned, AllocError>
-    ensures { IfOk result (λ p. IsPlanned (change address_rules (state_of shelves.now) id nothing_told (edited_address host vrf status role dns_name.now description.now)) p) }
+/// Plans the address of an id with the fields of an edit changed. `Err` is want of memory.
+pub fn plan_edit(shelves: &Shelves, id: u32, edit: &Edit) -> Result<Planned, AllocError>
+    ensures { IfOk result (λ p. IsPlanned (change address_rules (state_of shelves.now) id nothing_told (edited_address edit.now)) p) }
 {
     let row = match IpAddress::found(shelves, id) {
-        Some(old) => edited_row(old, host, vrf, status, role, dns_name, description)?,
+        Some(old) => old.edited(edit)?,
         None => return Ok(Planned::Refused(Refusal::NotFound(Kind::Addresses, id))),
     };
     plan_replace(shelves, row)

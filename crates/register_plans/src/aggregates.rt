@@ -4,25 +4,22 @@ ghost use Rattle.std.specs.Prelude.{◌≡◌, ℕ, ◌&&◌, ◌||◌, [], IfOk
 ghost use Rattle.ipam_data.specs.Shelf.{is_rival};
 ghost use Rattle.ipam_data.specs.Rows.{aggregate_id};
 ghost use Rattle.ipam_data.specs.Plans.{change, nothing_told};
-ghost use Rattle.ipam_data.specs.Edits.{edited_aggregate};
+ghost use Rattle.ipam_data.specs.Fields.{edited_aggregate};
 ghost use Rattle.ipam_data.specs.Aggregates.{aggregate_rules, aggregate_fault, overlaps};
 ghost use Rattle.register_shelves.specs.Held.{state_of};
 ghost use Rattle.register_plans.specs.Planned.{IsPlanned};
 ghost use Rattle.register_plans.specs.Meets.{aggregate_meets};
 
 use crate::calls::plan_replace;
-use crate::edits::{edited_description, edited_value};
 use crate::filters::{asks_family, asks_id};
 use crate::planned::Planned;
 use crate::references::missing_rir;
 use crate::registered::Registered;
 use crate::same::is_block_inside;
-use inet_num::Block;
 use ipam_data::aggregate::{Aggregate, MOST_AGGREGATES};
-use ipam_data::calls::Filter;
+use ipam_data::calls::{Edit, Filter};
 use ipam_data::kinds::Kind;
 use ipam_data::replies::{Refusal, Rule, View};
-use ipam_data::text::Description;
 use register_shelves::Shelves;
 use row_book::Book;
 use std::alloc::AllocError;
@@ -123,35 +120,12 @@ impl Registered for Aggregate {
     }
 }
 
-/// The aggregate that an edit leaves. `Err` is want of memory.
-fn edited_row(
-    old: &Aggregate,
-    block: Option<Block>,
-    rir: Option<u32>,
-    description: &Option<Description>,
-) -> Result<Aggregate, AllocError>
-    ensures { IfOk result (λ row. row ≡ edited_aggregate block rir description.now old.now) }
-{
-    Ok(Aggregate {
-        id: old.id,
-        block: edited_value(block, old.block),
-        rir: edited_value(rir, old.rir),
-        description: edited_description(description, &old.description)?,
-    })
-}
-
-/// Plans the aggregate of an id with the given fields changed. `Err` is want of memory.
-pub fn plan_edit(
-    shelves: &Shelves,
-    id: u32,
-    block: Option<Block>,
-    rir: Option<u32>,
-    description: &Option<Description>,
-) -> Result<Planned, AllocError>
-    ensures { IfOk result (λ p. IsPlanned (change aggregate_rules (state_of shelves.now) id nothing_told (edited_aggregate block rir description.now)) p) }
+/// Plans the aggregate of an id with the fields of an edit changed. `Err` is want of memory.
+pub fn plan_edit(shelves: &Shelves, id: u32, edit: &Edit) -> Result<Planned, AllocError>
+    ensures { IfOk result (λ p. IsPlanned (change aggregate_rules (state_of shelves.now) id nothing_told (edited_aggregate edit.now)) p) }
 {
     let row = match Aggregate::found(shelves, id) {
-        Some(old) => edited_row(old, block, rir, description)?,
+        Some(old) => old.edited(edit)?,
         None => return Ok(Planned::Refused(Refusal::NotFound(Kind::Aggregates, id))),
     };
     plan_replace(shelves, row)

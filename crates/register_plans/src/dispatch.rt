@@ -18,7 +18,7 @@ use ipam_data::range::IpRange;
 use ipam_data::replies::{Rule, View};
 use ipam_data::rir::Rir;
 use ipam_data::role::Role;
-use ipam_data::vrf::{Vrf, copy_distinguisher};
+use ipam_data::vrf::Vrf;
 use register_shelves::Shelves;
 use std::alloc::AllocError;
 
@@ -46,121 +46,24 @@ fn plan_draft(shelves: &Shelves, draft: &Draft) -> Result<Planned, AllocError>
     ensures { IfOk result (λ p. IsPlanned (create_plan (state_of shelves.now) draft.now) p) }
 {
     match draft {
-        Draft::Vrf {
-            name,
-            rd,
-            enforce_unique,
-            description,
-        } => plan_create(
+        Draft::Vrf { .. } => plan_create(shelves, Vrf::drafted(shelves.next(Kind::Vrfs), draft)?),
+        Draft::Rir { .. } => plan_create(shelves, Rir::drafted(shelves.next(Kind::Rirs), draft)?),
+        Draft::Role { .. } => plan_create(
             shelves,
-            Vrf {
-                id: shelves.next(Kind::Vrfs),
-                name: name.copy()?,
-                rd: copy_distinguisher(rd)?,
-                enforce_unique: *enforce_unique,
-                description: description.copy()?,
-            },
+            Role::drafted(shelves.next(Kind::Roles), draft)?,
         ),
-        Draft::Rir {
-            name,
-            slug,
-            is_private,
-            description,
-        } => plan_create(
+        Draft::Aggregate { .. } => plan_create(
             shelves,
-            Rir {
-                id: shelves.next(Kind::Rirs),
-                name: name.copy()?,
-                slug: slug.copy()?,
-                is_private: *is_private,
-                description: description.copy()?,
-            },
+            Aggregate::drafted(shelves.next(Kind::Aggregates), draft)?,
         ),
-        Draft::Role {
-            name,
-            slug,
-            weight,
-            description,
-        } => plan_create(
+        Draft::Prefix { .. } => plan_create(
             shelves,
-            Role {
-                id: shelves.next(Kind::Roles),
-                name: name.copy()?,
-                slug: slug.copy()?,
-                weight: *weight,
-                description: description.copy()?,
-            },
+            Prefix::drafted(shelves.next(Kind::Prefixes), draft)?,
         ),
-        Draft::Aggregate {
-            block,
-            rir,
-            description,
-        } => plan_create(
+        Draft::IpRange { .. } => ranges::plan_draft(shelves, draft),
+        Draft::IpAddress { .. } => plan_create(
             shelves,
-            Aggregate {
-                id: shelves.next(Kind::Aggregates),
-                block: *block,
-                rir: *rir,
-                description: description.copy()?,
-            },
-        ),
-        Draft::Prefix {
-            block,
-            vrf,
-            status,
-            role,
-            is_pool,
-            mark_utilized,
-            description,
-        } => plan_create(
-            shelves,
-            Prefix {
-                id: shelves.next(Kind::Prefixes),
-                block: *block,
-                vrf: *vrf,
-                status: *status,
-                role: *role,
-                is_pool: *is_pool,
-                mark_utilized: *mark_utilized,
-                description: description.copy()?,
-            },
-        ),
-        Draft::IpRange {
-            start,
-            end,
-            vrf,
-            status,
-            role,
-            mark_utilized,
-            description,
-        } => ranges::plan_new(
-            shelves,
-            *start,
-            *end,
-            *vrf,
-            *status,
-            *role,
-            *mark_utilized,
-            description,
-        ),
-        Draft::IpAddress {
-            host,
-            vrf,
-            status,
-            role,
-            dns_name,
-            description,
-        } => plan_create(
-            shelves,
-            IpAddress {
-                id: shelves.next(Kind::Addresses),
-                host: *host,
-                vrf: *vrf,
-                status: *status,
-                role: *role,
-                dns_name: dns_name.lowered()?,
-                description: description.copy()?,
-            },
+            IpAddress::drafted(shelves.next(Kind::Addresses), draft)?,
         ),
     }
 }
@@ -170,84 +73,13 @@ fn plan_edit(shelves: &Shelves, id: u32, edit: &Edit) -> Result<Planned, AllocEr
     ensures { IfOk result (λ p. IsPlanned (change_plan (state_of shelves.now) id edit.now) p) }
 {
     match edit {
-        Edit::Vrf {
-            name,
-            rd,
-            enforce_unique,
-            description,
-        } => vrfs::plan_edit(shelves, id, name, rd, *enforce_unique, description),
-        Edit::Rir {
-            name,
-            slug,
-            is_private,
-            description,
-        } => rirs::plan_edit(shelves, id, name, slug, *is_private, description),
-        Edit::Role {
-            name,
-            slug,
-            weight,
-            description,
-        } => roles::plan_edit(shelves, id, name, slug, weight, description),
-        Edit::Aggregate {
-            block,
-            rir,
-            description,
-        } => aggregates::plan_edit(shelves, id, *block, *rir, description),
-        Edit::Prefix {
-            block,
-            vrf,
-            status,
-            role,
-            is_pool,
-            mark_utilized,
-            description,
-        } => prefixes::plan_edit(
-            shelves,
-            id,
-            *block,
-            *vrf,
-            *status,
-            *role,
-            *is_pool,
-            *mark_utilized,
-            description,
-        ),
-        Edit::IpRange {
-            start,
-            end,
-            vrf,
-            status,
-            role,
-            mark_utilized,
-            description,
-        } => ranges::plan_edit(
-            shelves,
-            id,
-            *start,
-            *end,
-            *vrf,
-            *status,
-            *role,
-            *mark_utilized,
-            description,
-        ),
-        Edit::IpAddress {
-            host,
-            vrf,
-            status,
-            role,
-            dns_name,
-            description,
-        } => addresses::plan_edit(
-            shelves,
-            id,
-            *host,
-            *vrf,
-            *status,
-            *role,
-            dns_name,
-            description,
-        ),
+        Edit::Vrf { .. } => vrfs::plan_edit(shelves, id, edit),
+        Edit::Rir { .. } => rirs::plan_edit(shelves, id, edit),
+        Edit::Role { .. } => roles::plan_edit(shelves, id, edit),
+        Edit::Aggregate { .. } => aggregates::plan_edit(shelves, id, edit),
+        Edit::Prefix { .. } => prefixes::plan_edit(shelves, id, edit),
+        Edit::IpRange { .. } => ranges::plan_edit(shelves, id, edit),
+        Edit::IpAddress { .. } => addresses::plan_edit(shelves, id, edit),
     }
 }
 

@@ -6,7 +6,6 @@ mod addresses;
 mod aggregates;
 mod calls;
 mod dispatch;
-mod edits;
 mod filters;
 mod planned;
 mod prefixes;

@@ -3,7 +3,7 @@
 ghost use Rattle.std.specs.Prelude.{◌≡◌, ℕ, ◌&&◌, ◌==◌, IfOk};
 ghost use Rattle.ipam_data.specs.Tables.{table_of, is_enforcing};
 ghost use Rattle.ipam_data.specs.Plans.{change, nothing_told};
-ghost use Rattle.ipam_data.specs.Edits.{edited_prefix};
+ghost use Rattle.ipam_data.specs.Fields.{edited_prefix};
 ghost use Rattle.ipam_data.specs.Prefixes.{prefix_rules, prefix_fault};
 ghost use Rattle.ipam_data.specs.Rows.{prefix_status_number};
 ghost use Rattle.ipam_data.specs.Checks.{asks};
@@ -12,17 +12,14 @@ ghost use Rattle.register_plans.specs.Planned.{IsPlanned};
 ghost use Rattle.register_plans.specs.Meets.{prefix_meets};
 
 use crate::calls::plan_replace;
-use crate::edits::{edited_description, edited_value};
 use crate::filters::{asks_block, asks_contains, asks_family, asks_inside, asks_name, asks_within};
 use crate::planned::Planned;
 use crate::references::{missing_role, missing_vrf};
 use crate::registered::Registered;
-use inet_num::Block;
-use ipam_data::calls::Filter;
+use ipam_data::calls::{Edit, Filter};
 use ipam_data::kinds::{Kind, Table};
 use ipam_data::prefix::{MOST_PREFIXES, Prefix, PrefixStatus};
 use ipam_data::replies::{Refusal, Rule, View};
-use ipam_data::text::Description;
 use register_shelves::Shelves;
 use std::alloc::AllocError;
 
@@ -136,56 +133,12 @@ impl Registered for Prefix {
     }
 }
 
-/// The prefix that an edit leaves. `Err` is want of memory.
-fn edited_row(
-    old: &Prefix,
-    block: Option<Block>,
-    vrf: Option<Option<u32>>,
-    status: Option<PrefixStatus>,
-    role: Option<Option<u32>>,
-    is_pool: Option<bool>,
-    mark_utilized: Option<bool>,
-    description: &Option<Description>,
-) -> Result<Prefix, AllocError>
-    ensures { IfOk result (λ row. row ≡ edited_prefix block vrf status role is_pool mark_utilized description.now old.now) }
-{
-    Ok(Prefix {
-        id: old.id,
-        block: edited_value(block, old.block),
-        vrf: edited_value(vrf, old.vrf),
-        status: edited_value(status, old.status),
-        role: edited_value(role, old.role),
-        is_pool: edited_value(is_pool, old.is_pool),
-        mark_utilized: edited_value(mark_utilized, old.mark_utilized),
-        description: edited_description(description, &old.description)?,
-    })
-}
-
-/// Plans the prefix of an id with the given fields changed. `Err` is want of memory.
-pub fn plan_edit(
-    shelves: &Shelves,
-    id: u32,
-    block: Option<Block>,
-    vrf: Option<Option<u32>>,
-    status: Option<PrefixStatus>,
-    role: Option<Option<u32>>,
-    is_pool: Option<bool>,
-    mark_utilized: Option<bool>,
-    description: &Option<Description>,
-) -> Result<Planned, AllocError>
-    ensures { IfOk result (λ p. IsPlanned (change prefix_rules (state_of shelves.now) id nothing_told (edited_prefix block vrf status role is_pool mark_utilized description.now)) p) }
+/// Plans the prefix of an id with the fields of an edit changed. `Err` is want of memory.
+pub fn plan_edit(shelves: &Shelves, id: u32, edit: &Edit) -> Result<Planned, AllocError>
+    ensures { IfOk result (λ p. IsPlanned (change prefix_rules (state_of shelves.now) id nothing_told (edited_prefix edit.now)) p) }
 {
     let row = match Prefix::found(shelves, id) {
-        Some(old) => edited_row(
-            old,
-            block,
-            vrf,
-            status,
-            role,
-            is_pool,
-            mark_utilized,
-            description,
-        )?,
+        Some(old) => old.edited(edit)?,
         None => return Ok(Planned::Refused(Refusal::NotFound(Kind::Prefixes, id))),
     };
     plan_replace(shelves, row)

@@ -2,32 +2,33 @@
 
 ghost use Rattle.std.specs.Prelude.{◌≡◌, ℕ, ◌&&◌, ◌==◌, ◌∷◌, [], Some, None, IfOk, find, option_copied};
 ghost use Rattle.inet_num.specs.Net.{first_of, last_of};
-ghost use Rattle.ipam_data.specs.declared.kinds.Kind.TheVariants.{Vrfs, Roles};
+ghost use Rattle.ipam_data.specs.declared.kinds.Kind.TheVariants.{Vrfs, Roles, Ranges};
 ghost use Rattle.ipam_data.specs.Shelf.{is_rival, row_at};
 ghost use Rattle.ipam_data.specs.Rows.{vrf_id, role_id, range_id, range_status_number};
 ghost use Rattle.ipam_data.specs.Checks.{first, asks, no_such};
 ghost use Rattle.ipam_data.specs.Blocks.{is_run_inside};
-ghost use Rattle.ipam_data.specs.Plans.{change, create, replace, edited};
-ghost use Rattle.ipam_data.specs.Edits.{edited_range, told_of_change, start_of, end_of};
-ghost use Rattle.ipam_data.specs.Ranges.{range_rules, range_fault, range_told, range_family, range_mask, ends_of, crosses};
+ghost use Rattle.ipam_data.specs.Plans.{change, replace};
+ghost use Rattle.ipam_data.specs.ByKind.{by_view};
+ghost use Rattle.ipam_data.specs.Fields.{drafted, told_of_draft, kind_of_draft, edited_range, told_of_change};
+ghost use Rattle.ipam_data.specs.Steps.{next_for, create_plan};
+ghost use Rattle.ipam_data.specs.Ranges.{range_rules, range_fault, range_told, range_family, crosses};
 ghost use Rattle.register_shelves.specs.Held.{state_of};
 ghost use Rattle.register_plans.specs.Planned.{IsPlanned};
 ghost use Rattle.register_plans.specs.Meets.{range_meets};
 
 use crate::calls::{plan_create, plan_replace};
-use crate::edits::{edited_description, edited_value};
 use crate::filters::{asks_family, asks_name};
 use crate::planned::Planned;
 use crate::references::{missing_role, missing_vrf};
 use crate::registered::Registered;
 use crate::same::{is_in_run, is_one_family, is_one_table};
 use inet_num::{Addr, Block};
-use ipam_data::calls::Filter;
-use ipam_data::host::{Ends, Host};
+use ipam_data::calls::{Draft, Edit, Filter};
+use ipam_data::edits::edited_value;
+use ipam_data::host::Host;
 use ipam_data::kinds::{Kind, Table};
 use ipam_data::range::{IpRange, MOST_RANGES, RangeStatus};
 use ipam_data::replies::{Refusal, Rule, View};
-use ipam_data::text::Description;
 use register_shelves::Shelves;
 use row_book::Book;
 use std::alloc::AllocError;
@@ -211,140 +212,91 @@ impl Registered for IpRange {
     }
 }
 
-/// The ends with the mask of the first, of which nothing is told.
-fn ends(start: Host, end: Host) -> Ends
-    requires { first (range_told start end) ≡ None }
-    ensures { result ≡ ends_of start end }
+/// The first row that the range of a draft names and that is not there.
+fn missing_drafted(shelves: &Shelves, draft: &Draft) -> Option<Rule>
+    requires { kind_of_draft draft.now ≡ Ranges }
+    ensures { result ≡ by_view (drafted (next_for (state_of shelves.now) draft.now) draft.now) (λ T rules row. first (rules.references (state_of shelves.now) row)) }
 {
-    match Ends::of(start.addr(), end.addr(), start.len()) {
-        Some(ends) => ends,
-        None => unreachable!(),
+    match draft {
+        Draft::IpRange { vrf, role, .. } => missing(shelves, *vrf, *role),
+        _ => unreachable!(),
+    }
+}
+
+/// What is told of a draft, beside its row.
+fn told_drafted(draft: &Draft) -> Option<Rule>
+    ensures { result ≡ first (told_of_draft draft.now) }
+{
+    match draft {
+        Draft::IpRange { start, end, .. } => told(*start, *end),
+        _ => None,
     }
 }
 
 /// Plans a range more. `Err` is want of memory.
-pub fn plan_new(
-    shelves: &Shelves,
-    start: Host,
-    end: Host,
-    vrf: Option<u32>,
-    status: RangeStatus,
-    role: Option<u32>,
-    mark_utilized: bool,
-    description: &Description,
-) -> Result<Planned, AllocError>
-    ensures { IfOk result (λ p. IsPlanned (create range_rules (state_of shelves.now) (range_told start end) (record { id = shelves.now.next_range; ends = ends_of start end; vrf = vrf; status = status; role = role; mark_utilized = mark_utilized; description = description.now })) p) }
+pub fn plan_draft(shelves: &Shelves, draft: &Draft) -> Result<Planned, AllocError>
+    requires { kind_of_draft draft.now ≡ Ranges }
+    ensures { IfOk result (λ p. IsPlanned (create_plan (state_of shelves.now) draft.now) p) }
 {
-    if let Some(rule) = missing(shelves, vrf, role) {
+    if let Some(rule) = missing_drafted(shelves, draft) {
         return Ok(Planned::Refused(Refusal::Rule(rule)));
     }
-    if let Some(rule) = told(start, end) {
+    if let Some(rule) = told_drafted(draft) {
         return Ok(Planned::Refused(Refusal::Rule(rule)));
     }
-    let row = IpRange {
-        id: shelves.next(Kind::Ranges),
-        ends: ends(start, end),
-        vrf,
-        status,
-        role,
-        mark_utilized,
-        description: description.copy()?,
-    };
+    let row = IpRange::drafted(shelves.next(Kind::Ranges), draft)?;
     plan_create(shelves, row)
 }
 
-/// An end of a range: the one that is given, or the old one with its mask.
-fn edited_end(given: Option<Host>, old: Host) -> Host
-    ensures { result ≡ edited given old }
+/// The first row that the range which an edit leaves names and that is not there.
+fn missing_edited(shelves: &Shelves, old: &IpRange, edit: &Edit) -> Option<Rule>
+    ensures { result ≡ first (range_rules.references (state_of shelves.now) (edited_range edit.now old.now)) }
 {
-    match given {
-        Some(host) => host,
-        None => old,
+    match edit {
+        Edit::IpRange { vrf, role, .. } => missing(
+            shelves,
+            edited_value(*vrf, old.vrf),
+            edited_value(*role, old.role),
+        ),
+        _ => missing(shelves, old.vrf, old.role),
     }
 }
 
-/// The start of a range with its mask.
-fn start_host(row: &IpRange) -> Host
-    ensures { result ≡ start_of row.now }
+/// What is told of the ends that an edit leaves.
+fn told_edited(old: &IpRange, edit: &Edit) -> Option<Rule>
+    ensures { result ≡ first (told_of_change edit.now old.now) }
 {
-    match Host::of(row.ends.start(), row.ends.len()) {
-        Some(host) => host,
-        None => unreachable!(),
+    match edit {
+        Edit::IpRange { start, end, .. } => told(
+            edited_value(*start, old.start()),
+            edited_value(*end, old.end()),
+        ),
+        _ => None,
     }
 }
 
-/// The end of a range with its mask.
-fn end_host(row: &IpRange) -> Host
-    ensures { result ≡ end_of row.now }
-{
-    match Host::of(row.ends.end(), row.ends.len()) {
-        Some(host) => host,
-        None => unreachable!(),
-    }
-}
-
-/// Plans a range in the place of the old one, with these ends. `Err` is want of memory.
-fn plan_ends(
-    shelves: &Shelves,
-    old: &IpRange,
-    start: Host,
-    end: Host,
-    vrf: Option<Option<u32>>,
-    status: Option<RangeStatus>,
-    role: Option<Option<u32>>,
-    mark_utilized: Option<bool>,
-    description: &Option<Description>,
-) -> Result<Planned, AllocError>
+/// Plans the range that an edit leaves in the place of the old one. `Err` is want of memory.
+fn plan_edited(shelves: &Shelves, old: &IpRange, edit: &Edit) -> Result<Planned, AllocError>
     requires { row_at range_id shelves.now.ranges.rows old.now.id ≡ Some old.now }
-    ensures { IfOk result (λ p. IsPlanned (replace range_rules (state_of shelves.now) old.now (range_told start end) (record { id = old.now.id; ends = ends_of start end; vrf = edited vrf old.now.vrf; status = edited status old.now.status; role = edited role old.now.role; mark_utilized = edited mark_utilized old.now.mark_utilized; description = edited description.now old.now.description })) p) }
+    ensures { IfOk result (λ p. IsPlanned (replace range_rules (state_of shelves.now) old.now (told_of_change edit.now old.now) (edited_range edit.now old.now)) p) }
 {
-    let vrf = edited_value(vrf, old.vrf);
-    let role = edited_value(role, old.role);
-    if let Some(rule) = missing(shelves, vrf, role) {
+    if let Some(rule) = missing_edited(shelves, old, edit) {
         return Ok(Planned::Refused(Refusal::Rule(rule)));
     }
-    if let Some(rule) = told(start, end) {
+    if let Some(rule) = told_edited(old, edit) {
         return Ok(Planned::Refused(Refusal::Rule(rule)));
     }
-    let row = IpRange {
-        id: old.id,
-        ends: ends(start, end),
-        vrf,
-        status: edited_value(status, old.status),
-        role,
-        mark_utilized: edited_value(mark_utilized, old.mark_utilized),
-        description: edited_description(description, &old.description)?,
-    };
+    let row = old.edited(edit)?;
     plan_replace(shelves, row)
 }
 
-/// Plans the range of an id with the given fields changed; an end that is not given keeps the row's mask. `Err` is want of
+/// Plans the range of an id with the fields of an edit changed; an end that is not given keeps the row's mask. `Err` is want of
 /// memory.
-pub fn plan_edit(
-    shelves: &Shelves,
-    id: u32,
-    start: Option<Host>,
-    end: Option<Host>,
-    vrf: Option<Option<u32>>,
-    status: Option<RangeStatus>,
-    role: Option<Option<u32>>,
-    mark_utilized: Option<bool>,
-    description: &Option<Description>,
-) -> Result<Planned, AllocError>
-    ensures { IfOk result (λ p. IsPlanned (change range_rules (state_of shelves.now) id (told_of_change start end) (edited_range start end vrf status role mark_utilized description.now)) p) }
+pub fn plan_edit(shelves: &Shelves, id: u32, edit: &Edit) -> Result<Planned, AllocError>
+    ensures { IfOk result (λ p. IsPlanned (change range_rules (state_of shelves.now) id (told_of_change edit.now) (edited_range edit.now)) p) }
 {
     match IpRange::found(shelves, id) {
         None => Ok(Planned::Refused(Refusal::NotFound(Kind::Ranges, id))),
-        Some(old) => plan_ends(
-            shelves,
-            old,
-            edited_end(start, start_host(old)),
-            edited_end(end, end_host(old)),
-            vrf,
-            status,
-            role,
-            mark_utilized,
-            description,
-        ),
+        Some(old) => plan_edited(shelves, old, edit),
     }
 }

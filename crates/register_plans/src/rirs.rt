@@ -5,23 +5,21 @@ ghost use Rattle.ipam_data.specs.declared.aggregate.Aggregate.{Aggregate};
 ghost use Rattle.ipam_data.specs.Shelf.{is_rival};
 ghost use Rattle.ipam_data.specs.Rows.{rir_id};
 ghost use Rattle.ipam_data.specs.Plans.{change, nothing_told};
-ghost use Rattle.ipam_data.specs.Edits.{edited_rir};
+ghost use Rattle.ipam_data.specs.Fields.{edited_rir};
 ghost use Rattle.ipam_data.specs.Rirs.{rir_rules, rir_fault, same_rir_name, same_rir_slug};
 ghost use Rattle.register_shelves.specs.Held.{state_of};
 ghost use Rattle.register_plans.specs.Planned.{IsPlanned};
 ghost use Rattle.register_plans.specs.Meets.{rir_meets};
 
 use crate::calls::plan_replace;
-use crate::edits::{edited_description, edited_name, edited_slug, edited_value};
 use crate::filters::asks_text;
 use crate::planned::Planned;
 use crate::registered::Registered;
 use ipam_data::aggregate::Aggregate;
-use ipam_data::calls::Filter;
+use ipam_data::calls::{Edit, Filter};
 use ipam_data::kinds::Kind;
 use ipam_data::replies::{Refusal, Rule, View};
 use ipam_data::rir::{MOST_RIRS, Rir};
-use ipam_data::text::{Description, Name, Slug};
 use register_shelves::Shelves;
 use row_book::Book;
 use std::alloc::AllocError;
@@ -145,38 +143,12 @@ impl Registered for Rir {
     }
 }
 
-/// The RIR that an edit leaves. `Err` is want of memory.
-fn edited_row(
-    old: &Rir,
-    name: &Option<Name>,
-    slug: &Option<Slug>,
-    is_private: Option<bool>,
-    description: &Option<Description>,
-) -> Result<Rir, AllocError>
-    ensures { IfOk result (λ row. row ≡ edited_rir name.now slug.now is_private description.now old.now) }
-{
-    Ok(Rir {
-        id: old.id,
-        name: edited_name(name, &old.name)?,
-        slug: edited_slug(slug, &old.slug)?,
-        is_private: edited_value(is_private, old.is_private),
-        description: edited_description(description, &old.description)?,
-    })
-}
-
-/// Plans the RIR of an id with the given fields changed. `Err` is want of memory.
-pub fn plan_edit(
-    shelves: &Shelves,
-    id: u32,
-    name: &Option<Name>,
-    slug: &Option<Slug>,
-    is_private: Option<bool>,
-    description: &Option<Description>,
-) -> Result<Planned, AllocError>
-    ensures { IfOk result (λ p. IsPlanned (change rir_rules (state_of shelves.now) id nothing_told (edited_rir name.now slug.now is_private description.now)) p) }
+/// Plans the RIR of an id with the fields of an edit changed. `Err` is want of memory.
+pub fn plan_edit(shelves: &Shelves, id: u32, edit: &Edit) -> Result<Planned, AllocError>
+    ensures { IfOk result (λ p. IsPlanned (change rir_rules (state_of shelves.now) id nothing_told (edited_rir edit.now)) p) }
 {
     let row = match Rir::found(shelves, id) {
-        Some(old) => edited_row(old, name, slug, is_private, description)?,
+        Some(old) => old.edited(edit)?,
         None => return Ok(Planned::Refused(Refusal::NotFound(Kind::Rirs, id))),
     };
     plan_replace(shelves, row)

@@ -6,7 +6,7 @@ ghost use Rattle.ipam_data.specs.declared.range.IpRange.{IpRange};
 ghost use Rattle.ipam_data.specs.Shelf.{is_rival};
 ghost use Rattle.ipam_data.specs.Rows.{role_id};
 ghost use Rattle.ipam_data.specs.Plans.{change, nothing_told};
-ghost use Rattle.ipam_data.specs.Edits.{edited_role};
+ghost use Rattle.ipam_data.specs.Fields.{edited_role};
 ghost use Rattle.ipam_data.specs.Roles.{role_rules, role_fault, same_role_name, same_role_slug};
 ghost use Rattle.ipam_data.specs.Prefixes.{prefix_rules, prefixes_without_role};
 ghost use Rattle.ipam_data.specs.Ranges.{range_rules, ranges_without_role};
@@ -15,18 +15,16 @@ ghost use Rattle.register_plans.specs.Planned.{IsPlanned};
 ghost use Rattle.register_plans.specs.Meets.{role_meets};
 
 use crate::calls::plan_replace;
-use crate::edits::{edited_description, edited_name, edited_slug, edited_weight};
 use crate::filters::asks_text;
 use crate::planned::Planned;
 use crate::registered::Registered;
 use crate::same::names;
-use ipam_data::calls::Filter;
+use ipam_data::calls::{Edit, Filter};
 use ipam_data::kinds::Kind;
 use ipam_data::prefix::Prefix;
 use ipam_data::range::IpRange;
 use ipam_data::replies::{Refusal, Rule, View};
 use ipam_data::role::{MOST_ROLES, Role};
-use ipam_data::text::{Description, Name, Slug, Weight};
 use register_shelves::{Prefixes, Shelves};
 use row_book::Book;
 use std::alloc::AllocError;
@@ -202,38 +200,12 @@ impl Registered for Role {
     }
 }
 
-/// The role that an edit leaves. `Err` is want of memory.
-fn edited_row(
-    old: &Role,
-    name: &Option<Name>,
-    slug: &Option<Slug>,
-    weight: &Option<Weight>,
-    description: &Option<Description>,
-) -> Result<Role, AllocError>
-    ensures { IfOk result (λ row. row ≡ edited_role name.now slug.now weight.now description.now old.now) }
-{
-    Ok(Role {
-        id: old.id,
-        name: edited_name(name, &old.name)?,
-        slug: edited_slug(slug, &old.slug)?,
-        weight: edited_weight(weight, old.weight),
-        description: edited_description(description, &old.description)?,
-    })
-}
-
-/// Plans the role of an id with the given fields changed. `Err` is want of memory.
-pub fn plan_edit(
-    shelves: &Shelves,
-    id: u32,
-    name: &Option<Name>,
-    slug: &Option<Slug>,
-    weight: &Option<Weight>,
-    description: &Option<Description>,
-) -> Result<Planned, AllocError>
-    ensures { IfOk result (λ p. IsPlanned (change role_rules (state_of shelves.now) id nothing_told (edited_role name.now slug.now weight.now description.now)) p) }
+/// Plans the role of an id with the fields of an edit changed. `Err` is want of memory.
+pub fn plan_edit(shelves: &Shelves, id: u32, edit: &Edit) -> Result<Planned, AllocError>
+    ensures { IfOk result (λ p. IsPlanned (change role_rules (state_of shelves.now) id nothing_told (edited_role edit.now)) p) }
 {
     let row = match Role::found(shelves, id) {
-        Some(old) => edited_row(old, name, slug, weight, description)?,
+        Some(old) => old.edited(edit)?,
         None => return Ok(Planned::Refused(Refusal::NotFound(Kind::Roles, id))),
     };
     plan_replace(shelves, row)

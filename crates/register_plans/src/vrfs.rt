@@ -8,7 +8,7 @@ ghost use Rattle.ipam_data.specs.Shelf.{least, row_at};
 ghost use Rattle.ipam_data.specs.Rows.{vrf_id, prefix_id};
 ghost use Rattle.ipam_data.specs.Tables.{is_named};
 ghost use Rattle.ipam_data.specs.Plans.{change, nothing_told};
-ghost use Rattle.ipam_data.specs.Edits.{edited_vrf};
+ghost use Rattle.ipam_data.specs.Fields.{edited_vrf};
 ghost use Rattle.ipam_data.specs.Checks.{asks};
 ghost use Rattle.ipam_data.specs.Vrfs.{vrf_rules, turns_on, coincidence, has_rd};
 ghost use Rattle.register_shelves.specs.Held.{state_of};
@@ -17,17 +17,16 @@ ghost use Rattle.register_plans.specs.Meets.{vrf_meets};
 
 use crate::addresses::pair_of;
 use crate::calls::plan_replace;
-use crate::edits::{edited_description, edited_distinguisher, edited_name, edited_value};
 use crate::filters::asks_text;
 use crate::planned::Planned;
 use crate::registered::Registered;
 use crate::same::names;
 use ipam_data::address::IpAddress;
-use ipam_data::calls::Filter;
+use ipam_data::calls::{Edit, Filter};
 use ipam_data::kinds::{Kind, Table};
 use ipam_data::range::IpRange;
 use ipam_data::replies::{Refusal, Rule, View};
-use ipam_data::text::{Description, Distinguisher, Name, Text};
+use ipam_data::text::{Distinguisher, Text};
 use ipam_data::vrf::{MOST_VRFS, Vrf};
 use register_shelves::{Prefixes, Shelves};
 use std::alloc::AllocError;
@@ -177,38 +176,12 @@ impl Registered for Vrf {
     }
 }
 
-/// The VRF that an edit leaves. `Err` is want of memory.
-fn edited_row(
-    old: &Vrf,
-    name: &Option<Name>,
-    rd: &Option<Option<Distinguisher>>,
-    enforce_unique: Option<bool>,
-    description: &Option<Description>,
-) -> Result<Vrf, AllocError>
-    ensures { IfOk result (λ row. row ≡ edited_vrf name.now rd.now enforce_unique description.now old.now) }
-{
-    Ok(Vrf {
-        id: old.id,
-        name: edited_name(name, &old.name)?,
-        rd: edited_distinguisher(rd, &old.rd)?,
-        enforce_unique: edited_value(enforce_unique, old.enforce_unique),
-        description: edited_description(description, &old.description)?,
-    })
-}
-
-/// Plans the VRF of an id with the given fields changed. `Err` is want of memory.
-pub fn plan_edit(
-    shelves: &Shelves,
-    id: u32,
-    name: &Option<Name>,
-    rd: &Option<Option<Distinguisher>>,
-    enforce_unique: Option<bool>,
-    description: &Option<Description>,
-) -> Result<Planned, AllocError>
-    ensures { IfOk result (λ p. IsPlanned (change vrf_rules (state_of shelves.now) id nothing_told (edited_vrf name.now rd.now enforce_unique description.now)) p) }
+/// Plans the VRF of an id with the fields of an edit changed. `Err` is want of memory.
+pub fn plan_edit(shelves: &Shelves, id: u32, edit: &Edit) -> Result<Planned, AllocError>
+    ensures { IfOk result (λ p. IsPlanned (change vrf_rules (state_of shelves.now) id nothing_told (edited_vrf edit.now)) p) }
 {
     let row = match Vrf::found(shelves, id) {
-        Some(old) => edited_row(old, name, rd, enforce_unique, description)?,
+        Some(old) => old.edited(edit)?,
         None => return Ok(Planned::Refused(Refusal::NotFound(Kind::Vrfs, id))),
     };
     plan_replace(shelves, row)

@@ -1,11 +1,12 @@
 use Rattle.std.proofs.Common.{sym, ◌∙◌, refl}
 use Rattle.ipam_data.specs.Prefixes.{prefix_rules}
-use Rattle.ipam_data.specs.Edits.{edited_prefix}
+use Rattle.ipam_data.specs.Fields.{edited_prefix}
+use Rattle.ipam_data.proofs.DraftLaws.{prefix_stays}
 use Rattle.register_shelves.specs.Held.{state_of}
 use Rattle.register_plans.proofs.Verdicts.{change_planned}
 use Rattle.register_plans.proofs.prefixes.plan_edit.Goals as goal
 
 pub returns : goal.returns
 returns c =
-    change_planned prefix_rules (state_of c.args.shelves.now) c.args.id (edited_prefix c.args.block c.args.vrf c.args.status c.args.role c.args.is_pool c.args.mark_utilized c.args.description.now) c.in-Some.old.now c.in_ok-row-in-Some.row c.plan_replace.result
-    (sym c.found.ensures ∙ rw c.in-Some.is refl) c.in_ok-row-in-Some.ensures refl c.plan_replace.ensures
+    change_planned prefix_rules (state_of c.args.shelves.now) c.args.id (edited_prefix c.args.edit.now) c.in-Some.old.now c.in_ok-row-in-Some.row c.plan_replace.result
+    (sym c.found.ensures ∙ rw c.in-Some.is refl) c.in_ok-row-in-Some.ensures (prefix_stays c.args.edit.now c.in-Some.old.now) c.plan_replace.ensures

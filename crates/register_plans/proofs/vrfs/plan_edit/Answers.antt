@@ -1,11 +1,12 @@
 use Rattle.std.proofs.Common.{sym, ◌∙◌, refl}
 use Rattle.ipam_data.specs.Vrfs.{vrf_rules}
-use Rattle.ipam_data.specs.Edits.{edited_vrf}
+use Rattle.ipam_data.specs.Fields.{edited_vrf}
+use Rattle.ipam_data.proofs.DraftLaws.{vrf_stays}
 use Rattle.register_shelves.specs.Held.{state_of}
 use Rattle.register_plans.proofs.Verdicts.{change_planned}
 use Rattle.register_plans.proofs.vrfs.plan_edit.Goals as goal
 
 pub returns : goal.returns
 returns c =
-    change_planned vrf_rules (state_of c.args.shelves.now) c.args.id (edited_vrf c.args.name.now c.args.rd.now c.args.enforce_unique c.args.description.now) c.in-Some.old.now c.in_ok-row-in-Some.row c.plan_replace.result
-    (sym c.found.ensures ∙ rw c.in-Some.is refl) c.in_ok-row-in-Some.ensures refl c.plan_replace.ensures
+    change_planned vrf_rules (state_of c.args.shelves.now) c.args.id (edited_vrf c.args.edit.now) c.in-Some.old.now c.in_ok-row-in-Some.row c.plan_replace.result
+    (sym c.found.ensures ∙ rw c.in-Some.is refl) c.in_ok-row-in-Some.ensures (vrf_stays c.args.edit.now c.in-Some.old.now) c.plan_replace.ensures
