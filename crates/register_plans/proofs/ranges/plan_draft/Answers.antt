@@ -1,4 +1,4 @@
-use Rattle.std.proofs.Common.{sym, ◌∙◌}
+use Rattle.std.proofs.Common.{ℕ, sym, ap, ◌∙◌}
 use Rattle.ipam_data.specs.Fields.{drafted, told_of_draft}
 use Rattle.ipam_data.specs.Steps.{next_for}
 use Rattle.register_shelves.specs.Held.{state_of}
@@ -16,4 +16,6 @@ returns-in-Some-told_drafted c =
     view_told s (told_of_draft c.args.draft.now) (drafted (next_for s c.args.draft.now) c.args.draft.now) c.in-Some-told_drafted.rule (sym c.missing_drafted.ensures ∙ c.in_default.is) (sym c.told_drafted.ensures ∙ c.in-Some-told_drafted.is)
 
 pub returns : goal.returns
-returns c = range_drafted (state_of c.args.shelves.now) c.args.draft.now c.in_ok-row.row c.plan_create.result c.requires c.in_ok-row.ensures (sym c.told_drafted.ensures ∙ c.in_default-told_drafted.is) c.plan_create.ensures
+returns c =
+    let next = ap (λ (n : ℕ). drafted n c.args.draft.now) (sym c.next.ensures) in
+    range_drafted (state_of c.args.shelves.now) c.args.draft.now c.in_ok-row.row c.plan_create.result c.requires (next ∙ c.in_ok-row.ensures) (sym c.told_drafted.ensures ∙ c.in_default-told_drafted.is) c.plan_create.ensures
