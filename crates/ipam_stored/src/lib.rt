@@ -1,11 +1,18 @@
 //! Rows, states and changes as they are stored: rows as texts, tables of all rows with the next ids, and changes of them.
 #![tactic(auto)]
 
+mod address;
+mod aggregate;
 mod columns;
 pub mod laws;
 pub mod opening;
+mod prefix;
+mod range;
 pub mod reading;
+mod rir;
+mod role;
 pub mod tables;
 #[cfg(test)]
 mod tests;
+mod vrf;
 pub mod writing;
