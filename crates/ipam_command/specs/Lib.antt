@@ -1,5 +1,3 @@
-pub mod Outside
-pub mod StoreWords
 pub mod Session
 pub mod Runs
 pub mod Clauses

@@ -1,22 +1,9 @@
-use Rattle.std.proofs.Common.{sym, refl, arith}
-use Rattle.command_streams.specs.Streams.{told}
-use Rattle.ipam_command.specs.Outside.{stores}
-use Rattle.ipam_command.proofs.Sessions.{of_ended}
-use Rattle.ipam_command.proofs.Refused.{of_refused}
+use Rattle.std.proofs.Common.{refl, arith}
+use Rattle.rest_ipam.specs.Answered.{seen_of}
+use Rattle.ipam_command.proofs.Sessions.{session_closed}
 use Rattle.ipam_command.proofs.session.run_session.Goals as goal
 
-pub returns-in-Ok-open_store : goal.returns-in-Ok-open_store
-returns-in-Ok-open_store g c =
-    let before = c.open_store.ensures.later in
-    let after = c.serve_opened.ensures.later in
-    of_ended c.args.store.now _ _ _ c.status_of.result c.status_of.ensures
-    (c.serve_opened.ensures.serves c.args.store.now (stores g.O.KeeperOpener.stored g.O.KeeperOpener.faults c.args.opener.now)
-    (told g.Se.Sink.written g.Se.Sink.faults c.args.errors.now) c.in-Ok-open_store.ensures.lent (sym c.in-Ok-open_store.ensures.stays) before c.in-Ok-open_store.ensures.state)
-    c.serve_opened.ensures.source c.serve_opened.ensures.sink
-    (record { streams = record { input = c.serve_opened.ensures.source_later; output = c.serve_opened.ensures.sink_later; errors = omega arith }; stores = omega arith })
-
-pub returns : goal.returns
-returns g c =
-    of_refused c.args.store.now _ _ _ c.in-Err-open_store.fault c.in-Err-open_store.ensures.fault c.in-Err-open_store.ensures.cause c.say_fault.ensures.said
-    (record { input = refl; output = refl; stored = c.in-Err-open_store.ensures.same })
-    (record { streams = record { input = omega arith; output = omega arith; errors = c.say_fault.ensures.later }; stores = c.open_store.ensures.later })
+pub returns-in-Closed : goal.returns-in-Closed
+returns-in-Closed g c = λ errors.
+    session_closed c.args.global_unique _ _ c.in-Closed.field-0 (seen_of c.own_register-register.result) (seen_of c.serve_session.new.register) c.own_register-register.ensures c.in-Closed.ensures.talk refl
+    (record { input = c.in-Closed.ensures.source_later; output = c.in-Closed.ensures.sink_later; errors = omega arith })
