@@ -1,19 +1,19 @@
 -- What is said where an opening is refused.
-use Rattle.std.specs.Prelude.{◌≡◌, ℕ, ◌⊎◌, List, [], ◌∷◌, ◌++◌, codes, decimal}
-use Rattle.ipam_data.specs.Answers.{kind_text, which_text, rule_code, rule_detail}
+use Rattle.std.specs.Prelude.{◌≡◌, ℕ, ◌⊎◌, List, [], ◌∷◌, ◌++◌, codes}
+use Rattle.ipam_words.specs.Lines.{breach_text, unreadable_text, version_text, next_id_text, excess_text, unread_text}
 use Rattle.ipam_stored.specs.declared.opening.OpenFault.{OpenFault}
 use Rattle.ipam_stored.specs.declared.opening.OpenFault.TheVariants.{Keeper, BadTables, Memory, BadRow, Version, BadNext, Limit}
 use Rattle.command_streams.specs.Streams.{Told, EndsWith}
 
 -- the fault of an opening in words; want of memory has none
 abbrev pub fault_words : OpenFault → List ℕ
-fault_words Keeper = codes "the store could not be read"
-fault_words (BadTables kind n rule) = kind_text kind ++ codes " " ++ decimal n ++ codes ": " ++ rule_code rule ++ codes ": " ++ rule_detail rule
+fault_words Keeper = unread_text
+fault_words (BadTables kind n rule) = breach_text kind n rule
 fault_words Memory = []
-fault_words (BadRow kind n) = kind_text kind ++ codes " " ++ decimal n ++ codes ": unreadable"
-fault_words (Version n) = codes "version " ++ decimal n
-fault_words (BadNext kind) = kind_text kind ++ codes ": bad next id"
-fault_words (Limit which n) = which_text which ++ codes " exceed " ++ decimal n
+fault_words (BadRow kind n) = unreadable_text kind n
+fault_words (Version n) = version_text n
+fault_words (BadNext kind) = next_id_text kind
+fault_words (Limit which n) = excess_text which n
 
 -- the line that says it
 abbrev pub fault_line : OpenFault → List ℕ
