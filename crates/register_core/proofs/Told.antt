@@ -1,5 +1,5 @@
 -- What a keeper tells after an update, by the names that a caller has.
-use Rattle.std.proofs.Common.{◌≡◌, Option, option_map, sym, subst}
+use Rattle.std.proofs.Common.{◌≡◌, ◌↔◌, IsSome, Option, Some, None, option_map, sym, subst}
 use Rattle.ipam_stored.specs.declared.tables.Tables.{Tables}
 use Rattle.ipam_stored.specs.declared.tables.Change.{Change}
 use Rattle.ipam_data.specs.declared.update.Update.{Update}
@@ -16,3 +16,11 @@ told_at old inner new u change told after same h can n e a t =
     let lawful = subst IsLawful same h in
     let said : after ≡ option_map (changed (change_of u)) told = subst (λ (c : Change). after ≡ option_map (changed c) told) e a in
     subst (λ (s : State). Tells after s) (sym n) (subst (λ (o : Option Tables). Tells o (updated old u)) (sym said) (told_after old u told lawful can t))
+
+-- a keeper that tells goes on telling, and one that does not does not begin
+some_mapped : {A B : Type 0} (f : A → B) (told : Option A) → IsSome told ↔ IsSome (option_map f told)
+some_mapped f None = search
+some_mapped f (Some tables) = search
+
+pub goes_on : (change : Tables → Tables) (told after : Option Tables) → after ≡ option_map change told → IsSome told ↔ IsSome after
+goes_on change told after a = subst (λ (o : Option Tables). IsSome told ↔ IsSome o) (sym a) (some_mapped change told)

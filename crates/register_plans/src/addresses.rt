@@ -28,6 +28,7 @@ use ipam_data::replies::{Refusal, Rule, View};
 use register_shelves::Shelves;
 use row_book::Book;
 use std::alloc::AllocError;
+use vrf_table::VrfRules;
 
 /// Whether several addresses of one host may have the role.
 fn is_shared_by(role: AddressRole) -> bool

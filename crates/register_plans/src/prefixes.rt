@@ -20,8 +20,10 @@ use ipam_data::calls::{Edit, Filter};
 use ipam_data::kinds::{Kind, Table};
 use ipam_data::prefix::{MOST_PREFIXES, Prefix, PrefixStatus};
 use ipam_data::replies::{Refusal, Rule, View};
+use prefix_rules::PrefixRules;
 use register_shelves::Shelves;
 use std::alloc::AllocError;
+use vrf_table::VrfRules;
 
 /// Whether the status is the one that is asked for.
 fn asks_status(wanted: &Option<PrefixStatus>, status: PrefixStatus) -> bool

@@ -28,8 +28,11 @@ use ipam_data::range::IpRange;
 use ipam_data::replies::{Refusal, Rule, View};
 use ipam_data::text::{Distinguisher, Text};
 use ipam_data::vrf::{MOST_VRFS, Vrf};
+use prefix_rules::PrefixRules;
 use register_shelves::{Prefixes, Shelves};
+use row_book::Book;
 use std::alloc::AllocError;
+use vrf_table::VrfRules;
 
 /// The least id of a prefix of a VRF.
 fn prefix_of(book: &Prefixes, id: u32) -> Option<u32>
@@ -77,7 +80,7 @@ fn coinciding(shelves: &Shelves, row: &Vrf) -> Option<Rule>
     if !is_turned_on(shelves, row) {
         return None;
     }
-    if let Some((a, b)) = shelves.prefixes().coincide(Table::Of(row.id)) {
+    if let Some((a, b)) = shelves.prefixes().coincidence_of(Table::Of(row.id)) {
         return Some(Rule::Coincide(Kind::Prefixes, a, b));
     }
     match pair_of(shelves.addresses().rows(), Table::Of(row.id)) {

@@ -6,6 +6,7 @@ ghost use Rattle.register_shelves.specs.Held.{state_of};
 
 use crate::Shelves;
 use ipam_data::replies::{Reply, View, Views};
+use prefix_rules::PrefixRules;
 
 impl Shelves {
     /// Sets the figures of a row to those of the state.

@@ -2,11 +2,12 @@
 
 ghost use Rattle.std.specs.Prelude.{◌≡◌, ◌≤◌};
 
-use crate::VrfBook;
+use crate::{VrfBook, VrfRules};
 use ipam_data::kinds::Table;
 use ipam_data::replies::Rule;
 use ipam_data::text::{Description, Distinguisher, Name};
 use ipam_data::vrf::Vrf;
+use row_book::Book;
 use std::alloc::{AllocError, Global};
 use std::process::Abort;
 use std::test::Fail;
