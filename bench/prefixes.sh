@@ -38,7 +38,7 @@ use ipam_data::kinds::Table;
 use ipam_data::prefix::{Prefix, PrefixStatus};
 use ipam_data::replies::Rule;
 use ipam_data::text::Description;
-use prefix_rules::PrefixBook;
+use prefix_rules::{PrefixBook, PrefixRules};
 use radix_tree::Tree;
 use std::alloc::{AllocError, Global};
 use std::env;
