@@ -16,3 +16,4 @@ pub mod Colons
 pub mod FaultKinds
 pub mod TextExamples
 pub mod Examples
+pub mod Insides

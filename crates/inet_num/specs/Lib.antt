@@ -1,4 +1,5 @@
 pub mod Net
+pub mod Blocks
 pub mod Text
 pub mod Fault
 pub mod Free

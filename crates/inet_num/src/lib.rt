@@ -7,6 +7,7 @@ ghost use Rattle.inet_num.specs.Net.{width_of, Address, IsAddress, Cidr, size_of
 mod fault;
 mod percentage;
 mod plain;
+mod same;
 mod text;
 #[cfg(test)]
 mod text_tests;
@@ -14,6 +15,10 @@ mod written;
 
 pub use percentage::percent;
 pub use plain::{available_blocks, available_blocks_are_those, largest_are_fewest};
+pub use same::{
+    block_holds, inside_by_ends, is_block_inside, is_block_within, is_in_run, is_one_address,
+    is_one_block, is_one_family,
+};
 use std::marker::Model;
 pub use text::{
     TextFault, canonical_text_is_one, one_reading, read_addr, read_block, read_host,

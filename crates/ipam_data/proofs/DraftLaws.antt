@@ -21,7 +21,7 @@ use Rattle.ipam_data.specs.declared.replies.View.{View}
 use Rattle.ipam_data.specs.declared.replies.View.TheVariants.{Vrf as VrfView, Rir as RirView, Role as RoleView, Aggregate as AggregateView, Prefix as PrefixView, IpRange as RangeView, IpAddress as AddressView}
 use Rattle.ipam_data.specs.Texts.{IsName, IsSlug, IsDescription, IsWeight, IsDnsText, IsLowered}
 use Rattle.ipam_data.specs.Hosts.{Masked, IsMasked, AreEnds}
-use Rattle.ipam_data.specs.Blocks.{same_family}
+use Rattle.inet_num.specs.Blocks.{same_family}
 use Rattle.ipam_data.specs.Checks.{first}
 use Rattle.ipam_data.specs.Rows.{HasVrfBounds, HasRirBounds, HasRoleBounds, HasAggregateBounds, HasPrefixBounds, HasRangeBounds, HasAddressBounds}
 use Rattle.ipam_data.specs.State.{State}
@@ -30,7 +30,7 @@ use Rattle.ipam_data.specs.ByKind.{by_view}
 use Rattle.ipam_data.specs.Ranges.{range_told, range_family, range_mask, ends_of}
 use Rattle.ipam_data.specs.Fields.{drafted, told_of_draft, edited_vrf, edited_rir, edited_role, edited_aggregate, edited_prefix, edited_range, edited_address, start_of, end_of, told_of_change, Given, IsDistinguisherToo, HasDraftBounds, HasEditBounds}
 use Rattle.ipam_data.specs.Steps.{next_for}
-use Rattle.ipam_data.proofs.Decided.{one_family}
+use Rattle.inet_num.proofs.Insides.{one_family}
 use Rattle.ipam_data.proofs.Verdicts.{none_head, test_holds}
 
 -- ---- texts and ends

@@ -1,20 +1,16 @@
--- The calls, rows and edits of the examples, in short: the fields of prefixes are named here for all of them.
+-- The calls and rows of the examples, in short.
 use Rattle.std.proofs.Common.{ℕ, Bool, List, [], ◌∷◌, Some, None, false, codes, Option}
 use Rattle.inet_num.specs.declared.Family.TheVariants.{V4, V6}
 use Rattle.inet_num.specs.Net.{Cidr}
-use Rattle.ipam_data.specs.declared.prefix.PrefixStatus.TheVariants.{Active}
-use Rattle.ipam_data.specs.declared.range.RangeStatus.TheVariants.{Active as ActiveRange}
-use Rattle.ipam_data.specs.declared.address.AddressStatus.TheVariants.{Active as ActiveAddress}
 use Rattle.ipam_data.specs.declared.address.AddressRole.{AddressRole}
 use Rattle.ipam_data.specs.declared.calls.Call.{Call}
 use Rattle.ipam_data.specs.declared.calls.Call.TheVariants.{Create}
-use Rattle.ipam_data.specs.declared.calls.Edit.{Edit}
-use Rattle.ipam_data.specs.declared.calls.Draft.TheVariants.{Vrf as VrfDraft, Rir as RirDraft, Role as RoleDraft, Aggregate as AggregateDraft, Prefix as PrefixDraft, IpRange as RangeDraft, IpAddress as AddressDraft}
-use Rattle.ipam_data.specs.declared.calls.Edit.TheVariants.{Prefix as PrefixEdit, IpRange as RangeEdit}
+use Rattle.ipam_data.specs.declared.calls.Draft.TheVariants.{Vrf as VrfDraft, Rir as RirDraft, Role as RoleDraft, Aggregate as AggregateDraft}
 use Rattle.ipam_data.specs.declared.replies.View.{View}
-use Rattle.ipam_data.specs.declared.replies.View.TheVariants.{Prefix as PrefixView, IpRange as RangeView, IpAddress as AddressView}
+use Rattle.ipam_data.specs.declared.replies.View.TheVariants.{Prefix as PrefixView}
 use Rattle.ipam_data.specs.Hosts.{Masked, RangeEnds}
 use Rattle.ipam_data.specs.State.{State}
+use Rattle.ipam_data.specs.Fields.{drafted, plain_prefix, plain_range, plain_address}
 use Rattle.ipam_data.specs.Steps.{plain_step}
 
 -- the state after these calls
@@ -46,56 +42,30 @@ abbrev pub aggregate : ℕ → ℕ → Call
 aggregate first len = Create (AggregateDraft (v4 first len) 1 [])
 
 abbrev pub prefix : ℕ → ℕ → Option ℕ → Option ℕ → Call
-prefix first len vrf role = Create (PrefixDraft (v4 first len) vrf Active role false false [])
+prefix first len vrf role = Create (plain_prefix (v4 first len) vrf role)
 
 abbrev pub range : Masked → Masked → Option ℕ → Call
-range start end vrf = Create (RangeDraft start end vrf ActiveRange None false [])
+range start end vrf = Create (plain_range start end vrf)
 
 abbrev pub address : Masked → Option ℕ → Option AddressRole → Call
-address host vrf role = Create (AddressDraft host vrf ActiveAddress role [] [])
+address host vrf role = Create (plain_address host vrf role)
 
 -- 10.0.0.0
 abbrev pub ten : ℕ
 ten = 167772160
 
+-- ---- rows in short
+
+-- a row with these figures
+abbrev pub figured : View → ℕ → ℕ → View
+figured (PrefixView row d c) depth children = PrefixView row depth children
+figured view depth children = view
+
 abbrev pub seen : ℕ → ℕ → ℕ → Option ℕ → Option ℕ → ℕ → ℕ → View
-seen id first len vrf role depth children = PrefixView (record {
-  id = id;
-  block = v4 first len;
-  vrf = vrf;
-  status = Active;
-  role = role;
-  is_pool = false;
-  mark_utilized = false;
-  description = [];
-}) depth children
+seen id first len vrf role depth children = figured (drafted id (plain_prefix (v4 first len) vrf role)) depth children
 
 abbrev pub seen_address : ℕ → Masked → Option AddressRole → View
-seen_address id host role = AddressView (record {
-  id = id;
-  host = host;
-  vrf = None;
-  status = ActiveAddress;
-  role = role;
-  dns_name = [];
-  description = [];
-})
+seen_address id host role = drafted id (plain_address host None role)
 
 abbrev pub seen_range : ℕ → RangeEnds → View
-seen_range id ends = RangeView (record {
-  id = id;
-  ends = ends;
-  vrf = None;
-  status = ActiveRange;
-  role = None;
-  mark_utilized = false;
-  description = [];
-})
-
--- a prefix is moved to the table of a VRF
-abbrev pub into_vrf : ℕ → Edit
-into_vrf vrf = PrefixEdit None (Some (Some vrf)) None None None None None
-
--- a range gets another end
-abbrev pub other_end : Masked → Edit
-other_end end = RangeEdit None (Some end) None None None None None
+seen_range id ends = drafted id (plain_range (record { addr = ends.start; len = ends.len }) (record { addr = ends.end; len = ends.len }) None)

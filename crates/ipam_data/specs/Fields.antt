@@ -1,15 +1,19 @@
 -- What is said of rows field by field: the row that a draft makes, the row that an edit leaves of an old one, what both keep by
 -- their types, and the printed names of fields. The definitions name the fields of drafts and edits nowhere else.
-use Rattle.std.specs.Prelude.{◌≡◌, ℕ, List, [], Option, Some, codes}
+use Rattle.std.specs.Prelude.{◌≡◌, ℕ, List, [], Option, Some, None, false, codes}
 use Rattle.std.specs.Str.{str_to_ascii_lowercase}
-use Rattle.inet_num.specs.Net.{IsBlock}
+use Rattle.inet_num.specs.Net.{Cidr, IsBlock}
 use Rattle.ipam_data.specs.declared.vrf.Vrf.{Vrf}
 use Rattle.ipam_data.specs.declared.rir.Rir.{Rir}
 use Rattle.ipam_data.specs.declared.role.Role.{Role}
 use Rattle.ipam_data.specs.declared.aggregate.Aggregate.{Aggregate}
 use Rattle.ipam_data.specs.declared.prefix.Prefix.{Prefix}
+use Rattle.ipam_data.specs.declared.prefix.PrefixStatus.TheVariants.{Active as ActivePrefix}
 use Rattle.ipam_data.specs.declared.range.IpRange.{IpRange}
+use Rattle.ipam_data.specs.declared.range.RangeStatus.TheVariants.{Active as ActiveRange}
 use Rattle.ipam_data.specs.declared.address.IpAddress.{IpAddress}
+use Rattle.ipam_data.specs.declared.address.AddressStatus.TheVariants.{Active as ActiveAddress}
+use Rattle.ipam_data.specs.declared.address.AddressRole.{AddressRole}
 use Rattle.ipam_data.specs.declared.kinds.Kind.{Kind}
 use Rattle.ipam_data.specs.declared.kinds.Kind.TheVariants.{Vrfs, Rirs, Roles, Aggregates, Prefixes, Ranges, Addresses}
 use Rattle.ipam_data.specs.declared.calls.Draft.{Draft}
@@ -225,6 +229,25 @@ HasEditBounds (AggregateEdit block rir description) = Given IsBlock block × Giv
 HasEditBounds (PrefixEdit block vrf status role is_pool mark_utilized description) = Given IsBlock block × Given IsDescription description
 HasEditBounds (RangeEdit start end vrf status role mark_utilized description) = Given IsMasked start × Given IsMasked end × Given IsDescription description
 HasEditBounds (AddressEdit host vrf status role dns_name description) = Given IsMasked host × Given IsDnsText dns_name × Given IsDescription description
+
+-- ---- drafts in short, as worked examples take them: what is not asked for is as in a body that does not name it
+
+abbrev pub plain_prefix : Cidr → Option ℕ → Option ℕ → Draft
+plain_prefix block vrf role = PrefixDraft block vrf ActivePrefix role false false []
+
+abbrev pub plain_range : Masked → Masked → Option ℕ → Draft
+plain_range start end vrf = RangeDraft start end vrf ActiveRange None false []
+
+abbrev pub plain_address : Masked → Option ℕ → Option AddressRole → Draft
+plain_address host vrf role = AddressDraft host vrf ActiveAddress role [] []
+
+-- an edit that moves a prefix to the table of a VRF
+abbrev pub prefix_into : ℕ → Edit
+prefix_into vrf = PrefixEdit None (Some (Some vrf)) None None None None None
+
+-- an edit that gives a range another end
+abbrev pub range_to : Masked → Edit
+range_to end = RangeEdit None (Some end) None None None None None
 
 -- ---- printed names
 

@@ -1,7 +1,7 @@
 -- How many addresses a range is shown to have.
 use Rattle.std.specs.Prelude.{ℕ, ◌+◌, ◌-◌, ◌&&◌, nat_le, if◌then◌else◌}
 use Rattle.ipam_data.specs.Hosts.{RangeEnds}
-use Rattle.ipam_data.specs.Blocks.{same_family}
+use Rattle.inet_num.specs.Blocks.{same_family}
 use Rattle.ipam_data.specs.Ranges.{most_of_range}
 
 -- a count that is shown: none above this one

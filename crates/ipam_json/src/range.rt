@@ -1,7 +1,7 @@
 //! Ranges in JSON: the bodies of a Create and of a Change, and the row.
 
 ghost use Rattle.std.specs.Prelude.{◌≡◌, IfOk, string_bytes};
-ghost use Rattle.ipam_data.specs.Blocks as blocks;
+ghost use Rattle.inet_num.specs.Blocks as blocks;
 ghost use Rattle.ipam_json.specs.Ranges.{range_data};
 ghost use Rattle.ipam_json.specs.Sizes as sizes;
 ghost use Rattle.ipam_json.specs.Values.{choice_data};

@@ -6,10 +6,11 @@ ghost use Rattle.ipam_stored.specs.Order.{AreTables};
 use crate::fault::StoreFault;
 use crate::making::make_tables;
 use crate::order::are_in_order;
-use crate::tables::{SELECT_META, VERSION, VERSION_NAME, columns_of, next_name_of, select_text};
+use crate::tables::{SELECT_META, VERSION, VERSION_NAME, next_name_of, select_text};
 use ipam_data::kinds::Kind;
 use ipam_data::update::Ids;
 use ipam_stored::tables::{Row, Rows, Tables, Text, Texts};
+use ipam_stored::writing::columns_of;
 use sqlite::{Alter, Connection, Row as FoundRow};
 use std::alloc::Global;
 

@@ -1,6 +1,7 @@
 //! The tables of a file: one for each kind, and one of numbers with the version and the next ids.
 
 use ipam_data::kinds::Kind;
+use ipam_stored::writing::columns_of;
 use std::alloc::{AllocError, Global};
 
 /// The version of the tables that this program writes.
@@ -33,42 +34,6 @@ fn name_of(kind: Kind) -> &'static str {
         Kind::Prefixes => "prefixes",
         Kind::Ranges => "ip_ranges",
         Kind::Addresses => "ip_addresses",
-    }
-}
-
-/// The columns of the table of a kind past the id, in order.
-pub(crate) fn columns_of(kind: Kind) -> &'static [&'static str] {
-    match kind {
-        Kind::Vrfs => &["name", "rd", "enforce_unique", "description"],
-        Kind::Rirs => &["name", "slug", "is_private", "description"],
-        Kind::Roles => &["name", "slug", "weight", "description"],
-        Kind::Aggregates => &["prefix", "rir", "description"],
-        Kind::Prefixes => &[
-            "prefix",
-            "vrf",
-            "status",
-            "role",
-            "is_pool",
-            "mark_utilized",
-            "description",
-        ],
-        Kind::Ranges => &[
-            "start_address",
-            "end_address",
-            "vrf",
-            "status",
-            "role",
-            "mark_utilized",
-            "description",
-        ],
-        Kind::Addresses => &[
-            "address",
-            "vrf",
-            "status",
-            "role",
-            "dns_name",
-            "description",
-        ],
     }
 }
 

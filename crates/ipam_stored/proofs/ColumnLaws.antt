@@ -1,5 +1,7 @@
 -- Columns that are read: a value has one text, and a text is that of one value.
-use Rattle.std.proofs.Common.{◌≡◌, ◌≢◌, ℕ, ◌<◌, ◌≤◌, Bool, true, false, List, [], ◌∷◌, Option, Some, None, length, get_or, decimal, refl, ap, sym, ◌∙◌, subst, arith}
+use Rattle.std.proofs.Common.{◌≡◌, ◌≢◌, ℕ, ◌<◌, ◌≤◌, Bool, true, false, List, [], ◌∷◌, Option, Some, None, length, get_or, drop, ◌+◌, decimal, refl, ap, sym, ◌∙◌, subst, arith}
+use Rattle.std.proofs.Math.ListN.{drop_of_length-le}
+use Rattle.std.proofs.lemmas.List.{drop_more}
 use Rattle.std.specs.Str.{chars}
 use Rattle.std.proofs.lemmas.Str.{chars-nil}
 use Rattle.std.proofs.lemmas.Fmt.{decimal_nonempty, decimal_injective}
@@ -17,6 +19,7 @@ use Rattle.ipam_data.specs.declared.address.AddressRole.{AddressRole}
 use Rattle.ipam_data.specs.declared.address.AddressRole.TheVariants.{Loopback, Secondary, Anycast, Vip, Vrrp, Hsrp, Glbp, Carp}
 use Rattle.ipam_data.specs.Hosts.{Masked, IsMasked, RangeEnds, AreEnds}
 use Rattle.ipam_data.specs.Texts.{IsDistinguisher, IsWeight}
+use Rattle.ipam_stored.specs.declared.tables.Row.{Row}
 use Rattle.ipam_stored.specs.Stored.{flag_text, optional_text, reference_text, host_text, prefix_status_text, range_status_text, address_status_text, address_role_text}
 use Rattle.ipam_stored.specs.Reading.{IsRead, IsWord, IsAbsentOr, masked_text, ends_texts}
 use Rattle.ipam_stored.proofs.HostTexts.{one_masked}
@@ -29,16 +32,24 @@ unread within text_of text r e h = subst (λ (o : Option _). IsRead within text_
 pub was_read : {A B : Type 0} (within : A → Type 0) (text_of : A → B) (text : B) (r : Option A) (x : A) → r ≡ Some x → IsRead within text_of text r → within x × (text_of x ≡ text)
 was_read within text_of text r x e h = subst (λ (o : Option _). IsRead within text_of text o) e h
 
--- six and seven texts are their list
-pub six : (xs : List (List ℕ)) (a b c d e f : List ℕ) → length xs ≡ 6 → a ≡ get_or xs 0 a → b ≡ get_or xs 1 b → c ≡ get_or xs 2 c → d ≡ get_or xs 3 d → e ≡ get_or xs 4 e → f ≡ get_or xs 5 f
-    → a ∷ b ∷ c ∷ d ∷ e ∷ f ∷ [] ≡ xs
-six (x0 ∷ x1 ∷ x2 ∷ x3 ∷ x4 ∷ x5 ∷ []) a b c d e f n ha hb hc hd he hf = rw (ha, hb, hc, hd, he, hf) refl
-six xs a b c d e f n ha hb hc hd he hf = absurd (omega arith)
+-- the texts of a stored row
+abbrev pub row_texts : Row → List (List ℕ)
+row_texts r = r.fields
 
-pub seven : (xs : List (List ℕ)) (a b c d e f g : List ℕ) → length xs ≡ 7 → a ≡ get_or xs 0 a → b ≡ get_or xs 1 b → c ≡ get_or xs 2 c → d ≡ get_or xs 3 d → e ≡ get_or xs 4 e → f ≡ get_or xs 5 f → g ≡ get_or xs 6 g
-    → a ∷ b ∷ c ∷ d ∷ e ∷ f ∷ g ∷ [] ≡ xs
-seven (x0 ∷ x1 ∷ x2 ∷ x3 ∷ x4 ∷ x5 ∷ x6 ∷ []) a b c d e f g n ha hb hc hd he hf hg = rw (ha, hb, hc, hd, he, hf, hg) refl
-seven xs a b c d e f g n ha hb hc hd he hf hg = absurd (omega arith)
+-- the text of a column, of texts that are these
+pub column : {xs texts : List (List ℕ)} (n : ℕ) (a : List ℕ) → texts ≡ xs → a ≡ get_or xs n a → get_or texts n a ≡ a
+column n a t i = sym (i ∙ ap (λ (l : List (List ℕ)). get_or l n a) (sym t))
+
+-- two columns, one after the other
+pub two_columns : {xs texts : List (List ℕ)} (n : ℕ) (a b : List ℕ) → texts ≡ xs → a ≡ get_or xs n a → b ≡ get_or xs (n + 1) b → get_or texts n a ∷ get_or texts (n + 1) b ∷ [] ≡ a ∷ b ∷ []
+two_columns {xs} {texts} n a b t i j = let first : get_or texts n a ≡ a = column n a t i in let second : get_or texts (n + 1) b ≡ b = column (n + 1) b t j in rw (first, second) refl
+
+-- texts, column by column, are a list from a place on
+pub next_column : (xs : List (List ℕ)) (n : ℕ) (a : List ℕ) {b : List ℕ} {rest : List (List ℕ)} → n < length xs → a ≡ get_or xs n a → b ≡ a → rest ≡ drop (n + 1) xs → b ∷ rest ≡ drop n xs
+next_column xs n a l i e r = let more : a ∷ drop (n + 1) xs ≡ drop n xs = sym (drop_more xs n a l ∙ ap (λ (t : List ℕ). t ∷ drop (n + 1) xs) (sym i)) in rw (e, r) more
+
+pub no_more_columns : (xs : List (List ℕ)) (n : ℕ) → length xs < n + 1 → [] ≡ drop n xs
+no_more_columns xs n l = sym (drop_of_length-le xs (omega arith))
 
 -- ---- a text is that of one value
 

@@ -4,13 +4,7 @@ pub mod StoredLaws
 pub mod Examples
 pub mod HostTexts
 pub mod ColumnLaws
-pub mod VrfReads
-pub mod RirReads
-pub mod RoleReads
-pub mod AggregateReads
-pub mod PrefixReads
-pub mod RangeReads
-pub mod AddressReads
+pub mod Alike
 pub mod ReadBack
 pub mod Nexts
 pub mod OpenLaws

@@ -5,13 +5,7 @@ use Rattle.ipam_data.specs.declared.replies.View.TheVariants.{Vrf as VrfView, Ri
 use Rattle.ipam_stored.specs.declared.tables.Row.{Row}
 use Rattle.ipam_stored.specs.Stored.{stored_row, kind_number}
 use Rattle.ipam_stored.specs.Reading.{IsBare, bare, WrittenIsRead}
-use Rattle.ipam_stored.proofs.VrfReads.{one_vrf}
-use Rattle.ipam_stored.proofs.RirReads.{one_rir}
-use Rattle.ipam_stored.proofs.RoleReads.{one_role}
-use Rattle.ipam_stored.proofs.AggregateReads.{one_aggregate}
-use Rattle.ipam_stored.proofs.PrefixReads.{one_prefix}
-use Rattle.ipam_stored.proofs.RangeReads.{one_range}
-use Rattle.ipam_stored.proofs.AddressReads.{one_address}
+use Rattle.ipam_stored.proofs.Alike.{one_vrf, one_rir, one_role, one_aggregate, one_prefix, one_range, one_address}
 
 -- rows of two kinds are not stored alike
 kinds_apart : (a b : View) → stored_row a ≡ stored_row b → kind_number (stored_row a).kind ≡ kind_number (stored_row b).kind

@@ -16,6 +16,18 @@ use ipam_data::address::IpAddress;
 use ipam_data::kinds::Kind;
 use std::alloc::{AllocError, Global};
 
+/// The columns of addresses past the id, in the order of their texts.
+pub(crate) fn address_columns() -> &'static [&'static str] {
+    &[
+        "address",
+        "vrf",
+        "status",
+        "role",
+        "dns_name",
+        "description",
+    ]
+}
+
 /// An address as it is stored.
 #[tactic(auto, unfolding(crate::specs::Stored::address_texts))]
 pub(crate) fn write_address(alloc: Global, row: &IpAddress) -> Result<Row, AllocError>
@@ -36,42 +48,37 @@ pub(crate) fn write_address(alloc: Global, row: &IpAddress) -> Result<Row, Alloc
 }
 
 /// An address of an id and its texts. `Err` is want of memory.
-fn address_of(
+pub(crate) fn read_address(
     alloc: Global,
     id: u32,
-    host: &Text,
-    vrf: &Text,
-    status: &Text,
-    role: &Text,
-    dns_name: &Text,
-    description: &Text,
+    fields: &[Text],
 ) -> Result<Option<IpAddress>, AllocError>
     requires { 1 ≤ id }
-    ensures { IfOk result (λ r. IsRead IsTypedAddress stored_address (row_of Kind.Addresses id (host.now ∷ vrf.now ∷ status.now ∷ role.now ∷ dns_name.now ∷ description.now ∷ [])) r) }
+    ensures { IfOk result (λ r. IsRead IsTypedAddress stored_address (row_of Kind.Addresses id fields.now) r) }
 {
-    let host = match read_host_text(alloc, host)? {
-        Some(host) => host,
-        None => return Ok(None),
+    if fields.len() != 6 {
+        return Ok(None);
+    }
+    let [host, vrf, status, role, dns_name, description] = fields else {
+        return Ok(None);
     };
-    let vrf = match read_reference(vrf) {
-        Some(vrf) => vrf,
-        None => return Ok(None),
+    let Some(host) = read_host_text(alloc, host)? else {
+        return Ok(None);
     };
-    let status = match read_address_status(status) {
-        Some(status) => status,
-        None => return Ok(None),
+    let Some(vrf) = read_reference(vrf) else {
+        return Ok(None);
     };
-    let role = match read_address_role(role) {
-        Some(role) => role,
-        None => return Ok(None),
+    let Some(status) = read_address_status(status) else {
+        return Ok(None);
     };
-    let dns_name = match read_dns_name(dns_name)? {
-        Some(dns_name) => dns_name,
-        None => return Ok(None),
+    let Some(role) = read_address_role(role) else {
+        return Ok(None);
     };
-    let description = match read_description(description)? {
-        Some(description) => description,
-        None => return Ok(None),
+    let Some(dns_name) = read_dns_name(dns_name)? else {
+        return Ok(None);
+    };
+    let Some(description) = read_description(description)? else {
+        return Ok(None);
     };
     Ok(Some(IpAddress {
         id,
@@ -82,28 +89,4 @@ fn address_of(
         dns_name,
         description,
     }))
-}
-
-/// An address of a stored row, whose kind that is. `Err` is want of memory.
-pub(crate) fn read_address(alloc: Global, row: &Row) -> Result<Option<IpAddress>, AllocError>
-    requires { 1 ≤ row.now.id }
-    ensures { IfOk result (λ r. IsRead IsTypedAddress stored_address (row_of Kind.Addresses row.now.id row.now.fields) r) }
-{
-    let fields = row.fields.as_slice();
-    if fields.len() != 6 {
-        return Ok(None);
-    }
-    match fields {
-        [host, vrf, status, role, dns_name, description] => address_of(
-            alloc,
-            row.id,
-            host,
-            vrf,
-            status,
-            role,
-            dns_name,
-            description,
-        ),
-        _ => Ok(None),
-    }
 }

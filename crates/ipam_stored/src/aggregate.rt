@@ -11,6 +11,11 @@ use ipam_data::aggregate::Aggregate;
 use ipam_data::kinds::Kind;
 use std::alloc::{AllocError, Global};
 
+/// The columns of aggregates past the id, in the order of their texts.
+pub(crate) fn aggregate_columns() -> &'static [&'static str] {
+    &["prefix", "rir", "description"]
+}
+
 /// An aggregate as it is stored.
 #[tactic(auto, unfolding(crate::specs::Stored::aggregate_texts))]
 pub(crate) fn write_aggregate(alloc: Global, row: &Aggregate) -> Result<Row, AllocError>
@@ -28,27 +33,28 @@ pub(crate) fn write_aggregate(alloc: Global, row: &Aggregate) -> Result<Row, All
 }
 
 /// An aggregate of an id and its texts. `Err` is want of memory.
-fn aggregate_of(
+pub(crate) fn read_aggregate(
     alloc: Global,
     id: u32,
-    block: &Text,
-    rir: &Text,
-    description: &Text,
+    fields: &[Text],
 ) -> Result<Option<Aggregate>, AllocError>
     requires { 1 ≤ id }
-    ensures { IfOk result (λ r. IsRead IsTypedAggregate stored_aggregate (row_of Kind.Aggregates id (block.now ∷ rir.now ∷ description.now ∷ [])) r) }
+    ensures { IfOk result (λ r. IsRead IsTypedAggregate stored_aggregate (row_of Kind.Aggregates id fields.now) r) }
 {
-    let block = match read_block_text(alloc, block)? {
-        Some(block) => block,
-        None => return Ok(None),
+    if fields.len() != 3 {
+        return Ok(None);
+    }
+    let [block, rir, description] = fields else {
+        return Ok(None);
     };
-    let rir = match read_number(rir) {
-        Some(rir) => rir,
-        None => return Ok(None),
+    let Some(block) = read_block_text(alloc, block)? else {
+        return Ok(None);
     };
-    let description = match read_description(description)? {
-        Some(description) => description,
-        None => return Ok(None),
+    let Some(rir) = read_number(rir) else {
+        return Ok(None);
+    };
+    let Some(description) = read_description(description)? else {
+        return Ok(None);
     };
     Ok(Some(Aggregate {
         id,
@@ -56,19 +62,4 @@ fn aggregate_of(
         rir,
         description,
     }))
-}
-
-/// An aggregate of a stored row, whose kind that is. `Err` is want of memory.
-pub(crate) fn read_aggregate(alloc: Global, row: &Row) -> Result<Option<Aggregate>, AllocError>
-    requires { 1 ≤ row.now.id }
-    ensures { IfOk result (λ r. IsRead IsTypedAggregate stored_aggregate (row_of Kind.Aggregates row.now.id row.now.fields) r) }
-{
-    let fields = row.fields.as_slice();
-    if fields.len() != 3 {
-        return Ok(None);
-    }
-    match fields {
-        [block, rir, description] => aggregate_of(alloc, row.id, block, rir, description),
-        _ => Ok(None),
-    }
 }

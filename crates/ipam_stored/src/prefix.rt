@@ -13,6 +13,19 @@ use ipam_data::kinds::Kind;
 use ipam_data::prefix::Prefix;
 use std::alloc::{AllocError, Global};
 
+/// The columns of prefixes past the id, in the order of their texts.
+pub(crate) fn prefix_columns() -> &'static [&'static str] {
+    &[
+        "prefix",
+        "vrf",
+        "status",
+        "role",
+        "is_pool",
+        "mark_utilized",
+        "description",
+    ]
+}
+
 /// A prefix as it is stored.
 #[tactic(auto, unfolding(crate::specs::Stored::prefix_texts))]
 pub(crate) fn write_prefix(alloc: Global, row: &Prefix) -> Result<Row, AllocError>
@@ -34,47 +47,49 @@ pub(crate) fn write_prefix(alloc: Global, row: &Prefix) -> Result<Row, AllocErro
 }
 
 /// A prefix of an id and its texts. `Err` is want of memory.
-fn prefix_of(
+pub(crate) fn read_prefix(
     alloc: Global,
     id: u32,
-    block: &Text,
-    vrf: &Text,
-    status: &Text,
-    role: &Text,
-    is_pool: &Text,
-    mark_utilized: &Text,
-    description: &Text,
+    fields: &[Text],
 ) -> Result<Option<Prefix>, AllocError>
     requires { 1 ≤ id }
-    ensures { IfOk result (λ r. IsRead IsTypedPrefix stored_prefix (row_of Kind.Prefixes id (block.now ∷ vrf.now ∷ status.now ∷ role.now ∷ is_pool.now ∷ mark_utilized.now ∷ description.now ∷ [])) r) }
+    ensures { IfOk result (λ r. IsRead IsTypedPrefix stored_prefix (row_of Kind.Prefixes id fields.now) r) }
 {
-    let block = match read_block_text(alloc, block)? {
-        Some(block) => block,
-        None => return Ok(None),
+    if fields.len() != 7 {
+        return Ok(None);
+    }
+    let [
+        block,
+        vrf,
+        status,
+        role,
+        is_pool,
+        mark_utilized,
+        description,
+    ] = fields
+    else {
+        return Ok(None);
     };
-    let vrf = match read_reference(vrf) {
-        Some(vrf) => vrf,
-        None => return Ok(None),
+    let Some(block) = read_block_text(alloc, block)? else {
+        return Ok(None);
     };
-    let status = match read_prefix_status(status) {
-        Some(status) => status,
-        None => return Ok(None),
+    let Some(vrf) = read_reference(vrf) else {
+        return Ok(None);
     };
-    let role = match read_reference(role) {
-        Some(role) => role,
-        None => return Ok(None),
+    let Some(status) = read_prefix_status(status) else {
+        return Ok(None);
     };
-    let is_pool = match read_flag(is_pool) {
-        Some(is_pool) => is_pool,
-        None => return Ok(None),
+    let Some(role) = read_reference(role) else {
+        return Ok(None);
     };
-    let mark_utilized = match read_flag(mark_utilized) {
-        Some(mark_utilized) => mark_utilized,
-        None => return Ok(None),
+    let Some(is_pool) = read_flag(is_pool) else {
+        return Ok(None);
     };
-    let description = match read_description(description)? {
-        Some(description) => description,
-        None => return Ok(None),
+    let Some(mark_utilized) = read_flag(mark_utilized) else {
+        return Ok(None);
+    };
+    let Some(description) = read_description(description)? else {
+        return Ok(None);
     };
     Ok(Some(Prefix {
         id,
@@ -86,37 +101,4 @@ fn prefix_of(
         mark_utilized,
         description,
     }))
-}
-
-/// A prefix of a stored row, whose kind that is. `Err` is want of memory.
-pub(crate) fn read_prefix(alloc: Global, row: &Row) -> Result<Option<Prefix>, AllocError>
-    requires { 1 ≤ row.now.id }
-    ensures { IfOk result (λ r. IsRead IsTypedPrefix stored_prefix (row_of Kind.Prefixes row.now.id row.now.fields) r) }
-{
-    let fields = row.fields.as_slice();
-    if fields.len() != 7 {
-        return Ok(None);
-    }
-    match fields {
-        [
-            block,
-            vrf,
-            status,
-            role,
-            is_pool,
-            mark_utilized,
-            description,
-        ] => prefix_of(
-            alloc,
-            row.id,
-            block,
-            vrf,
-            status,
-            role,
-            is_pool,
-            mark_utilized,
-            description,
-        ),
-        _ => Ok(None),
-    }
 }

@@ -11,6 +11,19 @@ use ipam_data::kinds::Kind;
 use ipam_data::range::IpRange;
 use std::alloc::{AllocError, Global};
 
+/// The columns of ranges past the id, in the order of their texts.
+pub(crate) fn range_columns() -> &'static [&'static str] {
+    &[
+        "start_address",
+        "end_address",
+        "vrf",
+        "status",
+        "role",
+        "mark_utilized",
+        "description",
+    ]
+}
+
 /// A range as it is stored.
 #[tactic(auto, unfolding(crate::specs::Stored::range_texts))]
 pub(crate) fn write_range(alloc: Global, row: &IpRange) -> Result<Row, AllocError>
@@ -32,43 +45,37 @@ pub(crate) fn write_range(alloc: Global, row: &IpRange) -> Result<Row, AllocErro
 }
 
 /// A range of an id and its texts. `Err` is want of memory.
-fn range_of(
+pub(crate) fn read_range(
     alloc: Global,
     id: u32,
-    start: &Text,
-    end: &Text,
-    vrf: &Text,
-    status: &Text,
-    role: &Text,
-    mark_utilized: &Text,
-    description: &Text,
+    fields: &[Text],
 ) -> Result<Option<IpRange>, AllocError>
     requires { 1 ≤ id }
-    ensures { IfOk result (λ r. IsRead IsTypedRange stored_range (row_of Kind.Ranges id (start.now ∷ end.now ∷ vrf.now ∷ status.now ∷ role.now ∷ mark_utilized.now ∷ description.now ∷ [])) r) }
+    ensures { IfOk result (λ r. IsRead IsTypedRange stored_range (row_of Kind.Ranges id fields.now) r) }
 {
-    let ends = match read_ends(alloc, start, end)? {
-        Some(ends) => ends,
-        None => return Ok(None),
+    if fields.len() != 7 {
+        return Ok(None);
+    }
+    let [start, end, vrf, status, role, mark_utilized, description] = fields else {
+        return Ok(None);
     };
-    let vrf = match read_reference(vrf) {
-        Some(vrf) => vrf,
-        None => return Ok(None),
+    let Some(ends) = read_ends(alloc, start, end)? else {
+        return Ok(None);
     };
-    let status = match read_range_status(status) {
-        Some(status) => status,
-        None => return Ok(None),
+    let Some(vrf) = read_reference(vrf) else {
+        return Ok(None);
     };
-    let role = match read_reference(role) {
-        Some(role) => role,
-        None => return Ok(None),
+    let Some(status) = read_range_status(status) else {
+        return Ok(None);
     };
-    let mark_utilized = match read_flag(mark_utilized) {
-        Some(mark_utilized) => mark_utilized,
-        None => return Ok(None),
+    let Some(role) = read_reference(role) else {
+        return Ok(None);
     };
-    let description = match read_description(description)? {
-        Some(description) => description,
-        None => return Ok(None),
+    let Some(mark_utilized) = read_flag(mark_utilized) else {
+        return Ok(None);
+    };
+    let Some(description) = read_description(description)? else {
+        return Ok(None);
     };
     Ok(Some(IpRange {
         id,
@@ -79,29 +86,4 @@ fn range_of(
         mark_utilized,
         description,
     }))
-}
-
-/// A range of a stored row, whose kind that is. `Err` is want of memory.
-pub(crate) fn read_range(alloc: Global, row: &Row) -> Result<Option<IpRange>, AllocError>
-    requires { 1 ≤ row.now.id }
-    ensures { IfOk result (λ r. IsRead IsTypedRange stored_range (row_of Kind.Ranges row.now.id row.now.fields) r) }
-{
-    let fields = row.fields.as_slice();
-    if fields.len() != 7 {
-        return Ok(None);
-    }
-    match fields {
-        [start, end, vrf, status, role, mark_utilized, description] => range_of(
-            alloc,
-            row.id,
-            start,
-            end,
-            vrf,
-            status,
-            role,
-            mark_utilized,
-            description,
-        ),
-        _ => Ok(None),
-    }
 }

@@ -24,24 +24,25 @@ pub fn read_row(alloc: Global, row: &Row) -> Result<Option<View>, AllocError>
     if row.id == 0 {
         return Ok(None);
     }
+    let fields = row.fields.as_slice();
     match row.kind {
-        Kind::Vrfs => match read_vrf(row)? {
+        Kind::Vrfs => match read_vrf(row.id, fields)? {
             Some(row) => Ok(Some(View::Vrf(row))),
             None => Ok(None),
         },
-        Kind::Rirs => match read_rir(row)? {
+        Kind::Rirs => match read_rir(row.id, fields)? {
             Some(row) => Ok(Some(View::Rir(row))),
             None => Ok(None),
         },
-        Kind::Roles => match read_role(row)? {
+        Kind::Roles => match read_role(row.id, fields)? {
             Some(row) => Ok(Some(View::Role(row))),
             None => Ok(None),
         },
-        Kind::Aggregates => match read_aggregate(alloc, row)? {
+        Kind::Aggregates => match read_aggregate(alloc, row.id, fields)? {
             Some(row) => Ok(Some(View::Aggregate(row))),
             None => Ok(None),
         },
-        Kind::Prefixes => match read_prefix(alloc, row)? {
+        Kind::Prefixes => match read_prefix(alloc, row.id, fields)? {
             Some(row) => Ok(Some(View::Prefix {
                 row,
                 depth: 0,
@@ -49,11 +50,11 @@ pub fn read_row(alloc: Global, row: &Row) -> Result<Option<View>, AllocError>
             })),
             None => Ok(None),
         },
-        Kind::Ranges => match read_range(alloc, row)? {
+        Kind::Ranges => match read_range(alloc, row.id, fields)? {
             Some(row) => Ok(Some(View::IpRange(row))),
             None => Ok(None),
         },
-        Kind::Addresses => match read_address(alloc, row)? {
+        Kind::Addresses => match read_address(alloc, row.id, fields)? {
             Some(row) => Ok(Some(View::IpAddress(row))),
             None => Ok(None),
         },

@@ -11,6 +11,11 @@ use ipam_data::kinds::Kind;
 use ipam_data::rir::Rir;
 use std::alloc::{AllocError, Global};
 
+/// The columns of RIRs past the id, in the order of their texts.
+pub(crate) fn rir_columns() -> &'static [&'static str] {
+    &["name", "slug", "is_private", "description"]
+}
+
 /// An RIR as it is stored.
 #[tactic(auto, unfolding(crate::specs::Stored::rir_texts))]
 pub(crate) fn write_rir(alloc: Global, row: &Rir) -> Result<Row, AllocError>
@@ -29,31 +34,27 @@ pub(crate) fn write_rir(alloc: Global, row: &Rir) -> Result<Row, AllocError>
 }
 
 /// An RIR of an id and its texts. `Err` is want of memory.
-fn rir_of(
-    id: u32,
-    name: &Text,
-    slug: &Text,
-    is_private: &Text,
-    description: &Text,
-) -> Result<Option<Rir>, AllocError>
+pub(crate) fn read_rir(id: u32, fields: &[Text]) -> Result<Option<Rir>, AllocError>
     requires { 1 ≤ id }
-    ensures { IfOk result (λ r. IsRead IsTypedRir stored_rir (row_of Kind.Rirs id (name.now ∷ slug.now ∷ is_private.now ∷ description.now ∷ [])) r) }
+    ensures { IfOk result (λ r. IsRead IsTypedRir stored_rir (row_of Kind.Rirs id fields.now) r) }
 {
-    let name = match read_name(name)? {
-        Some(name) => name,
-        None => return Ok(None),
+    if fields.len() != 4 {
+        return Ok(None);
+    }
+    let [name, slug, is_private, description] = fields else {
+        return Ok(None);
     };
-    let slug = match read_slug(slug)? {
-        Some(slug) => slug,
-        None => return Ok(None),
+    let Some(name) = read_name(name)? else {
+        return Ok(None);
     };
-    let is_private = match read_flag(is_private) {
-        Some(is_private) => is_private,
-        None => return Ok(None),
+    let Some(slug) = read_slug(slug)? else {
+        return Ok(None);
     };
-    let description = match read_description(description)? {
-        Some(description) => description,
-        None => return Ok(None),
+    let Some(is_private) = read_flag(is_private) else {
+        return Ok(None);
+    };
+    let Some(description) = read_description(description)? else {
+        return Ok(None);
     };
     Ok(Some(Rir {
         id,
@@ -62,25 +63,4 @@ fn rir_of(
         is_private,
         description,
     }))
-}
-
-/// An RIR of a stored row, whose kind that is. `Err` is want of memory.
-pub(crate) fn read_rir(row: &Row) -> Result<Option<Rir>, AllocError>
-    requires { 1 ≤ row.now.id }
-    ensures { IfOk result (λ r. IsRead IsTypedRir stored_rir (row_of Kind.Rirs row.now.id row.now.fields) r) }
-{
-    let fields = row.fields.as_slice();
-    if fields.len() != 4 {
-        return Ok(None);
-    }
-    match fields {
-        [name, slug, is_private, description] => rir_of(
-            row.id,
-            name,
-            slug,
-            is_private,
-            description,
-        ),
-        _ => Ok(None),
-    }
 }

@@ -11,6 +11,11 @@ use ipam_data::kinds::Kind;
 use ipam_data::role::Role;
 use std::alloc::{AllocError, Global};
 
+/// The columns of roles past the id, in the order of their texts.
+pub(crate) fn role_columns() -> &'static [&'static str] {
+    &["name", "slug", "weight", "description"]
+}
+
 /// A role as it is stored.
 #[tactic(auto, unfolding(crate::specs::Stored::role_texts))]
 pub(crate) fn write_role(alloc: Global, row: &Role) -> Result<Row, AllocError>
@@ -29,31 +34,27 @@ pub(crate) fn write_role(alloc: Global, row: &Role) -> Result<Row, AllocError>
 }
 
 /// A role of an id and its texts. `Err` is want of memory.
-fn role_of(
-    id: u32,
-    name: &Text,
-    slug: &Text,
-    weight: &Text,
-    description: &Text,
-) -> Result<Option<Role>, AllocError>
+pub(crate) fn read_role(id: u32, fields: &[Text]) -> Result<Option<Role>, AllocError>
     requires { 1 ≤ id }
-    ensures { IfOk result (λ r. IsRead IsTypedRole stored_role (row_of Kind.Roles id (name.now ∷ slug.now ∷ weight.now ∷ description.now ∷ [])) r) }
+    ensures { IfOk result (λ r. IsRead IsTypedRole stored_role (row_of Kind.Roles id fields.now) r) }
 {
-    let name = match read_name(name)? {
-        Some(name) => name,
-        None => return Ok(None),
+    if fields.len() != 4 {
+        return Ok(None);
+    }
+    let [name, slug, weight, description] = fields else {
+        return Ok(None);
     };
-    let slug = match read_slug(slug)? {
-        Some(slug) => slug,
-        None => return Ok(None),
+    let Some(name) = read_name(name)? else {
+        return Ok(None);
     };
-    let weight = match read_weight(weight) {
-        Some(weight) => weight,
-        None => return Ok(None),
+    let Some(slug) = read_slug(slug)? else {
+        return Ok(None);
     };
-    let description = match read_description(description)? {
-        Some(description) => description,
-        None => return Ok(None),
+    let Some(weight) = read_weight(weight) else {
+        return Ok(None);
+    };
+    let Some(description) = read_description(description)? else {
+        return Ok(None);
     };
     Ok(Some(Role {
         id,
@@ -62,19 +63,4 @@ fn role_of(
         weight,
         description,
     }))
-}
-
-/// A role of a stored row, whose kind that is. `Err` is want of memory.
-pub(crate) fn read_role(row: &Row) -> Result<Option<Role>, AllocError>
-    requires { 1 ≤ row.now.id }
-    ensures { IfOk result (λ r. IsRead IsTypedRole stored_role (row_of Kind.Roles row.now.id row.now.fields) r) }
-{
-    let fields = row.fields.as_slice();
-    if fields.len() != 4 {
-        return Ok(None);
-    }
-    match fields {
-        [name, slug, weight, description] => role_of(row.id, name, slug, weight, description),
-        _ => Ok(None),
-    }
 }

@@ -11,6 +11,11 @@ use ipam_data::kinds::Kind;
 use ipam_data::vrf::Vrf;
 use std::alloc::{AllocError, Global};
 
+/// The columns of VRFs past the id, in the order of their texts.
+pub(crate) fn vrf_columns() -> &'static [&'static str] {
+    &["name", "rd", "enforce_unique", "description"]
+}
+
 /// A VRF as it is stored.
 #[tactic(auto, unfolding(crate::specs::Stored::vrf_texts))]
 pub(crate) fn write_vrf(alloc: Global, row: &Vrf) -> Result<Row, AllocError>
@@ -29,31 +34,27 @@ pub(crate) fn write_vrf(alloc: Global, row: &Vrf) -> Result<Row, AllocError>
 }
 
 /// A VRF of an id and its texts. `Err` is want of memory.
-fn vrf_of(
-    id: u32,
-    name: &Text,
-    rd: &Text,
-    enforce_unique: &Text,
-    description: &Text,
-) -> Result<Option<Vrf>, AllocError>
+pub(crate) fn read_vrf(id: u32, fields: &[Text]) -> Result<Option<Vrf>, AllocError>
     requires { 1 ≤ id }
-    ensures { IfOk result (λ r. IsRead IsTypedVrf stored_vrf (row_of Kind.Vrfs id (name.now ∷ rd.now ∷ enforce_unique.now ∷ description.now ∷ [])) r) }
+    ensures { IfOk result (λ r. IsRead IsTypedVrf stored_vrf (row_of Kind.Vrfs id fields.now) r) }
 {
-    let name = match read_name(name)? {
-        Some(name) => name,
-        None => return Ok(None),
+    if fields.len() != 4 {
+        return Ok(None);
+    }
+    let [name, rd, enforce_unique, description] = fields else {
+        return Ok(None);
     };
-    let rd = match read_distinguisher(rd)? {
-        Some(rd) => rd,
-        None => return Ok(None),
+    let Some(name) = read_name(name)? else {
+        return Ok(None);
     };
-    let enforce_unique = match read_flag(enforce_unique) {
-        Some(enforce_unique) => enforce_unique,
-        None => return Ok(None),
+    let Some(rd) = read_distinguisher(rd)? else {
+        return Ok(None);
     };
-    let description = match read_description(description)? {
-        Some(description) => description,
-        None => return Ok(None),
+    let Some(enforce_unique) = read_flag(enforce_unique) else {
+        return Ok(None);
+    };
+    let Some(description) = read_description(description)? else {
+        return Ok(None);
     };
     Ok(Some(Vrf {
         id,
@@ -62,25 +63,4 @@ fn vrf_of(
         enforce_unique,
         description,
     }))
-}
-
-/// A VRF of a stored row, whose kind that is. `Err` is want of memory.
-pub(crate) fn read_vrf(row: &Row) -> Result<Option<Vrf>, AllocError>
-    requires { 1 ≤ row.now.id }
-    ensures { IfOk result (λ r. IsRead IsTypedVrf stored_vrf (row_of Kind.Vrfs row.now.id row.now.fields) r) }
-{
-    let fields = row.fields.as_slice();
-    if fields.len() != 4 {
-        return Ok(None);
-    }
-    match fields {
-        [name, rd, enforce_unique, description] => vrf_of(
-            row.id,
-            name,
-            rd,
-            enforce_unique,
-            description,
-        ),
-        _ => Ok(None),
-    }
 }

@@ -5,16 +5,17 @@ ghost use Rattle.inet_num.specs.Net.{IsAddress};
 ghost use Rattle.inet_num.specs.Text.{block_text_of, canonical_text_of};
 ghost use Rattle.ipam_stored.specs.Stored.{flag_text, optional_text, reference_text, host_text, prefix_status_text, range_status_text, address_status_text, address_role_text, stored_row, change_of};
 
-use crate::address::write_address;
-use crate::aggregate::write_aggregate;
-use crate::prefix::write_prefix;
-use crate::range::write_range;
-use crate::rir::write_rir;
-use crate::role::write_role;
+use crate::address::{address_columns, write_address};
+use crate::aggregate::{aggregate_columns, write_aggregate};
+use crate::prefix::{prefix_columns, write_prefix};
+use crate::range::{range_columns, write_range};
+use crate::rir::{rir_columns, write_rir};
+use crate::role::{role_columns, write_role};
 use crate::tables::{Change, Row, Rows, Text};
-use crate::vrf::write_vrf;
+use crate::vrf::{vrf_columns, write_vrf};
 use inet_num::{Addr, Block, write_addr, write_block};
 use ipam_data::address::{AddressRole, AddressStatus};
+use ipam_data::kinds::Kind;
 use ipam_data::prefix::PrefixStatus;
 use ipam_data::range::RangeStatus;
 use ipam_data::replies::View;
@@ -166,6 +167,19 @@ pub(crate) fn address_role_words(
         Some(AddressRole::Hsrp) => words(alloc, "hsrp"),
         Some(AddressRole::Glbp) => words(alloc, "glbp"),
         Some(AddressRole::Carp) => words(alloc, "carp"),
+    }
+}
+
+/// The columns of the stored rows of a kind past the id, in the order of their texts: the names under which a file keeps them.
+pub fn columns_of(kind: Kind) -> &'static [&'static str] {
+    match kind {
+        Kind::Vrfs => vrf_columns(),
+        Kind::Rirs => rir_columns(),
+        Kind::Roles => role_columns(),
+        Kind::Aggregates => aggregate_columns(),
+        Kind::Prefixes => prefix_columns(),
+        Kind::Ranges => range_columns(),
+        Kind::Addresses => address_columns(),
     }
 }
 

@@ -10,8 +10,8 @@ use Rattle.inet_num.specs.Net.{Cidr, IsBlock, IsInside, last_of}
 use Rattle.inet_num.proofs.Numbers.{strictly_by_len}
 use Rattle.block_space.proofs.Around.{wider_lawful, inside_wider, one_of_length, around_next, around_none}
 use Rattle.block_space.specs.Listed.{IsBlockOf, AreBlocksOf, is_same, times_of, wider_of, around_below, around_of}
-use Rattle.ipam_data.specs.Blocks.{same_family, same_block, distinct, is_strictly_inside}
-use Rattle.ipam_data.proofs.Insides.{inside_is_by_ends}
+use Rattle.inet_num.specs.Blocks.{same_family, same_block, distinct, is_strictly_inside}
+use Rattle.inet_num.proofs.Insides.{inside_is_by_ends}
 use Rattle.placed_book.proofs.Orders.{both, is_block, same_block-refl, same_family-refl, count_yes, count_no, count_alike}
 
 -- strictly around, and of this length at least

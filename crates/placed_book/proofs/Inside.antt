@@ -10,8 +10,8 @@ use Rattle.inet_num.proofs.Numbers.{strictly_by_len}
 use Rattle.inet_num.proofs.Nested.{same_by_len}
 use Rattle.inet_num.proofs.Available.{inside_test, inside_tested}
 use Rattle.block_space.specs.Listed.{AreBlocksOf, is_same, counts, counting_of}
-use Rattle.ipam_data.specs.Blocks.{is_strictly_inside}
-use Rattle.ipam_data.proofs.Insides.{inside_is_by_ends}
+use Rattle.inet_num.specs.Blocks.{is_strictly_inside}
+use Rattle.inet_num.proofs.Insides.{inside_is_by_ends}
 use Rattle.placed_book.proofs.Orders.{count_yes, count_no, count_alike}
 use Rattle.placed_book.proofs.Around.{shorter}
 

@@ -10,7 +10,7 @@ use Rattle.inet_num.specs.Net.{Cidr, width_of}
 use Rattle.ipam_data.specs.declared.kinds.Table.{Table}
 use Rattle.ipam_data.specs.Shelf.{row_at, with_row, without, least, Rises, AllBelow}
 use Rattle.ipam_data.specs.Tables.{table_of, same_table}
-use Rattle.ipam_data.specs.Blocks.{same_block}
+use Rattle.inet_num.specs.Blocks.{same_block}
 use Rattle.row_book.specs.Book.{IsFitting}
 use Rattle.row_book.proofs.Places.{none_below, without_none, eq_true, eq_false}
 use Rattle.placed_book.specs.declared.firsts.Spot.{Spot}

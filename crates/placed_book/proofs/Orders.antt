@@ -8,7 +8,7 @@ use Rattle.inet_num.specs.declared.Family.{Family}
 use Rattle.inet_num.specs.declared.Family.TheVariants.{V4, V6}
 use Rattle.inet_num.specs.Net.{Cidr}
 use Rattle.inet_num.proofs.Numbers.{same_block as one_block}
-use Rattle.ipam_data.specs.Blocks.{same_family, same_block}
+use Rattle.inet_num.specs.Blocks.{same_family, same_block}
 
 pub both : (a b : Bool) → (a && b) ≡ true → (a ≡ true) × (b ≡ true)
 both true b e = (refl, e)

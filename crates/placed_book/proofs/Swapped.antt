@@ -5,7 +5,7 @@ use Rattle.inet_num.specs.declared.Family.{Family}
 use Rattle.inet_num.specs.Net.{Cidr}
 use Rattle.ipam_data.specs.declared.kinds.Table.{Table}
 use Rattle.ipam_data.specs.Tables.{table_of, same_table}
-use Rattle.ipam_data.specs.Blocks.{same_family}
+use Rattle.inet_num.specs.Blocks.{same_family}
 use Rattle.placed_book.specs.Book.{Placed, TableBlocks, table_at, is_there, blocks_of_family, blocks_in, blocks_at, blocks_of_rows, blocks_of_all, AreAll, AreInOrder}
 use Rattle.placed_book.specs.Changes.{IsSwapped, IsChangedAt}
 use Rattle.placed_book.proofs.Lookups.{one_table}

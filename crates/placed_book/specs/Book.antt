@@ -7,7 +7,7 @@ use Rattle.inet_num.specs.Net.{Cidr}
 use Rattle.ipam_data.specs.declared.kinds.Table.{Table}
 use Rattle.ipam_data.specs.declared.kinds.Table.TheVariants.{Global}
 use Rattle.ipam_data.specs.Tables.{table_of, same_table}
-use Rattle.ipam_data.specs.Blocks.{same_family}
+use Rattle.inet_num.specs.Blocks.{same_family}
 
 -- a table that is there: how many more rows of either family it can take without memory, and its blocks of each family
 pub record TableBlocks : Type 0 where

@@ -4,7 +4,7 @@ use Rattle.inet_num.specs.declared.Family.{Family}
 use Rattle.inet_num.specs.Net.{Cidr}
 use Rattle.ipam_data.specs.declared.kinds.Table.{Table}
 use Rattle.ipam_data.specs.Tables.{same_table}
-use Rattle.ipam_data.specs.Blocks.{same_family}
+use Rattle.inet_num.specs.Blocks.{same_family}
 use Rattle.placed_book.specs.Book.{TableBlocks, table_at, is_there, spare_of, blocks_of_family, blocks_at}
 
 -- a table with one more block

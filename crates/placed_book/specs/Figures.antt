@@ -1,7 +1,7 @@
 -- How many blocks of a row's table lie around its block, and inside it.
 use Rattle.std.specs.Prelude.{ℕ, List, filter, count_by}
 use Rattle.ipam_data.specs.Tables.{table_of}
-use Rattle.ipam_data.specs.Blocks.{is_strictly_inside, distinct}
+use Rattle.inet_num.specs.Blocks.{is_strictly_inside, distinct}
 use Rattle.placed_book.specs.Book.{Placed, blocks_of_rows}
 
 -- how many different blocks of the row's table contain its block strictly

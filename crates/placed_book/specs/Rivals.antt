@@ -2,7 +2,7 @@
 use Rattle.std.specs.Prelude.{ℕ, ◌==◌, ◌&&◌, Bool, false, not, List, Option, Some, None, option_map, if◌then◌else◌}
 use Rattle.ipam_data.specs.declared.kinds.Table.{Table}
 use Rattle.ipam_data.specs.Tables.{table_of, same_table}
-use Rattle.ipam_data.specs.Blocks.{same_block}
+use Rattle.inet_num.specs.Blocks.{same_block}
 use Rattle.ipam_data.specs.Shelf.{row_at}
 use Rattle.placed_book.specs.Book.{Placed}
 

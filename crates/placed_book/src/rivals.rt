@@ -2,8 +2,6 @@
 
 ghost use Rattle.std.specs.Prelude.{◌≡◌, ◌++◌, IfOk, OnOk, ℕ, ◌+◌, ◌<◌, ◌≤◌, Some, drop, find, map, length, slice_get, option_map, not, ◌&&◌, ◌==◌};
 ghost use Rattle.ipam_data.specs.Shelf.{row_at, least};
-ghost use Rattle.ipam_data.specs.Tables.{table_of, same_table};
-ghost use Rattle.ipam_data.specs.Blocks.{same_family, same_block};
 ghost use Rattle.placed_book.specs.Book.{AreInOrder};
 ghost use Rattle.placed_book.specs.Firsts.{HasFirsts, is_at, ids_at, one_if};
 ghost use Rattle.placed_book.specs.Rivals.{is_where, own_times, coincide_in, is_rival, stays_among};
@@ -13,43 +11,10 @@ use crate::firsts::{Firsts, spot_at};
 use crate::tables::Tables;
 use block_space::Space;
 use indexed_book::IndexedBook;
-use inet_num::{Block, Family};
-use ipam_data::kinds::Table;
+use inet_num::{Block, is_one_block};
+use ipam_data::kinds::{Table, is_one_table};
 use row_book::Book;
 use std::alloc::{AllocError, Global};
-
-/// Whether the two families are one.
-fn is_one_family(a: Family, b: Family) -> bool
-    ensures { result ≡ same_family a b }
-{
-    match (a, b) {
-        (Family::V4, Family::V4) => true,
-        (Family::V6, Family::V6) => true,
-        (Family::V4, Family::V6) => false,
-        (Family::V6, Family::V4) => false,
-    }
-}
-
-/// Whether the two blocks are one.
-fn is_one_block(a: &Block, b: &Block) -> bool
-    ensures { result ≡ same_block a.now b.now }
-{
-    is_one_family(a.family(), b.family())
-        && a.first().value() == b.first().value()
-        && a.len() == b.len()
-}
-
-/// Whether the two tables are one.
-fn is_one_table(a: Table, b: Table) -> bool
-    ensures { result ≡ same_table a b }
-{
-    match (a, b) {
-        (Table::Global, Table::Global) => true,
-        (Table::Of(a), Table::Of(b)) => a == b,
-        (Table::Global, Table::Of(_)) => false,
-        (Table::Of(_), Table::Global) => false,
-    }
-}
 
 /// Whether the other row is of the row's table and has its block.
 fn is_there<T: Located>(row: &T, other: &T) -> bool

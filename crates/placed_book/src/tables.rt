@@ -5,7 +5,7 @@ ghost use Rattle.inet_num.specs.declared.Family.{Family};
 ghost use Rattle.ipam_data.specs.declared.kinds.Table.TheVariants.{Global as GlobalTable};
 ghost use Rattle.ipam_data.specs.Shelf.{row_at, Rises};
 ghost use Rattle.inet_num.specs.Net.{Cidr};
-ghost use Rattle.ipam_data.specs.Blocks.{distinct, is_strictly_inside};
+ghost use Rattle.inet_num.specs.Blocks.{distinct, is_strictly_inside};
 ghost use Rattle.block_space.specs.Listed.{times_of};
 ghost use Rattle.row_book.specs.Book.{place, IsAt};
 ghost use Rattle.placed_book.specs.Book.{TableBlocks, empty_table, table_at, is_there, spare_of, blocks_at};

@@ -15,7 +15,7 @@ use crate::filters::{asks_family, asks_id};
 use crate::planned::Planned;
 use crate::references::missing_rir;
 use crate::registered::Registered;
-use crate::same::is_block_inside;
+use inet_num::is_block_inside;
 use ipam_data::aggregate::{Aggregate, MOST_AGGREGATES};
 use ipam_data::calls::{Edit, Filter};
 use ipam_data::kinds::Kind;

@@ -3,12 +3,12 @@
 ghost use Rattle.std.specs.Prelude.{◌≡◌, ◌==◌, bytes_eq};
 ghost use Rattle.ipam_data.specs.Checks.{asks};
 ghost use Rattle.ipam_data.specs.Tables.{same_name};
-ghost use Rattle.ipam_data.specs.Blocks.{same_family, same_block, is_inside, is_strictly_inside, has_address};
+ghost use Rattle.inet_num.specs.Blocks.{same_family, same_block, is_block_inside, is_strictly_inside, block_holds};
 
-use crate::same::{
-    holds, is_block_inside, is_block_within, is_one_block, is_one_family, is_one_name,
+use crate::same::is_one_name;
+use inet_num::{
+    Addr, Block, Family, block_holds, is_block_inside, is_block_within, is_one_block, is_one_family,
 };
-use inet_num::{Addr, Block, Family};
 use ipam_data::text::Text;
 
 /// Whether the text is the one that is asked for.
@@ -73,7 +73,7 @@ pub fn asks_within(wanted: &Option<Block>, block: &Block) -> bool
 
 /// Whether the block lies in the one that is asked for, or is it.
 pub fn asks_inside(wanted: &Option<Block>, block: &Block) -> bool
-    ensures { result ≡ asks wanted.now (λ b. is_inside block.now b) }
+    ensures { result ≡ asks wanted.now (λ b. is_block_inside block.now b) }
 {
     match wanted {
         None => true,
@@ -83,7 +83,7 @@ pub fn asks_inside(wanted: &Option<Block>, block: &Block) -> bool
 
 /// Whether the block contains the one that is asked for, or is it.
 pub fn asks_contains(wanted: &Option<Block>, block: &Block) -> bool
-    ensures { result ≡ asks wanted.now (λ b. is_inside b block.now) }
+    ensures { result ≡ asks wanted.now (λ b. is_block_inside b block.now) }
 {
     match wanted {
         None => true,
@@ -93,10 +93,10 @@ pub fn asks_contains(wanted: &Option<Block>, block: &Block) -> bool
 
 /// Whether the address lies in the block that is asked for.
 pub fn asks_parent(wanted: &Option<Block>, addr: Addr) -> bool
-    ensures { result ≡ asks wanted.now (λ b. has_address b addr) }
+    ensures { result ≡ asks wanted.now (λ b. block_holds b addr) }
 {
     match wanted {
         None => true,
-        Some(wanted) => holds(wanted, addr),
+        Some(wanted) => block_holds(wanted, addr),
     }
 }

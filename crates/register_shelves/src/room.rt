@@ -3,13 +3,12 @@
 ghost use Rattle.std.specs.Prelude.{◌≡◌, ℕ, ◌<◌, ◌≤◌, ◌+◌, ◌^◌, ◌==◌, ◌∷◌, [], true, false, OnOk, length, count_by};
 ghost use Rattle.ipam_data.specs.Updates.{with_view, IsFit};
 ghost use Rattle.ipam_data.specs.declared.kinds.Table.{Table as SeenTable};
-ghost use Rattle.ipam_data.specs.Tables.{table_of, same_table};
 ghost use Rattle.placed_book.specs.Book.{spare_of};
 ghost use Rattle.prefix_rules.specs.Book.{IsInOrder};
 ghost use Rattle.register_shelves.specs.Held.{state_of, place_of_kind, kind_of, is_of, is_prefix_in, HasRoom, HasAtMost};
 
 use crate::{Prefixes, Shelves};
-use ipam_data::kinds::{Kind, Table};
+use ipam_data::kinds::{Kind, Table, is_one_table};
 use ipam_data::replies::View;
 use row_book::Book;
 use std::alloc::AllocError;
@@ -58,18 +57,6 @@ fn is_of_kind(view: &View, kind: Kind) -> bool
     place(kind_of_view(view)) == place(kind)
 }
 
-/// Whether two tables are one.
-fn is_same_table(a: Table, b: Table) -> bool
-    ensures { result ≡ same_table a b }
-{
-    match (a, b) {
-        (Table::Global, Table::Global) => true,
-        (Table::Of(vrf), Table::Of(other)) => vrf == other,
-        (Table::Global, Table::Of(_)) => false,
-        (Table::Of(_), Table::Global) => false,
-    }
-}
-
 /// Whether the row is a prefix of the table.
 fn is_a_prefix_in(view: &View, table: Table) -> bool
     ensures { result ≡ is_prefix_in table view.now }
@@ -79,7 +66,7 @@ fn is_a_prefix_in(view: &View, table: Table) -> bool
             row,
             depth: _,
             children: _,
-        } => is_same_table(Table::of(row.vrf), table),
+        } => is_one_table(Table::of(row.vrf), table),
         View::Vrf(_) => false,
         View::Rir(_) => false,
         View::Role(_) => false,

@@ -2,7 +2,7 @@ use Rattle.std.proofs.Common.{sym, ap, subst, ◌∙◌, List, Option, IsPermuta
 use Rattle.std.specs.List.{count_by}
 use Rattle.inet_num.specs.declared.Family.{Family}
 use Rattle.inet_num.specs.Net.{Cidr}
-use Rattle.ipam_data.specs.Blocks.{is_strictly_inside}
+use Rattle.inet_num.specs.Blocks.{is_strictly_inside}
 use Rattle.placed_book.specs.Book.{TableBlocks, blocks_of_family, blocks_in}
 use Rattle.placed_book.proofs.Orders.{of_nothing}
 use Rattle.placed_book.proofs.tables.Tables.count_inside.Goals as goal
