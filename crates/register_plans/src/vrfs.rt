@@ -3,7 +3,6 @@
 ghost use Rattle.std.specs.Prelude.{◌≡◌, ℕ, ◌<◌, ◌≤◌, ◌&&◌, Some, None, IfOk, find, drop, length, option_map, option_copied, slice_get};
 ghost use Rattle.ipam_data.specs.declared.prefix.Prefix.{Prefix};
 ghost use Rattle.ipam_data.specs.declared.range.IpRange.{IpRange};
-ghost use Rattle.ipam_data.specs.declared.address.IpAddress.{IpAddress};
 ghost use Rattle.ipam_data.specs.Shelf.{least, row_at};
 ghost use Rattle.ipam_data.specs.Rows.{vrf_id, prefix_id};
 ghost use Rattle.ipam_data.specs.Tables.{is_named};
@@ -15,34 +14,35 @@ ghost use Rattle.register_shelves.specs.Held.{state_of};
 ghost use Rattle.register_plans.specs.Planned.{IsPlanned};
 ghost use Rattle.register_plans.specs.Meets.{vrf_meets};
 
-use crate::addresses::pair_of;
 use crate::calls::plan_replace;
 use crate::filters::asks_text;
 use crate::planned::Planned;
 use crate::registered::Registered;
 use crate::same::names;
-use ipam_data::address::IpAddress;
+use address_rules::AddressRules;
 use ipam_data::calls::{Edit, Filter};
 use ipam_data::kinds::{Kind, Table};
 use ipam_data::range::IpRange;
 use ipam_data::replies::{Refusal, Rule, View};
 use ipam_data::text::{Distinguisher, Text};
 use ipam_data::vrf::{MOST_VRFS, Vrf};
+use placed_book::{Located, PlacedBook};
 use prefix_rules::PrefixRules;
-use register_shelves::{Prefixes, Shelves};
+use radix_tree::Tree;
+use register_shelves::Shelves;
 use row_book::Book;
 use std::alloc::AllocError;
 use vrf_table::VrfRules;
 
-/// The least id of a prefix of a VRF.
-fn prefix_of(book: &Prefixes, id: u32) -> Option<u32>
-    ensures { result ≡ least prefix_id (λ (row : Prefix). is_named id row.vrf) book.now.rows }
+/// The least id of a row that names the VRF.
+fn user_in<T: Located + Drop>(book: &PlacedBook<T, Tree>, id: u32) -> Option<u32>
+    ensures { result ≡ least T.id_of (λ (row : T). is_named id (T.placed row).vrf) book.now.rows }
 {
     let count = book.len();
     'rows: for index in 0..count {
         if let Some(row) = book.at(index) {
-            if names(id, row.vrf) {
-                return Some(row.id);
+            if names(id, row.vrf()) {
+                return Some(row.id());
             }
         }
     }
@@ -52,13 +52,6 @@ fn prefix_of(book: &Prefixes, id: u32) -> Option<u32>
 /// The first range of a VRF.
 fn range_of(rows: &[IpRange], id: u32) -> Option<&IpRange>
     ensures { option_copied result ≡ find (λ (row : IpRange). is_named id row.vrf) rows.now }
-{
-    rows.iter().find(|row| names(id, row.vrf))
-}
-
-/// The first address of a VRF.
-fn address_of(rows: &[IpAddress], id: u32) -> Option<&IpAddress>
-    ensures { option_copied result ≡ find (λ (row : IpAddress). is_named id row.vrf) rows.now }
 {
     rows.iter().find(|row| names(id, row.vrf))
 }
@@ -83,7 +76,7 @@ fn coinciding(shelves: &Shelves, row: &Vrf) -> Option<Rule>
     if let Some((a, b)) = shelves.prefixes().coincidence_of(Table::Of(row.id)) {
         return Some(Rule::Coincide(Kind::Prefixes, a, b));
     }
-    match pair_of(shelves.addresses().rows(), Table::Of(row.id)) {
+    match shelves.addresses().clash_of(Table::Of(row.id)) {
         Some((a, b)) => Some(Rule::Coincide(Kind::Addresses, a, b)),
         None => None,
     }
@@ -162,14 +155,14 @@ impl Registered for Vrf {
     }
 
     fn user(shelves: &Shelves, id: u32) -> Option<Refusal> {
-        if let Some(prefix) = prefix_of(shelves.prefixes(), id) {
+        if let Some(prefix) = user_in(shelves.prefixes(), id) {
             return Some(Refusal::InUse(Kind::Prefixes, prefix));
         }
         if let Some(range) = range_of(shelves.ranges().rows(), id) {
             return Some(Refusal::InUse(Kind::Ranges, range.id));
         }
-        match address_of(shelves.addresses().rows(), id) {
-            Some(address) => Some(Refusal::InUse(Kind::Addresses, address.id)),
+        match user_in(shelves.addresses(), id) {
+            Some(address) => Some(Refusal::InUse(Kind::Addresses, address)),
             None => None,
         }
     }

@@ -1,5 +1,5 @@
 -- What the shelves of a register hold: the books of all kinds with their rooms, the next ids, the setting and the log items spent.
-use Rattle.std.specs.Prelude.{◌≡◌, ℕ, ◌≤◌, ◌==◌, Bool, true, false, List, length, count_by}
+use Rattle.std.specs.Prelude.{◌≡◌, ℕ, ◌≤◌, ◌==◌, Bool, true, false, List, Option, Some, None, length, count_by}
 use Rattle.ipam_data.specs.declared.vrf.Vrf.{Vrf}
 use Rattle.ipam_data.specs.declared.rir.Rir.{Rir}
 use Rattle.ipam_data.specs.declared.role.Role.{Role}
@@ -24,7 +24,7 @@ pub record Held : Type 0 where
   pub aggregates : Book Aggregate
   pub prefixes : TabledRows Prefix
   pub ranges : Book IpRange
-  pub addresses : Book IpAddress
+  pub addresses : TabledRows IpAddress
   pub next_vrf : ℕ
   pub next_rir : ℕ
   pub next_role : ℕ
@@ -85,10 +85,20 @@ kind_of (AddressView row) = Addresses
 abbrev pub is_of : Kind → View → Bool
 is_of kind view = place_of_kind (kind_of view) == place_of_kind kind
 
--- the row is a prefix of this table
-abbrev pub is_prefix_in : Table → View → Bool
-is_prefix_in table (PrefixView row depth children) = same_table (table_of row.vrf) table
-is_prefix_in table view = false
+-- the table of a row, where it is of the kind and the rows of that have places in tables
+abbrev pub table_in : Kind → View → Option Table
+table_in Prefixes (PrefixView row depth children) = Some (table_of row.vrf)
+table_in Addresses (AddressView row) = Some (table_of row.vrf)
+table_in kind view = None
+
+-- the table is there, and is this one
+abbrev pub is_table : Table → Option Table → Bool
+is_table table None = false
+is_table table (Some found) = same_table found table
+
+-- the row is of this kind and has its place in this table
+abbrev pub is_in : Kind → Table → View → Bool
+is_in kind table view = is_table table (table_in kind view)
 
 -- the rows can be put, one after another, without memory
 pub record HasRoom (held : Held) (views : List View) : Type 0 where
@@ -97,9 +107,10 @@ pub record HasRoom (held : Held) (views : List View) : Type 0 where
   pub roles : count_by (is_of Roles) views ≤ held.roles.spare
   pub aggregates : count_by (is_of Aggregates) views ≤ held.aggregates.spare
   pub prefixes : count_by (is_of Prefixes) views ≤ held.prefixes.spare
-  pub tables : (t : Table) → count_by (is_prefix_in t) views ≤ spare_of held.prefixes.tables t
+  pub prefix_tables : (t : Table) → count_by (is_in Prefixes t) views ≤ spare_of held.prefixes.tables t
   pub ranges : count_by (is_of Ranges) views ≤ held.ranges.spare
   pub addresses : count_by (is_of Addresses) views ≤ held.addresses.spare
+  pub address_tables : (t : Table) → count_by (is_in Addresses t) views ≤ spare_of held.addresses.tables t
 
 -- no kind has more rows than this
 pub record HasAtMost (most : ℕ) (held : Held) : Type 0 where

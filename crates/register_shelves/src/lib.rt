@@ -8,11 +8,12 @@ ghost use Rattle.ipam_data.specs.State.{empty_state};
 ghost use Rattle.ipam_data.specs.Updates.{with_view, without_row, with_next, updated, CanUpdate, IsFit, AreFit};
 ghost use Rattle.register_shelves.specs.Held.{state_of, next_in, HasRoom};
 ghost use Rattle.prefix_rules.specs.Book.{IsInOrder};
+ghost use Rattle.address_rules.specs.Book.{IsInOrder as IsAddressOrder};
 
 mod figures;
 mod room;
 
-use ipam_data::address::IpAddress;
+use address_rules::AddressBook;
 use ipam_data::aggregate::Aggregate;
 use ipam_data::kinds::Kind;
 use ipam_data::range::IpRange;
@@ -30,6 +31,9 @@ use vrf_table::VrfBook;
 /// What keeps the prefixes: their tables are trees.
 pub type Prefixes = PrefixBook<Tree>;
 
+/// What keeps the addresses: their tables are trees too.
+pub type Addresses = AddressBook<Tree>;
+
 /// The rows of all kinds with the next ids, the log items spent and the register's setting. A contract sees the books with their
 /// rooms.
 #[derive(Drop)]
@@ -41,7 +45,7 @@ pub struct Shelves {
     aggregates: RowBook<Aggregate>,
     prefixes: Prefixes,
     ranges: RowBook<IpRange>,
-    addresses: RowBook<IpAddress>,
+    addresses: Addresses,
     next_vrf: u32,
     next_rir: u32,
     next_role: u32,
@@ -56,12 +60,13 @@ pub struct Shelves {
 impl Model for Shelves {
     ghost use Rattle.register_shelves.specs.Held.{Held};
     ghost use Rattle.prefix_rules.specs.Book.{IsInOrder};
+    ghost use Rattle.address_rules.specs.Book.{IsInOrder as IsAddressOrder};
 
     ghost Value = { Held };
 
     ghost view = { λ s. record { vrfs = s.vrfs; rirs = s.rirs; roles = s.roles; aggregates = s.aggregates; prefixes = s.prefixes; ranges = s.ranges; addresses = s.addresses; next_vrf = s.next_vrf; next_rir = s.next_rir; next_role = s.next_role; next_aggregate = s.next_aggregate; next_prefix = s.next_prefix; next_range = s.next_range; next_address = s.next_address; global_unique = s.global_unique; spent = s.spent } };
 
-    ghost invariant = { λ s. IsInOrder s.prefixes };
+    ghost invariant = { λ s. IsInOrder s.prefixes × IsAddressOrder s.addresses };
 }
 
 impl Shelves {
@@ -77,7 +82,7 @@ impl Shelves {
             aggregates: RowBook::new(alloc),
             prefixes: PrefixBook::new(alloc),
             ranges: RowBook::new(alloc),
-            addresses: RowBook::new(alloc),
+            addresses: AddressBook::new(alloc),
             next_vrf: 1,
             next_rir: 1,
             next_role: 1,
@@ -138,9 +143,10 @@ impl Shelves {
         &self.ranges
     }
 
-    /// The book of addresses.
-    pub fn addresses(&self) -> &RowBook<IpAddress>
-        ensures { result.now ≡ self.now.addresses }
+    /// The book of addresses, which is in order.
+    pub fn addresses(&self) -> &Addresses
+        ensures book { result.now ≡ self.now.addresses }
+        ensures order { IsAddressOrder self.now.addresses }
     {
         &self.addresses
     }

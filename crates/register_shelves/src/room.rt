@@ -3,13 +3,14 @@
 ghost use Rattle.std.specs.Prelude.{◌≡◌, ℕ, ◌<◌, ◌≤◌, ◌+◌, ◌^◌, ◌==◌, ◌∷◌, [], true, false, OnOk, length, count_by};
 ghost use Rattle.ipam_data.specs.Updates.{with_view, IsFit};
 ghost use Rattle.ipam_data.specs.declared.kinds.Table.{Table as SeenTable};
-ghost use Rattle.placed_book.specs.Book.{spare_of};
-ghost use Rattle.prefix_rules.specs.Book.{IsInOrder};
-ghost use Rattle.register_shelves.specs.Held.{state_of, place_of_kind, kind_of, is_of, is_prefix_in, HasRoom, HasAtMost};
+ghost use Rattle.placed_book.specs.Book.{spare_of, IsInOrder};
+ghost use Rattle.register_shelves.specs.Held.{state_of, place_of_kind, kind_of, is_of, table_in, is_in, HasRoom, HasAtMost};
 
-use crate::{Prefixes, Shelves};
+use crate::Shelves;
 use ipam_data::kinds::{Kind, Table, is_one_table};
 use ipam_data::replies::View;
+use placed_book::{Located, PlacedBook};
+use radix_tree::Tree;
 use row_book::Book;
 use std::alloc::AllocError;
 
@@ -57,22 +58,31 @@ fn is_of_kind(view: &View, kind: Kind) -> bool
     place(kind_of_view(view)) == place(kind)
 }
 
-/// Whether the row is a prefix of the table.
-fn is_a_prefix_in(view: &View, table: Table) -> bool
-    ensures { result ≡ is_prefix_in table view.now }
+/// The table of a row, where it is of the kind and the rows of that have places in tables.
+fn table_of_view(view: &View, kind: Kind) -> Option<Table>
+    ensures { result ≡ table_in kind view.now }
 {
-    match view {
-        View::Prefix {
-            row,
-            depth: _,
-            children: _,
-        } => is_one_table(Table::of(row.vrf), table),
-        View::Vrf(_) => false,
-        View::Rir(_) => false,
-        View::Role(_) => false,
-        View::Aggregate(_) => false,
-        View::IpRange(_) => false,
-        View::IpAddress(_) => false,
+    match (kind, view) {
+        (
+            Kind::Prefixes,
+            View::Prefix {
+                row,
+                depth: _,
+                children: _,
+            },
+        ) => Some(Table::of(row.vrf)),
+        (Kind::Addresses, View::IpAddress(row)) => Some(Table::of(row.vrf)),
+        _ => None,
+    }
+}
+
+/// Whether the row is of the kind and has its place in the table.
+fn is_placed_in(view: &View, kind: Kind, table: Table) -> bool
+    ensures { result ≡ is_in kind table view.now }
+{
+    match table_of_view(view, kind) {
+        Some(found) => is_one_table(found, table),
+        None => false,
     }
 }
 
@@ -83,56 +93,55 @@ fn count_of_kind(views: &[View], kind: Kind) -> usize
     views.iter().filter(|view| is_of_kind(view, kind)).count()
 }
 
-/// How many of the rows are prefixes of the table.
-fn count_prefixes_in(views: &[View], table: Table) -> usize
-    ensures { result ≡ count_by (is_prefix_in table) views.now }
+/// How many of the rows are of the kind and have their place in the table.
+fn count_placed_in(views: &[View], kind: Kind, table: Table) -> usize
+    ensures { result ≡ count_by (is_in kind table) views.now }
 {
     views
         .iter()
-        .filter(|view| is_a_prefix_in(view, table))
+        .filter(|view| is_placed_in(view, kind, table))
         .count()
 }
 
-/// Makes room in the table of a row, where it is a prefix, for all rows of that table.
-fn reserve_table_of(prefixes: &mut Prefixes, views: &[View], view: &View) -> Result<(), AllocError>
-    requires order { IsInOrder prefixes.old }
-    requires few { length prefixes.old.rows + length views.now < 2 ^ 30 }
-    ensures order { IsInOrder prefixes.new }
-    ensures rows { prefixes.new.rows ≡ prefixes.old.rows }
-    ensures spare { prefixes.new.spare ≡ prefixes.old.spare }
-    ensures kept { (t : SeenTable) → spare_of prefixes.old.tables t ≤ spare_of prefixes.new.tables t }
-    ensures ok { OnOk result ((t : SeenTable) → is_prefix_in t view.now ≡ true → count_by (is_prefix_in t) views.now ≤ spare_of prefixes.new.tables t) }
+/// Makes room in the table of a row, where it is of the kind, for all rows of that kind and table.
+fn reserve_table_of<T: Located + Drop>(
+    book: &mut PlacedBook<T, Tree>,
+    kind: Kind,
+    views: &[View],
+    view: &View,
+) -> Result<(), AllocError>
+    requires order { IsInOrder T.placed book.old }
+    requires few { length book.old.rows + length views.now < 2 ^ 30 }
+    ensures order { IsInOrder T.placed book.new }
+    ensures rows { book.new.rows ≡ book.old.rows }
+    ensures spare { book.new.spare ≡ book.old.spare }
+    ensures kept { (t : SeenTable) → spare_of book.old.tables t ≤ spare_of book.new.tables t }
+    ensures ok { OnOk result ((t : SeenTable) → is_in kind t view.now ≡ true → count_by (is_in kind t) views.now ≤ spare_of book.new.tables t) }
 {
-    match view {
-        View::Prefix {
-            row,
-            depth: _,
-            children: _,
-        } => {
-            let table = Table::of(row.vrf);
-            let count = count_prefixes_in(views, table);
-            prefixes.reserve_table(table, count as u32)
+    match table_of_view(view, kind) {
+        Some(table) => {
+            let count = count_placed_in(views, kind, table);
+            book.reserve_table(table, count as u32)
         }
-        View::Vrf(_) => Ok(()),
-        View::Rir(_) => Ok(()),
-        View::Role(_) => Ok(()),
-        View::Aggregate(_) => Ok(()),
-        View::IpRange(_) => Ok(()),
-        View::IpAddress(_) => Ok(()),
+        None => Ok(()),
     }
 }
 
-/// Makes room in the tables of all rows that are prefixes.
-fn reserve_tables(prefixes: &mut Prefixes, views: &[View]) -> Result<(), AllocError>
-    requires order { IsInOrder prefixes.old }
-    requires few { length prefixes.old.rows + length views.now < 2 ^ 30 }
-    ensures order { IsInOrder prefixes.new }
-    ensures rows { prefixes.new.rows ≡ prefixes.old.rows }
-    ensures spare { prefixes.new.spare ≡ prefixes.old.spare }
-    ensures ok { OnOk result ((t : SeenTable) → count_by (is_prefix_in t) views.now ≤ spare_of prefixes.new.tables t) }
+/// Makes room in the tables of all rows of the kind.
+fn reserve_tables<T: Located + Drop>(
+    book: &mut PlacedBook<T, Tree>,
+    kind: Kind,
+    views: &[View],
+) -> Result<(), AllocError>
+    requires order { IsInOrder T.placed book.old }
+    requires few { length book.old.rows + length views.now < 2 ^ 30 }
+    ensures order { IsInOrder T.placed book.new }
+    ensures rows { book.new.rows ≡ book.old.rows }
+    ensures spare { book.new.spare ≡ book.old.spare }
+    ensures ok { OnOk result ((t : SeenTable) → count_by (is_in kind t) views.now ≤ spare_of book.new.tables t) }
 {
     for view in views {
-        reserve_table_of(prefixes, views, view)?;
+        reserve_table_of(book, kind, views, view)?;
     }
     Ok(())
 }
@@ -159,7 +168,8 @@ impl Shelves {
             .reserve(count_of_kind(views, Kind::Ranges) as u32)?;
         self.addresses
             .reserve(count_of_kind(views, Kind::Addresses) as u32)?;
-        reserve_tables(&mut self.prefixes, views)
+        reserve_tables(&mut self.prefixes, Kind::Prefixes, views)?;
+        reserve_tables(&mut self.addresses, Kind::Addresses, views)
     }
 
     /// Whether a kind has so many rows that one more wants more memory than there is.
