@@ -1,5 +1,5 @@
 use Rattle.std.proofs.Common.{arith}
-use Rattle.address_rules.proofs.Clashes.{next_pair, this_pair, no_more_pairs}
+use Rattle.address_rules.proofs.Sharing.{next_pair, this_pair, no_more_pairs}
 use Rattle.address_rules.proofs.AddressBookAddressRules.clash_of.Goals as goal
 
 pub returns-in-Some : goal.returns-in-Some

@@ -1,5 +1,5 @@
 use Rattle.std.proofs.Common.{◌∙◌, sym}
-use Rattle.address_rules.proofs.Clashes.{unshared_least}
+use Rattle.address_rules.proofs.Sharing.{unshared_least}
 use Rattle.address_rules.proofs.clashes.least_clash.Goals as goal
 
 pub returns : goal.returns

@@ -1,7 +1,7 @@
 use Rattle.std.proofs.Common.{◌≡◌, ◌∙◌, sym, ap, true, false}
 use Rattle.ipam_data.specs.declared.kinds.Table.{Table}
 use Rattle.ipam_data.specs.Tables.{table_of, same_table}
-use Rattle.address_rules.proofs.Clashes.{pair_in_no_table, pair_found, pair_none}
+use Rattle.address_rules.proofs.Sharing.{pair_in_no_table, pair_found, pair_none}
 use Rattle.address_rules.proofs.clashes.pair_at.Goals as goal
 
 pub returns-then-not-is_one_table : goal.returns-then-not-is_one_table

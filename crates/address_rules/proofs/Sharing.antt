@@ -1,5 +1,5 @@
 -- Addresses that clash: they are rows at one place, of which not both have a shared role.
-use Rattle.std.proofs.Common.{◌≡◌, ℕ, ◌+◌, ◌<◌, ◌≤◌, ◌==◌, ◌&&◌, Bool, true, false, not, cond, List, [], ◌∷◌, drop, drop_of_length-le, length, Option, Some, None, find, slice_get, refl, ap, sym, subst, ◌∙◌, arith, option_map}
+use Rattle.std.proofs.Common.{◌≡◌, ℕ, ◌+◌, ◌<◌, ◌≤◌, ◌==◌, ◌&&◌, Bool, true, false, not, cond, List, [], ◌∷◌, drop, drop_of_length-le, length, Option, Some, None, find, slice_get, MatchBool, IsSome, refl, ap, sym, subst, ◌∙◌, arith, option_map}
 use Rattle.std.specs.Option.{option_or}
 use Rattle.inet_num.specs.declared.Family.{Family}
 use Rattle.inet_num.specs.declared.Family.TheVariants.{V4, V6}
@@ -36,11 +36,6 @@ host_test V6 V6 v w = all_true (v == w) where
 host_blocks : (a b : Address) → same_block (block_at a (width_of a.family)) (block_at b (width_of b.family)) ≡ same_address a b
 host_blocks a b = host_test a.family b.family a.value b.value
 
-one_place : IpAddress → IpAddress → Bool
-one_place = is_placed_rival address_id placed_address
-
-rival : IpAddress → IpAddress → Bool
-rival = is_rival address_id clashes
 
 -- all that is at the place of a row whose role is not shared clashes with it
 grouped : (n t s : Bool) → (n && t && s) ≡ (n && (t && (s && true)))
@@ -85,8 +80,15 @@ module _ {T : Type 0} (p q : T → Bool) where
 pub unshared_least : (rows : List IpAddress) (row : IpAddress) → is_shared row ≡ false → least address_id (is_placed_rival address_id placed_address row) rows ≡ least_rival address_id clashes rows row
 unshared_least rows row u = ap (λ (o : Option IpAddress). option_map address_id o) (found_alike (is_placed_rival address_id placed_address row) (is_rival address_id clashes row) (λ x. unshared row x u) rows)
 
-pub alone_none : (rows : List IpAddress) (row : IpAddress) (from : ℕ) → least address_id (is_placed_rival address_id placed_address row) rows ≡ None → None ≡ least address_id (is_rival address_id clashes row) (drop from rows)
-alone_none rows row from h =
+alone : (rows : List IpAddress) (row : IpAddress) (b : Bool) → b ≡ true
+    → MatchBool b (least address_id (is_placed_rival address_id placed_address row) rows ≡ None) (IsSome (least address_id (is_placed_rival address_id placed_address row) rows)) → least address_id (is_placed_rival address_id placed_address row) rows ≡ None
+alone rows row true e h = h
+alone rows row false e h = cc
+
+pub alone_none : (rows : List IpAddress) (row : IpAddress) (from : ℕ) (b : Bool) → b ≡ true
+    → MatchBool b (least address_id (is_placed_rival address_id placed_address row) rows ≡ None) (IsSome (least address_id (is_placed_rival address_id placed_address row) rows)) → None ≡ least address_id (is_rival address_id clashes row) (drop from rows)
+alone_none rows row from b e is =
+    let h = alone rows row b e is in
     let none = none_of_fewer (is_placed_rival address_id placed_address row) (is_rival address_id clashes row) (is_there_too row) rows (none_from_map address_id (find (is_placed_rival address_id placed_address row) rows) h) in
     sym (ap (λ (o : Option IpAddress). option_map address_id o) (none_drop (is_rival address_id clashes row) from rows none))
 
