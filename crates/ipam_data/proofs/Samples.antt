@@ -1,5 +1,5 @@
 -- The calls and rows of the examples, in short.
-use Rattle.std.proofs.Common.{ℕ, Bool, List, [], ◌∷◌, Some, None, false, codes, Option}
+use Rattle.std.proofs.Common.{ℕ, Bool, List, [], ◌∷◌, None, false, codes, Option}
 use Rattle.inet_num.specs.declared.Family.TheVariants.{V4, V6}
 use Rattle.inet_num.specs.Net.{Cidr}
 use Rattle.ipam_data.specs.declared.address.AddressRole.{AddressRole}

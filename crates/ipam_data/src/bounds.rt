@@ -2,31 +2,22 @@
 
 ghost use Rattle.std.specs.Prelude.{◌≡◌};
 ghost use Rattle.inet_num.specs.Net.{IsBlock};
-ghost use Rattle.ipam_data.specs.Texts.{IsName, IsSlug, IsDistinguisher, IsDescription, IsWeight, IsDnsText};
+ghost use Rattle.ipam_data.specs.Texts.{IsWeight};
 ghost use Rattle.ipam_data.specs.Hosts.{IsMasked};
 ghost use Rattle.ipam_data.specs.Steps.{Given, IsDistinguisherToo, HasDraftBounds, HasEditBounds, HasCallBounds};
 
 use crate::calls::{Call, Draft, Edit};
 use crate::host::Host;
-use crate::text::{Description, Distinguisher, DnsText, Name, Slug, Weight};
+use crate::text::{Bounded, Bounds, Distinguisher, Weight};
 use crate::vrf::distinguisher_bounds;
 use inet_num::Block;
 
-/// A name that is given is one.
-fn name_bounds(field: &Option<Name>)
-    ensures { Given IsName field.now }
+/// A text that is given is within its bounds.
+fn text_bounds<B: Bounds>(field: &Option<Bounded<B>>)
+    ensures { Given B.admits field.now }
 {
-    if let Some(name) = field {
-        name.bounds();
-    }
-}
-
-/// A slug that is given is one.
-fn slug_bounds(field: &Option<Slug>)
-    ensures { Given IsSlug field.now }
-{
-    if let Some(slug) = field {
-        slug.bounds();
+    if let Some(text) = field {
+        text.bounds();
     }
 }
 
@@ -36,15 +27,6 @@ fn given_distinguisher_bounds(field: &Option<Option<Distinguisher>>)
 {
     if let Some(rd) = field {
         distinguisher_bounds(rd);
-    }
-}
-
-/// A description that is given is one.
-fn description_bounds(field: &Option<Description>)
-    ensures { Given IsDescription field.now }
-{
-    if let Some(description) = field {
-        description.bounds();
     }
 }
 
@@ -72,15 +54,6 @@ fn host_bounds(field: Option<Host>)
 {
     if let Some(host) = field {
         host.bounds();
-    }
-}
-
-/// The text of a host's name that is given is short enough.
-fn dns_text_bounds(field: &Option<DnsText>)
-    ensures { Given IsDnsText field.now }
-{
-    if let Some(text) = field {
-        text.bounds();
     }
 }
 
@@ -173,9 +146,9 @@ impl Edit {
                 description,
                 ..
             } => {
-                name_bounds(name);
+                text_bounds(name);
                 given_distinguisher_bounds(rd);
-                description_bounds(description);
+                text_bounds(description);
             }
             Edit::Rir {
                 name,
@@ -183,9 +156,9 @@ impl Edit {
                 description,
                 ..
             } => {
-                name_bounds(name);
-                slug_bounds(slug);
-                description_bounds(description);
+                text_bounds(name);
+                text_bounds(slug);
+                text_bounds(description);
             }
             Edit::Role {
                 name,
@@ -193,10 +166,10 @@ impl Edit {
                 weight,
                 description,
             } => {
-                name_bounds(name);
-                slug_bounds(slug);
+                text_bounds(name);
+                text_bounds(slug);
                 weight_bounds(weight);
-                description_bounds(description);
+                text_bounds(description);
             }
             Edit::Aggregate {
                 block,
@@ -204,7 +177,7 @@ impl Edit {
                 ..
             } => {
                 block_bounds(*block);
-                description_bounds(description);
+                text_bounds(description);
             }
             Edit::Prefix {
                 block,
@@ -212,7 +185,7 @@ impl Edit {
                 ..
             } => {
                 block_bounds(*block);
-                description_bounds(description);
+                text_bounds(description);
             }
             Edit::IpRange {
                 start,
@@ -222,7 +195,7 @@ impl Edit {
             } => {
                 host_bounds(*start);
                 host_bounds(*end);
-                description_bounds(description);
+                text_bounds(description);
             }
             Edit::IpAddress {
                 host,
@@ -231,8 +204,8 @@ impl Edit {
                 ..
             } => {
                 host_bounds(*host);
-                dns_text_bounds(dns_name);
-                description_bounds(description);
+                text_bounds(dns_name);
+                text_bounds(description);
             }
         }
     }

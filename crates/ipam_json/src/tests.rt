@@ -20,13 +20,13 @@ use std::test::Fail;
 /// What bodies ask for, told by the draft or the refusal: a line `= TEXT`, and below it the bodies that are told this, each
 /// behind the letter of its kind.
 const BODIES: &[u8] =
-    b"= Vrf { name: Name { string: \"red\" }, rd: None, enforce_unique: true, description: Description { string: \"\" } }
+    b"= Vrf { name: \"red\", rd: None, enforce_unique: true, description: \"\" }
 v{\"name\":\"red\"}
 v { \"name\" : \"red\" , \"x\" : [1.5, {}] } 
 v{\"name\":5,\"name\":\"red\"}
 v{\"name\":\"red\",\"rd\":null}
 v{\"name\":\"\\u0072ed\",\"rd\":\"\",\"id\":7}
-= Vrf { name: Name { string: \"a/\" }, rd: Some(Distinguisher { string: \"65000:1\" }), enforce_unique: false, description: Description { string: \"lab\" } }
+= Vrf { name: \"a/\", rd: Some(\"65000:1\"), enforce_unique: false, description: \"lab\" }
 v{\"description\":\"lab\",\"name\":\"a\\/\",\"rd\":\"65000:1\",\"enforce_unique\":false}
 = {\"code\":\"bad_json\",\"detail\":\"the body is not the JSON that is asked for\"}
 v
@@ -53,9 +53,9 @@ v{\"name\":\"red\",\"enforce_unique\":1}
 = {\"code\":\"field\",\"detail\":\"description is missing or malformed\"}
 v{\"name\":\"red\",\"description\":null}
 p{\"prefix\":\"10.0.0.0/24\",\"description\":\"a\\tb\"}
-= Prefix { block: Block { first: 167772160, family: V4, len: 24 }, vrf: None, status: Active, role: None, is_pool: false, mark_utilized: false, description: Description { string: \"\" } }
+= Prefix { block: Block { first: 167772160, family: V4, len: 24 }, vrf: None, status: Active, role: None, is_pool: false, mark_utilized: false, description: \"\" }
 p{\"vrf\":0,\"prefix\":\"10.0.0.0/24\",\"vrf\":null,\"role\":null}
-= Prefix { block: Block { first: 0, family: V6, len: 0 }, vrf: Some(1), status: Container, role: Some(4294967295), is_pool: true, mark_utilized: true, description: Description { string: \"lab\" } }
+= Prefix { block: Block { first: 0, family: V6, len: 0 }, vrf: Some(1), status: Container, role: Some(4294967295), is_pool: true, mark_utilized: true, description: \"lab\" }
 p{\"prefix\":\"0::/0\",\"vrf\":1,\"status\":\"container\",\"role\":4294967295,\"is_pool\":true,\"mark_utilized\":true,\"description\":\"lab\"}
 = {\"code\":\"host_bits\",\"detail\":\"host bits are set, the prefix is 10.0.0.0/24\"}
 p{\"prefix\":\"10.0.0.1/24\",\"vrf\":0}
@@ -79,7 +79,7 @@ p{\"prefix\":\"10.0.0.0/24\",\"role\":\"\",\"is_pool\":0}
 p{\"prefix\":\"10.0.0.0/24\",\"mark_utilized\":0,\"is_pool\":null}
 = Vrf { name: None, rd: None, enforce_unique: None, description: None }
 V{\"id\":7}
-= Vrf { name: Some(Name { string: \"red\" }), rd: Some(None), enforce_unique: Some(true), description: Some(Description { string: \"\" }) }
+= Vrf { name: Some(\"red\"), rd: Some(None), enforce_unique: Some(true), description: Some(\"\") }
 V{\"name\":\"red\",\"rd\":null,\"enforce_unique\":true,\"description\":\"\"}
 V{\"name\":\"red\",\"rd\":\"\",\"enforce_unique\":true,\"description\":\"\"}
 = Prefix { block: None, vrf: Some(None), status: None, role: Some(Some(4)), is_pool: None, mark_utilized: Some(true), description: None }
@@ -99,15 +99,15 @@ P{\"prefix\":\"10.0.0.1/24\",\"vrf\":0}
 P{\"prefix\":null}
 = {\"code\":\"field\",\"detail\":\"vrf is missing or malformed\"}
 P{\"vrf\":\"\"}
-= Rir { name: Name { string: \"ARIN\" }, slug: Slug { string: \"arin\" }, is_private: false, description: Description { string: \"\" } }
+= Rir { name: \"ARIN\", slug: \"arin\", is_private: false, description: \"\" }
 r{\"name\":\"ARIN\",\"slug\":\"arin\"}
 = {\"code\":\"field\",\"detail\":\"slug is missing or malformed\"}
 r{\"name\":\"ARIN\"}
 r{\"is_private\":5,\"name\":\"ARIN\",\"slug\":\"a b\"}
 R{\"slug\":\"\"}
-= Rir { name: None, slug: Some(Slug { string: \"A_1-\" }), is_private: Some(true), description: None }
+= Rir { name: None, slug: Some(\"A_1-\"), is_private: Some(true), description: None }
 R{\"slug\":\"A_1-\",\"is_private\":true}
-= Role { name: Name { string: \"lan\" }, slug: Slug { string: \"lan\" }, weight: Weight { value: 1000 }, description: Description { string: \"\" } }
+= Role { name: \"lan\", slug: \"lan\", weight: Weight { value: 1000 }, description: \"\" }
 o{\"name\":\"lan\",\"slug\":\"lan\"}
 o{\"name\":\"lan\",\"slug\":\"lan\",\"weight\":1000}
 = {\"code\":\"field\",\"detail\":\"weight is missing or malformed\"}
@@ -117,7 +117,7 @@ o{\"name\":\"lan\",\"slug\":\"lan\",\"weight\":65537}
 O{\"weight\":null}
 = Role { name: None, slug: None, weight: Some(Weight { value: 0 }), description: None }
 O{\"weight\":0}
-= Aggregate { block: Block { first: 167772160, family: V4, len: 8 }, rir: 1, description: Description { string: \"\" } }
+= Aggregate { block: Block { first: 167772160, family: V4, len: 8 }, rir: 1, description: \"\" }
 a{\"rir\":1,\"prefix\":\"10.0.0.0/8\"}
 = {\"code\":\"field\",\"detail\":\"rir is missing or malformed\"}
 a{\"prefix\":\"10.0.0.0/8\"}
@@ -128,7 +128,7 @@ A{\"rir\":0}
 a{\"prefix\":\"10.0.0.1/8\"}
 = Aggregate { block: None, rir: Some(2), description: None }
 A{\"rir\":2}
-= IpRange { start: Host { addr: Addr { family: V4, value: 167772161 }, len: 24 }, end: Host { addr: Addr { family: V4, value: 167772162 }, len: 32 }, vrf: None, status: Active, role: None, mark_utilized: false, description: Description { string: \"\" } }
+= IpRange { start: Host { addr: Addr { family: V4, value: 167772161 }, len: 24 }, end: Host { addr: Addr { family: V4, value: 167772162 }, len: 32 }, vrf: None, status: Active, role: None, mark_utilized: false, description: \"\" }
 g{\"start_address\":\"10.0.0.1/24\",\"end_address\":\"10.0.0.2\"}
 = {\"code\":\"field\",\"detail\":\"start_address is missing or malformed\"}
 g{\"start_address\":5}
@@ -142,11 +142,11 @@ G{\"end_address\":\"10.0.0\"}
 g{\"start_address\":\"10.0.0.1/24\",\"end_address\":\"10.0.0.2/24\",\"status\":\"container\",\"role\":\"\"}
 = IpRange { start: None, end: Some(Host { addr: Addr { family: V4, value: 167772169 }, len: 32 }), vrf: None, status: Some(Reserved), role: Some(None), mark_utilized: None, description: None }
 G{\"end_address\":\"10.0.0.9\",\"role\":null,\"status\":\"reserved\"}
-= IpAddress { host: Host { addr: Addr { family: V4, value: 167772161 }, len: 24 }, vrf: None, status: Active, role: None, dns_name: DnsText { string: \"\" }, description: Description { string: \"\" } }
+= IpAddress { host: Host { addr: Addr { family: V4, value: 167772161 }, len: 24 }, vrf: None, status: Active, role: None, dns_name: \"\", description: \"\" }
 d{\"address\":\"10.0.0.1/24\"}
 d{\"address\":\"10.0.0.1/24\",\"role\":null}
 d{\"address\":\"10.0.0.1/24\",\"role\":\"\",\"dns_name\":\"\"}
-= IpAddress { host: Host { addr: Addr { family: V6, value: 1 }, len: 128 }, vrf: Some(3), status: Slaac, role: Some(Carp), dns_name: DnsText { string: \"A.\\u{7}\" }, description: Description { string: \"lab\" } }
+= IpAddress { host: Host { addr: Addr { family: V6, value: 1 }, len: 128 }, vrf: Some(3), status: Slaac, role: Some(Carp), dns_name: \"A.\\u{7}\", description: \"lab\" }
 d{\"address\":\"::1\",\"vrf\":3,\"status\":\"slaac\",\"role\":\"carp\",\"dns_name\":\"A.\\u0007\",\"description\":\"lab\"}
 = {\"code\":\"field\",\"detail\":\"address is missing or malformed\"}
 d{\"role\":5}
@@ -158,7 +158,7 @@ d{\"address\":\"10.0.0.1/24\",\"role\":5}
 = {\"code\":\"field\",\"detail\":\"dns_name is missing or malformed\"}
 d{\"address\":\"10.0.0.1/24\",\"dns_name\":null}
 D{\"dns_name\":null}
-= IpAddress { host: None, vrf: Some(None), status: Some(Dhcp), role: Some(None), dns_name: Some(DnsText { string: \"\" }), description: None }
+= IpAddress { host: None, vrf: Some(None), status: Some(Dhcp), role: Some(None), dns_name: Some(\"\"), description: None }
 D{\"vrf\":null,\"status\":\"dhcp\",\"role\":null,\"dns_name\":\"\"}
 D{\"vrf\":null,\"status\":\"dhcp\",\"role\":\"\",\"dns_name\":\"\"}";
 

@@ -5,8 +5,8 @@ ghost use Rattle.ipam_stored.specs.Stored.{stored_address};
 ghost use Rattle.ipam_stored.specs.Reading.{IsRead, IsTypedAddress, row_of};
 
 use crate::columns::{
-    read_address_role, read_address_status, read_description, read_dns_name, read_host_text,
-    read_reference,
+    read_address_role, read_address_status, read_dns_name, read_host_text, read_reference,
+    read_text,
 };
 use crate::tables::{Row, Text, Texts};
 use crate::writing::{
@@ -14,6 +14,7 @@ use crate::writing::{
 };
 use ipam_data::address::IpAddress;
 use ipam_data::kinds::Kind;
+use ipam_data::text::DescriptionBounds;
 use std::alloc::{AllocError, Global};
 
 /// The columns of addresses past the id, in the order of their texts.
@@ -77,7 +78,7 @@ pub(crate) fn read_address(
     let Some(dns_name) = read_dns_name(dns_name)? else {
         return Ok(None);
     };
-    let Some(description) = read_description(description)? else {
+    let Some(description) = read_text::<DescriptionBounds>(description)? else {
         return Ok(None);
     };
     Ok(Some(IpAddress {

@@ -4,11 +4,12 @@ ghost use Rattle.std.specs.Prelude.{◌≡◌, ◌≤◌, ◌∷◌, [], IfOk};
 ghost use Rattle.ipam_stored.specs.Stored.{stored_aggregate};
 ghost use Rattle.ipam_stored.specs.Reading.{IsRead, IsTypedAggregate, row_of};
 
-use crate::columns::{read_block_text, read_description, read_number};
+use crate::columns::{read_block_text, read_number, read_text};
 use crate::tables::{Row, Text, Texts};
 use crate::writing::{block_words, number_words, words};
 use ipam_data::aggregate::Aggregate;
 use ipam_data::kinds::Kind;
+use ipam_data::text::DescriptionBounds;
 use std::alloc::{AllocError, Global};
 
 /// The columns of aggregates past the id, in the order of their texts.
@@ -53,7 +54,7 @@ pub(crate) fn read_aggregate(
     let Some(rir) = read_number(rir) else {
         return Ok(None);
     };
-    let Some(description) = read_description(description)? else {
+    let Some(description) = read_text::<DescriptionBounds>(description)? else {
         return Ok(None);
     };
     Ok(Some(Aggregate {

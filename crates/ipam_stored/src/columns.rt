@@ -4,7 +4,7 @@ ghost use Rattle.std.specs.Prelude.{◌≡◌, ◌↔◌, ◌∷◌, [], ℕ, �
 ghost use Rattle.inet_num.specs.Net.{IsBlock};
 ghost use Rattle.inet_num.specs.Text.{block_text_of, IsHostText};
 ghost use Rattle.ipam_data.specs.Hosts.{IsMasked, AreEnds};
-ghost use Rattle.ipam_data.specs.Texts.{IsName, IsSlug, IsDescription, IsDistinguisher, IsWeight, IsLowered};
+ghost use Rattle.ipam_data.specs.Texts.{IsDistinguisher, IsWeight, IsLowered};
 ghost use Rattle.ipam_stored.specs.Stored.{flag_text, optional_text, reference_text, prefix_status_text, range_status_text, address_status_text, address_role_text};
 ghost use Rattle.ipam_stored.specs.Reading.{IsRead, IsAny, IsWord, IsAbsentOr, masked_text, ends_texts};
 
@@ -15,7 +15,7 @@ use ipam_data::address::{AddressRole, AddressStatus};
 use ipam_data::host::{Ends, Host};
 use ipam_data::prefix::PrefixStatus;
 use ipam_data::range::RangeStatus;
-use ipam_data::text::{Description, Distinguisher, DnsName, DnsText, Name, Slug, Weight};
+use ipam_data::text::{Bounded, Distinguisher, DnsName, DnsText, Tested, Weight};
 use itoa::Buffer;
 use std::alloc::{AllocError, Global};
 
@@ -273,25 +273,11 @@ pub(crate) fn read_ends(alloc: Global, start: &Text, end: &Text) -> Result<Optio
 
 // ---- texts
 
-/// The name of a text. `Err` is want of memory.
-pub(crate) fn read_name(text: &Text) -> Result<Option<Name>, AllocError>
-    ensures { IfOk result (λ n. IsRead IsName (λ bytes. bytes) text.now n) }
+/// The text within bounds that a text is. `Err` is want of memory.
+pub(crate) fn read_text<B: Tested>(text: &Text) -> Result<Option<Bounded<B>>, AllocError>
+    ensures { IfOk result (λ n. IsRead B.admits (λ bytes. bytes) text.now n) }
 {
-    Ok(Name::of(text.copy()?.into_string()))
-}
-
-/// The slug of a text. `Err` is want of memory.
-pub(crate) fn read_slug(text: &Text) -> Result<Option<Slug>, AllocError>
-    ensures { IfOk result (λ n. IsRead IsSlug (λ bytes. bytes) text.now n) }
-{
-    Ok(Slug::of(text.copy()?.into_string()))
-}
-
-/// The description of a text. `Err` is want of memory.
-pub(crate) fn read_description(text: &Text) -> Result<Option<Description>, AllocError>
-    ensures { IfOk result (λ n. IsRead IsDescription (λ bytes. bytes) text.now n) }
-{
-    Ok(Description::of(text.copy()?.into_string()))
+    Ok(Bounded::<B>::of(text.copy()?.into_string()))
 }
 
 /// The route distinguisher of a text that may be empty. `Err` is want of memory.

@@ -4,13 +4,12 @@ ghost use Rattle.std.specs.Prelude.{◌≡◌, ◌≤◌, ◌∷◌, [], IfOk};
 ghost use Rattle.ipam_stored.specs.Stored.{stored_prefix};
 ghost use Rattle.ipam_stored.specs.Reading.{IsRead, IsTypedPrefix, row_of};
 
-use crate::columns::{
-    read_block_text, read_description, read_flag, read_prefix_status, read_reference,
-};
+use crate::columns::{read_block_text, read_flag, read_prefix_status, read_reference, read_text};
 use crate::tables::{Row, Text, Texts};
 use crate::writing::{block_words, flag_words, reference_words, status_words, words};
 use ipam_data::kinds::Kind;
 use ipam_data::prefix::Prefix;
+use ipam_data::text::DescriptionBounds;
 use std::alloc::{AllocError, Global};
 
 /// The columns of prefixes past the id, in the order of their texts.
@@ -88,7 +87,7 @@ pub(crate) fn read_prefix(
     let Some(mark_utilized) = read_flag(mark_utilized) else {
         return Ok(None);
     };
-    let Some(description) = read_description(description)? else {
+    let Some(description) = read_text::<DescriptionBounds>(description)? else {
         return Ok(None);
     };
     Ok(Some(Prefix {

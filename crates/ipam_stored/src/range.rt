@@ -4,11 +4,12 @@ ghost use Rattle.std.specs.Prelude.{◌≡◌, ◌≤◌, ◌∷◌, [], IfOk};
 ghost use Rattle.ipam_stored.specs.Stored.{stored_range};
 ghost use Rattle.ipam_stored.specs.Reading.{IsRead, IsTypedRange, row_of};
 
-use crate::columns::{read_description, read_ends, read_flag, read_range_status, read_reference};
+use crate::columns::{read_ends, read_flag, read_range_status, read_reference, read_text};
 use crate::tables::{Row, Text, Texts};
 use crate::writing::{flag_words, host_words, range_status_words, reference_words, words};
 use ipam_data::kinds::Kind;
 use ipam_data::range::IpRange;
+use ipam_data::text::DescriptionBounds;
 use std::alloc::{AllocError, Global};
 
 /// The columns of ranges past the id, in the order of their texts.
@@ -74,7 +75,7 @@ pub(crate) fn read_range(
     let Some(mark_utilized) = read_flag(mark_utilized) else {
         return Ok(None);
     };
-    let Some(description) = read_description(description)? else {
+    let Some(description) = read_text::<DescriptionBounds>(description)? else {
         return Ok(None);
     };
     Ok(Some(IpRange {

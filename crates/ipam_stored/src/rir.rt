@@ -4,11 +4,12 @@ ghost use Rattle.std.specs.Prelude.{◌≡◌, ◌≤◌, ◌∷◌, [], IfOk};
 ghost use Rattle.ipam_stored.specs.Stored.{stored_rir};
 ghost use Rattle.ipam_stored.specs.Reading.{IsRead, IsTypedRir, row_of};
 
-use crate::columns::{read_description, read_flag, read_name, read_slug};
+use crate::columns::{read_flag, read_text};
 use crate::tables::{Row, Text, Texts};
 use crate::writing::{flag_words, words};
 use ipam_data::kinds::Kind;
 use ipam_data::rir::Rir;
+use ipam_data::text::{DescriptionBounds, NameBounds, SlugBounds};
 use std::alloc::{AllocError, Global};
 
 /// The columns of RIRs past the id, in the order of their texts.
@@ -44,16 +45,16 @@ pub(crate) fn read_rir(id: u32, fields: &[Text]) -> Result<Option<Rir>, AllocErr
     let [name, slug, is_private, description] = fields else {
         return Ok(None);
     };
-    let Some(name) = read_name(name)? else {
+    let Some(name) = read_text::<NameBounds>(name)? else {
         return Ok(None);
     };
-    let Some(slug) = read_slug(slug)? else {
+    let Some(slug) = read_text::<SlugBounds>(slug)? else {
         return Ok(None);
     };
     let Some(is_private) = read_flag(is_private) else {
         return Ok(None);
     };
-    let Some(description) = read_description(description)? else {
+    let Some(description) = read_text::<DescriptionBounds>(description)? else {
         return Ok(None);
     };
     Ok(Some(Rir {

@@ -4,11 +4,12 @@ ghost use Rattle.std.specs.Prelude.{◌≡◌, ◌≤◌, ◌∷◌, [], IfOk};
 ghost use Rattle.ipam_stored.specs.Stored.{stored_role};
 ghost use Rattle.ipam_stored.specs.Reading.{IsRead, IsTypedRole, row_of};
 
-use crate::columns::{read_description, read_name, read_slug, read_weight};
+use crate::columns::{read_text, read_weight};
 use crate::tables::{Row, Text, Texts};
 use crate::writing::{number_words, words};
 use ipam_data::kinds::Kind;
 use ipam_data::role::Role;
+use ipam_data::text::{DescriptionBounds, NameBounds, SlugBounds};
 use std::alloc::{AllocError, Global};
 
 /// The columns of roles past the id, in the order of their texts.
@@ -44,16 +45,16 @@ pub(crate) fn read_role(id: u32, fields: &[Text]) -> Result<Option<Role>, AllocE
     let [name, slug, weight, description] = fields else {
         return Ok(None);
     };
-    let Some(name) = read_name(name)? else {
+    let Some(name) = read_text::<NameBounds>(name)? else {
         return Ok(None);
     };
-    let Some(slug) = read_slug(slug)? else {
+    let Some(slug) = read_text::<SlugBounds>(slug)? else {
         return Ok(None);
     };
     let Some(weight) = read_weight(weight) else {
         return Ok(None);
     };
-    let Some(description) = read_description(description)? else {
+    let Some(description) = read_text::<DescriptionBounds>(description)? else {
         return Ok(None);
     };
     Ok(Some(Role {

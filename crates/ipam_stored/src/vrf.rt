@@ -4,10 +4,11 @@ ghost use Rattle.std.specs.Prelude.{◌≡◌, ◌≤◌, ◌∷◌, [], IfOk};
 ghost use Rattle.ipam_stored.specs.Stored.{stored_vrf};
 ghost use Rattle.ipam_stored.specs.Reading.{IsRead, IsTypedVrf, row_of};
 
-use crate::columns::{read_description, read_distinguisher, read_flag, read_name};
+use crate::columns::{read_distinguisher, read_flag, read_text};
 use crate::tables::{Row, Text, Texts};
 use crate::writing::{distinguisher_words, flag_words, words};
 use ipam_data::kinds::Kind;
+use ipam_data::text::{DescriptionBounds, NameBounds};
 use ipam_data::vrf::Vrf;
 use std::alloc::{AllocError, Global};
 
@@ -44,7 +45,7 @@ pub(crate) fn read_vrf(id: u32, fields: &[Text]) -> Result<Option<Vrf>, AllocErr
     let [name, rd, enforce_unique, description] = fields else {
         return Ok(None);
     };
-    let Some(name) = read_name(name)? else {
+    let Some(name) = read_text::<NameBounds>(name)? else {
         return Ok(None);
     };
     let Some(rd) = read_distinguisher(rd)? else {
@@ -53,7 +54,7 @@ pub(crate) fn read_vrf(id: u32, fields: &[Text]) -> Result<Option<Vrf>, AllocErr
     let Some(enforce_unique) = read_flag(enforce_unique) else {
         return Ok(None);
     };
-    let Some(description) = read_description(description)? else {
+    let Some(description) = read_text::<DescriptionBounds>(description)? else {
         return Ok(None);
     };
     Ok(Some(Vrf {

@@ -34,7 +34,7 @@ GET /api/ipam/prefixes/?role_id=1&status=Active = Field(Status) 400
 GET /api/ipam/prefixes/?role_id=4294967296 = Field(RoleId) 400 
 GET /api/ipam/prefixes/?within=10.0.0.1/8 = Field(Within) 400 
 GET /api/ipam/prefixes/?contains=10.0.0.1/8 = Field(Contains) 400 
-POST /api/ipam/vrfs/?limit=x = Create { draft: Vrf { name: Name { string: \"red\" }, rd: None, enforce_unique: true, description: Description { string: \"\" } } }
+POST /api/ipam/vrfs/?limit=x = Create { draft: Vrf { name: \"red\", rd: None, enforce_unique: true, description: \"\" } }
 POST /api/ipam/prefixes/ = Field(Prefix) 400 
 GET /api/ipam/vrfs/1/?limit=x = Get { kind: Vrfs, id: 1 }
 GET /api/ipam/prefixes/4294967295/ = Get { kind: Prefixes, id: 4294967295 }
@@ -44,8 +44,8 @@ PATCH /api/ipam/vrfs/ = Method 405 GET, POST
 HEAD /api/ipam/prefixes/7/ = Method 405 GET, PATCH, DELETE
 POST /api/ipam/prefixes/7/ = Method 405 GET, PATCH, DELETE
 DELETE /api/ipam/vrfs/7/ = Delete { kind: Vrfs, id: 7 }
-PATCH /api/ipam/vrfs/7/?x = Change { id: 7, edit: Vrf { name: Some(Name { string: \"red\" }), rd: None, enforce_unique: None, description: None } }
-PATCH /api/ipam/rirs/7/ = Change { id: 7, edit: Rir { name: Some(Name { string: \"red\" }), slug: None, is_private: None, description: None } }
+PATCH /api/ipam/vrfs/7/?x = Change { id: 7, edit: Vrf { name: Some(\"red\"), rd: None, enforce_unique: None, description: None } }
+PATCH /api/ipam/rirs/7/ = Change { id: 7, edit: Rir { name: Some(\"red\"), slug: None, is_private: None, description: None } }
 PATCH /api/ipam/ip-addresses/1/ = Change { id: 1, edit: IpAddress { host: None, vrf: None, status: None, role: None, dns_name: None, description: None } }
 POST /api/ipam/roles/ = Field(Slug) 400 
 DELETE /api/ipam/roles/1/ = Delete { kind: Roles, id: 1 }
