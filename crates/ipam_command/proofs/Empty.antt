@@ -1,5 +1,5 @@
 -- The empty tables stand for the empty state alone.
-use Rattle.std.proofs.Common.{◌≡◌, ℕ, Bool, List, [], ◌∷◌, ◌++◌, refl, ap, sym, ◌∙◌, map, get_or, subst}
+use Rattle.std.proofs.Common.{◌≡◌, ℕ, Bool, List, [], ◌∷◌, ◌++◌, refl, ap, sym, ◌∙◌, map, get_or}
 use Rattle.std.specs.List.{flat_map}
 use Rattle.ipam_data.specs.declared.kinds.Kind.{Kind}
 use Rattle.ipam_data.specs.declared.kinds.Kind.TheVariants.{Vrfs, Rirs, Roles, Aggregates, Prefixes, Ranges, Addresses}
@@ -14,7 +14,7 @@ use Rattle.ipam_data.specs.Shelf.{Shelf}
 use Rattle.ipam_data.specs.State.{State, empty_shelf, empty_state}
 use Rattle.ipam_stored.specs.declared.tables.Row.{Row}
 use Rattle.ipam_stored.specs.declared.tables.Tables.{Tables}
-use Rattle.ipam_stored.specs.Stored.{tables_of, stored_rows, stored_vrf, stored_rir, stored_role, stored_aggregate, stored_prefix, stored_range, stored_address}
+use Rattle.ipam_stored.specs.Stored.{stored_rows, stored_vrf, stored_rir, stored_role, stored_aggregate, stored_prefix, stored_range, stored_address}
 use Rattle.ipam_stored.specs.Order.{empty_tables}
 use Rattle.ipam_stored.specs.Opening.{IsOpening}
 

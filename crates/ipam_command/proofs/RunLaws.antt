@@ -1,5 +1,5 @@
 -- The one relation of a run gives each promise.
-use Rattle.std.proofs.Common.{◌≡◌, ℕ, ◌≤◌, inl, inr, refl, sym, ap, subst, arith, Bool, List, [], Option, Some, None, IfSome}
+use Rattle.std.proofs.Common.{◌≡◌, ℕ, ◌≤◌, inl, inr, sym, ap, subst, arith, Bool, List, [], Option, Some, None, IfSome}
 use Rattle.inet_num.specs.Net.{Cidr}
 use Rattle.http_session.specs.declared.session.SessionEnd.TheVariants.{SourceFault}
 use Rattle.command_words.specs.declared.asked.Store.{Store}
@@ -13,10 +13,10 @@ use Rattle.free_lines.specs.Run.{IsFree}
 use Rattle.free_lines.proofs.OneAnswer.{one_answer}
 use Rattle.free_lines.proofs.Runs.{always}
 use Rattle.ipam_data.specs.State.{State, empty_state}
-use Rattle.rest_ipam.specs.Answered.{Seen, answers_plainly}
+use Rattle.rest_ipam.specs.Answered.{answers_plainly}
 use Rattle.kept_session.specs.Answered.{fresh}
 use Rattle.store_session.specs.Outside.{Stores, Outside, StoreFailed, NoCountFalls}
-use Rattle.store_session.specs.Session.{IsLoaded, Prints, Serves, IsSession}
+use Rattle.store_session.specs.Session.{Prints, Serves, IsSession}
 use Rattle.ipam_command.specs.Runs.{AsksNothing, SaysUsage}
 use Rattle.ipam_command.specs.Clauses.{IsExact, HasClauses, RunsHaveClauses}
 use Rattle.ipam_command.proofs.Empty.{empty_opened}

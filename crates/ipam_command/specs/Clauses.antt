@@ -2,7 +2,6 @@
 use Rattle.std.specs.Prelude.{◌≡◌, ℕ, ◌≤◌, ◌⊎◌, Bool, List, None, IfSome}
 use Rattle.inet_num.specs.Net.{Cidr}
 use Rattle.http_session.specs.declared.session.SessionEnd.TheVariants.{SourceFault}
-use Rattle.ipam_stored.specs.declared.opening.OpenFault.{OpenFault}
 use Rattle.ipam_data.specs.State.{State}
 use Rattle.rest_ipam.specs.Answered.{opened, answers_plainly}
 use Rattle.kept_session.specs.Answered.{fresh, answers_kept}
@@ -10,12 +9,12 @@ use Rattle.command_words.specs.declared.asked.Command.{Command}
 use Rattle.command_words.specs.declared.asked.Command.TheVariants.{Free, Session}
 use Rattle.command_words.specs.declared.asked.Store.{Store}
 use Rattle.command_words.specs.Asked.{Asks}
-use Rattle.command_streams.specs.Streams.{Streams, Gains, Failed}
+use Rattle.command_streams.specs.Streams.{Gains, Failed}
 use Rattle.free_lines.specs.declared.free.LineFault.{LineFault}
 use Rattle.free_lines.specs.Free.{IsRefusedLine}
 use Rattle.free_lines.specs.Run.{PrintsFree, NamesLine, FailsToRead, FailsToPrint, FailsToSay}
-use Rattle.store_session.specs.Outside.{Stores, Outside, StoreFailed, AnyFailed, IsUnused, NoCountFalls}
-use Rattle.store_session.specs.Session.{IsLoaded, Prints, Serves, IsBadStore, NamesFault, NamesFailure, IsSession}
+use Rattle.store_session.specs.Outside.{Outside, StoreFailed, AnyFailed, NoCountFalls}
+use Rattle.store_session.specs.Session.{IsLoaded, Prints, Serves, NamesFault, NamesFailure, IsSession}
 use Rattle.ipam_command.specs.Runs.{Stands, AsksNothing, usage_text, Runs}
 
 -- the words ask for what a block leaves

@@ -21,8 +21,8 @@ pub use entry::program;
 use free_lines::run_free;
 use ipam_edge::{Sink, Source};
 use ipam_keeper::keeper::KeeperOpener;
-use store_session::run_session;
 use std::alloc::Global;
+use store_session::run_session;
 
 /// What is said where the words ask for no command.
 pub(crate) const USAGE_TEXT: &[u8] = b"usage: ipamd COMMAND\n";

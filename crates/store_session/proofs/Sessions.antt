@@ -1,5 +1,5 @@
 -- What a session over a store leaves, as the command's record has it.
-use Rattle.std.proofs.Common.{◌≡◌, ℕ, ◌+◌, ◌≤◌, ◌⊎◌, Bool, List, [], ◌++◌, inl, inr, Option, Some, None, IfSome, zero, suc, refl, subst, sym, ◌∙◌, ap, arith}
+use Rattle.std.proofs.Common.{◌≡◌, ℕ, ◌+◌, ◌≤◌, ◌⊎◌, List, [], ◌++◌, inl, inr, Option, Some, None, IfSome, zero, suc, refl, subst, sym, ◌∙◌, ap, arith}
 use Rattle.ipam_edge.specs.Reading.{Step}
 use Rattle.std.specs.Io.KnownBytes.{Appends}
 use Rattle.ipam_data.specs.State.{State}
@@ -14,12 +14,12 @@ use Rattle.http_session.specs.declared.session.SessionEnd.{SessionEnd}
 use Rattle.http_session.specs.declared.session.SessionEnd.TheVariants.{Closed, SourceFault, SinkFault, Memory}
 use Rattle.http_session.proofs.ItemLemmas.{all_in_all}
 use Rattle.rest_ipam.specs.Answered.{Seen}
-use Rattle.kept_session.specs.Answered.{Standing, standing, fresh, answers_kept}
+use Rattle.kept_session.specs.Answered.{standing, fresh, answers_kept}
 use Rattle.kept_session.proofs.Plainly.{end_plainly}
 use Rattle.command_words.specs.declared.asked.Store.{Store}
 use Rattle.command_streams.specs.Streams.{Failed}
-use Rattle.store_session.specs.Outside.{Outside, StoreFailed, NoCountFalls}
-use Rattle.store_session.specs.Session.{IsLoaded, Holds, Serves, Prints, IsSession, end_status}
+use Rattle.store_session.specs.Outside.{Outside, NoCountFalls}
+use Rattle.store_session.specs.Session.{IsLoaded, Serves, IsSession, end_status}
 
 -- where the session closed, the output has the answers to all requests of the whole input
 prints : {S : Type 0} (may : May S) (first register : S) (left_old left_new written_old written_new : Option (List ℕ)) (n : ℕ) (bytes : List ℕ)

@@ -19,7 +19,7 @@ use Rattle.rest_ipam.specs.Answered.{answers_plainly}
 use Rattle.kept_session.specs.Answered.{Standing, fresh, answers_kept}
 use Rattle.command_words.specs.declared.asked.Store.{Store}
 use Rattle.command_streams.specs.Streams.{Gains, GainsFront, Failed}
-use Rattle.store_session.specs.Outside.{Stores, Outside, StoreFailed, IsUnused, NoCountFalls}
+use Rattle.store_session.specs.Outside.{Outside, StoreFailed, IsUnused, NoCountFalls}
 use Rattle.store_session.specs.FaultWords.{fault_line}
 
 -- the tables with which the store begins, where they are told: without a file the empty ones

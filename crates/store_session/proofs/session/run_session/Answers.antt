@@ -15,8 +15,8 @@ returns-in-Ok-open_store g c =
     c.serve_opened.ensures.source c.serve_opened.ensures.sink
     (record { streams = record { input = c.serve_opened.ensures.source_later; output = c.serve_opened.ensures.sink_later; errors = omega arith }; stores = omega arith })
 
-pub returns : goal.returns
-returns g c =
+pub returns-in-Err-open_store : goal.returns-in-Err-open_store
+returns-in-Err-open_store g c =
     of_refused c.args.store.now _ _ _ c.in-Err-open_store.fault c.in-Err-open_store.ensures.fault c.in-Err-open_store.ensures.cause c.say_fault.ensures.said
     (record { input = refl; output = refl; stored = c.in-Err-open_store.ensures.same })
     (record { streams = record { input = omega arith; output = omega arith; errors = c.say_fault.ensures.later }; stores = c.open_store.ensures.later })

@@ -1,6 +1,6 @@
 use Rattle.std.proofs.Common.{List, ap, refl}
 use Rattle.ipam_data.specs.Replays.{Entry}
-use Rattle.rest_ipam.specs.Answered.{Seen, seen_of}
+use Rattle.rest_ipam.specs.Answered.{seen_of}
 use Rattle.store_session.proofs.Sessions.{serves_back}
 use Rattle.store_session.proofs.session.serve_opened.Goals as goal
 
