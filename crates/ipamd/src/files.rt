@@ -1,6 +1,6 @@
 //! The files of the host.
 
-use ipam_store::Connects;
+use ipam_store::{Connects, SqliteKeeper};
 use ipam_stored::tables::Text;
 use sqlite::{Connection, Error};
 use sqlite_std_file::File;
@@ -19,14 +19,15 @@ impl<'a> HostFiles<'a> {
 }
 
 impl<'a> Connects for HostFiles<'a> {
-    type Store = FileStore<File>;
+    type Kept = SqliteKeeper<FileStore<File>>;
 
-    fn connect(&mut self, path: &Text) -> Result<Connection<FileStore<File>>, Error> {
-        Connection::open(self.rt, path.as_str())
+    fn connect(&mut self, path: &Text) -> Result<SqliteKeeper<FileStore<File>>, Error> {
+        let conn = Connection::open(self.rt, path.as_str())?;
+        Ok(SqliteKeeper::adopt(self.rt.alloc(), conn))
     }
 
-    fn close(&mut self, conn: Connection<FileStore<File>>) {
+    fn close(&mut self, kept: SqliteKeeper<FileStore<File>>) {
         // Where the log can't be put into the file, what was committed stands in the log.
-        let _ = conn.close();
+        let _ = kept.into_connection().close();
     }
 }
