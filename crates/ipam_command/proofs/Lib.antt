@@ -1,3 +1,3 @@
-pub mod Sessions
+pub mod Empty
 pub mod RunLaws
 pub mod Parts

@@ -1,16 +1,17 @@
 -- What a run of the program promises: by what its words ask for, one relation for each command.
-use Rattle.std.specs.Prelude.{◌≡◌, ℕ, ◌⊎◌, ◌++◌, List, [], ◌∷◌, None, codes}
+use Rattle.std.specs.Prelude.{◌≡◌, ℕ, ◌⊎◌, ◌++◌, List, [], ◌∷◌, codes}
 use Rattle.command_words.specs.declared.asked.Command.{Command}
 use Rattle.command_words.specs.declared.asked.Command.TheVariants.{Free, Session, Serve, Import, Export, Report, Load}
 use Rattle.command_words.specs.Asked.{Asks}
 use Rattle.command_streams.specs.Streams.{Streams, EndsWith, NeverFalls}
 use Rattle.free_lines.specs.Run.{IsFree}
-use Rattle.ipam_command.specs.Session.{IsSession}
+use Rattle.store_session.specs.Outside.{Outside}
+use Rattle.store_session.specs.Session.{IsSession}
 
 -- the commands that stand; words that ask for another one are no words of a command yet
 abbrev pub Stands : Command → Type 0
 Stands (Free within) = Unit {0}
-Stands (Session store) = store.db ≡ None
+Stands (Session store) = Unit {0}
 Stands (Serve serving) = ⊥
 Stands (Import kind store) = ⊥
 Stands (Export kind store) = ⊥
@@ -18,9 +19,9 @@ Stands (Report report store) = ⊥
 Stands (Load count workers) = ⊥
 
 -- what a run of the command leaves, with its status
-abbrev pub Answers : Command → Streams → Streams → ℕ → Type 0
-Answers (Free within) old new status = IsFree within old new status
-Answers (Session store) old new status = IsSession store.global_unique old new status
+abbrev pub Answers : Command → Outside → Outside → ℕ → Type 0
+Answers (Free within) old new status = IsFree within old.streams new.streams status × (new.stores ≡ old.stores)
+Answers (Session store) old new status = IsSession store old new status
 Answers (Serve serving) old new status = ⊥
 Answers (Import kind store) old new status = ⊥
 Answers (Export kind store) old new status = ⊥
@@ -42,14 +43,18 @@ pub record IsUsage (old new : Streams) (status : ℕ) : Type 0 where
   pub said : EndsWith old.errors new.errors usage_text 2 status
   pub later : NeverFalls old new
 
+-- and the opener was not used
+abbrev pub SaysUsage : Outside → Outside → ℕ → Type 0
+SaysUsage old new status = IsUsage old.streams new.streams status × (new.stores ≡ old.stores)
+
 -- a run of a command that was read: it was run, or it does not stand
-abbrev pub RunsCommand : Command → Streams → Streams → ℕ → Type 0
-RunsCommand command old new status = (Stands command × Answers command old new status) ⊎ ((¬ Stands command) × IsUsage old new status)
+abbrev pub RunsCommand : Command → Outside → Outside → ℕ → Type 0
+RunsCommand command old new status = (Stands command × Answers command old new status) ⊎ ((¬ Stands command) × SaysUsage old new status)
 
 -- a run of the program: the words ask for a command that stands, which was run; or they ask for none; or memory was wanting to
 -- read them, and nothing was used
-abbrev pub Runs : List (List ℕ) → Streams → Streams → ℕ → Type 0
+abbrev pub Runs : List (List ℕ) → Outside → Outside → ℕ → Type 0
 Runs words old new status =
     ((command : Command) × Asks words command × Stands command × Answers command old new status)
-    ⊎ (AsksNothing words × IsUsage old new status)
+    ⊎ (AsksNothing words × SaysUsage old new status)
     ⊎ ((status ≡ 5) × (new ≡ old))

@@ -4,12 +4,14 @@
 ghost use Rattle.std.specs.Prelude.{map};
 ghost use Rattle.command_streams.specs.Streams.{Told, streams, told};
 ghost use Rattle.ipam_command.specs.Clauses.{RunsHaveClauses};
+ghost use Rattle.store_session.specs.Outside.{Stores, outside, stores};
 ghost use Rattle.ipam_command.specs.Runs.{IsUsage, Runs, RunsCommand};
 
 mod entry;
-mod session;
 #[cfg(test)]
 mod session_tests;
+#[cfg(test)]
+mod store_tests;
 #[cfg(test)]
 mod tests;
 
@@ -18,8 +20,9 @@ use command_words::{Command, read_words};
 pub use entry::program;
 use free_lines::run_free;
 use ipam_edge::{Sink, Source};
-use session::run_session;
+use ipam_keeper::keeper::KeeperOpener;
 use std::alloc::Global;
+use store_session::run_session;
 
 /// What is said where the words ask for no command.
 pub(crate) const USAGE_TEXT: &[u8] = b"usage: ipamd COMMAND\n";
@@ -33,42 +36,42 @@ fn run_none<Se: Sink>(errors: &mut Se) -> u8
 }
 
 /// Runs a command that was read, if it stands.
-fn run_command<So: Source, Si: Sink, Se: Sink>(
+fn run_command<So: Source, Si: Sink, Se: Sink, O: KeeperOpener>(
     alloc: Global,
     command: &Command,
     input: &mut So,
     output: &mut Si,
     errors: &mut Se,
+    opener: &mut O,
 ) -> u8
     ensures { RunsCommand command.now
-        (streams (told So.left So.faults input.old) (told Si.written Si.faults output.old) (told Se.written Se.faults errors.old))
-        (streams (told So.left So.faults input.new) (told Si.written Si.faults output.new) (told Se.written Se.faults errors.new)) result }
+        (outside (streams (told So.left So.faults input.old) (told Si.written Si.faults output.old) (told Se.written Se.faults errors.old)) (stores O.stored O.faults opener.old))
+        (outside (streams (told So.left So.faults input.new) (told Si.written Si.faults output.new) (told Se.written Se.faults errors.new)) (stores O.stored O.faults opener.new)) result }
 {
     match command {
         Command::Free(within) => run_free(alloc, within, input, output, errors),
-        Command::Session(store) => match store.db {
-            None => run_session(alloc, store.global_unique, input, output),
-            Some(_) => run_none(errors),
-        },
+        Command::Session(store) => run_session(alloc, store, input, output, errors, opener),
         _ => run_none(errors),
     }
 }
 
-/// Runs the program: the words behind its name, the input, the output and where messages go. It gives the status: 0 done, 1 the
-/// input breaks a stated rule, 2 the words are no command, 3 one of the objects failed, 5 want of memory.
-pub fn run<So: Source, Si: Sink, Se: Sink>(
+/// Runs the program: the words behind its name, the input, the output, where messages go, and what opens stores. It gives the status:
+/// 0 done, 1 the input or a store breaks a stated rule, 2 the words are no command, 3 the input, the output or the messages failed,
+/// 4 the store failed, 5 want of memory.
+pub fn run<So: Source, Si: Sink, Se: Sink, O: KeeperOpener>(
     alloc: Global,
     words: &[&str],
     input: &mut So,
     output: &mut Si,
     errors: &mut Se,
+    opener: &mut O,
 ) -> u8
     ensures { Runs (map (λ w. w.now) words.now)
-        (streams (told So.left So.faults input.old) (told Si.written Si.faults output.old) (told Se.written Se.faults errors.old))
-        (streams (told So.left So.faults input.new) (told Si.written Si.faults output.new) (told Se.written Se.faults errors.new)) result }
+        (outside (streams (told So.left So.faults input.old) (told Si.written Si.faults output.old) (told Se.written Se.faults errors.old)) (stores O.stored O.faults opener.old))
+        (outside (streams (told So.left So.faults input.new) (told Si.written Si.faults output.new) (told Se.written Se.faults errors.new)) (stores O.stored O.faults opener.new)) result }
 {
     match read_words(alloc, words) {
-        Ok(Some(command)) => run_command(alloc, &command, input, output, errors),
+        Ok(Some(command)) => run_command(alloc, &command, input, output, errors, opener),
         Ok(None) => run_none(errors),
         Err(_) => MEMORY,
     }

@@ -125,7 +125,7 @@ DELETE /api/ipam/aggregates/1/||204 No Content|Ipam-Place: 18|
 DELETE /api/ipam/rirs/1/||204 No Content|Ipam-Place: 19|"#;
 
 /// A part of an exchange.
-fn part(exchange: &str, index: usize) -> &str {
+pub(crate) fn part(exchange: &str, index: usize) -> &str {
     exchange.split('|').nth(index).unwrap_or("")
 }
 
@@ -157,7 +157,11 @@ fn put_length(alloc: Global, out: &mut Vec<u8>, body: &str) -> Result<(), AllocE
 }
 
 /// The request of an exchange, as a usual client sends it.
-fn put_request(alloc: Global, out: &mut Vec<u8>, exchange: &str) -> Result<(), AllocError> {
+pub(crate) fn put_request(
+    alloc: Global,
+    out: &mut Vec<u8>,
+    exchange: &str,
+) -> Result<(), AllocError> {
     let body = part(exchange, 1);
     let fields =
         " HTTP/1.1\r\nHost: 127.0.0.1:8080\r\nUser-Agent: curl/8.5.0\r\nAccept: */*\r\nAuthorization: Token 0123\r\n";
@@ -180,7 +184,11 @@ fn put_size(alloc: Global, out: &mut Vec<u8>, body: &str) -> Result<(), AllocErr
 }
 
 /// The answer of an exchange, which leaves the connection open. That to HEAD tells of a body and sends none.
-fn put_answer(alloc: Global, out: &mut Vec<u8>, exchange: &str) -> Result<(), AllocError> {
+pub(crate) fn put_answer(
+    alloc: Global,
+    out: &mut Vec<u8>,
+    exchange: &str,
+) -> Result<(), AllocError> {
     put(out, "HTTP/1.1 ")?;
     put(out, part(exchange, 2))?;
     put(out, "\r\n")?;

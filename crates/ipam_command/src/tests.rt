@@ -2,6 +2,7 @@
 
 use crate::run;
 use ipam_edge::{BytesSink, BytesSource};
+use ipam_keeper::opener::MemoryOpener;
 use std::alloc::{AllocError, Global};
 use std::test::Fail;
 
@@ -14,8 +15,9 @@ pub struct Left {
 }
 
 /// Runs words, with one space between two of them, over told objects, whose calls with these numbers fail, in pieces of this size.
-pub fn run_on(
+pub fn run_over(
     alloc: Global,
+    opener: &mut MemoryOpener,
     words: &str,
     input: &[u8],
     piece: usize,
@@ -31,12 +33,24 @@ pub fn run_on(
     let mut input = BytesSource::new(bytes, Vec::from_slice(alloc, source)?, piece);
     let mut output = BytesSink::new(alloc, Vec::from_slice(alloc, sink)?, piece, 65_536)?;
     let mut errors = BytesSink::new(alloc, Vec::from_slice(alloc, messages)?, piece, 4_096)?;
-    let status = run(alloc, &list, &mut input, &mut output, &mut errors);
+    let status = run(alloc, &list, &mut input, &mut output, &mut errors, opener);
     Ok(Left {
         status,
         output: output.into_bytes(),
         errors: errors.into_bytes(),
     })
+}
+
+/// The same with an opener of its own, which has no tables.
+pub fn run_on(
+    alloc: Global,
+    words: &str,
+    input: &[u8],
+    piece: usize,
+    fails: [&[u32]; 3],
+) -> Result<Left, AllocError> {
+    let mut opener = MemoryOpener::new(Vec::new(alloc), Vec::new(alloc));
+    run_over(alloc, &mut opener, words, input, piece, fails)
 }
 
 /// Words that ask for nothing that stands, a case to a line.
@@ -45,7 +59,7 @@ free
 free 10.0.0.1/24
 Session
 session x
-session --db f
+session --db
 serve --bind 127.0.0.1:0 --workers 1
 import vrfs
 export vrfs

@@ -12,7 +12,7 @@ mod order;
 mod storing;
 mod tables;
 
-pub use connects::Connects;
+pub use connects::{Connects, CountedKeeper};
 pub use keeper::SqliteKeeper;
 pub use opener::{SqliteOpener, StoreKeeper};
 

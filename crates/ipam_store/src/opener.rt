@@ -6,9 +6,8 @@ ghost use Rattle.ipam_stored.specs.Order.{AreTables, empty_tables as no_rows};
 ghost use Rattle.ipam_keeper.specs.Keeping.{Rose, IsRaised, IsTold, started, IsReturned};
 ghost use Rattle.ipam_store.specs.Either.{told_of, faults_of};
 
-use crate::connects::Connects;
+use crate::connects::{Connects, CountedKeeper};
 use crate::fault::StoreFault;
-use crate::keeper::SqliteKeeper;
 use ipam_keeper::empty::empty_tables;
 use ipam_keeper::keeper::{KeepFault, Keeper, KeeperOpener};
 use ipam_keeper::memory::MemoryKeeper;
@@ -73,22 +72,23 @@ impl<C: Connects> SqliteOpener<C> {
     }
 
     /// A keeper over the file of a path, and the path again.
-    fn start_at(&mut self, path: &Text) -> Result<(SqliteKeeper<C::Store>, Text), StoreFault>
+    fn start_at(&mut self, path: &Text) -> Result<(C::Kept, Text), StoreFault>
         ensures path { IfOk result (λ pair. pair.1 ≡ path.now) }
+        ensures told { IfOk result (λ pair. C.Kept.Keeper.told pair.0 ≡ None) }
         ensures lent { self.new.lent ≡ self.old.lent }
         ensures faults { self.new.faults ≡ self.old.faults }
     {
         let copy = path.copy()?;
-        let conn = self.connects.connect(path)?;
-        Ok((SqliteKeeper::adopt(self.alloc, conn), copy))
+        let kept = self.connects.connect(path)?;
+        Ok((kept, copy))
     }
 }
 
 impl<C: Connects> KeeperOpener for SqliteOpener<C>
 where
-    C::Store: Send,
+    C::Kept: Send,
 {
-    type Kept = StoreKeeper<SqliteKeeper<C::Store>>;
+    type Kept = StoreKeeper<C::Kept>;
 
     ghost stored = { λ o. None };
 
@@ -98,10 +98,7 @@ where
 
     /// A keeper over the file of this path, or without one in memory. `Failed` comes where the file can't be opened or something
     /// else has it open; each time it comes the count rises by one.
-    fn start(
-        &mut self,
-        path: Option<&Text>,
-    ) -> Result<StoreKeeper<SqliteKeeper<C::Store>>, KeepFault> {
+    fn start(&mut self, path: Option<&Text>) -> Result<StoreKeeper<C::Kept>, KeepFault> {
         let Some(path) = path else {
             let keeper = empty_keeper(self.alloc)?;
             self.lent = Some(None);
@@ -121,12 +118,12 @@ where
     }
 
     /// Takes back a keeper, and closes its file. It takes no memory. The count rises by the keeper's, or up to its last value.
-    fn done(&mut self, kept: StoreKeeper<SqliteKeeper<C::Store>>) {
+    fn done(&mut self, kept: StoreKeeper<C::Kept>) {
         self.lent = None;
         match kept {
             StoreKeeper::File(keeper) => {
-                self.faults = self.faults.saturating_add(keeper.faults());
-                self.connects.close(keeper.into_connection());
+                self.faults = self.faults.saturating_add(keeper.failures());
+                self.connects.close(keeper);
             }
             StoreKeeper::Memory(keeper) => {
                 self.faults = self.faults.saturating_add(keeper.faults());

@@ -1,0 +1,171 @@
+//! Sessions over stores: what outlives a session, what is refused, and what a store that fails leaves.
+
+use crate::session_tests::{part, put_answer, put_request};
+use crate::tests::{Left, run_over};
+use ipam_data::kinds::Kind;
+use ipam_data::update::Ids;
+use ipam_keeper::empty::empty_tables;
+use ipam_keeper::keeper::Keeper;
+use ipam_keeper::memory::MemoryKeeper;
+use ipam_keeper::opener::MemoryOpener;
+use ipam_stored::tables::{Change, Row, Rows, Tables, Text, Texts};
+use std::alloc::{AllocError, Global};
+use std::test::Fail;
+
+/// A store a case. Its first line is the version of the tables under the path `a` and, behind semicolons, what is put into the empty
+/// ones: prefixes, where a hyphen stands for the empty text, and which calls of each keeper fail. Each line after it is a session over
+/// the store: its status, its words and what it says, and behind each `~` an exchange.
+const CASES: [&str; 6] = [
+    r#"1
+0|session --db a|~POST /api/ipam/prefixes/|{"prefix":"10.0.0.0/24"}|201 Created|Ipam-Place: 0|{"children":0,"depth":0,"description":"","family":4,"id":1,"is_pool":false,"mark_utilized":false,"prefix":"10.0.0.0/24","role":null,"status":{"label":"Active","value":"active"},"vrf":null}
+0|session --db a|~GET /api/ipam/prefixes/1/||200 OK|Ipam-Place: 0|{"children":0,"depth":0,"description":"","family":4,"id":1,"is_pool":false,"mark_utilized":false,"prefix":"10.0.0.0/24","role":null,"status":{"label":"Active","value":"active"},"vrf":null}
+0|session --db b|~GET /api/ipam/prefixes/1/||404 Not Found|Ipam-Place: 0|{"code":"not_found","detail":"prefixes 1 is not there"}
+0|session|~GET /api/ipam/prefixes/1/||404 Not Found|Ipam-Place: 0|{"code":"not_found","detail":"prefixes 1 is not there"}"#,
+    r#"1
+0|session --db a --global-unique no|~POST /api/ipam/prefixes/|{"prefix":"10.0.0.0/24"}|201 Created|Ipam-Place: 0|{"children":0,"depth":0,"description":"","family":4,"id":1,"is_pool":false,"mark_utilized":false,"prefix":"10.0.0.0/24","role":null,"status":{"label":"Active","value":"active"},"vrf":null}~POST /api/ipam/prefixes/|{"prefix":"10.0.0.0/24"}|201 Created|Ipam-Place: 1|{"children":0,"depth":0,"description":"","family":4,"id":2,"is_pool":false,"mark_utilized":false,"prefix":"10.0.0.0/24","role":null,"status":{"label":"Active","value":"active"},"vrf":null}
+1|session --db a --global-unique yes|store: prefixes 2: duplicate: coincides with 1
+0|session --db a --global-unique=no|~GET /api/ipam/prefixes/2/||200 OK|Ipam-Place: 0|{"children":0,"depth":0,"description":"","family":4,"id":2,"is_pool":false,"mark_utilized":false,"prefix":"10.0.0.0/24","role":null,"status":{"label":"Active","value":"active"},"vrf":null}"#,
+    r#"9
+1|session --db a|store: version 9"#,
+    r#"1;3 10.0.0.1/24 - active - false false -
+1|session --db a|store: prefixes 3: unreadable"#,
+    r#"1;fails 0
+4|session --db a|store: the store could not be read"#,
+    r#"1;fails 1
+0|session --db a|~POST /api/ipam/prefixes/|{"prefix":"10.0.0.0/24"}|503 Service Unavailable|Ipam-Place: 0|{"code":"keeper","detail":"the store could not be written"}~POST /api/ipam/prefixes/|{"prefix":"10.0.0.0/24"}|201 Created|Ipam-Place: 0|{"children":0,"depth":0,"description":"","family":4,"id":1,"is_pool":false,"mark_utilized":false,"prefix":"10.0.0.0/24","role":null,"status":{"label":"Active","value":"active"},"vrf":null}"#,
+];
+
+fn number(word: &str) -> u32 {
+    word.parse::<u32>().unwrap_or(0)
+}
+
+/// The words behind the first one.
+fn texts_of(alloc: Global, part: &str) -> Result<Texts, AllocError> {
+    let mut texts = Vec::new(alloc);
+    for word in part.split(' ').skip(1) {
+        let text = if word == "-" { "" } else { word };
+        texts.push(Text::of(String::from_str(alloc, text)?))?;
+    }
+    Ok(Texts::of(texts))
+}
+
+/// The prefixes of a first line.
+fn rows_of(alloc: Global, line: &str) -> Result<Rows, AllocError> {
+    let mut rows = Vec::new(alloc);
+    for words in line.split(';').skip(1) {
+        if !words.starts_with("fails ") {
+            rows.push(Row {
+                kind: Kind::Prefixes,
+                id: number(words.split(' ').next().unwrap_or("")),
+                fields: texts_of(alloc, words)?,
+            })?;
+        }
+    }
+    Ok(Rows::of(rows))
+}
+
+/// The calls that fail.
+fn fails_of(alloc: Global, line: &str) -> Result<Vec<u32>, AllocError> {
+    let mut fails = Vec::new(alloc);
+    for words in line.split(';').skip(1) {
+        if words.starts_with("fails ") {
+            fails.push(number(words.split(' ').nth(1).unwrap_or("")))?;
+        }
+    }
+    Ok(fails)
+}
+
+/// A keeper of the tables of a first line.
+fn keeper_of(alloc: Global, line: &str) -> Result<MemoryKeeper, AllocError> {
+    let mut keeper = MemoryKeeper::new(empty_tables(alloc)?, Vec::new(alloc));
+    let change = Change {
+        puts: rows_of(alloc, line)?,
+        cuts: Ids::of(Vec::new(alloc)),
+        next: Ids::of(Vec::new(alloc)),
+    };
+    if keeper.apply(&change).is_err() {
+        return Err(AllocError);
+    }
+    Ok(keeper)
+}
+
+/// An opener that has the tables of a first line under the path `a`.
+fn opener_of(alloc: Global, line: &str) -> Result<MemoryOpener, AllocError> {
+    let tables = keeper_of(alloc, line)?.into_tables();
+    let tables = Tables {
+        version: number(line.split(';').next().unwrap_or("")),
+        next: tables.next,
+        rows: tables.rows,
+    };
+    let mut stored = Vec::new(alloc);
+    stored.push((Text::of(String::from_str(alloc, "a")?), tables))?;
+    Ok(MemoryOpener::new(stored, fails_of(alloc, line)?))
+}
+
+/// Runs a line.
+fn ran(alloc: Global, opener: &mut MemoryOpener, line: &str) -> Result<Left, AllocError> {
+    let mut input = Vec::new(alloc);
+    for exchange in line.split('~').skip(1) {
+        put_request(alloc, &mut input, exchange)?;
+    }
+    run_over(
+        alloc,
+        opener,
+        part(line, 1),
+        input.as_slice(),
+        4_096,
+        [&[], &[], &[]],
+    )
+}
+
+/// The answers of a line.
+fn answers_of(alloc: Global, line: &str) -> Result<Vec<u8>, AllocError> {
+    let mut output = Vec::new(alloc);
+    for exchange in line.split('~').skip(1) {
+        put_answer(alloc, &mut output, exchange)?;
+    }
+    Ok(output)
+}
+
+/// What a line says on the messages.
+fn message_of(alloc: Global, line: &str) -> Result<String, AllocError> {
+    let said = line.split('~').next().unwrap_or("");
+    let said = part(said, 2);
+    if said.is_empty() {
+        return Ok(String::new(alloc));
+    }
+    format!(in alloc; "{said}\n")
+}
+
+/// Whether a line leaves what it says.
+fn is_as_said(alloc: Global, opener: &mut MemoryOpener, line: &str) -> Result<bool, AllocError> {
+    let left = ran(alloc, opener, line)?;
+    let answers = answers_of(alloc, line)?;
+    let message = message_of(alloc, line)?;
+    Ok(
+        u32::from(left.status) == number(part(line, 0))
+            && left.output.as_slice() == answers.as_slice()
+            && left.errors.as_slice() == message.as_bytes(),
+    )
+}
+
+/// The first line of a case that does not leave what it says.
+fn wrong_line<'a>(alloc: Global, case: &'a str) -> Result<&'a str, AllocError> {
+    let mut opener = opener_of(alloc, case.lines().next().unwrap_or(""))?;
+    let mut wrong = "";
+    for line in case.lines().skip(1) {
+        if wrong.is_empty() && !is_as_said(alloc, &mut opener, line)? {
+            wrong = line;
+        }
+    }
+    Ok(wrong)
+}
+
+#[test]
+fn sessions_over_stores(rt: HostRuntime) -> Result<(), Fail> {
+    for case in CASES {
+        let wrong = wrong_line(rt.alloc(), case)?;
+        assert!(rt; wrong.is_empty(), "{wrong}");
+    }
+    Ok(())
+}

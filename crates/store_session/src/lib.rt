@@ -1,0 +1,8 @@
+//! The command `session` over a store: the opening of a register, one connection over the input and the output, the giving back of its
+//! keeper, and the words of a refused opening.
+#![tactic(auto)]
+
+mod fault_words;
+mod session;
+
+pub use session::run_session;
