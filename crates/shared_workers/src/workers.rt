@@ -41,7 +41,6 @@ fn work<R: Wait, K: Keeper, A: Lane, G: Gate>(
 /// Serves the connections of all workers' lanes, each worker in a thread of its own; where no thread can be had they run one after
 /// another. Each worker has a seat again at the end, of the same number and weight, and its lane has no accept left. The table of routes
 /// is lent to all of them.
-#[tactic(auto, using(crate::proofs::Sent::register_send))]
 pub fn serve_workers<R: Threads + Wait + Sync, K: Keeper + Send, A: Lane + Send, G: Gate + Sync>(
     rt: &R,
     alloc: Global,
