@@ -1,6 +1,7 @@
 //! A lane that notes how its listening goes.
 ghost use Rattle.std.specs.Prelude.{option_map, ◌≡◌, ◌<◌, ◌-◌, ℕ, List, Option, IfSome};
 ghost use Rattle.ipam_edge.specs.Faults.{HasCause};
+ghost use Rattle.register_server.specs.declared.ending.Listening.TheVariants.{Broken};
 ghost use Rattle.ipam_doors.specs.Connections.{IsLastOut, IsNoneExactly, ends_of, last_finished, told_after_accept};
 
 use crate::ending::Listening;
@@ -11,7 +12,7 @@ use ipam_edge::Failed;
 pub struct Watched<A: Lane> {
     pub lane: A,
     listening: Listening,
-    ghost cause: { listening ≡ Listening.Broken → 0 < A.faults lane },
+    ghost cause: { listening ≡ Broken → 0 < A.faults lane },
 }
 
 impl<A: Lane> Watched<A> {

@@ -1,8 +1,9 @@
-use Rattle.std.proofs.Common.{rules, ◌≡◌, ◌+◌, ◌++◌, ℕ, List, All, true, ap, sym, subst, ◌∙◌, arith}
-use Rattle.history_lock.specs.Replay.{own_entries}
+use Rattle.std.proofs.Common.{rules, ◌≡◌, ◌+◌, ◌++◌, ℕ, List, All, length, map, ap, sym, subst, ◌∙◌, arith}
+use Rattle.history_lock.specs.Replay.{own_entries, replay}
 use Rattle.history_lock.specs.Machines.{Reaches}
 use Rattle.ipam_doors.specs.Connections.{Returned}
 use Rattle.ipam_data.specs.State.{State}
+use Rattle.ipam_data.specs.Steps.{plain_step}
 use Rattle.ipam_edge.specs.Faults.{Rose}
 use Rattle.shared_workers.specs.Workers.{IsReady}
 use Rattle.register_server.specs.History.{IsShift, all_faults_of}
@@ -52,12 +53,15 @@ returns-clause-history g c =
           let lanes = c.hire-seat.ensures.lanes in
           let same = c.dismiss-seat.ensures.lanes in
           let count : length c.hire-seat.new.hired.items ≡ c.args.workers = omega arith in
-          let mine : length c.as_mut_slice.new.value ≡ c.args.workers = ? in
+          let mine = ap length c.as_mut_slice.ensures.value ∙ count in
           d.spent (all_over (λ w. g.L.Door.Lane.accepts w.lane.lane ≡ 0) c.work.new.workers _ _ (search rules) (c.work.ensures.spent mine));
     }
 
 pub returns-clause-state : goal.returns-clause-state
-returns-clause-state g c = ?
+returns-clause-state g c =
+    let e = c.close.ensures in
+    let f = c.hire-seat.ensures.first in
+    e.state_is_replay ∙ (ap (λ (o : State). replay plain_step o c.dismiss-seat.result.0.seen) (c.dismiss-seat.ensures.seat.2 ∙ f.0) ∙ ap (replay plain_step c.args.seat.opening) (sym e.log_is_seen))
 
 pub returns-clause-listening : goal.returns-clause-listening
 returns-clause-listening g c =
