@@ -2,7 +2,7 @@
 ghost use Rattle.std.specs.Prelude.{◌≡◌, [], All, IfOk};
 ghost use Rattle.ipam_doors.specs.ListLanes.{lane_told};
 
-use crate::{Listening, Unserved, serve};
+use crate::{Listening, serve};
 use ipam_doors::{ListLane, ListListener};
 use ipam_edge::{BytesSink, BytesSource};
 use ipam_keeper::opener::MemoryOpener;
@@ -56,6 +56,11 @@ fn tell(listener: &ListListener, told: &mut String) -> Result<(), AllocError> {
     Ok(())
 }
 
+/// How often a part stands in a text.
+fn times<'a>(text: &'a str, part: &'a str) -> usize {
+    text.split(part).count().saturating_sub(1)
+}
+
 #[test]
 fn two_workers_serve_one_register(rt: HostRuntime) -> Result<(), Fail> {
     let mut listener = listener_of(rt.alloc())?;
@@ -76,11 +81,15 @@ fn two_workers_serve_one_register(rt: HostRuntime) -> Result<(), Fail> {
     );
     let mut told = String::new(rt.alloc());
     tell(&listener, &mut told)?;
-    assert!(rt; served.is_ok_and(|s| s.entries == 6 && matches!(s.listening, Listening::Whole)));
-    assert_eq!(rt; told.split("HTTP/1.1 201 Created\r\n").count(), 7, "{told}");
+    let Ok(served) = served else {
+        return Err(Fail::from(AllocError));
+    };
+    assert_eq!(rt; served.entries, 6);
+    assert!(rt; matches!(served.listening, Listening::Whole));
+    assert_eq!(rt; times(told.as_str(), "HTTP/1.1 201 Created\r\n"), 6, "{told}");
     for id in 1..=6 {
         let named = format!(in rt.alloc(); "\"id\":{id},")?;
-        assert_eq!(rt; told.split(named.as_str()).count(), 2, "{told}");
+        assert_eq!(rt; times(told.as_str(), named.as_str()), 1, "{told}");
     }
     Ok(())
 }

@@ -110,19 +110,41 @@ fn serve_two<R: Threads + Wait + Sync>(
     Ok(place)
 }
 
+/// Serves the lanes over a register of its own, and says how many changes were accepted.
+fn serve_new<R: Threads + Wait + Sync>(
+    rt: &R,
+    alloc: Global,
+    lanes: (ListLane, ListLane),
+    told: &mut String,
+) -> Result<u64, AllocError>
+    requires { (lane_told lanes.0 ≡ []) × (lane_told lanes.1 ≡ []) }
+{
+    let register = opened(alloc)?;
+    match Shared::new(alloc, register) {
+        Ok((shared, seat)) => serve_two(rt, alloc, &shared, seat, lanes, told),
+        Err(register) => {
+            drop(register);
+            drop(lanes);
+            Err(AllocError)
+        }
+    }
+}
+
+/// How often a part stands in a text.
+fn times<'a>(text: &'a str, part: &'a str) -> usize {
+    text.split(part).count().saturating_sub(1)
+}
+
 #[test]
 fn two_workers_share_one_register(rt: HostRuntime) -> Result<(), Fail> {
     let lanes = (lane_of(rt.alloc(), FIRST)?, lane_of(rt.alloc(), SECOND)?);
     let mut told = String::new(rt.alloc());
-    let entries = match Shared::new(rt.alloc(), opened(rt.alloc())?) {
-        Ok((shared, seat)) => serve_two(&rt, rt.alloc(), &shared, seat, lanes, &mut told)?,
-        Err(_) => 0,
-    };
+    let entries = serve_new(&rt, rt.alloc(), lanes, &mut told)?;
     assert_eq!(rt; entries, 6);
-    assert_eq!(rt; told.split("HTTP/1.1 201 Created\r\n").count(), 7, "{told}");
+    assert_eq!(rt; times(told.as_str(), "HTTP/1.1 201 Created\r\n"), 6, "{told}");
     for id in 1..=6 {
         let named = format!(in rt.alloc(); "\"id\":{id},")?;
-        assert_eq!(rt; told.split(named.as_str()).count(), 2, "{told}");
+        assert_eq!(rt; times(told.as_str(), named.as_str()), 1, "{told}");
     }
     Ok(())
 }
