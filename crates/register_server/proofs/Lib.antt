@@ -1,0 +1,5 @@
+pub mod Dismissed
+mod Popped
+pub mod Hired
+pub mod Worked
+pub mod Closed

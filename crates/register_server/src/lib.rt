@@ -1,0 +1,15 @@
+//! A register over a keeper, served to the connections that come to a listener.
+#![tactic(auto)]
+
+mod ending;
+mod hire;
+mod keeping;
+mod service;
+mod serving;
+#[cfg(test)]
+mod tests;
+mod watched;
+
+pub use ending::{Listening, Served, Unserved};
+pub use serving::serve;
+pub use watched::Watched;

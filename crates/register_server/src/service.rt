@@ -1,0 +1,76 @@
+//! A shared register from the first lane to its close.
+ghost use Rattle.std.specs.Prelude.{◌≡◌, ◌≤◌, ◌+◌, ℕ, [], All, length, map, vec_len, vec_capacity};
+ghost use Rattle.history_lock.specs.Replay.{replay};
+ghost use Rattle.ipam_edge.specs.Faults.{Rose};
+ghost use Rattle.ipam_data.specs.State.{State};
+ghost use Rattle.ipam_data.specs.Steps.{plain_step};
+ghost use Rattle.register_core.specs.Machines.{pair_of};
+ghost use Rattle.register_server.specs.Hired.{IsHired, IsFresh};
+ghost use Rattle.register_server.specs.Serving.{IsListening, IsServedBy};
+ghost use Rattle.shared_workers.specs.Workers.{IsReady};
+
+use crate::ending::Listening;
+use crate::hire::{dismiss, hire};
+use crate::watched::Watched;
+use history_lock::{Seat, Shared};
+use ipam_doors::{Lane, Listener, OpenGate};
+use ipam_keeper::keeper::Keeper;
+use register_core::Register;
+use rest_routes::Routes;
+use shared_workers::{Worker, serve_workers};
+use std::alloc::Global;
+use std::marker::Send;
+use std::sync::Wait;
+use std::thread::Threads;
+
+/// Where as many workers have come as were wanted, lets them work, each in a thread of its own, until no lane has an accept left.
+fn work<R: Threads + Wait + Sync, K: Keeper + Send, A: Lane + Send>(
+    rt: &R,
+    alloc: Global,
+    routes: &Routes,
+    shared: &Shared<Register<K>>,
+    workers: &mut [Worker<K, A>],
+    wanted: u32,
+)
+    requires ready { All (IsReady A.told shared.now) workers.old }
+    ensures hired { (opening : State) (base : ℕ) → All (IsHired A.told opening base shared.now) workers.old → All (IsFresh A.told) workers.old
+        → All (IsHired A.told opening base shared.now) workers.new }
+    ensures spent { length workers.old ≡ wanted → All (λ w. A.accepts w.lane ≡ 0) workers.new }
+    ensures count { length workers.new ≡ length workers.old }
+{
+    if workers.len() == wanted as usize {
+        serve_workers(rt, alloc, routes, shared, workers, &OpenGate);
+    }
+}
+
+/// Takes so many lanes of the listener, serves them by a worker each, gives them back, and closes the lock. The listening
+/// broke where a lane did not come or an accept failed.
+pub fn serve_all<R: Threads + Wait + Sync, K: Keeper + Send, L: Listener>(
+    rt: &R,
+    alloc: Global,
+    routes: &Routes,
+    shared: Shared<Register<K>>,
+    seat: Seat<Register<K>>,
+    workers: u32,
+    hired: Vec<Worker<K, Watched<L::Door>>>,
+    listener: &mut L,
+) -> (Register<K>, Listening)
+    requires seat { (seat.lock ≡ shared) × (seat.weight ≡ 65536) × (seat.spare ≡ 65536) }
+    requires first { (seat.ended ≡ []) × (seat.seen ≡ []) × (seat.faults ≡ 0) }
+    requires none_yet { hired.items ≡ [] }
+    requires few { workers ≤ 1000 }
+    requires room { workers ≤ vec_capacity hired }
+    requires none_out { length (L.returned listener.old) ≤ L.lanes listener.old }
+    ensures history { IsServedBy seat.opening seat.base (K.faults result.0.keeper) (L.returned listener.old) (L.returned listener.new) (L.lanes listener.new ≡ L.lanes listener.old + workers) (map pair_of result.0.log) }
+    ensures state { result.0.state ≡ replay plain_step seat.opening (map pair_of result.0.log) }
+    ensures lanes_back { length (L.returned listener.new) + L.lanes listener.old ≡ length (L.returned listener.old) + L.lanes listener.new }
+    ensures listening { IsListening (L.lanes listener.new ≡ L.lanes listener.old + workers) (Rose (L.faults listener.old) (L.faults listener.new)) result.1 }
+    ensures bound { L.bound listener.new ≡ L.bound listener.old }
+    ensures later { L.faults listener.old ≤ L.faults listener.new }
+{
+    let mut hired = hired;
+    let (seat, came) = hire(&shared, seat, workers, &mut hired, listener);
+    work(rt, alloc, routes, &shared, hired.as_mut_slice(), workers);
+    let (seat, heard) = dismiss(&shared, seat, hired, listener);
+    (shared.close(seat), came.and(heard))
+}

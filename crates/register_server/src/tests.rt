@@ -1,0 +1,95 @@
+//! A register in memory, served to connections in memory.
+ghost use Rattle.std.specs.Prelude.{◌≡◌, [], All, IfOk};
+ghost use Rattle.ipam_doors.specs.ListLanes.{lane_told};
+
+use crate::{Listening, serve};
+use ipam_doors::{ListLane, ListListener};
+use ipam_edge::{BytesSink, BytesSource};
+use ipam_keeper::opener::MemoryOpener;
+use register_core::Settings;
+use std::alloc::{AllocError, Global};
+use std::str;
+use std::test::Fail;
+
+/// What the clients ask, a line each: three prefixes are made.
+const CLIENTS: [&str; 2] = [
+    "POST /api/ipam/prefixes/ HTTP/1.1\r\nHost: ipam\r\nContent-Length: 24\r\n\r\n{\"prefix\":\"10.1.0.0/16\"}\
+     POST /api/ipam/prefixes/ HTTP/1.1\r\nHost: ipam\r\nContent-Length: 24\r\n\r\n{\"prefix\":\"10.2.0.0/16\"}\
+     POST /api/ipam/prefixes/ HTTP/1.1\r\nHost: ipam\r\nContent-Length: 24\r\n\r\n{\"prefix\":\"10.3.0.0/16\"}",
+    "POST /api/ipam/prefixes/ HTTP/1.1\r\nHost: ipam\r\nContent-Length: 24\r\n\r\n{\"prefix\":\"10.4.0.0/16\"}\
+     POST /api/ipam/prefixes/ HTTP/1.1\r\nHost: ipam\r\nContent-Length: 24\r\n\r\n{\"prefix\":\"10.5.0.0/16\"}\
+     POST /api/ipam/prefixes/ HTTP/1.1\r\nHost: ipam\r\nContent-Length: 24\r\n\r\n{\"prefix\":\"10.6.0.0/16\"}",
+];
+
+/// A lane with one connection, which asks for this.
+fn lane_of(alloc: Global, asked: &str) -> Result<ListLane, AllocError>
+    ensures { IfOk result (λ l. lane_told l ≡ []) }
+{
+    let source = BytesSource::new(
+        Vec::from_slice(alloc, asked.as_bytes())?,
+        Vec::new(alloc),
+        1000,
+    );
+    let sink = BytesSink::new(alloc, Vec::new(alloc), 1000, 4096)?;
+    let mut pairs = Vec::new(alloc);
+    pairs.push((source, sink))?;
+    ListLane::new(alloc, pairs, Vec::new(alloc))
+}
+
+/// A listener with a lane for each client.
+fn listener_of(alloc: Global) -> Result<ListListener, AllocError> {
+    let mut lanes = Vec::new(alloc);
+    lanes.push(lane_of(alloc, CLIENTS[0])?)?;
+    lanes.push(lane_of(alloc, CLIENTS[1])?)?;
+    ListListener::new(alloc, lanes)
+}
+
+/// Puts what was written to the connections of the lanes that came back at the end of a text.
+fn tell(listener: &ListListener, told: &mut String) -> Result<(), AllocError> {
+    for lane in listener.returned() {
+        for handed in lane.handed() {
+            if let Some(pair) = handed.finished() {
+                told.push_str(str::from_utf8(pair.1.bytes()).unwrap_or(""))?;
+            }
+        }
+    }
+    Ok(())
+}
+
+/// How often a part stands in a text.
+fn times<'a>(text: &'a str, part: &'a str) -> usize {
+    text.split(part).count().saturating_sub(1)
+}
+
+#[test]
+fn two_workers_serve_one_register(rt: HostRuntime) -> Result<(), Fail> {
+    let mut listener = listener_of(rt.alloc())?;
+    let mut opener = MemoryOpener::new(Vec::new(rt.alloc()), Vec::new(rt.alloc()));
+    let settings = Settings {
+        global_unique: true,
+    };
+    let served = serve(
+        &rt,
+        rt.alloc(),
+        settings,
+        &mut opener,
+        None,
+        b"here",
+        2,
+        1,
+        &mut listener,
+    );
+    let mut told = String::new(rt.alloc());
+    tell(&listener, &mut told)?;
+    let Ok(served) = served else {
+        return Err(Fail::from(AllocError));
+    };
+    assert_eq!(rt; served.entries, 6);
+    assert!(rt; matches!(served.listening, Listening::Whole));
+    assert_eq!(rt; times(told.as_str(), "HTTP/1.1 201 Created\r\n"), 6, "{told}");
+    for id in 1..=6 {
+        let named = format!(in rt.alloc(); "\"id\":{id},")?;
+        assert_eq!(rt; times(told.as_str(), named.as_str()), 1, "{told}");
+    }
+    Ok(())
+}

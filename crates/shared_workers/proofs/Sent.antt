@@ -1,0 +1,72 @@
+-- A register may go to another thread where its keeper may.
+use denote.RattleType.{RattleType}
+use denote.Param.Send.{IsSend, IsSync, recorded_send, recorded_sync, shr_sync, struct_send, struct_sync, view_send}
+use denote.Struct.Declared.{shape}
+use denote.Struct.Tuple.{TupleAt, type_at, field_at}
+use denote.Struct.Field.{shr_ref_field}
+use denote.Ref.{NamedLft}
+use denote.Param.{param}
+use Rattle.std.proofs.Crossing as heap
+use Rattle.rest_routes.proofs.routes.Routes.TheSendSync as routes
+use mathlib.Core.List.{List, [], ◌∷◌}
+use Prim.Native.Nat.{ℕ}
+use Rattle.rest_routes.specs.contracts.routes.Routes as Routes
+use Rattle.std.proofs.Crossing.{Vec-send, crosses}
+use Rattle.std.proofs.option.Option.TheSendSync as option
+use Rattle.std.specs.contracts.vec.Vec as Vec
+use Rattle.std.specs.contracts.option.Option as Option
+use Rattle.std.specs.contracts.alloc.Global as Heap
+use Rattle.std.specs.contracts.impls.GlobalAllocator.TheImpl.{ghosts}
+use Rattle.ipam_keeper.specs.declared.keeper.Keeper as keeper
+use Rattle.ipam_stored.specs.contracts.tables.Change as Change
+use Rattle.ipam_stored.proofs.tables.Change.TheSendSync as change
+use Rattle.register_core.specs.contracts.log.Entry as Entry
+use Rattle.register_core.specs.contracts.register.Register as Register
+use Rattle.register_core.specs.contracts.register.Register.TheInside as inside
+use Rattle.register_core.proofs.books.Books.TheSendSync as books
+use Rattle.register_core.proofs.log.Entry.TheSendSync as entry
+use Rattle.shared_workers.specs.contracts.workers.Worker as Worker
+use Rattle.ipam_data.specs.contracts.calls.Call as Call
+use Rattle.ipam_data.specs.contracts.replies.Reply as Reply
+use Rattle.register_core.specs.contracts.machine.SeenState as SeenState
+use Rattle.register_core.specs.contracts.machine.RegisterMachine.TheImpl as machine
+use Rattle.history_lock.specs.contracts.lock.Seat as Seat
+use Rattle.history_lock.specs.contracts.lock.Shared as Shared
+use Rattle.history_lock.proofs.lock.Seat.TheSendSync as seat
+use Rattle.history_lock.proofs.lock.Shared.TheSendSync as shared
+
+entries_send : IsSend (Vec.the_field Entry.the_row Heap.the_row ghosts).row
+entries_send = Vec-send Entry.the_row entry.the_send
+
+last_send : IsSend (Option.the_field Change.the_row).row
+last_send = option.the_field_send Change.the_row change.the_send
+
+fields_send : (K : RattleType) (g : keeper.Ghosts K.Denot) → IsSend K → IsSend (inside.the_row K g)
+fields_send K g s = recorded_send (inside.the_field K g).row _ _ (inside.the_type K g).to_one (struct_send (shape (inside.the_type K g)) (books.the_send, (entries_send, (last_send, (s, (search crosses depth 20, tt))))))
+
+pub register_send : (K : RattleType) (g : keeper.Ghosts K.Denot) → IsSend K → IsSend (Register.the_row K g)
+register_send K g s = view_send (inside.the_row K g) _ _ _ _ (fields_send K g s)
+
+seat_send : (K : RattleType) (g : keeper.Ghosts K.Denot) → IsSend K → IsSend (Seat.the_row (Register.the_row K g) Call.the_row Reply.the_row Call.the_row Reply.the_row SeenState.the_row (machine.ghosts K g machine.no_dict))
+seat_send K g s = seat.the_send (Register.the_row K g) Call.the_row Reply.the_row Call.the_row Reply.the_row SeenState.the_row (machine.ghosts K g machine.no_dict) (register_send K g s)
+
+-- so may a worker with a seat of a lock over such a register
+pub worker_send : (K A : RattleType) (g : keeper.Ghosts K.Denot) → IsSend K → IsSend A → IsSend (Worker.the_row K A g)
+worker_send K A g s a = recorded_send (Worker.the_field K A g).row _ _ (Worker.the_type K A g).to_one (struct_send (shape (Worker.the_type K A g)) (option.the_field_send _ (seat_send K g s), (a, tt)))
+
+-- and threads may share the lock
+pub lock_sync : (K : RattleType) (g : keeper.Ghosts K.Denot) → IsSend K → IsSync (Shared.the_row (Register.the_row K g) Call.the_row Reply.the_row Call.the_row Reply.the_row SeenState.the_row (machine.ghosts K g machine.no_dict))
+lock_sync K g s = shared.the_sync (Register.the_row K g) Call.the_row Reply.the_row Call.the_row Reply.the_row SeenState.the_row (machine.ghosts K g machine.no_dict) (register_send K g s)
+
+-- what the workers' closure borrows: the runtime, the allocator, the table of routes, the lock and the gate
+abbrev pub borrowed : (R K G : RattleType) → keeper.Ghosts K.Denot → NamedLft → NamedLft → NamedLft → NamedLft → NamedLft → List RattleType
+borrowed R K G g a b c d e =
+    (shr_ref_field a (param 0 R) tt).row ∷ (shr_ref_field b Heap.the_row tt).row ∷ (shr_ref_field c Routes.the_row tt).row
+    ∷ (shr_ref_field d (Shared.the_row (Register.the_row K g) Call.the_row Reply.the_row Call.the_row Reply.the_row SeenState.the_row (machine.ghosts K g machine.no_dict)) tt).row
+    ∷ (shr_ref_field e (param 3 G) tt).row ∷ []
+
+pub closure_sync : (R K G : RattleType) (g : keeper.Ghosts K.Denot) (ν : List ℕ) (a b c d e : NamedLft) → IsSync (param 0 R) → IsSend K → IsSync (param 3 G) → IsSync (TupleAt ν (borrowed R K G g a b c d e))
+closure_sync R K G g ν a b c d e r s y =
+    let t = type_at ν (borrowed R K G g a b c d e) in
+    recorded_sync (field_at ν (borrowed R K G g a b c d e)).row _ _ t.to_one
+    (struct_sync (shape t) (shr_sync _ _ _ r, (shr_sync _ _ _ heap.sync, (shr_sync _ _ _ routes.the_sync, (shr_sync _ _ _ (lock_sync K g s), (shr_sync _ _ _ y, tt))))))

@@ -1,0 +1,75 @@
+//! One worker over the connections of its lane.
+ghost use Rattle.std.specs.Prelude.{option_map, ◌≡◌, ◌≤◌, ◌<◌, ℕ, [], IfSome};
+ghost use Rattle.ipam_doors.specs.Connections.{Ends, IsLastOut, ends_of, last_finished};
+ghost use Rattle.shared_session.specs.Told.{IsLater, standing_of};
+ghost use Rattle.shared_workers.specs.Served.{HasServed, IsServed};
+
+use history_lock::{Seat, Shared};
+use ipam_doors::{Gate, Lane};
+use ipam_edge::Failed;
+use ipam_keeper::keeper::Keeper;
+use register_core::Register;
+use rest_routes::Routes;
+use shared_session::serve_session_by;
+use std::alloc::Global;
+use std::sync::Wait;
+
+/// Serves one connection, between the two calls of the gate, and gives it back to its lane. The table of routes is lent.
+fn serve_connection<R: Wait, K: Keeper, A: Lane, G: Gate>(
+    rt: &R,
+    alloc: Global,
+    routes: &Routes,
+    shared: &Shared<Register<K>>,
+    seat: Seat<Register<K>>,
+    lane: &mut A,
+    pair: (A::In, A::Out),
+    gate: &G,
+    nth: u32,
+) -> Seat<Register<K>>
+    requires lock { seat.lock ≡ shared.now }
+    requires out { IfSome (A.told lane.old) IsLastOut }
+    ensures later { IsLater seat result }
+    ensures served { (after : Ends)
+        × IsServed result.opening result.seen result.number (ends_of (A.In.left pair.0) (A.Out.written pair.1) (A.In.faults pair.0) (A.Out.faults pair.1)) after (standing_of seat) (standing_of result)
+        × (A.told lane.new ≡ option_map (λ connections. last_finished connections after) (A.told lane.old)) }
+    ensures accepts { A.accepts lane.new ≡ A.accepts lane.old }
+    ensures faults { A.faults lane.new ≡ A.faults lane.old }
+{
+    let who = seat.who();
+    let (mut source, mut sink) = pair;
+    gate.before(who, nth);
+    let (seat, _) = serve_session_by(rt, alloc, routes, shared, seat, &mut source, &mut sink);
+    gate.after(who, nth);
+    lane.finish(source, sink);
+    seat
+}
+
+/// Serves the connections of a lane, one after another, until no accept is left. An accept that failed is spent, and the next one is made.
+pub fn serve_lane<R: Wait, K: Keeper, A: Lane, G: Gate>(
+    rt: &R,
+    alloc: Global,
+    routes: &Routes,
+    shared: &Shared<Register<K>>,
+    seat: Seat<Register<K>>,
+    lane: &mut A,
+    gate: &G,
+) -> Seat<Register<K>>
+    requires lock { seat.lock ≡ shared.now }
+    requires fresh { IfSome (A.told lane.old) (λ connections. connections ≡ []) }
+    ensures served { HasServed seat result (A.told lane.new) }
+    ensures none_left { A.accepts lane.new ≡ 0 }
+    ensures later { A.faults lane.old ≤ A.faults lane.new }
+{
+    let mut seat = seat;
+    let mut nth: u32 = 0;
+    loop {
+        match lane.accept() {
+            Ok(None) => return seat,
+            Ok(Some(pair)) => {
+                seat = serve_connection(rt, alloc, routes, shared, seat, lane, pair, gate, nth);
+                nth = nth.saturating_add(1);
+            }
+            Err(Failed) => {}
+        }
+    }
+}
