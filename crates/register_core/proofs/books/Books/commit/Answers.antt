@@ -14,4 +14,4 @@ returns-clause-told g c = λ t.
     c.in_ok-change.ensures c.in_ok-apply.ensures.ok t
 
 pub returns-clause-telling : goal.returns-clause-telling
-returns-clause-telling g c = goes_on (changed c.in_ok-change.change) (g.K.Keeper.told c.args.keeper.now) (g.K.Keeper.told c.apply.new.keeper) c.in_ok-apply.ensures.ok
+returns-clause-telling g c = goes_on (changed c.in_ok-change.change) (g.K.Keeper.told c.args.keeper.now) (g.K.Keeper.told c.apply.new.self) c.in_ok-apply.ensures.ok
