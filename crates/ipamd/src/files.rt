@@ -1,12 +1,42 @@
 //! The files of the host.
 
-use ipam_store::{Connects, SqliteKeeper};
-use ipam_stored::tables::Text;
+ghost use Rattle.std.specs.Prelude.{None};
+
+use ipam_keeper::keeper::{KeepFault, Keeper};
+use ipam_store::{Connects, CountedKeeper, SqliteKeeper};
+use ipam_stored::tables::{Change, Tables, Text};
 use sqlite::{Connection, Error};
 use sqlite_std_file::File;
 use sqlite_store::FileStore;
 
-/// What opens the files of the host. It is here alone that the store of a real file is named.
+/// A keeper over a file of the host. It is here alone that the store of a real file is named: a type of its own, so that what is over
+/// keepers has no part of that name.
+#[derive(Drop)]
+pub struct HostKeeper {
+    inner: SqliteKeeper<FileStore<File>>,
+}
+
+impl Keeper for HostKeeper {
+    ghost told = { λ k. None };
+
+    ghost faults = { λ k. k.inner };
+
+    fn load(&mut self) -> Result<Tables, KeepFault> {
+        self.inner.load()
+    }
+
+    fn apply(&mut self, change: &Change) -> Result<(), KeepFault> {
+        self.inner.apply(change)
+    }
+}
+
+impl CountedKeeper for HostKeeper {
+    fn failures(&self) -> u64 {
+        self.inner.faults()
+    }
+}
+
+/// What opens the files of the host.
 #[derive(Drop)]
 pub struct HostFiles<'a> {
     rt: &'a HostRuntime,
@@ -19,15 +49,18 @@ impl<'a> HostFiles<'a> {
 }
 
 impl<'a> Connects for HostFiles<'a> {
-    type Kept = SqliteKeeper<FileStore<File>>;
+    type Kept = HostKeeper;
 
-    fn connect(&mut self, path: &Text) -> Result<SqliteKeeper<FileStore<File>>, Error> {
+    fn connect(&mut self, path: &Text) -> Result<HostKeeper, Error> {
         let conn = Connection::open(self.rt, path.as_str())?;
-        Ok(SqliteKeeper::adopt(self.rt.alloc(), conn))
+        Ok(HostKeeper {
+            inner: SqliteKeeper::adopt(self.rt.alloc(), conn),
+        })
     }
 
-    fn close(&mut self, kept: SqliteKeeper<FileStore<File>>) {
+    fn close(&mut self, kept: HostKeeper) {
+        let HostKeeper { inner } = kept;
         // Where the log can't be put into the file, what was committed stands in the log.
-        let _ = kept.into_connection().close();
+        let _ = inner.into_connection().close();
     }
 }
