@@ -81,9 +81,7 @@ pub fn dismiss<K: Keeper, L: Listener>(
     let mut left = hired;
     while let Some(worker) = left.pop() {
         let Worker { seat: other, lane } = worker;
-        let Some(other) = other else {
-            unreachable!()
-        };
+        let Some(other) = other else { unreachable!() };
         seat = shared.join(seat, other);
         let (lane, heard) = lane.into_lane();
         listener.give_back(lane);
