@@ -8,7 +8,7 @@ use Rattle.shared_session.specs.Told.{Caller, Made}
 use Rattle.register_server.specs.declared.ending.Listening.{Listening}
 use Rattle.register_server.specs.declared.ending.Listening.TheVariants.{Whole, Broken}
 use Rattle.register_server.specs.Serving.{IsListening}
-use Rattle.register_server.specs.History.{HasItsChanges, IsHistoryOf, IsShift, Shift, ended_of}
+use Rattle.register_server.specs.History.{AreNumberedFrom, HasItsChanges, IsHistoryOf, IsShift, Shift, ended_of}
 
 -- a shift's ended number is among those of all
 ended_at : (ss : List Shift) (k : ℕ) (d : Shift) → k < length ss → Contains (map ended_of ss) (ended_of (get_or ss k d))
@@ -24,15 +24,16 @@ ended_numbers (s ∷ ss) zero e lt at = (omega arith, ap (λ (z : ℕ × List Ma
 ended_numbers (s ∷ ss) (suc k) e lt at = let r = ended_numbers ss k e (omega arith) at in let l = r.0 in (omega arith, r.1)
 
 -- the seat that closed the lock knew all shifts, and had no changes of its own
-pub closed_history : (o : State) (v : Caller) (log : List Made) (shifts : List Shift) → log ≡ v.seen → v.ended ≡ map ended_of shifts → own_entries v.number v.seen ≡ []
+pub closed_history : (o : State) (v : Caller) (log : List Made) (shifts : List Shift) (first : ℕ) → AreNumberedFrom first shifts → log ≡ v.seen → v.ended ≡ map ended_of shifts → own_entries v.number v.seen ≡ []
     → All (IsShift o v.seen) shifts
     → ((e : Made) → Contains v.seen e → (e.0 ≡ v.number) ⊎ ((es : List Made) × Contains v.ended (e.0, es)))
     → ((e : ℕ × List Made) → Contains v.ended e → own_entries e.0 v.seen ≡ e.1)
     → IsHistoryOf o log shifts
-closed_history o v log shifts is ended none answered seats kept =
+closed_history o v log shifts first numbers is ended none answered seats kept =
     subst (λ (h : List Made). IsHistoryOf o h shifts) (sym is) record {
       answered = answered;
       changes = λ k d lt. kept (ended_of (get_or shifts k d)) (subst (λ (es : List (ℕ × List Made)). Contains es (ended_of (get_or shifts k d))) (sym ended) (ended_at shifts k d lt));
+      numbers = (first, numbers);
       nobody_else = λ k d lt.
           let e : Made = get_or v.seen k d in
           let in_seen : Contains v.seen e = Contains-get_or v.seen k d lt in

@@ -1,8 +1,8 @@
 //! Workers are hired, each with a lane of the listener and a seat of the lock, and dismissed again.
-ghost use Rattle.std.specs.Prelude.{◌≡◌, ◌≤◌, ◌<◌, ◌+◌, [], All, length, vec_len, vec_capacity};
+ghost use Rattle.std.specs.Prelude.{◌≡◌, ◌≤◌, ◌<◌, ◌+◌, ◌-◌, [], All, length, vec_len, vec_capacity};
 ghost use Rattle.history_lock.specs.Replay.{own_entries};
 ghost use Rattle.ipam_edge.specs.Faults.{Rose};
-ghost use Rattle.register_server.specs.Hired.{HasDismissed, IsHired, IsFresh};
+ghost use Rattle.register_server.specs.Hired.{AreNumberedDown, HasDismissed, IsHired, IsFresh, top_number};
 ghost use Rattle.register_server.specs.Serving.{IsListening};
 
 use crate::ending::Listening;
@@ -23,6 +23,7 @@ pub fn hire<K: Keeper, L: Listener>(
 ) -> (Seat<Register<K>>, Listening)
     requires seat { (seat.lock ≡ shared.now) × (seat.weight ≡ 65536) × (seat.spare ≡ 65536) }
     requires first { (seat.ended ≡ []) × (seat.seen ≡ []) × (seat.faults ≡ 0) }
+    requires first_number { seat.number ≡ 0 }
     requires none_yet { hired.old.items ≡ [] }
     requires few { workers ≤ 1000 }
     requires room { workers ≤ vec_capacity hired.old }
@@ -30,6 +31,7 @@ pub fn hire<K: Keeper, L: Listener>(
     ensures first { (result.0.opening ≡ seat.opening) × (result.0.base ≡ seat.base) × (result.0.ended ≡ []) × (result.0.seen ≡ []) × (result.0.faults ≡ 0) }
     ensures hired { All (IsHired (λ lane. L.Door.told lane.lane) seat.opening seat.base shared.now) hired.new.items }
     ensures fresh { All (IsFresh (λ lane. L.Door.told lane.lane)) hired.new.items }
+    ensures numbers { AreNumberedDown top_number hired.new.items }
     ensures lanes { L.lanes listener.new ≡ L.lanes listener.old + vec_len hired.new }
     ensures all { IsListening (vec_len hired.new ≡ workers) ((vec_len hired.new < workers) × Rose (L.faults listener.old) (L.faults listener.new)) result.1 }
     ensures bound { L.bound listener.new ≡ L.bound listener.old }
@@ -63,10 +65,11 @@ pub fn dismiss<K: Keeper, L: Listener>(
     requires seat { (seat.lock ≡ shared.now) × (seat.weight + vec_len hired ≡ 65536) }
     requires first { (seat.ended ≡ []) × (own_entries seat.number seat.seen ≡ []) × (seat.faults ≡ 0) }
     requires hired { All (IsHired (λ lane. L.Door.told lane.lane) seat.opening seat.base shared.now) hired.items }
+    requires numbers { AreNumberedDown top_number hired.items }
     requires out { length (L.returned listener.old) + vec_len hired ≤ L.lanes listener.old }
     ensures seat { (result.0.lock ≡ shared.now) × (result.0.weight ≡ 65536) × (result.0.opening ≡ seat.opening) × (result.0.base ≡ seat.base) }
     ensures no_calls { own_entries result.0.number result.0.seen ≡ [] }
-    ensures dismissed { HasDismissed (All (λ w. L.Door.accepts w.lane.lane ≡ 0) hired.items) seat.opening result.0 (L.returned listener.old) (L.returned listener.new) }
+    ensures dismissed { HasDismissed (All (λ w. L.Door.accepts w.lane.lane ≡ 0) hired.items) (top_number + 1 - vec_len hired) seat.opening result.0 (L.returned listener.old) (L.returned listener.new) }
     ensures broken { result.1 ≡ Listening.Broken → Rose (L.faults listener.old) (L.faults listener.new) }
     ensures came_back { length (L.returned listener.new) ≡ length (L.returned listener.old) + vec_len hired }
     ensures lanes { L.lanes listener.new ≡ L.lanes listener.old }
@@ -78,9 +81,7 @@ pub fn dismiss<K: Keeper, L: Listener>(
     let mut left = hired;
     while let Some(worker) = left.pop() {
         let Worker { seat: other, lane } = worker;
-        let Some(other) = other else {
-            unreachable!()
-        };
+        let Some(other) = other else { unreachable!() };
         seat = shared.join(seat, other);
         let (lane, heard) = lane.into_lane();
         listener.give_back(lane);

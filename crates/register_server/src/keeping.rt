@@ -73,8 +73,9 @@ fn serve_register<R: Threads + Wait + Sync, K: Keeper + Drop + Send, L: Listener
         register.told();
         return (register.into_keeper(), Err(Unserved::Place));
     }
-    let (register, listening) =
-        serve_all(rt, alloc, routes, shared, seat, workers, hired, listener);
+    let (register, listening) = serve_all(
+        rt, alloc, routes, shared, seat, workers, hired, listener,
+    );
     let served = said_of(&register, listening);
     (register.into_keeper(), Ok(served))
 }
@@ -101,7 +102,14 @@ pub fn serve_keeper<R: Threads + Wait + Sync, K: Keeper + Drop + Send, L: Listen
 {
     match open(alloc, keeper, settings) {
         Ok(register) => serve_register(
-            rt, alloc, routes, register, at, workers, connections, listener,
+            rt,
+            alloc,
+            routes,
+            register,
+            at,
+            workers,
+            connections,
+            listener,
         ),
         Err((keeper, fault)) => (keeper, Err(Unserved::Opening(fault))),
     }

@@ -5,7 +5,7 @@ ghost use Rattle.ipam_edge.specs.Faults.{Rose};
 ghost use Rattle.ipam_data.specs.State.{State};
 ghost use Rattle.ipam_data.specs.Steps.{plain_step};
 ghost use Rattle.register_core.specs.Machines.{pair_of};
-ghost use Rattle.register_server.specs.Hired.{IsHired, IsFresh};
+ghost use Rattle.register_server.specs.Hired.{AreNumberedDown, IsHired, IsFresh};
 ghost use Rattle.register_server.specs.Serving.{IsListening, IsServedBy};
 ghost use Rattle.shared_workers.specs.Workers.{IsReady};
 
@@ -35,6 +35,7 @@ fn work<R: Threads + Wait + Sync, K: Keeper + Send, A: Lane + Send>(
     requires ready { All (IsReady A.told shared.now) workers.old }
     ensures hired { (opening : State) (base : ℕ) → All (IsHired A.told opening base shared.now) workers.old → All (IsFresh A.told) workers.old
         → All (IsHired A.told opening base shared.now) workers.new }
+    ensures numbers { (top : ℕ) → AreNumberedDown top workers.old → AreNumberedDown top workers.new }
     ensures spent { length workers.old ≡ wanted → All (λ w. A.accepts w.lane ≡ 0) workers.new }
     ensures count { length workers.new ≡ length workers.old }
 {
@@ -57,6 +58,7 @@ pub fn serve_all<R: Threads + Wait + Sync, K: Keeper + Send, L: Listener>(
 ) -> (Register<K>, Listening)
     requires seat { (seat.lock ≡ shared) × (seat.weight ≡ 65536) × (seat.spare ≡ 65536) }
     requires first { (seat.ended ≡ []) × (seat.seen ≡ []) × (seat.faults ≡ 0) }
+    requires first_number { seat.number ≡ 0 }
     requires none_yet { hired.items ≡ [] }
     requires few { workers ≤ 1000 }
     requires room { workers ≤ vec_capacity hired }

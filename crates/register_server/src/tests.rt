@@ -1,15 +1,18 @@
 //! A register in memory, served to connections in memory.
-ghost use Rattle.std.specs.Prelude.{◌≡◌, [], All, IfOk};
+ghost use Rattle.std.specs.Prelude.{◌≡◌, [], IfOk};
 ghost use Rattle.ipam_doors.specs.ListLanes.{lane_told};
 
-use crate::{Listening, serve};
+use crate::{Listening, Served, serve};
 use ipam_doors::{ListLane, ListListener};
 use ipam_edge::{BytesSink, BytesSource};
 use ipam_keeper::opener::MemoryOpener;
 use register_core::Settings;
 use std::alloc::{AllocError, Global};
+use std::marker::Sync;
 use std::str;
+use std::sync::Wait;
 use std::test::Fail;
+use std::thread::Threads;
 
 /// What the clients ask, a line each: three prefixes are made.
 const CLIENTS: [&str; 2] = [
@@ -21,8 +24,8 @@ const CLIENTS: [&str; 2] = [
      POST /api/ipam/prefixes/ HTTP/1.1\r\nHost: ipam\r\nContent-Length: 24\r\n\r\n{\"prefix\":\"10.6.0.0/16\"}",
 ];
 
-/// A lane with one connection, which asks for this.
-fn lane_of(alloc: Global, asked: &str) -> Result<ListLane, AllocError>
+/// A lane with one connection, which asks for this; the accepts of these numbers fail.
+fn lane_of(alloc: Global, asked: &str, fails: &[u32]) -> Result<ListLane, AllocError>
     ensures { IfOk result (λ l. lane_told l ≡ []) }
 {
     let source = BytesSource::new(
@@ -33,14 +36,14 @@ fn lane_of(alloc: Global, asked: &str) -> Result<ListLane, AllocError>
     let sink = BytesSink::new(alloc, Vec::new(alloc), 1000, 4096)?;
     let mut pairs = Vec::new(alloc);
     pairs.push((source, sink))?;
-    ListLane::new(alloc, pairs, Vec::new(alloc))
+    ListLane::new(alloc, pairs, Vec::from_slice(alloc, fails)?)
 }
 
 /// A listener with a lane for each client.
-fn listener_of(alloc: Global) -> Result<ListListener, AllocError> {
+fn listener_of(alloc: Global, fails: &[u32]) -> Result<ListListener, AllocError> {
     let mut lanes = Vec::new(alloc);
-    lanes.push(lane_of(alloc, CLIENTS[0])?)?;
-    lanes.push(lane_of(alloc, CLIENTS[1])?)?;
+    lanes.push(lane_of(alloc, CLIENTS[0], fails)?)?;
+    lanes.push(lane_of(alloc, CLIENTS[1], fails)?)?;
     ListListener::new(alloc, lanes)
 }
 
@@ -56,6 +59,34 @@ fn tell(listener: &ListListener, told: &mut String) -> Result<(), AllocError> {
     Ok(())
 }
 
+/// Serves the clients by two workers, each of which accepts so many connections.
+fn serve_clients<R: Threads + Wait + Sync>(
+    rt: &R,
+    alloc: Global,
+    fails: &[u32],
+    connections: u32,
+    told: &mut String,
+) -> Result<Served, AllocError> {
+    let mut listener = listener_of(alloc, fails)?;
+    let mut opener = MemoryOpener::new(Vec::new(alloc), Vec::new(alloc));
+    let settings = Settings {
+        global_unique: true,
+    };
+    let served = serve(
+        rt,
+        alloc,
+        settings,
+        &mut opener,
+        None,
+        b"here",
+        2,
+        connections,
+        &mut listener,
+    );
+    tell(&listener, told)?;
+    served.map_err(|_| AllocError)
+}
+
 /// How often a part stands in a text.
 fn times<'a>(text: &'a str, part: &'a str) -> usize {
     text.split(part).count().saturating_sub(1)
@@ -63,33 +94,32 @@ fn times<'a>(text: &'a str, part: &'a str) -> usize {
 
 #[test]
 fn two_workers_serve_one_register(rt: HostRuntime) -> Result<(), Fail> {
-    let mut listener = listener_of(rt.alloc())?;
-    let mut opener = MemoryOpener::new(Vec::new(rt.alloc()), Vec::new(rt.alloc()));
-    let settings = Settings {
-        global_unique: true,
-    };
-    let served = serve(
-        &rt,
-        rt.alloc(),
-        settings,
-        &mut opener,
-        None,
-        b"here",
-        2,
-        1,
-        &mut listener,
-    );
     let mut told = String::new(rt.alloc());
-    tell(&listener, &mut told)?;
-    let Ok(served) = served else {
-        return Err(Fail::from(AllocError));
-    };
+    let served = serve_clients(&rt, rt.alloc(), &[], 1, &mut told)?;
     assert_eq!(rt; served.entries, 6);
     assert!(rt; matches!(served.listening, Listening::Whole));
-    assert_eq!(rt; times(told.as_str(), "HTTP/1.1 201 Created\r\n"), 6, "{told}");
+    assert_eq!(rt;
+        times(told.as_str(), "HTTP/1.1 201 Created\r\n"),
+        6,
+        "{told}"
+    );
     for id in 1..=6 {
         let named = format!(in rt.alloc(); "\"id\":{id},")?;
         assert_eq!(rt; times(told.as_str(), named.as_str()), 1, "{told}");
     }
+    Ok(())
+}
+
+#[test]
+fn a_failed_accept_is_told(rt: HostRuntime) -> Result<(), Fail> {
+    let mut told = String::new(rt.alloc());
+    let served = serve_clients(&rt, rt.alloc(), &[0], 2, &mut told)?;
+    assert_eq!(rt; served.entries, 6);
+    assert!(rt; matches!(served.listening, Listening::Broken));
+    assert_eq!(rt;
+        times(told.as_str(), "HTTP/1.1 201 Created\r\n"),
+        6,
+        "{told}"
+    );
     Ok(())
 }

@@ -1,9 +1,10 @@
-use Rattle.std.proofs.Common.{rules, ◌≡◌, ◌+◌, ℕ, List, Option, [], ◌∷◌, ◌++◌, All, length, length-append, ap, sym, ◌∙◌, refl, arith}
+use Rattle.std.proofs.Common.{rules, ◌≡◌, ◌+◌, ◌-◌, ℕ, List, Option, [], ◌∷◌, ◌++◌, All, length, length-append, ap, sym, ◌∙◌, refl, arith}
 use Rattle.std.specs.Option.{option_to_list}
 use Rattle.history_lock.specs.Replay.{own_entries}
 use Rattle.ipam_doors.specs.Connections.{Connection, Returned}
-use Rattle.register_server.specs.Hired.{HasDismissed, IsHired}
+use Rattle.register_server.specs.Hired.{HasDismissed, IsHired, top_number}
 use Rattle.register_server.proofs.Dismissed.{hired_has, hired_seat, none_dismissed, rose_either, worker_dismissed}
+use Rattle.register_server.proofs.Numbers.{number_popped, seat_number}
 use Rattle.register_server.proofs.Popped.{popped}
 use Rattle.register_server.proofs.hire.dismiss.Goals as goal
 
@@ -16,7 +17,8 @@ loop-worker-init g c =
       same = (refl, refl, refl);
       no_calls = r.first.1;
       hired = r.hired;
-      dismissed = none_dismissed _ c.args.seat.opening c.args.seat (g.L.Listener.returned c.args.listener.now) r.first.0 r.first.2;
+      numbers = r.numbers;
+      dismissed = none_dismissed _ _ c.args.seat.opening c.args.seat (g.L.Listener.returned c.args.listener.now) r.first.0 r.first.2;
       spent = λ n. n;
       lanes = refl;
       bound = refl;
@@ -46,6 +48,7 @@ loop-worker-preserved g c =
     let r = c.join-seat.result in
     let p = popped (IsHired (λ lane. g.L.Door.Lane.told lane.lane) c.args.seat.opening c.args.seat.base c.args.shared.now) c.loop-worker.left.items c.pop.new.self.items c.pop.result c.in-Some.worker c.pop.ensures.items c.in-Some.is i.hired in
     let s = hired_seat _ _ _ _ _ c.in-Some-other.other p.1 c.in-Some-other.is in
+    let n = number_popped top_number c.loop-worker.left.items c.pop.new.self.items c.pop.result c.in-Some.worker c.pop.ensures.items c.in-Some.is i.numbers in
     let lane = c.into_lane-lane.ensures.lane in
     let less : length c.loop-worker.left.items ≡ length c.pop.new.self.items + 1 = ap length (c.pop.ensures.items ∙ ap (λ o. c.pop.new.self.items ++ option_to_list o) c.in-Some.is) ∙ length-append c.pop.new.self.items (c.in-Some.worker ∷ []) in
     let more : length (g.L.Listener.returned c.give_back.new.self) ≡ length (g.L.Listener.returned c.loop-worker.listener) + 1 = ap length c.give_back.ensures.returned ∙ length-append (g.L.Listener.returned c.loop-worker.listener) _ in
@@ -54,6 +57,9 @@ loop-worker-preserved g c =
     let weight = i.weight in
     let out = i.out in
     let counted = i.count in
+    let mine = seat_number c.in-Some.worker c.in-Some-other.other _ c.in-Some-other.is n.1 in
+    let many = i.dismissed.many in
+    let number : c.in-Some-other.other.number ≡ (top_number + 1 - length c.args.hired.items) + length i.dismissed.shifts = omega arith in
     let same_lanes = c.give_back.ensures.lanes in
     let cause = c.give_back.ensures.cause in
     let cause_later = cause.later in
@@ -64,7 +70,8 @@ loop-worker-preserved g c =
       same = (j.left_stays.3 ∙ i.same.0, j.left_stays.4 ∙ i.same.1, j.left_stays.1 ∙ i.same.2);
       no_calls = ap (λ (n : ℕ). own_entries n r.seen) j.left_stays.1 ∙ (j.left_entries_stay ∙ i.no_calls);
       hired = p.0;
-      dismissed = worker_dismissed _ _ _ _ c.args.seat.opening c.loop-worker.seat c.in-Some-other.other r c.in-Some.worker _ _ _ _ _ i.dismissed p.1 c.in-Some-other.is j (ap g.L.Door.Lane.told lane) c.give_back.ensures.returned
+      numbers = n.0;
+      dismissed = worker_dismissed _ _ _ _ _ c.args.seat.opening c.loop-worker.seat c.in-Some-other.other r c.in-Some.worker _ _ _ _ _ i.dismissed number p.1 c.in-Some-other.is j (ap g.L.Door.Lane.told lane) c.give_back.ensures.returned
           (λ n. ap g.L.Door.Lane.accepts lane ∙ (popped (λ w. g.L.Door.Lane.accepts w.lane.lane ≡ 0) c.loop-worker.left.items c.pop.new.self.items c.pop.result c.in-Some.worker c.pop.ensures.items c.in-Some.is (i.spent n)).1);
       spent = λ n. (popped (λ w. g.L.Door.Lane.accepts w.lane.lane ≡ 0) c.loop-worker.left.items c.pop.new.self.items c.pop.result c.in-Some.worker c.pop.ensures.items c.in-Some.is (i.spent n)).0;
       lanes = c.give_back.ensures.lanes ∙ i.lanes;

@@ -1,8 +1,9 @@
 use Rattle.std.proofs.Common.{◌≡◌, ◌+◌, ◌-◌, ℕ, List, Option, [], ◌∷◌, ◌++◌, All, IfSome, length, length-append, ap, sym, subst, ◌∙◌, refl, arith}
 use Rattle.ipam_doors.specs.Connections.{Connection}
 use Rattle.shared_session.specs.Told.{Caller}
-use Rattle.register_server.specs.Hired.{IsFresh, IsHired}
+use Rattle.register_server.specs.Hired.{AreNumberedDown, IsFresh, IsHired, top_number}
 use Rattle.register_server.proofs.Hired.{newly_fresh, newly_hired}
+use Rattle.register_server.proofs.Numbers.{number_pushed}
 use Rattle.register_server.proofs.Popped.{pushed}
 use Rattle.register_server.proofs.hire.hire.Goals as goal
 
@@ -29,6 +30,9 @@ loop-preserved g c =
     let fresh = subst (λ (x : Option (List Connection)). IfSome x (λ all. all ≡ [])) (sym (ap g.L.Door.Lane.told c.new.ensures)) c.in-Ok.ensures.fresh.1 in
     let weight : l.weight ≡ v.weight - 1 = ap (λ (k : Caller). k.weight) s.old_loses_share in
     let spare : l.spare ≡ v.spare - 1 = ap (λ (k : Caller). k.spare) s.old_loses_share in
+    let zero = i.number in
+    let fresh_number : r.number ≡ v.number + (v.spare - 1) = ap (λ (k : Caller). k.number) s.new_has_share in
+    let number : r.number ≡ top_number - length c.loop.hired.items = let weight = i.weight in let spare = i.spare in omega arith in
     let more : length c.push_reserved.new.self.items ≡ length c.loop.hired.items + 1 = ap length c.push_reserved.ensures.items ∙ length-append c.loop.hired.items _ in
     let less = c.loop-test.true in
     let few = c.requires.few in
@@ -56,6 +60,8 @@ loop-preserved g c =
           (newly_hired _ c.args.seat.opening c.args.seat.base c.args.shared.now v l r _ s i.lock i.first.0 i.first.1 i.first.3 refl fresh);
       fresh = pushed (IsFresh (λ lane. g.L.Door.Lane.told lane.lane)) c.loop.hired.items c.push_reserved.new.self.items _ c.push_reserved.ensures.items i.fresh
           (newly_fresh _ c.args.seat.opening c.args.seat.base c.args.shared.now v l r _ s i.first.3 refl fresh);
+      numbers = subst (AreNumberedDown top_number) (sym c.push_reserved.ensures.items) (number_pushed top_number c.loop.hired.items _ i.numbers number);
+      number = ap (λ (k : Caller). k.number) s.old_loses_share ∙ i.number;
       count = omega arith;
       room = omega arith;
       lanes = omega arith;

@@ -1,5 +1,5 @@
 use Rattle.std.proofs.Common.{◌≡◌, ◌≤◌, ◌+◌, [], All, length, vec_capacity}
-use Rattle.register_server.specs.Hired.{IsHired, IsFresh}
+use Rattle.register_server.specs.Hired.{AreNumberedDown, IsHired, IsFresh, top_number}
 use Rattle.register_server.proofs.hire.hire.Given as goal
 
 abbrev pub invariant-loop : goal.invariant-loop
@@ -11,6 +11,8 @@ invariant-loop g l =
       first : (l.seat.opening ≡ l.fn.seat.opening) × (l.seat.base ≡ l.fn.seat.base) × (l.seat.ended ≡ []) × (l.seat.seen ≡ []) × (l.seat.faults ≡ 0);
       hired : All (IsHired (λ lane. g.L.Door.Lane.told lane.lane) l.fn.seat.opening l.fn.seat.base l.shared) l.hired.items;
       fresh : All (IsFresh (λ lane. g.L.Door.Lane.told lane.lane)) l.hired.items;
+      numbers : AreNumberedDown top_number l.hired.items;
+      number : l.seat.number ≡ 0;
       count : length l.hired.items ≡ l.counter;
       room : l.workers ≤ vec_capacity l.hired;
       lanes : g.L.Listener.lanes l.listener ≡ g.L.Listener.lanes l.initial.listener + length l.hired.items;

@@ -7,10 +7,10 @@ use Rattle.ipam_data.specs.Steps.{plain_step}
 use Rattle.ipam_edge.specs.Faults.{Rose}
 use Rattle.shared_workers.specs.Workers.{IsReady}
 use Rattle.register_server.specs.History.{IsShift, all_faults_of}
-use Rattle.register_server.specs.Hired.{IsFresh, IsHired}
+use Rattle.register_server.specs.Hired.{AreNumberedDown, IsFresh, IsHired, top_number}
 use Rattle.register_server.proofs.Closed.{both_listened, closed_history}
 use Rattle.register_server.proofs.Dismissed.{rose_before, rose_on}
-use Rattle.register_server.proofs.Popped.{all_over}
+use Rattle.register_server.proofs.Popped.{all_over, over}
 use Rattle.register_server.proofs.Worked.{ready}
 use Rattle.register_server.proofs.service.serve_all.Goals as goal
 
@@ -34,6 +34,11 @@ dismiss-seat-requires-clause-hired g c κs within =
     let here = subst (λ (x : State × ℕ). All (IsHired (λ lane. g.L.Door.Lane.told lane.lane) x.0 x.1 z) c.work.new.workers) (λ i. (sym f.0 i, sym f.1 i)) now in
     all_over (IsHired (λ lane. g.L.Door.Lane.told lane.lane) c.hire-seat.result.0.opening c.hire-seat.result.0.base z) c.work.new.workers _ _ (search rules) here
 
+pub dismiss-seat-requires-clause-numbers : goal.dismiss-seat-requires-clause-numbers
+dismiss-seat-requires-clause-numbers g c κs within =
+    let numbers = subst (AreNumberedDown top_number) (sym c.as_mut_slice.ensures.value) c.hire-seat.ensures.numbers in
+    over (AreNumberedDown top_number) c.work.new.workers _ _ (search rules) (c.work.ensures.numbers top_number numbers)
+
 pub returns-clause-history : goal.returns-clause-history
 returns-clause-history g c =
     let d = c.dismiss-seat.ensures.dismissed in
@@ -47,7 +52,7 @@ returns-clause-history g c =
       back = d.back;
       returned = d.returned ∙ ap (λ (l : List Returned). l ++ d.back) c.hire-seat.ensures.returned;
       lanes = d.lanes;
-      one_history = closed_history c.args.seat.opening v _ d.shifts e.log_is_seen d.ended c.dismiss-seat.ensures.no_calls answered e.entries_have_seats e.ended_entries_are_kept;
+      one_history = closed_history c.args.seat.opening v _ d.shifts _ d.numbers e.log_is_seen d.ended c.dismiss-seat.ensures.no_calls answered e.entries_have_seats e.ended_entries_are_kept;
       faults = subst (λ (n : ℕ). Reaches n (g.K.Keeper.faults c.close.result.keeper)) (λ i. base i + d.faults i) e.faults_are_counted;
       spent = λ came.
           let lanes = c.hire-seat.ensures.lanes in
