@@ -141,7 +141,11 @@ fn two_workers_share_one_register(rt: HostRuntime) -> Result<(), Fail> {
     let mut told = String::new(rt.alloc());
     let entries = serve_new(&rt, rt.alloc(), lanes, &mut told)?;
     assert_eq!(rt; entries, 6);
-    assert_eq!(rt; times(told.as_str(), "HTTP/1.1 201 Created\r\n"), 6, "{told}");
+    assert_eq!(rt;
+        times(told.as_str(), "HTTP/1.1 201 Created\r\n"),
+        6,
+        "{told}"
+    );
     for id in 1..=6 {
         let named = format!(in rt.alloc(); "\"id\":{id},")?;
         assert_eq!(rt; times(told.as_str(), named.as_str()), 1, "{told}");
