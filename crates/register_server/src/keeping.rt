@@ -29,7 +29,8 @@ fn said_of<K: Keeper>(register: &Register<K>, listening: Listening) -> Served
     }
 }
 
-/// Serves a register that has accepted nothing yet, and hands its keeper back. All memory is taken before the listener is bound.
+/// Serves a register that has accepted nothing yet, and hands its keeper back. The memory for the workers and the
+/// lock is taken before the listener is bound.
 fn serve_register<R: Threads + Wait + Sync, K: Keeper + Drop + Send, L: Listener>(
     rt: &R,
     alloc: Global,

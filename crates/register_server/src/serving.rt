@@ -29,7 +29,8 @@ fn fault_of(fault: KeepFault) -> OpenFault
 
 /// Serves a register to the connections that come to a place, by so many workers, each of which accepts so many connections. The
 /// register is that of the tables of a path, or one that begins empty; its keeper is started by the opener, and given back to it
-/// whatever the end. All memory is taken before the listener is bound.
+/// whatever the end. The memory for the workers and the lock is taken before the listener is bound; each worker builds its table of
+/// routes in its thread.
 ///
 /// `Ok` tells the number of accepted changes, also where the listening broke off; its connections were answered out of one history.
 /// `Err` is `Opening` where the tables were not opened, with what was found, or where memory was wanting, and `Place` where the
