@@ -11,7 +11,6 @@ use ipam_keeper::keeper::{KeepFault, KeeperOpener};
 use ipam_stored::opening::OpenFault;
 use ipam_stored::tables::Text;
 use register_core::Settings;
-use rest_routes::Routes;
 use std::alloc::Global;
 use std::marker::Sync;
 use std::sync::Wait;
@@ -30,7 +29,8 @@ fn fault_of(fault: KeepFault) -> OpenFault
 
 /// Serves a register to the connections that come to a place, by so many workers, each of which accepts so many connections. The
 /// register is that of the tables of a path, or one that begins empty; its keeper is started by the opener, and given back to it
-/// whatever the end. All memory is taken before the listener is bound.
+/// whatever the end. The memory for the workers and the lock is taken before the listener is bound; each worker builds its table of
+/// routes in its thread.
 ///
 /// `Ok` tells the number of accepted changes, also where the listening broke off; its connections were answered out of one history.
 /// `Err` is `Opening` where the tables were not opened, with what was found, or where memory was wanting, and `Place` where the
@@ -60,9 +60,6 @@ pub fn serve<R: Threads + Wait + Sync, O: KeeperOpener, L: Listener>(
     ensures opener_later { O.faults opener.old ≤ O.faults opener.new }
     ensures listener_later { L.faults listener.old ≤ L.faults listener.new }
 {
-    let Ok(routes) = Routes::new(alloc) else {
-        return Err(Unserved::Opening(OpenFault::Memory));
-    };
     let keeper = match opener.start(path) {
         Ok(keeper) => keeper,
         Err(fault) => return Err(Unserved::Opening(fault_of(fault))),
@@ -70,7 +67,6 @@ pub fn serve<R: Threads + Wait + Sync, O: KeeperOpener, L: Listener>(
     let (keeper, result) = serve_keeper(
         rt,
         alloc,
-        &routes,
         settings,
         keeper,
         at,
