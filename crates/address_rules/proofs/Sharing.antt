@@ -36,7 +36,6 @@ host_test V6 V6 v w = all_true (v == w) where
 host_blocks : (a b : Address) → same_block (block_at a (width_of a.family)) (block_at b (width_of b.family)) ≡ same_address a b
 host_blocks a b = host_test a.family b.family a.value b.value
 
-
 -- all that is at the place of a row whose role is not shared clashes with it
 grouped : (n t s : Bool) → (n && t && s) ≡ (n && (t && (s && true)))
 grouped true true true = refl

@@ -98,7 +98,11 @@ pub fn least_clash<S: Space + Drop>(book: &AddressBook<S>, row: &IpAddress) -> O
 }
 
 /// The id of the row at an index and that of the first later one of the table that clashes with it.
-pub fn pair_at<S: Space + Drop>(book: &AddressBook<S>, index: u32, table: Table) -> Option<(u32, u32)>
+pub fn pair_at<S: Space + Drop>(
+    book: &AddressBook<S>,
+    index: u32,
+    table: Table,
+) -> Option<(u32, u32)>
     requires order { IsInOrder book.now }
     requires within { index < length book.now.rows }
     ensures { (x : SeenAddress) → slice_get book.now.rows index ≡ Some x → result ≡ option_map (λ y. (x.id, y.id)) (find (clash_in table x) (drop (index + 1) book.now.rows)) }

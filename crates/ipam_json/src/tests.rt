@@ -19,8 +19,7 @@ use std::test::Fail;
 
 /// What bodies ask for, told by the draft or the refusal: a line `= TEXT`, and below it the bodies that are told this, each
 /// behind the letter of its kind.
-const BODIES: &[u8] =
-    b"= Vrf { name: \"red\", rd: None, enforce_unique: true, description: \"\" }
+const BODIES: &[u8] = b"= Vrf { name: \"red\", rd: None, enforce_unique: true, description: \"\" }
 v{\"name\":\"red\"}
 v { \"name\" : \"red\" , \"x\" : [1.5, {}] } 
 v{\"name\":5,\"name\":\"red\"}
