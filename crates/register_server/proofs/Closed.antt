@@ -1,5 +1,5 @@
 -- The one history of a register that was closed.
-use Rattle.std.proofs.Common.{◌≡◌, ◌+◌, ◌<◌, ◌≤◌, ℕ, zero, suc, List, [], ◌∷◌, ◌++◌, All, Contains, map, length, get_or, refl, sym, ap, ◌∙◌, subst, arith, ⊎_elim, ◌⊎◌, inl, inr}
+use Rattle.std.proofs.Common.{◌≡◌, ◌<◌, ℕ, zero, suc, List, [], ◌∷◌, All, Contains, map, length, get_or, refl, sym, ap, ◌∙◌, subst, arith, ⊎_elim, ◌⊎◌, inl, inr}
 use Rattle.std.proofs.lemmas.List.Elements.{Contains-get_or}
 use Rattle.history_lock.specs.Replay.{own_entries}
 use Rattle.history_lock.proofs.Entries.{number_has_entries}
@@ -8,7 +8,7 @@ use Rattle.shared_session.specs.Told.{Caller, Made}
 use Rattle.register_server.specs.declared.ending.Listening.{Listening}
 use Rattle.register_server.specs.declared.ending.Listening.TheVariants.{Whole, Broken}
 use Rattle.register_server.specs.Serving.{IsListening}
-use Rattle.register_server.specs.History.{AreNumberedFrom, HasItsChanges, IsHistoryOf, IsShift, Shift, ended_of}
+use Rattle.register_server.specs.History.{AreNumberedFrom, IsHistoryOf, IsShift, Shift, ended_of}
 
 -- a shift's ended number is among those of all
 ended_at : (ss : List Shift) (k : ℕ) (d : Shift) → k < length ss → Contains (map ended_of ss) (ended_of (get_or ss k d))

@@ -1,16 +1,15 @@
 -- What is known of workers that were dismissed, from one to the next.
-use Rattle.std.proofs.Common.{length, length-append, ◌≡◌, ◌+◌, ◌≤◌, ◌<◌, ◌⊎◌, ℕ, List, [], ◌∷◌, ◌++◌, All, map, Option, Some, None, IfSome, refl, sym, ap, ◌∙◌, subst, append_assoc, append-nil, inl, inr, arith}
+use Rattle.std.proofs.Common.{length, length-append, ◌≡◌, ◌+◌, ◌≤◌, ◌⊎◌, ℕ, List, [], ◌∷◌, ◌++◌, Option, Some, None, IfSome, sym, ap, ◌∙◌, subst, append_assoc, append-nil, inl, inr, arith}
 use Rattle.std.proofs.lemmas.List.Elements.{All-push}
 use Rattle.std.proofs.lemmas.List.Sums.{sum_by_push}
 use mathlib.Core.List.{IsPrefix, map-append}
-use Rattle.history_lock.specs.Replay.{own_entries}
 use Rattle.history_lock.specs.Seats.{IsJoined}
 use Rattle.ipam_doors.specs.Connections.{Connection, Returned}
 use Rattle.ipam_data.specs.State.{State}
-use Rattle.shared_session.specs.Told.{Caller, Made, Standing, newcomer, standing_of}
+use Rattle.shared_session.specs.Told.{Caller, Made, newcomer, standing_of}
 use Rattle.shared_workers.specs.Served.{AreServed}
 use Rattle.shared_workers.proofs.Connections.{all_longer}
-use Rattle.register_server.specs.History.{AreLanesOf, IsLaneOf, IsShift, Shift, all_faults_of, ended_of}
+use Rattle.register_server.specs.History.{AreLanesOf, IsLaneOf, IsShift, Shift, ended_of}
 use Rattle.atomic_table.specs.Seated.{TableId}
 use Rattle.ipam_edge.specs.Faults.{Rose}
 use Rattle.shared_workers.specs.declared.workers.Worker.{Worker}

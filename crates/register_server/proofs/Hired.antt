@@ -1,11 +1,11 @@
 -- A worker that was just hired.
-use Rattle.std.proofs.Common.{◌≡◌, ◌-◌, ℕ, List, [], length, Option, Some, IfSome, refl, sym, ap, ◌∙◌, subst}
+use Rattle.std.proofs.Common.{◌≡◌, ℕ, List, [], length, Option, Some, IfSome, ap, ◌∙◌}
 use Rattle.atomic_table.specs.Seated.{TableId}
 use Rattle.history_lock.specs.Replay.{own_entries}
 use Rattle.history_lock.specs.Seats.{IsSplit}
 use Rattle.ipam_doors.specs.Connections.{Connection}
 use Rattle.ipam_data.specs.State.{State}
-use Rattle.shared_session.specs.Told.{Caller, Standing, newcomer, standing_of}
+use Rattle.shared_session.specs.Told.{Caller, newcomer, standing_of}
 use Rattle.shared_workers.specs.declared.workers.Worker.{Worker}
 use Rattle.register_server.specs.Hired.{IsFresh, IsHired}
 

@@ -1,5 +1,5 @@
 -- Hired workers after their work.
-use Rattle.std.proofs.Common.{◌≡◌, ◌<◌, ℕ, List, [], All, length, get_or, Option, Some, None, IfSome, refl, sym, ap, ◌∙◌, subst}
+use Rattle.std.proofs.Common.{◌≡◌, ◌<◌, ℕ, List, All, length, get_or, Option, Some, None, sym, ap, ◌∙◌, subst}
 use Rattle.atomic_table.specs.Seated.{TableId}
 use Rattle.ipam_doors.specs.Connections.{Connection}
 use Rattle.ipam_data.specs.State.{State}

@@ -3,7 +3,7 @@ use Rattle.std.specs.Prelude.{◌≡◌, ◌+◌, ◌++◌, ◌-◌, ℕ, length
 use Rattle.atomic_table.specs.Seated.{TableId}
 use Rattle.ipam_doors.specs.Connections.{Connection, Returned}
 use Rattle.ipam_data.specs.State.{State}
-use Rattle.shared_session.specs.Told.{Caller, Standing, newcomer, standing_of}
+use Rattle.shared_session.specs.Told.{Caller, newcomer, standing_of}
 use Rattle.shared_workers.specs.Served.{AreServed}
 use Rattle.shared_workers.specs.declared.workers.Worker.{Worker}
 use Rattle.register_server.specs.History.{AreLanesOf, AreNumberedFrom, IsShift, Shift, all_faults_of, ended_of}

@@ -7,7 +7,6 @@ use Rattle.ipam_data.specs.State.{State}
 use Rattle.ipam_data.specs.Steps.{plain_step}
 use Rattle.ipam_edge.specs.Faults.{Rose}
 use Rattle.ipam_stored.specs.declared.tables.Tables.{Tables}
-use Rattle.ipam_stored.specs.declared.opening.OpenFault.{OpenFault}
 use Rattle.ipam_stored.specs.declared.opening.OpenFault.TheVariants.{Keeper as KeeperFailed, Memory as NoMemory}
 use Rattle.ipam_stored.specs.Stored.{Tells}
 use Rattle.ipam_stored.specs.Opening.{IsOfTables}

@@ -11,7 +11,6 @@ use ipam_doors::Listener;
 use ipam_keeper::keeper::Keeper;
 use ipam_stored::opening::OpenFault;
 use register_core::{Register, Settings, open};
-use rest_routes::Routes;
 use std::alloc::Global;
 use std::marker::{Send, Sync};
 use std::sync::Wait;
@@ -34,7 +33,6 @@ fn said_of<K: Keeper>(register: &Register<K>, listening: Listening) -> Served
 fn serve_register<R: Threads + Wait + Sync, K: Keeper + Drop + Send, L: Listener>(
     rt: &R,
     alloc: Global,
-    routes: &Routes,
     register: Register<K>,
     at: &[u8],
     workers: u32,
@@ -73,9 +71,7 @@ fn serve_register<R: Threads + Wait + Sync, K: Keeper + Drop + Send, L: Listener
         register.told();
         return (register.into_keeper(), Err(Unserved::Place));
     }
-    let (register, listening) = serve_all(
-        rt, alloc, routes, shared, seat, workers, hired, listener,
-    );
+    let (register, listening) = serve_all(rt, alloc, shared, seat, workers, hired, listener);
     let served = said_of(&register, listening);
     (register.into_keeper(), Ok(served))
 }
@@ -84,7 +80,6 @@ fn serve_register<R: Threads + Wait + Sync, K: Keeper + Drop + Send, L: Listener
 pub fn serve_keeper<R: Threads + Wait + Sync, K: Keeper + Drop + Send, L: Listener>(
     rt: &R,
     alloc: Global,
-    routes: &Routes,
     settings: Settings,
     keeper: K,
     at: &[u8],
@@ -101,16 +96,7 @@ pub fn serve_keeper<R: Threads + Wait + Sync, K: Keeper + Drop + Send, L: Listen
     ensures later { L.faults listener.old ≤ L.faults listener.new }
 {
     match open(alloc, keeper, settings) {
-        Ok(register) => serve_register(
-            rt,
-            alloc,
-            routes,
-            register,
-            at,
-            workers,
-            connections,
-            listener,
-        ),
+        Ok(register) => serve_register(rt, alloc, register, at, workers, connections, listener),
         Err((keeper, fault)) => (keeper, Err(Unserved::Opening(fault))),
     }
 }

@@ -16,7 +16,6 @@ use history_lock::{Seat, Shared};
 use ipam_doors::{Lane, Listener, OpenGate};
 use ipam_keeper::keeper::Keeper;
 use register_core::Register;
-use rest_routes::Routes;
 use shared_workers::{Worker, serve_workers};
 use std::alloc::Global;
 use std::marker::Send;
@@ -27,7 +26,6 @@ use std::thread::Threads;
 fn work<R: Threads + Wait + Sync, K: Keeper + Send, A: Lane + Send>(
     rt: &R,
     alloc: Global,
-    routes: &Routes,
     shared: &Shared<Register<K>>,
     workers: &mut [Worker<K, A>],
     wanted: u32,
@@ -40,7 +38,7 @@ fn work<R: Threads + Wait + Sync, K: Keeper + Send, A: Lane + Send>(
     ensures count { length workers.new ≡ length workers.old }
 {
     if workers.len() == wanted as usize {
-        serve_workers(rt, alloc, routes, shared, workers, &OpenGate);
+        serve_workers(rt, alloc, shared, workers, &OpenGate);
     }
 }
 
@@ -49,7 +47,6 @@ fn work<R: Threads + Wait + Sync, K: Keeper + Send, A: Lane + Send>(
 pub fn serve_all<R: Threads + Wait + Sync, K: Keeper + Send, L: Listener>(
     rt: &R,
     alloc: Global,
-    routes: &Routes,
     shared: Shared<Register<K>>,
     seat: Seat<Register<K>>,
     workers: u32,
@@ -72,7 +69,7 @@ pub fn serve_all<R: Threads + Wait + Sync, K: Keeper + Send, L: Listener>(
 {
     let mut hired = hired;
     let (seat, came) = hire(&shared, seat, workers, &mut hired, listener);
-    work(rt, alloc, routes, &shared, hired.as_mut_slice(), workers);
+    work(rt, alloc, &shared, hired.as_mut_slice(), workers);
     let (seat, heard) = dismiss(&shared, seat, hired, listener);
     (shared.close(seat), came.and(heard))
 }

@@ -11,7 +11,6 @@ use ipam_keeper::keeper::{KeepFault, KeeperOpener};
 use ipam_stored::opening::OpenFault;
 use ipam_stored::tables::Text;
 use register_core::Settings;
-use rest_routes::Routes;
 use std::alloc::Global;
 use std::marker::Sync;
 use std::sync::Wait;
@@ -60,9 +59,6 @@ pub fn serve<R: Threads + Wait + Sync, O: KeeperOpener, L: Listener>(
     ensures opener_later { O.faults opener.old ≤ O.faults opener.new }
     ensures listener_later { L.faults listener.old ≤ L.faults listener.new }
 {
-    let Ok(routes) = Routes::new(alloc) else {
-        return Err(Unserved::Opening(OpenFault::Memory));
-    };
     let keeper = match opener.start(path) {
         Ok(keeper) => keeper,
         Err(fault) => return Err(Unserved::Opening(fault_of(fault))),
@@ -70,7 +66,6 @@ pub fn serve<R: Threads + Wait + Sync, O: KeeperOpener, L: Listener>(
     let (keeper, result) = serve_keeper(
         rt,
         alloc,
-        &routes,
         settings,
         keeper,
         at,

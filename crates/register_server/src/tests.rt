@@ -63,16 +63,14 @@ fn tell(listener: &ListListener, told: &mut String) -> Result<(), AllocError> {
 fn serve_clients<R: Threads + Wait + Sync>(
     rt: &R,
     alloc: Global,
-    fails: &[u32],
+    listener: &mut ListListener,
     connections: u32,
-    told: &mut String,
 ) -> Result<Served, AllocError> {
-    let mut listener = listener_of(alloc, fails)?;
     let mut opener = MemoryOpener::new(Vec::new(alloc), Vec::new(alloc));
     let settings = Settings {
         global_unique: true,
     };
-    let served = serve(
+    match serve(
         rt,
         alloc,
         settings,
@@ -81,10 +79,11 @@ fn serve_clients<R: Threads + Wait + Sync>(
         b"here",
         2,
         connections,
-        &mut listener,
-    );
-    tell(&listener, told)?;
-    served.map_err(|_| AllocError)
+        listener,
+    ) {
+        Ok(served) => Ok(served),
+        Err(_) => Err(AllocError),
+    }
 }
 
 /// How often a part stands in a text.
@@ -94,8 +93,10 @@ fn times<'a>(text: &'a str, part: &'a str) -> usize {
 
 #[test]
 fn two_workers_serve_one_register(rt: HostRuntime) -> Result<(), Fail> {
+    let mut listener = listener_of(rt.alloc(), &[])?;
+    let served = serve_clients(&rt, rt.alloc(), &mut listener, 1)?;
     let mut told = String::new(rt.alloc());
-    let served = serve_clients(&rt, rt.alloc(), &[], 1, &mut told)?;
+    tell(&listener, &mut told)?;
     assert_eq!(rt; served.entries, 6);
     assert!(rt; matches!(served.listening, Listening::Whole));
     assert_eq!(rt;
@@ -112,8 +113,10 @@ fn two_workers_serve_one_register(rt: HostRuntime) -> Result<(), Fail> {
 
 #[test]
 fn a_failed_accept_is_told(rt: HostRuntime) -> Result<(), Fail> {
+    let mut listener = listener_of(rt.alloc(), &[0])?;
+    let served = serve_clients(&rt, rt.alloc(), &mut listener, 2)?;
     let mut told = String::new(rt.alloc());
-    let served = serve_clients(&rt, rt.alloc(), &[0], 2, &mut told)?;
+    tell(&listener, &mut told)?;
     assert_eq!(rt; served.entries, 6);
     assert!(rt; matches!(served.listening, Listening::Broken));
     assert_eq!(rt;

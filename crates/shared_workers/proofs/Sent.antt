@@ -7,10 +7,8 @@ use denote.Struct.Field.{shr_ref_field}
 use denote.Ref.{NamedLft}
 use denote.Param.{param}
 use Rattle.std.proofs.Crossing as heap
-use Rattle.rest_routes.proofs.routes.Routes.TheSendSync as routes
 use mathlib.Core.List.{List, [], ◌∷◌}
 use Prim.Native.Nat.{ℕ}
-use Rattle.rest_routes.specs.contracts.routes.Routes as Routes
 use Rattle.std.proofs.Crossing.{Vec-send, crosses}
 use Rattle.std.proofs.option.Option.TheSendSync as option
 use Rattle.std.specs.contracts.vec.Vec as Vec
@@ -58,15 +56,15 @@ worker_send K A g s a = recorded_send (Worker.the_field K A g).row _ _ (Worker.t
 pub lock_sync : (K : RattleType) (g : keeper.Ghosts K.Denot) → IsSend K → IsSync (Shared.the_row (Register.the_row K g) Call.the_row Reply.the_row Call.the_row Reply.the_row SeenState.the_row (machine.ghosts K g machine.no_dict))
 lock_sync K g s = shared.the_sync (Register.the_row K g) Call.the_row Reply.the_row Call.the_row Reply.the_row SeenState.the_row (machine.ghosts K g machine.no_dict) (register_send K g s)
 
--- what the workers' closure borrows: the runtime, the allocator, the table of routes, the lock and the gate
-abbrev pub borrowed : (R K G : RattleType) → keeper.Ghosts K.Denot → NamedLft → NamedLft → NamedLft → NamedLft → NamedLft → List RattleType
-borrowed R K G g a b c d e =
-    (shr_ref_field a (param 0 R) tt).row ∷ (shr_ref_field b Heap.the_row tt).row ∷ (shr_ref_field c Routes.the_row tt).row
+-- what the workers' closure borrows: the runtime, the allocator, the lock and the gate
+abbrev pub borrowed : (R K G : RattleType) → keeper.Ghosts K.Denot → NamedLft → NamedLft → NamedLft → NamedLft → List RattleType
+borrowed R K G g a b d e =
+    (shr_ref_field a (param 0 R) tt).row ∷ (shr_ref_field b Heap.the_row tt).row
     ∷ (shr_ref_field d (Shared.the_row (Register.the_row K g) Call.the_row Reply.the_row Call.the_row Reply.the_row SeenState.the_row (machine.ghosts K g machine.no_dict)) tt).row
     ∷ (shr_ref_field e (param 3 G) tt).row ∷ []
 
-pub closure_sync : (R K G : RattleType) (g : keeper.Ghosts K.Denot) (ν : List ℕ) (a b c d e : NamedLft) → IsSync (param 0 R) → IsSend K → IsSync (param 3 G) → IsSync (TupleAt ν (borrowed R K G g a b c d e))
-closure_sync R K G g ν a b c d e r s y =
-    let t = type_at ν (borrowed R K G g a b c d e) in
-    recorded_sync (field_at ν (borrowed R K G g a b c d e)).row _ _ t.to_one
-    (struct_sync (shape t) (shr_sync _ _ _ r, (shr_sync _ _ _ heap.sync, (shr_sync _ _ _ routes.the_sync, (shr_sync _ _ _ (lock_sync K g s), (shr_sync _ _ _ y, tt))))))
+pub closure_sync : (R K G : RattleType) (g : keeper.Ghosts K.Denot) (ν : List ℕ) (a b d e : NamedLft) → IsSync (param 0 R) → IsSend K → IsSync (param 3 G) → IsSync (TupleAt ν (borrowed R K G g a b d e))
+closure_sync R K G g ν a b d e r s y =
+    let t = type_at ν (borrowed R K G g a b d e) in
+    recorded_sync (field_at ν (borrowed R K G g a b d e)).row _ _ t.to_one
+    (struct_sync (shape t) (shr_sync _ _ _ r, (shr_sync _ _ _ heap.sync, (shr_sync _ _ _ (lock_sync K g s), (shr_sync _ _ _ y, tt)))))

@@ -1,24 +1,48 @@
 //! One worker over the connections of its lane.
 ghost use Rattle.std.specs.Prelude.{option_map, ◌≡◌, ◌≤◌, ◌<◌, ℕ, [], IfSome};
+ghost use Rattle.ipam_edge.specs.Faults.{Rose};
 ghost use Rattle.ipam_doors.specs.Connections.{Ends, IsLastOut, ends_of, last_finished};
 ghost use Rattle.shared_session.specs.Told.{IsLater, standing_of};
+ghost use Rattle.shared_session.specs.Sessions.{IsSharedSession};
 ghost use Rattle.shared_workers.specs.Served.{HasServed, IsServed};
 
 use history_lock::{Seat, Shared};
+use http_session::SessionEnd;
 use ipam_doors::{Gate, Lane};
-use ipam_edge::Failed;
+use ipam_edge::{Failed, Sink, Source};
 use ipam_keeper::keeper::Keeper;
 use register_core::Register;
 use rest_routes::Routes;
-use shared_session::serve_session_by;
+use shared_session::{serve_session, serve_session_by};
 use std::alloc::Global;
 use std::sync::Wait;
 
-/// Serves one connection, between the two calls of the gate, and gives it back to its lane. The table of routes is lent.
+/// Serves a session by the worker's table of routes, or by one of its own where the worker has none for want of memory.
+fn serve_by<R: Wait, K: Keeper, So: Source, Si: Sink>(
+    rt: &R,
+    alloc: Global,
+    routes: &Option<Routes>,
+    shared: &Shared<Register<K>>,
+    seat: Seat<Register<K>>,
+    source: &mut So,
+    sink: &mut Si,
+) -> (Seat<Register<K>>, SessionEnd)
+    requires { seat.lock ≡ shared.now }
+    ensures session { IsSharedSession So.reads seat result.0 source.old source.new (So.left source.old) (So.left source.new) (Si.written sink.old) (Si.written sink.new) result.1 }
+    ensures source { result.1 ≡ SessionEnd.SourceFault → Rose (So.faults source.old) (So.faults source.new) }
+    ensures sink { result.1 ≡ SessionEnd.SinkFault → Rose (Si.faults sink.old) (Si.faults sink.new) }
+{
+    match routes {
+        Some(routes) => serve_session_by(rt, alloc, routes, shared, seat, source, sink),
+        None => serve_session(rt, alloc, shared, seat, source, sink),
+    }
+}
+
+/// Serves one connection, between the two calls of the gate, and gives it back to its lane.
 fn serve_connection<R: Wait, K: Keeper, A: Lane, G: Gate>(
     rt: &R,
     alloc: Global,
-    routes: &Routes,
+    routes: &Option<Routes>,
     shared: &Shared<Register<K>>,
     seat: Seat<Register<K>>,
     lane: &mut A,
@@ -38,7 +62,7 @@ fn serve_connection<R: Wait, K: Keeper, A: Lane, G: Gate>(
     let who = seat.who();
     let (mut source, mut sink) = pair;
     gate.before(who, nth);
-    let (seat, _) = serve_session_by(rt, alloc, routes, shared, seat, &mut source, &mut sink);
+    let (seat, _) = serve_by(rt, alloc, routes, shared, seat, &mut source, &mut sink);
     gate.after(who, nth);
     lane.finish(source, sink);
     seat
@@ -48,7 +72,7 @@ fn serve_connection<R: Wait, K: Keeper, A: Lane, G: Gate>(
 pub fn serve_lane<R: Wait, K: Keeper, A: Lane, G: Gate>(
     rt: &R,
     alloc: Global,
-    routes: &Routes,
+    routes: &Option<Routes>,
     shared: &Shared<Register<K>>,
     seat: Seat<Register<K>>,
     lane: &mut A,

@@ -11,7 +11,6 @@ use ipam_edge::{BytesSink, BytesSource};
 use ipam_keeper::empty::empty_tables;
 use ipam_keeper::memory::MemoryKeeper;
 use register_core::{Register, Settings, open};
-use rest_routes::Routes;
 use std::alloc::{AllocError, Global};
 use std::marker::Sync;
 use std::str;
@@ -86,7 +85,6 @@ fn serve_two<R: Threads + Wait + Sync>(
     requires spare { seat.spare ≡ 65536 }
     requires none_told { (lane_told lanes.0 ≡ []) × (lane_told lanes.1 ≡ []) }
 {
-    let routes = Routes::new(alloc)?;
     let (seat, one) = shared.split(seat, 1);
     let (seat, other) = shared.split(seat, 1);
     let mut workers = [
@@ -99,7 +97,7 @@ fn serve_two<R: Threads + Wait + Sync>(
             lane: lanes.1,
         },
     ];
-    serve_workers(rt, alloc, &routes, shared, &mut workers, &OpenGate);
+    serve_workers(rt, alloc, shared, &mut workers, &OpenGate);
     for worker in &workers {
         tell(&worker.lane, told)?;
     }
@@ -141,7 +139,11 @@ fn two_workers_share_one_register(rt: HostRuntime) -> Result<(), Fail> {
     let mut told = String::new(rt.alloc());
     let entries = serve_new(&rt, rt.alloc(), lanes, &mut told)?;
     assert_eq!(rt; entries, 6);
-    assert_eq!(rt; times(told.as_str(), "HTTP/1.1 201 Created\r\n"), 6, "{told}");
+    assert_eq!(rt;
+        times(told.as_str(), "HTTP/1.1 201 Created\r\n"),
+        6,
+        "{told}"
+    );
     for id in 1..=6 {
         let named = format!(in rt.alloc(); "\"id\":{id},")?;
         assert_eq!(rt; times(told.as_str(), named.as_str()), 1, "{told}");

@@ -24,7 +24,6 @@ pub struct Worker<K: Keeper, A> {
 fn work<R: Wait, K: Keeper, A: Lane, G: Gate>(
     rt: &R,
     alloc: Global,
-    routes: &Routes,
     shared: &Shared<Register<K>>,
     worker: &mut Worker<K, A>,
     gate: &G,
@@ -35,16 +34,16 @@ fn work<R: Wait, K: Keeper, A: Lane, G: Gate>(
     let Some(seat) = worker.seat.take() else {
         unreachable!()
     };
-    worker.seat = Some(serve_lane(rt, alloc, routes, shared, seat, &mut worker.lane, gate));
+    let routes = Routes::new(alloc).ok();
+    worker.seat = Some(serve_lane(rt, alloc, &routes, shared, seat, &mut worker.lane, gate));
 }
 
 /// Serves the connections of all workers' lanes, each worker in a thread of its own; where no thread can be had they run one after
-/// another. Each worker has a seat again at the end, of the same number and weight, and its lane has no accept left. The table of routes
-/// is lent to all of them.
+/// another. Each worker has a seat again at the end, of the same number and weight, and its lane has no accept left. Each
+/// worker builds its table of routes in its own thread.
 pub fn serve_workers<R: Threads + Wait + Sync, K: Keeper + Send, A: Lane + Send, G: Gate + Sync>(
     rt: &R,
     alloc: Global,
-    routes: &Routes,
     shared: &Shared<Register<K>>,
     workers: &mut [Worker<K, A>],
     gate: &G,
@@ -62,7 +61,7 @@ pub fn serve_workers<R: Threads + Wait + Sync, K: Keeper + Send, A: Lane + Send,
             &|_, worker: &mut Worker<K, A>|
                 requires { IsReady A.told shared.now worker.now }
                 ensures { HasWorked A.told A.accepts A.faults worker.entry.now worker.exit.now }
-            { work(rt, alloc, routes, shared, worker, gate) },
+            { work(rt, alloc, shared, worker, gate) },
         );
     }
 }

@@ -1,8 +1,7 @@
-use Rattle.std.proofs.Common.{rules, ◌≡◌, ◌+◌, ◌-◌, ℕ, List, Option, [], ◌∷◌, ◌++◌, All, length, length-append, ap, sym, ◌∙◌, refl, arith}
+use Rattle.std.proofs.Common.{rules, ◌≡◌, ◌+◌, ◌-◌, ℕ, [], ◌∷◌, ◌++◌, length, length-append, ap, ◌∙◌, refl, arith}
 use Rattle.std.specs.Option.{option_to_list}
 use Rattle.history_lock.specs.Replay.{own_entries}
-use Rattle.ipam_doors.specs.Connections.{Connection, Returned}
-use Rattle.register_server.specs.Hired.{HasDismissed, IsHired, top_number}
+use Rattle.register_server.specs.Hired.{IsHired, top_number}
 use Rattle.register_server.proofs.Dismissed.{hired_has, hired_seat, none_dismissed, rose_either, worker_dismissed}
 use Rattle.register_server.proofs.Numbers.{number_popped, seat_number}
 use Rattle.register_server.proofs.Popped.{popped}

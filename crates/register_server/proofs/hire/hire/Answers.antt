@@ -1,4 +1,4 @@
-use Rattle.std.proofs.Common.{◌≡◌, ◌+◌, ◌-◌, ℕ, List, Option, [], ◌∷◌, ◌++◌, All, IfSome, length, length-append, ap, sym, subst, ◌∙◌, refl, arith}
+use Rattle.std.proofs.Common.{◌≡◌, ◌+◌, ◌-◌, List, Option, [], IfSome, length, length-append, ap, sym, subst, ◌∙◌, refl, arith}
 use Rattle.ipam_doors.specs.Connections.{Connection}
 use Rattle.shared_session.specs.Told.{Caller}
 use Rattle.register_server.specs.Hired.{AreNumberedDown, IsFresh, IsHired, top_number}

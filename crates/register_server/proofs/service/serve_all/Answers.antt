@@ -1,12 +1,11 @@
-use Rattle.std.proofs.Common.{rules, ◌≡◌, ◌+◌, ◌++◌, ℕ, List, All, length, map, ap, sym, subst, ◌∙◌, arith}
+use Rattle.std.proofs.Common.{rules, ◌≡◌, ◌+◌, ◌++◌, ℕ, List, All, length, ap, sym, subst, ◌∙◌, arith}
 use Rattle.history_lock.specs.Replay.{own_entries, replay}
 use Rattle.history_lock.specs.Machines.{Reaches}
 use Rattle.ipam_doors.specs.Connections.{Returned}
 use Rattle.ipam_data.specs.State.{State}
 use Rattle.ipam_data.specs.Steps.{plain_step}
-use Rattle.ipam_edge.specs.Faults.{Rose}
 use Rattle.shared_workers.specs.Workers.{IsReady}
-use Rattle.register_server.specs.History.{IsShift, all_faults_of}
+use Rattle.register_server.specs.History.{IsShift}
 use Rattle.register_server.specs.Hired.{AreNumberedDown, IsFresh, IsHired, top_number}
 use Rattle.register_server.proofs.Closed.{both_listened, closed_history}
 use Rattle.register_server.proofs.Dismissed.{rose_before, rose_on}

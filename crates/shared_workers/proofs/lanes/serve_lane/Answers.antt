@@ -1,4 +1,4 @@
-use Rattle.std.proofs.Common.{◌≡◌, ◌≤◌, IfSome, List, Option, arith, sym, ap, ◌∙◌, subst}
+use Rattle.std.proofs.Common.{◌≡◌, IfSome, List, Option, arith, sym, ap, ◌∙◌, subst}
 use Rattle.ipam_doors.specs.Connections.{Connection, Ends, IsLastOut, ends_of}
 use Rattle.shared_workers.specs.Served.{HasServed}
 use Rattle.ipam_doors.proofs.Told.{out_after, with_one_out}

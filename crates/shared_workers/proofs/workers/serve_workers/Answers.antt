@@ -8,4 +8,4 @@ for_each_mut-requires-send-T g c κs within = param_send 1 _ (arg_send _ no _ (w
 
 pub for_each_mut-requires-sync-F : goal.for_each_mut-requires-sync-F
 for_each_mut-requires-sync-F g c κs within =
-    param_sync 2 _ (arg_sync _ no _ (closure_sync g.row.R _ g.row.G g.K.Keeper _ _ _ _ _ _ c.type_bounds.sync-R c.type_bounds.send-K c.type_bounds.sync-G))
+    param_sync 2 _ (arg_sync _ no _ (closure_sync g.row.R _ g.row.G g.K.Keeper _ _ _ _ _ c.type_bounds.sync-R c.type_bounds.send-K c.type_bounds.sync-G))
