@@ -45,7 +45,7 @@ nobody before after same back =
 -- where the tables were refused, those of all paths are as they were
 left_same : (store : Store) (old new : Outside) (why : Unserved) → IsRefusal why → IsLeft store old new why → AreSame old.stores.stored new.stores.stored
 left_same store old new why refusal (inl same) = unchanged old.stores.stored new.stores.stored same
-left_same store old new why refusal (inr (told, as, returned)) = back_again store.db told old.stores.stored new.stores.stored (as.refused refusal) returned
+left_same store old new why refusal (inr (told, before, returned)) = back_again store.db told old.stores.stored new.stores.stored (before.refused refusal) returned
 
 -- for want of memory
 of_memory : (serving : Serving) (old new : Outside) (before after : Doors) (status : ℕ) (why : Unserved) → Whatever serving old new before after
@@ -167,7 +167,7 @@ unused serving old new before after why all output left refusal =
 of_why : (serving : Serving) (old new : Outside) (before after : Doors) (status : ℕ) (why : Unserved) → Whatever serving old new before after
     → new.streams.output ≡ old.streams.output → IsLeft serving.store old new why → NobodyCame before after
     → IsFaultOf (found_tables serving.store old) serving.store.global_unique old.stores.faults new.stores.faults why
-    → IsListened (AllCame serving before after) (DoorsFailed before after) (Err {E = Unserved} why)
+    → IsListened (AllCame serving before after) (DoorsFailed before after) (Err why)
     → IsUnservedSaid why old.streams.errors new.streams.errors status → IsServe serving old new before after status
 of_why serving old new before after status (Opening Keeper) all output left none of heard said =
     of_keeper serving old new before after status all (of.1 refl) (unused serving old new before after (Opening Keeper) all output left (λ same. absurd (cc))) none said
@@ -195,14 +195,14 @@ of_why serving old new before after status Place all output left none of heard s
 left_of : {K : Type 0} (told : K → Option Tables) (store : Store) (old new : Outside) (why : Unserved)
     → AreLeft told store.db old.stores.stored new.stores.stored why → IsLeft store old new why
 left_of told store old new why (inl same) = inl same
-left_of told store old new why (inr (kept, as, returned)) = inr (told kept, as, returned)
+left_of told store old new why (inr (kept, before, returned)) = inr (told kept, before, returned)
 
 -- nobody was served
 pub of_unserved : {K : Type 0} (told : K → Option Tables) (serving : Serving) (old new : Outside) (before after : Doors) (status : ℕ) (why : Unserved)
     → Whatever serving old new before after → new.streams.output ≡ old.streams.output
     → AreLeft told serving.store.db old.stores.stored new.stores.stored why × (after.returned ≡ before.returned)
     × IsFaultOf (found_tables serving.store old) serving.store.global_unique old.stores.faults new.stores.faults why
-    → IsListened (AllCame serving before after) (DoorsFailed before after) (Err {E = Unserved} why)
+    → IsListened (AllCame serving before after) (DoorsFailed before after) (Err why)
     → IsUnservedSaid why old.streams.errors new.streams.errors status → IsServe serving old new before after status
 of_unserved told serving old new before after status why all output (left, returned, of) heard said =
     of_why serving old new before after status why all output (left_of told serving.store old new why left) (nobody before after returned all.lanes_back) of heard said
@@ -210,7 +210,7 @@ of_unserved told serving old new before after status why all output (left, retur
 -- where memory was wanting before anything was used
 pub not_begun : (serving : Serving) (old new : Outside) (before after : Doors) (status : ℕ) → 1 ≤ serving.workers → status ≡ 5 → new ≡ old → after ≡ before
     → IsServe serving old new before after status
-not_begun serving old new before after status some five same doors =
+not_begun serving old new before after status some five same same_doors =
     subst (λ (t : Outside). IsServe serving old t before after status) (sym same)
     (subst (λ (d : Doors). IsServe serving old old before d status) (sym same_doors)
     (of_memory serving old old before before status (Opening Memory)
