@@ -1,12 +1,14 @@
 -- The one relation of a run gives each promise.
-use Rattle.std.proofs.Common.{◌≡◌, ℕ, ◌≤◌, inl, inr, sym, ap, subst, arith, Bool, List, [], Option, Some, None, IfSome}
+use Rattle.std.proofs.Common.{◌≡◌, ℕ, ◌+◌, ◌≤◌, ◌⊎◌, length, refl, inl, inr, sym, ap, subst, arith, Bool, List, [], Option, Some, None, IfSome}
 use Rattle.inet_num.specs.Net.{Cidr}
 use Rattle.http_session.specs.declared.session.SessionEnd.TheVariants.{SourceFault}
 use Rattle.command_words.specs.declared.asked.Store.{Store}
+use Rattle.command_words.specs.declared.asked.Serving.{Serving}
+use Rattle.command_words.specs.declared.asked.Command.{Command}
 use Rattle.command_words.specs.declared.asked.Command.TheVariants.{Free, Session, Serve, Import, Export, Report, Load}
 use Rattle.command_words.specs.Asked.{Asks}
 use Rattle.command_words.proofs.Unique.{words_ask_for_one}
-use Rattle.command_streams.specs.Streams.{Gains, Failed}
+use Rattle.command_streams.specs.Streams.{Streams, Gains, Failed}
 use Rattle.free_lines.specs.declared.free.LineFault.{LineFault}
 use Rattle.free_lines.specs.Free.{IsFreeText, IsRefusedLine, refusal_text_of}
 use Rattle.free_lines.specs.Run.{IsFree}
@@ -15,16 +17,29 @@ use Rattle.free_lines.proofs.Runs.{always}
 use Rattle.ipam_data.specs.State.{State, empty_state}
 use Rattle.rest_ipam.specs.Answered.{answers_plainly}
 use Rattle.kept_session.specs.Answered.{fresh}
-use Rattle.store_session.specs.Outside.{Stores, Outside, StoreFailed, NoCountFalls}
+use Rattle.store_session.specs.Outside.{Stores, Outside, StoreFailed, AnyFailed, NoCountFalls}
 use Rattle.store_session.specs.Session.{Prints, Serves, IsSession}
+use Rattle.store_server.specs.Serve.{Doors, DoorsFailed, IsServe}
 use Rattle.ipam_command.specs.Runs.{AsksNothing, SaysUsage}
-use Rattle.ipam_command.specs.Clauses.{IsExact, HasClauses, RunsHaveClauses}
+use Rattle.ipam_command.specs.Clauses.{ListenerFailed, IsExact, HasClauses, RunsHaveClauses}
 use Rattle.ipam_command.proofs.Empty.{empty_opened}
 use Rattle.store_session.proofs.Refused.{not_begun}
+use Rattle.store_server.proofs.Unserved.{not_begun as none_served}
+use Rattle.ipam_command.proofs.Parts.{few_workers}
 
 -- the words of `free` are not those of `session`
 free_apart : (words : List (List ℕ)) (within : Cidr) (store : Store) → Asks words (Free within) → Asks words (Session store) → ⊥
 free_apart words within store f s = let e = words_ask_for_one words (Free within) (Session store) f s in cc
+
+-- nor are those of `serve` those of another
+serve_not_free : (words : List (List ℕ)) (serving : Serving) (within : Cidr) → Asks words (Serve serving) → Asks words (Free within) → ⊥
+serve_not_free words serving within v f = let e = words_ask_for_one words (Serve serving) (Free within) v f in cc
+
+serve_not_session : (words : List (List ℕ)) (serving : Serving) (store : Store) → Asks words (Serve serving) → Asks words (Session store) → ⊥
+serve_not_session words serving store v s = let e = words_ask_for_one words (Serve serving) (Session store) v s in cc
+
+same_serving : (words : List (List ℕ)) (a b : Serving) → Asks words (Serve a) → Asks words (Serve b) → a ≡ b
+same_serving words a b f g = let e = words_ask_for_one words (Serve a) (Serve b) f g in cc
 
 same_block : (words : List (List ℕ)) (a b : Cidr) → Asks words (Free a) → Asks words (Free b) → a ≡ b
 same_block words a b f g = let e = words_ask_for_one words (Free a) (Free b) f g in cc
@@ -48,17 +63,24 @@ exact_refused within (Some bytes) Said status one named = inr (inl (one, (named.
 unused : (old new : Outside) → new.stores ≡ old.stores → old.stores.faults ≤ new.stores.faults
 unused old new same = let e = ap (λ (t : Stores). t.faults) same in omega arith
 
+-- no listener was used
+lanes_kept : (before after : Doors) → after ≡ before → length after.returned + before.lanes ≡ length before.returned + after.lanes
+lanes_kept before after same = subst (λ (d : Doors). length d.returned + before.lanes ≡ length before.returned + d.lanes) (sym same) refl
+
+count_kept : (before after : Doors) → after ≡ before → before.faults ≤ after.faults
+count_kept before after same = let e = ap (λ (d : Doors). d.faults) same in omega arith
+
 -- ---- a run of `free`
 
-of_free : (words : List (List ℕ)) (old new : Outside) (status : ℕ) (within : Cidr) → Asks words (Free within) → IsFree within old.streams new.streams status
-    → new.stores ≡ old.stores → HasClauses words old new status
-of_free words old new status within asks f same_stores = record {
+of_free : (words : List (List ℕ)) (old new : Outside) (before after : Doors) (status : ℕ) (within : Cidr) → Asks words (Free within) → IsFree within old.streams new.streams status
+    → new.stores ≡ old.stores → after ≡ before → HasClauses words old new before after status
+of_free words old new before after status within asks f same_stores same_doors = record {
   status_ = elim f.statuses [ inl e ↦ omega arith | inr more ↦ elim more [ inl e ↦ omega arith | inr rest ↦ elim rest [ inl e ↦ omega arith | inr e ↦ omega arith ] ] ];
   done = λ z. (inl (within, asks, (f.done z).0), (f.done z).1);
   refused = λ z. inl (within, asks, (f.refused z).0, (f.refused z).1);
   usage = λ z. absurd (elim f.statuses [ inl e ↦ omega arith | inr more ↦ elim more [ inl e ↦ omega arith | inr rest ↦ elim rest [ inl e ↦ omega arith | inr e ↦ omega arith ] ] ]);
   usage_first = λ n. absurd (n (Free within) asks tt);
-  fault = λ z. elim (f.fault z) [ inl h ↦ inl h.failed | inr more ↦ elim more [ inl h ↦ inr (inl h.failed) | inr h ↦ inr (inr h.failed) ] ];
+  fault = λ z. elim (f.fault z) [ inl h ↦ inl h.failed | inr more ↦ elim more [ inl h ↦ inr (inl h.failed) | inr h ↦ inr (inr (inl h.failed)) ] ];
   free_fault = λ other a z. (let same : within ≡ other = same_block words within other asks a in (subst (λ (b : Cidr). IsFree b old.streams new.streams status) same f).fault z);
   starved = λ store a z output errors. absurd (free_apart words within _ asks a);
   store_fault = λ z. absurd (elim f.statuses [ inl e ↦ omega arith | inr more ↦ elim more [ inl e ↦ omega arith | inr rest ↦ elim rest [ inl e ↦ omega arith | inr e ↦ omega arith ] ] ]);
@@ -75,9 +97,12 @@ of_free words old new status within asks f same_stores = record {
   ];
   refuses = λ other number fault a. (let same : within ≡ other = same_block words within other asks a in (subst (λ (b : Cidr). IsFree b old.streams new.streams status) same f).refuses number fault);
   no_store = λ other a. same_stores;
+  no_listener = λ none. same_doors;
+  lanes_back = lanes_kept before after same_doors;
   session = λ store a. absurd (free_apart words within _ asks a);
+  serve = λ serving a. absurd (serve_not_free words serving within a asks);
   empty = λ unique a well z. absurd (free_apart words within _ asks a);
-  complete = λ command a stands none. elim f.statuses [
+  complete = λ command a stands none heard. elim f.statuses [
     | inl e ↦ inl e
     | inr more ↦ elim more [
       | inl e ↦ inr (inl e)
@@ -100,6 +125,7 @@ of_free words old new status within asks f same_stores = record {
         ]
       ]));
   later = record { streams = f.later; stores = unused old new same_stores };
+  listener_later = count_kept before after same_doors;
 }
 
 -- ---- a run of `session`
@@ -125,25 +151,28 @@ starved store old new status s z output errors = elim (s.fault z) [
   | inr more ↦ elim more [ inl h ↦ absurd (output h.failed) | inr h ↦ absurd (errors h.failed) ]
 ]
 
-of_session : (words : List (List ℕ)) (old new : Outside) (status : ℕ) (store : Store) → Asks words (Session store)
-    → IsSession store old new status → HasClauses words old new status
-of_session words old new status store asks s = record {
+of_session : (words : List (List ℕ)) (old new : Outside) (before after : Doors) (status : ℕ) (store : Store) → Asks words (Session store)
+    → IsSession store old new status → after ≡ before → HasClauses words old new before after status
+of_session words old new before after status store asks s same_doors = record {
   status_ = elim s.statuses [ inl e ↦ omega arith | inr a ↦ elim a [ inl e ↦ omega arith | inr b ↦ elim b [ inl e ↦ omega arith | inr c ↦ elim c [ inl e ↦ omega arith | inr e ↦ omega arith ] ] ] ];
-  done = λ z. (let t = s.done z in (inr (store, asks, (t.serves.state, t.serves.loaded, t.prints, t.plain)), t.serves.silent));
-  refused = λ z. inr (store, asks, s.refused z);
+  done = λ z. (let t = s.done z in (inr (inl (store, asks, (t.serves.state, t.serves.loaded, t.prints, t.plain))), t.serves.silent));
+  refused = λ z. inr (inl (store, asks, s.refused z));
   usage = λ z. absurd (elim s.statuses [ inl e ↦ omega arith | inr a ↦ elim a [ inl e ↦ omega arith | inr b ↦ elim b [ inl e ↦ omega arith | inr c ↦ elim c [ inl e ↦ omega arith | inr e ↦ omega arith ] ] ] ]);
   usage_first = λ n. absurd (n (Session store) asks tt);
-  fault = λ z. elim (s.fault z) [ inl h ↦ inl h.failed | inr more ↦ elim more [ inl h ↦ inr (inl h.failed) | inr h ↦ inr (inr h.failed) ] ];
+  fault = λ z. elim (s.fault z) [ inl h ↦ inl h.failed | inr more ↦ elim more [ inl h ↦ inr (inl h.failed) | inr h ↦ inr (inr (inl h.failed)) ] ];
   free_fault = λ within a z. absurd (free_apart words within store a asks);
   starved = λ other a z output errors. starved other old new status (subst (λ (t : Store). IsSession t old new status) (same_store words store other asks a) s) z output errors;
-  store_fault = λ z. ((store, asks), s.store_fault z);
+  store_fault = λ z. (inl (store, asks), s.store_fault z, record { lanes = ap (λ (d : Doors). d.lanes) same_doors; returned = ap (λ (d : Doors). d.returned) same_doors });
   memory = λ z. ((s.memory z).0, inl (store, asks));
   nothing_else = λ within a. absurd (free_apart words within store a asks);
   refuses = λ within number fault a. absurd (free_apart words within store a asks);
   no_store = λ within a. absurd (free_apart words within store a asks);
+  no_listener = λ none. same_doors;
+  lanes_back = lanes_kept before after same_doors;
+  serve = λ serving a. absurd (serve_not_session words serving store a asks);
   session = λ other a. subst (λ (t : Store). IsSession t old new status) (same_store words store other asks a) s;
   empty = λ unique a well z. done_empty store old new status unique (same_store words store _ asks a) s well z;
-  complete = λ command a stands well. elim s.statuses [
+  complete = λ command a stands well heard. elim s.statuses [
     | inl e ↦ inl e
     | inr a ↦ elim a [
       | inl e ↦ inr (inl e)
@@ -155,18 +184,78 @@ of_session words old new status store asks s = record {
   ];
   exact = λ within a well. absurd (free_apart words within store a asks);
   later = s.later;
+  listener_later = count_kept before after same_doors;
+}
+
+-- ---- a run of `serve`
+
+-- it ends by itself where nothing fails
+served_complete : (words : List (List ℕ)) (old new : Outside) (before after : Doors) (status : ℕ) (serving : Serving) (command : Command)
+    → Asks words (Serve serving) → Asks words command → IsServe serving old new before after status
+    → (¬ AnyFailed old new) → (¬ ListenerFailed command before after) → (status ≡ 0) ⊎ (status ≡ 1) ⊎ (status ≡ 5)
+served_complete words old new before after status serving command asks a s well heard =
+    let still : ¬ DoorsFailed before after = λ failed. heard (subst (λ (c : Command). ListenerFailed c before after) (words_ask_for_one words (Serve serving) command asks a) failed) in
+    elim s.statuses [
+      | inl e ↦ inl e
+      | inr a ↦ elim a [
+        | inl e ↦ inr (inl e)
+        | inr b ↦ elim b [
+          | inl e ↦ absurd (elim (s.fault e) [
+            | inl h ↦ still h.failed
+            | inr more ↦ elim more [
+              | inl h ↦ well (inl (inr (inl h.failed)))
+              | inr rest ↦ elim rest [ inl h ↦ still h.failed | inr h ↦ well (inl (inr (inr h.0.failed))) ]
+            ]
+          ])
+          | inr c ↦ elim c [ inl e ↦ absurd (well (inr (s.store_fault e).0.failed)) | inr e ↦ inr (inr e) ]
+        ]
+      ]
+    ]
+
+of_serve : (words : List (List ℕ)) (old new : Outside) (before after : Doors) (status : ℕ) (serving : Serving) → Asks words (Serve serving)
+    → IsServe serving old new before after status → HasClauses words old new before after status
+of_serve words old new before after status serving asks s = record {
+  status_ = elim s.statuses [ inl e ↦ omega arith | inr a ↦ elim a [ inl e ↦ omega arith | inr b ↦ elim b [ inl e ↦ omega arith | inr c ↦ elim c [ inl e ↦ omega arith | inr e ↦ omega arith ] ] ] ];
+  done = λ z. (let t = s.done z in (inr (inr (serving, asks, t)), t.serves.silent));
+  refused = λ z. inr (inr (serving, asks, (s.refused z).0));
+  usage = λ z. absurd (elim s.statuses [ inl e ↦ omega arith | inr a ↦ elim a [ inl e ↦ omega arith | inr b ↦ elim b [ inl e ↦ omega arith | inr c ↦ elim c [ inl e ↦ omega arith | inr e ↦ omega arith ] ] ] ]);
+  usage_first = λ n. absurd (n (Serve serving) asks tt);
+  fault = λ z. elim (s.fault z) [
+    | inl h ↦ inr (inr (inr (serving, asks, h.failed)))
+    | inr more ↦ elim more [
+      | inl h ↦ inr (inl h.failed)
+      | inr rest ↦ elim rest [ inl h ↦ inr (inr (inr (serving, asks, h.failed))) | inr h ↦ inr (inr (inl h.0.failed)) ]
+    ]
+  ];
+  free_fault = λ within a z. absurd (serve_not_free words serving within asks a);
+  starved = λ store a z output errors. absurd (serve_not_session words serving store asks a);
+  store_fault = λ z. (inr (serving, asks), (s.store_fault z).0, (s.store_fault z).1);
+  memory = λ z. (let t = (s.memory z).streams in (ap (λ (u : Streams). u.errors) t, inr (ap (λ (u : Streams). u.output) t)));
+  nothing_else = λ within a. absurd (serve_not_free words serving within asks a);
+  refuses = λ within number fault a. absurd (serve_not_free words serving within asks a);
+  no_store = λ within a. absurd (serve_not_free words serving within asks a);
+  no_listener = λ none. absurd (none serving asks);
+  lanes_back = s.lanes_back;
+  session = λ store a. absurd (serve_not_session words serving store asks a);
+  serve = λ other a. subst (λ (t : Serving). IsServe t old new before after status) (same_serving words serving other asks a) s;
+  empty = λ unique a well z. absurd (serve_not_session words serving _ asks a);
+  complete = λ command a stands well heard. served_complete words old new before after status serving command asks a s well heard;
+  exact = λ within a well. absurd (serve_not_free words serving within asks a);
+  later = s.later;
+  listener_later = s.listener_later;
 }
 
 -- ---- a run whose words ask for no command
 
-of_none : (words : List (List ℕ)) (old new : Outside) (status : ℕ) → AsksNothing words → SaysUsage old new status → HasClauses words old new status
-of_none words old new status none (u, same_stores) = record {
+of_none : (words : List (List ℕ)) (old new : Outside) (before after : Doors) (status : ℕ) → AsksNothing words → SaysUsage old new before after status
+    → HasClauses words old new before after status
+of_none words old new before after status none (u, same_stores, same_doors) = record {
   status_ = elim u.said [ inl s ↦ (let e = s.0 in omega arith) | inr s ↦ (let e = s.0 in omega arith) ];
   done = λ z. absurd (elim u.said [ inl s ↦ (let e = s.0 in omega arith) | inr s ↦ (let e = s.0 in omega arith) ]);
   refused = λ z. absurd (elim u.said [ inl s ↦ (let e = s.0 in omega arith) | inr s ↦ (let e = s.0 in omega arith) ]);
   usage = λ z. (none, elim u.said [ inl s ↦ s.1 | inr s ↦ (let e = s.0 in absurd (omega arith)) ]);
-  usage_first = λ n. (u.input, u.output, same_stores, elim u.said [ inl s ↦ inl s.0 | inr s ↦ inr (inl (s.0, s.1)) ]);
-  fault = λ z. elim u.said [ inl s ↦ (let e = s.0 in absurd (omega arith)) | inr s ↦ inr (inr s.1) ];
+  usage_first = λ n. (u.input, u.output, same_stores, same_doors, elim u.said [ inl s ↦ inl s.0 | inr s ↦ inr (inl (s.0, s.1)) ]);
+  fault = λ z. elim u.said [ inl s ↦ (let e = s.0 in absurd (omega arith)) | inr s ↦ inr (inr (inl s.1)) ];
   free_fault = λ within a z. absurd (none (Free within) a tt);
   starved = λ store a z output errors. absurd (none (Session store) a tt);
   store_fault = λ z. absurd (elim u.said [ inl s ↦ (let e = s.0 in omega arith) | inr s ↦ (let e = s.0 in omega arith) ]);
@@ -174,17 +263,22 @@ of_none words old new status none (u, same_stores) = record {
   nothing_else = λ within a. absurd (none (Free within) a tt);
   refuses = λ within number fault a. absurd (none (Free within) a tt);
   no_store = λ within a. absurd (none (Free within) a tt);
+  no_listener = λ apart. same_doors;
+  lanes_back = lanes_kept before after same_doors;
+  serve = λ serving a. absurd (none (Serve serving) a tt);
   session = λ store a. absurd (none (Session store) a tt);
   empty = λ unique a well z. absurd (none (Session (record { db = None; global_unique = unique })) a tt);
-  complete = λ command a stands well. absurd (none command a stands);
+  complete = λ command a stands well heard. absurd (none command a stands);
   exact = λ within a well. absurd (none (Free within) a tt);
   later = record { streams = u.later; stores = unused old new same_stores };
+  listener_later = count_kept before after same_doors;
 }
 
 -- ---- a run whose words could not be read for want of memory
 
-of_memory : (words : List (List ℕ)) (old new : Outside) (status : ℕ) → status ≡ 5 → new ≡ old → HasClauses words old new status
-of_memory words old new status five same =
+of_memory : (words : List (List ℕ)) (old new : Outside) (before after : Doors) (status : ℕ) → status ≡ 5 → new ≡ old → after ≡ before
+    → HasClauses words old new before after status
+of_memory words old new before after status five same same_doors =
     let input = ap (λ (t : Outside). t.streams.input) same in
     let output = ap (λ (t : Outside). t.streams.output) same in
     let errors = ap (λ (t : Outside). t.streams.errors) same in
@@ -194,7 +288,7 @@ of_memory words old new status five same =
       done = λ z. absurd (omega arith);
       refused = λ z. absurd (omega arith);
       usage = λ z. absurd (omega arith);
-      usage_first = λ n. (input, output, same_stores, inr (inr (five, errors)));
+      usage_first = λ n. (input, output, same_stores, same_doors, inr (inr (five, errors)));
       fault = λ z. absurd (omega arith);
       free_fault = λ within a z. absurd (omega arith);
       starved = λ store a z o e. absurd (omega arith);
@@ -203,21 +297,25 @@ of_memory words old new status five same =
       nothing_else = λ within a. inr (inl output);
       refuses = λ within number fault a. always old.streams.input.bytes _ (λ bytes h. inr (inr five));
       no_store = λ within a. same_stores;
+      no_listener = λ apart. same_doors;
+      lanes_back = lanes_kept before after same_doors;
+      serve = λ serving a. none_served serving old new before after status (few_workers words serving a).0 five same same_doors;
       session = λ store a. not_begun store old new status five same;
       empty = λ unique a well z. absurd (omega arith);
-      complete = λ command a stands well. inr (inr five);
+      complete = λ command a stands well heard. inr (inr five);
       exact = λ within a well. always old.streams.input.bytes _ (λ bytes. inl five);
       later = subst (λ (t : Outside). NoCountFalls old t) (sym same)
           (record { streams = record { input = omega arith; output = omega arith; errors = omega arith }; stores = omega arith });
+      listener_later = count_kept before after same_doors;
     }
 
 pub runs_have_clauses : RunsHaveClauses
-runs_have_clauses words old new status (inl (Free within, asks, stands, f)) = of_free words old new status within asks f.0 f.1
-runs_have_clauses words old new status (inl (Session store, asks, stands, s)) = of_session words old new status store asks s
-runs_have_clauses words old new status (inl (Serve serving, asks, stands, s)) = absurd stands
-runs_have_clauses words old new status (inl (Import kind store, asks, stands, s)) = absurd stands
-runs_have_clauses words old new status (inl (Export kind store, asks, stands, s)) = absurd stands
-runs_have_clauses words old new status (inl (Report report store, asks, stands, s)) = absurd stands
-runs_have_clauses words old new status (inl (Load count workers, asks, stands, s)) = absurd stands
-runs_have_clauses words old new status (inr (inl (none, u))) = of_none words old new status none u
-runs_have_clauses words old new status (inr (inr (five, same))) = of_memory words old new status five same
+runs_have_clauses words old new before after status (inl (Free within, asks, stands, f)) = of_free words old new before after status within asks f.0 f.1 f.2
+runs_have_clauses words old new before after status (inl (Session store, asks, stands, s)) = of_session words old new before after status store asks s.0 s.1
+runs_have_clauses words old new before after status (inl (Serve serving, asks, stands, s)) = of_serve words old new before after status serving asks s
+runs_have_clauses words old new before after status (inl (Import kind store, asks, stands, s)) = absurd stands
+runs_have_clauses words old new before after status (inl (Export kind store, asks, stands, s)) = absurd stands
+runs_have_clauses words old new before after status (inl (Report report store, asks, stands, s)) = absurd stands
+runs_have_clauses words old new before after status (inl (Load count workers, asks, stands, s)) = absurd stands
+runs_have_clauses words old new before after status (inr (inl (none, u))) = of_none words old new before after status none u
+runs_have_clauses words old new before after status (inr (inr (five, same, doors))) = of_memory words old new before after status five same doors

@@ -1,13 +1,14 @@
 -- What the one relation of a run gives: each promise of the program as a clause of its own.
-use Rattle.std.specs.Prelude.{◌≡◌, ℕ, ◌≤◌, ◌⊎◌, Bool, List, None, IfSome}
+use Rattle.std.specs.Prelude.{◌≡◌, ℕ, ◌+◌, ◌≤◌, ◌⊎◌, Bool, List, length, None, IfSome}
 use Rattle.inet_num.specs.Net.{Cidr}
 use Rattle.http_session.specs.declared.session.SessionEnd.TheVariants.{SourceFault}
 use Rattle.ipam_data.specs.State.{State}
 use Rattle.rest_ipam.specs.Answered.{opened, answers_plainly}
 use Rattle.kept_session.specs.Answered.{fresh, answers_kept}
 use Rattle.command_words.specs.declared.asked.Command.{Command}
-use Rattle.command_words.specs.declared.asked.Command.TheVariants.{Free, Session}
+use Rattle.command_words.specs.declared.asked.Command.TheVariants.{Free, Session, Serve, Import, Export, Report, Load}
 use Rattle.command_words.specs.declared.asked.Store.{Store}
+use Rattle.command_words.specs.declared.asked.Serving.{Serving}
 use Rattle.command_words.specs.Asked.{Asks}
 use Rattle.command_streams.specs.Streams.{Gains, Failed}
 use Rattle.free_lines.specs.declared.free.LineFault.{LineFault}
@@ -15,6 +16,7 @@ use Rattle.free_lines.specs.Free.{IsRefusedLine}
 use Rattle.free_lines.specs.Run.{PrintsFree, NamesLine, FailsToRead, FailsToPrint, FailsToSay}
 use Rattle.store_session.specs.Outside.{Outside, StoreFailed, AnyFailed, NoCountFalls}
 use Rattle.store_session.specs.Session.{IsLoaded, Prints, Serves, NamesFault, NamesFailure, IsSession}
+use Rattle.store_server.specs.Serve.{Doors, DoorsFailed, NobodyCame, Counts, IsServe}
 use Rattle.ipam_command.specs.Runs.{Stands, AsksNothing, usage_text, Runs}
 
 -- the words ask for what a block leaves
@@ -29,22 +31,42 @@ AsksSession words unique = Asks words (Session (record { db = None; global_uniqu
 abbrev pub AsksStore : List (List ℕ) → Store → Type 0
 AsksStore words store = Asks words (Session store)
 
+-- the words ask for all that connect to be served
+abbrev pub AsksServe : List (List ℕ) → Serving → Type 0
+AsksServe words serving = Asks words (Serve serving)
+
+-- they ask for a command that opens a register of a store
+abbrev pub AsksRegister : List (List ℕ) → Type 0
+AsksRegister words = ((store : Store) × AsksStore words store) ⊎ ((serving : Serving) × AsksServe words serving)
+
+-- the command is one that uses the listener, which failed meanwhile
+abbrev pub ListenerFailed : Command → Doors → Doors → Type 0
+ListenerFailed (Free within) before after = ⊥
+ListenerFailed (Session store) before after = ⊥
+ListenerFailed (Serve serving) before after = DoorsFailed before after
+ListenerFailed (Import kind store) before after = ⊥
+ListenerFailed (Export kind store) before after = ⊥
+ListenerFailed (Report report store) before after = ⊥
+ListenerFailed (Load count workers) before after = ⊥
+
 -- the answers of the register that was loaded are on the output
 abbrev pub IsServed : Store → Outside → Outside → Type 0
 IsServed store old new = (state : State) × IsLoaded store old state × Prints answers_kept (fresh state) old new
     × ((¬ StoreFailed old new) → Prints answers_plainly (fresh state).seen old new)
 
--- what the words ask for is on the output
-abbrev pub IsDone : List (List ℕ) → Outside → Outside → Type 0
-IsDone words old new =
+-- what the words ask for is on the output; of `serve` that is the count of the changes, once all that connect were served
+abbrev pub IsDone : List (List ℕ) → Outside → Outside → Doors → Doors → Type 0
+IsDone words old new before after =
     ((within : Cidr) × AsksFree words within × PrintsFree within old.streams.input new.streams.input old.streams.output new.streams.output)
     ⊎ ((store : Store) × AsksStore words store × IsServed store old new)
+    ⊎ ((serving : Serving) × AsksServe words serving × Counts serving old new before after)
 
 -- a line of the input is refused, or the tables of the store have a fault; the messages say which, and the output was left alone
 abbrev pub IsNamed : List (List ℕ) → Outside → Outside → Type 0
 IsNamed words old new =
     ((within : Cidr) × AsksFree words within × NamesLine within old.streams.input old.streams.errors new.streams.errors × (new.streams.output ≡ old.streams.output))
     ⊎ ((store : Store) × AsksStore words store × NamesFault store old new)
+    ⊎ ((serving : Serving) × AsksServe words serving × NamesFault serving.store old new)
 
 -- the status says whether a line of these bytes is refused: 1 where one is, 0 where none is, and 5 for want of memory
 abbrev pub IsExact : Cidr → ℕ → List ℕ → Type 0
@@ -54,31 +76,32 @@ IsExact within status bytes =
     ⊎ ((status ≡ 0) × ((number : ℕ) (fault : LineFault) → ¬ IsRefusedLine within bytes number fault))
 
 -- the clauses of a run
-pub record HasClauses (words : List (List ℕ)) (old new : Outside) (status : ℕ) : Type 0 where
+pub record HasClauses (words : List (List ℕ)) (old new : Outside) (before after : Doors) (status : ℕ) : Type 0 where
   -- the status is one of these
   pub status_ : status ≤ 5
   -- 0: what the words ask for is on the output, whole, and the messages were left alone
-  pub done : status ≡ 0 → IsDone words old new × (new.streams.errors ≡ old.streams.errors)
-  -- 1: the words ask for `free` and a line is refused, or for a session over a store whose tables have a fault; the messages gained
-  -- exactly the text that names it, and the output was left alone
+  pub done : status ≡ 0 → IsDone words old new before after × (new.streams.errors ≡ old.streams.errors)
+  -- 1: the words ask for `free` and a line is refused, or for a session or for serving over a store whose tables have a fault; the messages
+  -- gained exactly the text that names it, and the output was left alone
   pub refused : status ≡ 1 → IsNamed words old new
   -- 2: the words ask for no command, and the usage line is on the messages
   pub usage : status ≡ 2 → AsksNothing words × Gains old.streams.errors new.streams.errors usage_text
   -- where the words ask for no command nothing but the messages is used, and the status is 2, or 3 where they failed, or 5 where
   -- memory was wanting to read the words and nothing was said
-  pub usage_first : AsksNothing words → (new.streams.input ≡ old.streams.input) × (new.streams.output ≡ old.streams.output) × (new.stores ≡ old.stores)
+  pub usage_first : AsksNothing words → (new.streams.input ≡ old.streams.input) × (new.streams.output ≡ old.streams.output) × (new.stores ≡ old.stores) × (after ≡ before)
       × ((status ≡ 2) ⊎ ((status ≡ 3) × Failed old.streams.errors new.streams.errors) ⊎ ((status ≡ 5) × (new.streams.errors ≡ old.streams.errors)))
-  -- 3: the input, the output or the messages failed in this call
+  -- 3: the input, the output or the messages failed in this call, or, for `serve`, the listener did
   pub fault : status ≡ 3 → Failed old.streams.input new.streams.input ⊎ Failed old.streams.output new.streams.output ⊎ Failed old.streams.errors new.streams.errors
+      ⊎ ((serving : Serving) × AsksServe words serving × DoorsFailed before after)
   -- 3, for `free`: the object that failed, with what was written
   pub free_fault : (within : Cidr) → AsksFree words within → status ≡ 3
       → FailsToRead old.streams new.streams ⊎ FailsToPrint within old.streams new.streams ⊎ FailsToSay within old.streams new.streams
   -- 3, for `session`: where neither the output nor the messages failed, the input did, and every answer was written
   pub starved : (store : Store) → AsksStore words store → status ≡ 3 → ¬ Failed old.streams.output new.streams.output → ¬ Failed old.streams.errors new.streams.errors
       → Failed old.streams.input new.streams.input × Serves store old new SourceFault
-  -- 4: the words ask for a session; the opener failed, which was said, and nothing else was used
-  pub store_fault : status ≡ 4 → ((store : Store) × AsksStore words store) × NamesFailure old new
-  -- 5: want of memory. Nothing was said, and `free` has nothing on the output
+  -- 4: the words ask for a session or for serving; the opener failed, which was said, and nothing else was used
+  pub store_fault : status ≡ 4 → AsksRegister words × NamesFailure old new × NobodyCame before after
+  -- 5: want of memory. Nothing was said, and `free` and `serve` have nothing on the output
   pub memory : status ≡ 5 → (new.streams.errors ≡ old.streams.errors) × (((store : Store) × AsksStore words store) ⊎ (new.streams.output ≡ old.streams.output))
   -- `free` has nothing on the output unless the status is 0 or a write of it failed
   pub nothing_else : (within : Cidr) → AsksFree words within
@@ -88,17 +111,26 @@ pub record HasClauses (words : List (List ℕ)) (old new : Outside) (status : �
       → IfSome old.streams.input.bytes (λ bytes. IsRefusedLine within bytes number fault → (status ≡ 1) ⊎ (status ≡ 3) ⊎ (status ≡ 5))
   -- `free` uses no store
   pub no_store : (within : Cidr) → AsksFree words within → new.stores ≡ old.stores
+  -- only `serve` uses the listener
+  pub no_listener : ((serving : Serving) → ¬ AsksServe words serving) → after ≡ before
+  -- every lane that was handed out was given back
+  pub lanes_back : length after.returned + before.lanes ≡ length before.returned + after.lanes
   -- `session`: with each status, which requests were answered, in order, how, what the output gained, and what the store holds
   pub session : (store : Store) → AsksStore words store → IsSession store old new status
+  -- `serve`: with each status, what was served, behind which history, what was printed, and what the store holds
+  pub serve : (serving : Serving) → AsksServe words serving → IsServe serving old new before after status
   -- `session` without a file, where the opener did not fail: the answers are those of an empty register
   pub empty : (unique : Bool) → AsksSession words unique → (¬ StoreFailed old new) → status ≡ 0 → Prints answers_plainly (opened unique) old new
   -- a command that stands ends by itself where nothing fails: done, refused, or for want of memory
-  pub complete : (command : Command) → Asks words command → Stands command → (¬ AnyFailed old new) → (status ≡ 0) ⊎ (status ≡ 1) ⊎ (status ≡ 5)
+  pub complete : (command : Command) → Asks words command → Stands command → (¬ AnyFailed old new) → (¬ ListenerFailed command before after)
+      → (status ≡ 0) ⊎ (status ≡ 1) ⊎ (status ≡ 5)
   -- `free`: over a told input, where nothing fails, the status is 1 exactly where a line is refused, memory apart
   pub exact : (within : Cidr) → AsksFree words within → (¬ AnyFailed old new) → IfSome old.streams.input.bytes (IsExact within status)
   -- no count of faults falls
   pub later : NoCountFalls old new
+  pub listener_later : before.faults ≤ after.faults
 
 -- a run has all of these
 abbrev pub RunsHaveClauses : Type 0
-RunsHaveClauses = (words : List (List ℕ)) (old new : Outside) (status : ℕ) → Runs words old new status → HasClauses words old new status
+RunsHaveClauses = (words : List (List ℕ)) (old new : Outside) (before after : Doors) (status : ℕ) → Runs words old new before after status
+    → HasClauses words old new before after status

@@ -7,26 +7,27 @@ use Rattle.command_streams.specs.Streams.{Streams, EndsWith, NeverFalls}
 use Rattle.free_lines.specs.Run.{IsFree}
 use Rattle.store_session.specs.Outside.{Outside}
 use Rattle.store_session.specs.Session.{IsSession}
+use Rattle.store_server.specs.Serve.{Doors, IsServe}
 
 -- the commands that stand; words that ask for another one are no words of a command yet
 abbrev pub Stands : Command → Type 0
 Stands (Free within) = Unit {0}
 Stands (Session store) = Unit {0}
-Stands (Serve serving) = ⊥
+Stands (Serve serving) = Unit {0}
 Stands (Import kind store) = ⊥
 Stands (Export kind store) = ⊥
 Stands (Report report store) = ⊥
 Stands (Load count workers) = ⊥
 
--- what a run of the command leaves, with its status
-abbrev pub Answers : Command → Outside → Outside → ℕ → Type 0
-Answers (Free within) old new status = IsFree within old.streams new.streams status × (new.stores ≡ old.stores)
-Answers (Session store) old new status = IsSession store old new status
-Answers (Serve serving) old new status = ⊥
-Answers (Import kind store) old new status = ⊥
-Answers (Export kind store) old new status = ⊥
-Answers (Report report store) old new status = ⊥
-Answers (Load count workers) old new status = ⊥
+-- what a run of the command leaves, with its status: `before` and `after` are what the listener tells
+abbrev pub Answers : Command → Outside → Outside → Doors → Doors → ℕ → Type 0
+Answers (Free within) old new before after status = IsFree within old.streams new.streams status × (new.stores ≡ old.stores) × (after ≡ before)
+Answers (Session store) old new before after status = IsSession store old new status × (after ≡ before)
+Answers (Serve serving) old new before after status = IsServe serving old new before after status
+Answers (Import kind store) old new before after status = ⊥
+Answers (Export kind store) old new before after status = ⊥
+Answers (Report report store) old new before after status = ⊥
+Answers (Load count workers) old new before after status = ⊥
 
 -- the words ask for no command that stands
 abbrev pub AsksNothing : List (List ℕ) → Type 0
@@ -43,18 +44,19 @@ pub record IsUsage (old new : Streams) (status : ℕ) : Type 0 where
   pub said : EndsWith old.errors new.errors usage_text 2 status
   pub later : NeverFalls old new
 
--- and the opener was not used
-abbrev pub SaysUsage : Outside → Outside → ℕ → Type 0
-SaysUsage old new status = IsUsage old.streams new.streams status × (new.stores ≡ old.stores)
+-- and the opener and the listener were not used
+abbrev pub SaysUsage : Outside → Outside → Doors → Doors → ℕ → Type 0
+SaysUsage old new before after status = IsUsage old.streams new.streams status × (new.stores ≡ old.stores) × (after ≡ before)
 
 -- a run of a command that was read: it was run, or it does not stand
-abbrev pub RunsCommand : Command → Outside → Outside → ℕ → Type 0
-RunsCommand command old new status = (Stands command × Answers command old new status) ⊎ ((¬ Stands command) × SaysUsage old new status)
+abbrev pub RunsCommand : Command → Outside → Outside → Doors → Doors → ℕ → Type 0
+RunsCommand command old new before after status =
+    (Stands command × Answers command old new before after status) ⊎ ((¬ Stands command) × SaysUsage old new before after status)
 
 -- a run of the program: the words ask for a command that stands, which was run; or they ask for none; or memory was wanting to
 -- read them, and nothing was used
-abbrev pub Runs : List (List ℕ) → Outside → Outside → ℕ → Type 0
-Runs words old new status =
-    ((command : Command) × Asks words command × Stands command × Answers command old new status)
-    ⊎ (AsksNothing words × SaysUsage old new status)
-    ⊎ ((status ≡ 5) × (new ≡ old))
+abbrev pub Runs : List (List ℕ) → Outside → Outside → Doors → Doors → ℕ → Type 0
+Runs words old new before after status =
+    ((command : Command) × Asks words command × Stands command × Answers command old new before after status)
+    ⊎ (AsksNothing words × SaysUsage old new before after status)
+    ⊎ ((status ≡ 5) × (new ≡ old) × (after ≡ before))

@@ -1,15 +1,29 @@
 //! The program: its real objects, and the words behind its name.
 
+ghost use Rattle.std.specs.Prelude.{◌≤◌, length};
+
 use crate::{USAGE_TEXT, run};
 use command_streams::{MEMORY, USAGE, end_with};
+use ipam_doors::Listener;
 use ipam_edge::{standard_error, standard_input, standard_output};
 use ipam_keeper::keeper::KeeperOpener;
 use std::env;
 use std::io::ErrorKind;
+use std::marker::Sync;
 use std::process::ExitCode;
+use std::sync::Wait;
+use std::thread::Threads;
 
 /// Runs the arguments behind the program's name over the standard streams.
-fn run_args<O: KeeperOpener>(rt: &HostRuntime, args: &[String], opener: &mut O) -> u8 {
+fn run_args<R: Threads + Wait + Sync, L: Listener, O: KeeperOpener>(
+    rt: &HostRuntime,
+    threads: &R,
+    args: &[String],
+    listener: &mut L,
+    opener: &mut O,
+) -> u8
+    requires { length (L.returned listener.old) ≤ L.lanes listener.old }
+{
     let alloc = rt.alloc();
     let mut words = Vec::new(alloc);
     for arg in args.iter().skip(1) {
@@ -20,7 +34,16 @@ fn run_args<O: KeeperOpener>(rt: &HostRuntime, args: &[String], opener: &mut O) 
     let mut input = standard_input(rt);
     let mut output = standard_output(rt);
     let mut errors = standard_error(rt);
-    run(alloc, &words, &mut input, &mut output, &mut errors, opener)
+    run(
+        threads,
+        alloc,
+        &words,
+        &mut input,
+        &mut output,
+        &mut errors,
+        listener,
+        opener,
+    )
 }
 
 /// Why there are no arguments.
@@ -50,11 +73,19 @@ fn args_given(rt: &HostRuntime) -> Result<Vec<String>, NoArgs> {
     Ok(args)
 }
 
-/// Runs the program over its arguments, the standard streams and an opener of stores. Arguments that are no UTF-8 are no words of a
-/// command; where memory is wanting to read them the status is that of want of memory.
-pub fn program<O: KeeperOpener>(rt: &HostRuntime, opener: &mut O) -> ExitCode {
+/// Runs the program over its arguments, the standard streams, a listener and an opener of stores. Arguments that are no UTF-8 are no words of a
+/// command; where memory is wanting to read them the status is that of want of memory. `threads` is what workers are started by: the runtime
+/// once more, which only `main` may hand out as such.
+pub fn program<R: Threads + Wait + Sync, L: Listener, O: KeeperOpener>(
+    rt: &HostRuntime,
+    threads: &R,
+    listener: &mut L,
+    opener: &mut O,
+) -> ExitCode
+    requires { length (L.returned listener.old) ≤ L.lanes listener.old }
+{
     let status = match args_given(rt) {
-        Ok(args) => run_args(rt, &args, opener),
+        Ok(args) => run_args(rt, threads, &args, listener, opener),
         Err(NoArgs::NoText) => end_with(&mut standard_error(rt), USAGE_TEXT, USAGE),
         Err(NoArgs::Memory) => MEMORY,
     };

@@ -1,10 +1,12 @@
 //! The commands of the program: what its words ask for is run over its input, output and messages.
 #![tactic(auto)]
 
-ghost use Rattle.std.specs.Prelude.{map};
+ghost use Rattle.std.specs.Prelude.{◌≤◌, List, length, map, ℕ};
+ghost use Rattle.command_words.specs.Asked.{Asks};
 ghost use Rattle.command_streams.specs.Streams.{Told, streams, told};
 ghost use Rattle.ipam_command.specs.Clauses.{RunsHaveClauses};
 ghost use Rattle.store_session.specs.Outside.{Stores, outside, stores};
+ghost use Rattle.store_server.specs.Serve.{doors};
 ghost use Rattle.ipam_command.specs.Runs.{IsUsage, Runs, RunsCommand};
 
 mod entry;
@@ -19,9 +21,14 @@ use command_streams::{MEMORY, USAGE, end_with};
 use command_words::{Command, read_words};
 pub use entry::program;
 use free_lines::run_free;
+use ipam_doors::Listener;
 use ipam_edge::{Sink, Source};
 use ipam_keeper::keeper::KeeperOpener;
 use std::alloc::Global;
+use std::marker::Sync;
+use std::sync::Wait;
+use std::thread::Threads;
+use store_server::run_serve;
 use store_session::run_session;
 
 /// What is said where the words ask for no command.
@@ -36,42 +43,61 @@ fn run_none<Se: Sink>(errors: &mut Se) -> u8
 }
 
 /// Runs a command that was read, if it stands.
-fn run_command<So: Source, Si: Sink, Se: Sink, O: KeeperOpener>(
+fn run_command<
+    R: Threads + Wait + Sync,
+    So: Source,
+    Si: Sink,
+    Se: Sink,
+    L: Listener,
+    O: KeeperOpener,
+>(
+    rt: &R,
     alloc: Global,
     command: &Command,
     input: &mut So,
     output: &mut Si,
     errors: &mut Se,
+    listener: &mut L,
     opener: &mut O,
 ) -> u8
+    requires asked { (words : List (List ℕ)) × Asks words command.now }
+    requires none_out { length (L.returned listener.old) ≤ L.lanes listener.old }
     ensures { RunsCommand command.now
         (outside (streams (told So.left So.faults input.old) (told Si.written Si.faults output.old) (told Se.written Se.faults errors.old)) (stores O.stored O.faults opener.old))
-        (outside (streams (told So.left So.faults input.new) (told Si.written Si.faults output.new) (told Se.written Se.faults errors.new)) (stores O.stored O.faults opener.new)) result }
+        (outside (streams (told So.left So.faults input.new) (told Si.written Si.faults output.new) (told Se.written Se.faults errors.new)) (stores O.stored O.faults opener.new))
+        (doors L.bound L.lanes L.returned L.faults listener.old) (doors L.bound L.lanes L.returned L.faults listener.new) result }
 {
     match command {
         Command::Free(within) => run_free(alloc, within, input, output, errors),
         Command::Session(store) => run_session(alloc, store, input, output, errors, opener),
+        Command::Serve(serving) => run_serve(rt, alloc, serving, output, errors, listener, opener),
         _ => run_none(errors),
     }
 }
 
-/// Runs the program: the words behind its name, the input, the output, where messages go, and what opens stores. It gives the status:
-/// 0 done, 1 the input or a store breaks a stated rule, 2 the words are no command, 3 the input, the output or the messages failed,
-/// 4 the store failed, 5 want of memory.
-pub fn run<So: Source, Si: Sink, Se: Sink, O: KeeperOpener>(
+/// Runs the program: the words behind its name, the input, the output, where messages go, a listener, and what opens stores. The listener
+/// got back no more lanes than it handed out before. It gives the status: 0 done, 1 the input or a store breaks a stated rule, 2 the words
+/// are no command, 3 the input, the output, the messages or the listener failed, 4 the store failed, 5 want of memory.
+pub fn run<R: Threads + Wait + Sync, So: Source, Si: Sink, Se: Sink, L: Listener, O: KeeperOpener>(
+    rt: &R,
     alloc: Global,
     words: &[&str],
     input: &mut So,
     output: &mut Si,
     errors: &mut Se,
+    listener: &mut L,
     opener: &mut O,
 ) -> u8
+    requires none_out { length (L.returned listener.old) ≤ L.lanes listener.old }
     ensures { Runs (map (λ w. w.now) words.now)
         (outside (streams (told So.left So.faults input.old) (told Si.written Si.faults output.old) (told Se.written Se.faults errors.old)) (stores O.stored O.faults opener.old))
-        (outside (streams (told So.left So.faults input.new) (told Si.written Si.faults output.new) (told Se.written Se.faults errors.new)) (stores O.stored O.faults opener.new)) result }
+        (outside (streams (told So.left So.faults input.new) (told Si.written Si.faults output.new) (told Se.written Se.faults errors.new)) (stores O.stored O.faults opener.new))
+        (doors L.bound L.lanes L.returned L.faults listener.old) (doors L.bound L.lanes L.returned L.faults listener.new) result }
 {
     match read_words(alloc, words) {
-        Ok(Some(command)) => run_command(alloc, &command, input, output, errors, opener),
+        Ok(Some(command)) => run_command(
+            rt, alloc, &command, input, output, errors, listener, opener,
+        ),
         Ok(None) => run_none(errors),
         Err(_) => MEMORY,
     }

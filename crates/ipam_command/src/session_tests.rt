@@ -226,7 +226,7 @@ fn opening(alloc: Global) -> Result<(Vec<u8>, Vec<u8>), AllocError> {
 fn requests_and_their_answers(rt: HostRuntime) -> Result<(), Fail> {
     let (input, output) = conversation(rt.alloc(), EXCHANGES)?;
     for piece in [1, 7, 4_096] {
-        let left = run_on(rt.alloc(), "session", &input, piece, [&[], &[], &[]])?;
+        let left = run_on(&rt, rt.alloc(), "session", &input, piece, [&[], &[], &[]])?;
         assert!(rt; left.status == 0 && left.errors.is_empty());
         assert!(rt;
             left.output.as_slice() == output.as_slice(),
@@ -239,7 +239,7 @@ fn requests_and_their_answers(rt: HostRuntime) -> Result<(), Fail> {
 #[test]
 fn changes_and_what_is_not_there(rt: HostRuntime) -> Result<(), Fail> {
     let (input, output) = conversation(rt.alloc(), CHANGES)?;
-    let left = run_on(rt.alloc(), "session", &input, 4_096, [&[], &[], &[]])?;
+    let left = run_on(&rt, rt.alloc(), "session", &input, 4_096, [&[], &[], &[]])?;
     assert!(rt; left.status == 0 && left.errors.is_empty());
     assert!(rt; left.output.as_slice() == output.as_slice());
     Ok(())
@@ -248,7 +248,7 @@ fn changes_and_what_is_not_there(rt: HostRuntime) -> Result<(), Fail> {
 #[test]
 fn the_other_kinds(rt: HostRuntime) -> Result<(), Fail> {
     let (input, output) = conversation(rt.alloc(), KINDS)?;
-    let left = run_on(rt.alloc(), "session", &input, 4_096, [&[], &[], &[]])?;
+    let left = run_on(&rt, rt.alloc(), "session", &input, 4_096, [&[], &[], &[]])?;
     assert!(rt; left.status == 0 && left.errors.is_empty());
     assert!(rt; left.output.as_slice() == output.as_slice());
     Ok(())
@@ -263,7 +263,7 @@ fn an_input_that_ends_inside_a_body(rt: HostRuntime) -> Result<(), Fail> {
     )?;
     put(&mut output, CUT_SHORT)?;
     for piece in [1, 7, 4_096] {
-        let left = run_on(rt.alloc(), "session", &input, piece, [&[], &[], &[]])?;
+        let left = run_on(&rt, rt.alloc(), "session", &input, piece, [&[], &[], &[]])?;
         assert!(rt; left.status == 0 && left.output.as_slice() == output.as_slice());
     }
     Ok(())
@@ -271,12 +271,12 @@ fn an_input_that_ends_inside_a_body(rt: HostRuntime) -> Result<(), Fail> {
 
 #[test]
 fn an_empty_input_and_failing_objects(rt: HostRuntime) -> Result<(), Fail> {
-    let empty = run_on(rt.alloc(), "session", b"", 4_096, [&[], &[], &[]])?;
+    let empty = run_on(&rt, rt.alloc(), "session", b"", 4_096, [&[], &[], &[]])?;
     assert!(rt; empty.status == 0 && empty.output.is_empty() && empty.errors.is_empty());
     let (input, output) = opening(rt.alloc())?;
-    let read = run_on(rt.alloc(), "session", &input, 4_096, [&[1], &[], &[]])?;
+    let read = run_on(&rt, rt.alloc(), "session", &input, 4_096, [&[1], &[], &[]])?;
     assert!(rt; read.status == 3 && read.output.as_slice() == output.as_slice());
-    let write = run_on(rt.alloc(), "session", &input, 4_096, [&[], &[0], &[]])?;
+    let write = run_on(&rt, rt.alloc(), "session", &input, 4_096, [&[], &[0], &[]])?;
     assert!(rt; write.status == 3 && write.output.is_empty());
     Ok(())
 }
@@ -287,6 +287,7 @@ fn one_block_twice_where_that_is_asked_for(rt: HostRuntime) -> Result<(), Fail> 
     let mut twice = Vec::from_slice(rt.alloc(), &input)?;
     twice.extend_from_slice(&input)?;
     let refused = run_on(
+        &rt,
         rt.alloc(),
         "session --global-unique=yes",
         &twice,
@@ -298,6 +299,7 @@ fn one_block_twice_where_that_is_asked_for(rt: HostRuntime) -> Result<(), Fail> 
             && refused.output.ends_with(b"{\"code\":\"duplicate\",\"detail\":\"coincides with 1\"}")
     );
     let taken = run_on(
+        &rt,
         rt.alloc(),
         "session --global-unique no",
         &twice,

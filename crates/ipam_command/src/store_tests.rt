@@ -10,7 +10,10 @@ use ipam_keeper::memory::MemoryKeeper;
 use ipam_keeper::opener::MemoryOpener;
 use ipam_stored::tables::{Change, Row, Rows, Tables, Text, Texts};
 use std::alloc::{AllocError, Global};
+use std::marker::Sync;
+use std::sync::Wait;
 use std::test::Fail;
+use std::thread::Threads;
 
 /// A store a case. Its first line is the version of the tables under the path `a` and, behind semicolons, what is put into the empty
 /// ones: prefixes, where a hyphen stands for the empty text, and which calls of each keeper fail. Each line after it is a session over
@@ -103,12 +106,18 @@ fn opener_of(alloc: Global, line: &str) -> Result<MemoryOpener, AllocError> {
 }
 
 /// Runs a line.
-fn ran(alloc: Global, opener: &mut MemoryOpener, line: &str) -> Result<Left, AllocError> {
+fn ran<R: Threads + Wait + Sync>(
+    rt: &R,
+    alloc: Global,
+    opener: &mut MemoryOpener,
+    line: &str,
+) -> Result<Left, AllocError> {
     let mut input = Vec::new(alloc);
     for exchange in line.split('~').skip(1) {
         put_request(alloc, &mut input, exchange)?;
     }
     run_over(
+        rt,
         alloc,
         opener,
         part(line, 1),
@@ -138,8 +147,13 @@ fn message_of(alloc: Global, line: &str) -> Result<String, AllocError> {
 }
 
 /// Whether a line leaves what it says.
-fn is_as_said(alloc: Global, opener: &mut MemoryOpener, line: &str) -> Result<bool, AllocError> {
-    let left = ran(alloc, opener, line)?;
+fn is_as_said<R: Threads + Wait + Sync>(
+    rt: &R,
+    alloc: Global,
+    opener: &mut MemoryOpener,
+    line: &str,
+) -> Result<bool, AllocError> {
+    let left = ran(rt, alloc, opener, line)?;
     let answers = answers_of(alloc, line)?;
     let message = message_of(alloc, line)?;
     Ok(
@@ -150,11 +164,15 @@ fn is_as_said(alloc: Global, opener: &mut MemoryOpener, line: &str) -> Result<bo
 }
 
 /// The number of the first line of a case that does not leave what it says, or 0.
-fn wrong_line(alloc: Global, case: &str) -> Result<usize, AllocError> {
+fn wrong_line<R: Threads + Wait + Sync>(
+    rt: &R,
+    alloc: Global,
+    case: &str,
+) -> Result<usize, AllocError> {
     let mut opener = opener_of(alloc, case.lines().next().unwrap_or(""))?;
     let mut wrong = 0usize;
     for (number, line) in case.lines().enumerate().skip(1) {
-        if wrong == 0 && !is_as_said(alloc, &mut opener, line)? {
+        if wrong == 0 && !is_as_said(rt, alloc, &mut opener, line)? {
             wrong = number;
         }
     }
@@ -164,7 +182,7 @@ fn wrong_line(alloc: Global, case: &str) -> Result<usize, AllocError> {
 #[test]
 fn sessions_over_stores(rt: HostRuntime) -> Result<(), Fail> {
     for case in CASES {
-        let wrong = wrong_line(rt.alloc(), case)?;
+        let wrong = wrong_line(&rt, rt.alloc(), case)?;
         assert!(rt; wrong == 0, "line {wrong} of {case}");
     }
     Ok(())

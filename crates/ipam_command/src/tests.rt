@@ -1,10 +1,14 @@
 //! `run` over objects in memory: words that are no command yet, each status, and messages that fail.
 
 use crate::run;
+use ipam_doors::ListListener;
 use ipam_edge::{BytesSink, BytesSource};
 use ipam_keeper::opener::MemoryOpener;
 use std::alloc::{AllocError, Global};
+use std::marker::Sync;
+use std::sync::Wait;
 use std::test::Fail;
+use std::thread::Threads;
 
 /// What a run left: its status, the output, the messages.
 #[derive(Drop)]
@@ -14,8 +18,10 @@ pub struct Left {
     pub errors: Vec<u8>,
 }
 
-/// Runs words, with one space between two of them, over told objects, whose calls with these numbers fail, in pieces of this size.
-pub fn run_over(
+/// Runs words, with one space between two of them, over told objects, whose calls with these numbers fail, in pieces of this size, and
+/// over a listener without lanes.
+pub fn run_over<R: Threads + Wait + Sync>(
+    rt: &R,
     alloc: Global,
     opener: &mut MemoryOpener,
     words: &str,
@@ -33,7 +39,17 @@ pub fn run_over(
     let mut input = BytesSource::new(bytes, Vec::from_slice(alloc, source)?, piece);
     let mut output = BytesSink::new(alloc, Vec::from_slice(alloc, sink)?, piece, 65_536)?;
     let mut errors = BytesSink::new(alloc, Vec::from_slice(alloc, messages)?, piece, 4_096)?;
-    let status = run(alloc, &list, &mut input, &mut output, &mut errors, opener);
+    let mut listener = ListListener::new(alloc, Vec::new(alloc))?;
+    let status = run(
+        rt,
+        alloc,
+        &list,
+        &mut input,
+        &mut output,
+        &mut errors,
+        &mut listener,
+        opener,
+    );
     Ok(Left {
         status,
         output: output.into_bytes(),
@@ -42,7 +58,8 @@ pub fn run_over(
 }
 
 /// The same with an opener of its own, which has no tables.
-pub fn run_on(
+pub fn run_on<R: Threads + Wait + Sync>(
+    rt: &R,
     alloc: Global,
     words: &str,
     input: &[u8],
@@ -50,7 +67,7 @@ pub fn run_on(
     fails: [&[u32]; 3],
 ) -> Result<Left, AllocError> {
     let mut opener = MemoryOpener::new(Vec::new(alloc), Vec::new(alloc));
-    run_over(alloc, &mut opener, words, input, piece, fails)
+    run_over(rt, alloc, &mut opener, words, input, piece, fails)
 }
 
 /// Words that ask for nothing that stands, a case to a line.
@@ -60,7 +77,7 @@ free 10.0.0.1/24
 Session
 session x
 session --db
-serve --bind 127.0.0.1:0 --workers 1
+serve --bind 127.0.0.1:0 --workers 33
 import vrfs
 export vrfs
 report tree
@@ -70,11 +87,11 @@ load 1";
 fn words_that_ask_for_nothing(rt: HostRuntime) -> Result<(), Fail> {
     let usage = b"usage: ipamd COMMAND\n";
     for words in NOTHING.split('\n') {
-        let left = run_on(rt.alloc(), words, b"x\n", 4_096, [&[0], &[0], &[]])?;
+        let left = run_on(&rt, rt.alloc(), words, b"x\n", 4_096, [&[0], &[0], &[]])?;
         assert!(rt; left.status == 2 && left.output.is_empty(), "{words}");
         assert!(rt; left.errors.as_slice() == usage.as_slice(), "{words}");
     }
-    let left = run_on(rt.alloc(), "load", b"", 4_096, [&[], &[], &[0]])?;
+    let left = run_on(&rt, rt.alloc(), "load", b"", 4_096, [&[], &[], &[0]])?;
     assert!(rt; left.status == 3 && left.errors.is_empty());
     Ok(())
 }
@@ -82,9 +99,17 @@ fn words_that_ask_for_nothing(rt: HostRuntime) -> Result<(), Fail> {
 #[test]
 fn what_a_block_leaves(rt: HostRuntime) -> Result<(), Fail> {
     let words = "free 10.0.0.0/30";
-    let done = run_on(rt.alloc(), words, b"10.0.0.0/31\n", 4_096, [&[], &[], &[]])?;
+    let done = run_on(
+        &rt,
+        rt.alloc(),
+        words,
+        b"10.0.0.0/31\n",
+        4_096,
+        [&[], &[], &[]],
+    )?;
     assert!(rt; done.status == 0 && done.output.as_slice() == b"10.0.0.2/31\n".as_slice());
     let refused = run_on(
+        &rt,
         rt.alloc(),
         words,
         b"10.0.0.0/31\nx\n",
@@ -94,5 +119,14 @@ fn what_a_block_leaves(rt: HostRuntime) -> Result<(), Fail> {
     assert!(rt;
         refused.status == 1 && refused.errors.as_slice() == b"line 2: not a prefix\n".as_slice()
     );
+    Ok(())
+}
+
+#[test]
+fn what_connects_is_served(rt: HostRuntime) -> Result<(), Fail> {
+    let words = "serve --bind x --workers 1";
+    let left = run_on(&rt, rt.alloc(), words, b"x", 4_096, [&[], &[], &[]])?;
+    assert!(rt; left.status == 3 && left.errors.is_empty());
+    assert!(rt; left.output.as_slice() == b"entries 0\n".as_slice());
     Ok(())
 }

@@ -3,10 +3,13 @@
 #![tactic(auto)]
 
 use ipam_command::program;
+use ipam_doors::TcpDoors;
 use ipam_keeper::opener::MemoryOpener;
 use std::process::ExitCode;
+use std::time::Duration;
 
 fn main(rt: HostRuntime) -> ExitCode {
+    let mut listener = TcpDoors::new(&rt, rt.alloc(), Duration::from_secs(1));
     let mut opener = MemoryOpener::new(Vec::new(rt.alloc()), Vec::new(rt.alloc()));
-    program(&rt, &mut opener)
+    program(&rt, &rt, &mut listener, &mut opener)
 }

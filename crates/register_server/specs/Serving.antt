@@ -1,5 +1,5 @@
 -- What is promised of a register that was served to a listener, or was not.
-use Rattle.std.specs.Prelude.{◌≡◌, ◌+◌, ◌++◌, ◌⊎◌, ℕ, Bool, List, length, Option, Some, All, IfSome, Result, Ok, Err}
+use Rattle.std.specs.Prelude.{◌≡◌, ◌≢◌, ◌+◌, ◌++◌, ◌⊎◌, ℕ, Bool, List, length, Option, Some, All, IfSome, Result, Ok, Err}
 use Rattle.history_lock.specs.Machines.{Reaches}
 use Rattle.history_lock.specs.Replay.{replay}
 use Rattle.ipam_doors.specs.Connections.{Returned}
@@ -53,9 +53,15 @@ abbrev pub IsOutcome : State → ℕ → ℕ → Option Tables → List Returned
 IsOutcome opening faults_old faults_new told old new none_left (Ok served) = IsServedWhole opening faults_old faults_new told old new none_left served.entries
 IsOutcome opening faults_old faults_new told old new none_left (Err why) = Tells told opening × (new ≡ old) × IsPrevented why
 
--- what is told at the end was told at the start
-abbrev pub AreAsBefore : Option Tables → Option Tables → Type 0
-AreAsBefore start told = IfSome told (IsTold start)
+-- the tables were refused, or could not be read: it was not for want of memory
+abbrev pub IsRefusal : Unserved → Type 0
+IsRefusal (Opening fault) = fault ≢ NoMemory
+IsRefusal Place = ⊥
+
+-- what is told at the end was told at the start; and where the tables were refused as much is told as before
+pub record AreAsBefore (start told : Option Tables) (why : Unserved) : Type 0 where
+  pub before : IfSome told (IsTold start)
+  pub refused : IsRefusal why → told ≡ start
 
 -- a fault that is said of tables was found in those that were told; and that a keeper failed was counted
 abbrev pub IsFaultOf : Option Tables → Bool → ℕ → ℕ → Unserved → Type 0
@@ -68,7 +74,7 @@ abbrev pub IsKeeperOutcome : Option Tables → Bool → ℕ → ℕ → Option T
 IsKeeperOutcome start global_unique faults_old faults_new told old new none_left (Ok served) =
     (opening : State) × IsOpened start global_unique opening × IsServedWhole opening faults_old faults_new told old new none_left served.entries
 IsKeeperOutcome start global_unique faults_old faults_new told old new none_left (Err why) =
-    AreAsBefore start told × (new ≡ old) × IsFaultOf start global_unique faults_old faults_new why
+    AreAsBefore start told why × (new ≡ old) × IsFaultOf start global_unique faults_old faults_new why
 
 -- what stands under each path
 abbrev pub Stored : Type 0
@@ -82,18 +88,18 @@ pub record IsServedFrom {K : Type 0} (told : K → Option Tables) (path : Option
   pub whole : IsServedWhole opening faults_old faults_new (told kept) old new none_left entries
   pub returned : IsReturned (Some path) (told kept) stored_old stored_new
 
--- the tables of a path were left: no keeper started, or one came back which tells those that it told at its start
-abbrev pub AreLeft : {K : Type 0} → (K → Option Tables) → Option (List ℕ) → Stored → Stored → Type 0
-AreLeft {K} told path stored_old stored_new =
+-- the tables of a path were left: no keeper started, or one came back which tells what it told at its start
+abbrev pub AreLeft : {K : Type 0} → (K → Option Tables) → Option (List ℕ) → Stored → Stored → Unserved → Type 0
+AreLeft {K} told path stored_old stored_new why =
     (stored_new ≡ stored_old)
-    ⊎ ((kept : K) × AreAsBefore (started stored_old path) (told kept) × IsReturned (Some path) (told kept) stored_old stored_new)
+    ⊎ ((kept : K) × AreAsBefore (started stored_old path) (told kept) why × IsReturned (Some path) (told kept) stored_old stored_new)
 
 -- what came of a path's tables
 abbrev pub IsServing : {K : Type 0} → (K → Option Tables) → Option (List ℕ) → Bool → Stored → Stored → ℕ → ℕ → List Returned → List Returned → Type 0 → Result Served Unserved → Type 0
 IsServing told path global_unique stored_old stored_new faults_old faults_new old new none_left (Ok served) =
     IsServedFrom told path global_unique stored_old stored_new faults_old faults_new old new none_left served.entries
 IsServing told path global_unique stored_old stored_new faults_old faults_new old new none_left (Err why) =
-    AreLeft told path stored_old stored_new × (new ≡ old) × IsFaultOf (started stored_old path) global_unique faults_old faults_new why
+    AreLeft told path stored_old stored_new why × (new ≡ old) × IsFaultOf (started stored_old path) global_unique faults_old faults_new why
 
 -- how the listening ended: with all lanes, or with a fault
 abbrev pub IsListening : Type 0 → Type 0 → Listening → Type 0

@@ -5,4 +5,4 @@
 mod fault_words;
 mod session;
 
-pub use session::run_session;
+pub use session::{path_of, run_session, say_fault};

@@ -27,8 +27,8 @@ use std::alloc::{AllocError, Global};
 /// What is said where the store fails.
 const UNREAD: &[u8] = b"store: the store could not be read\n";
 
-/// The path that was given, if any.
-fn path_of(alloc: Global, word: &Option<WordText>) -> Result<Option<Text>, AllocError>
+/// The path that was given, if any. `Err` is want of memory.
+pub fn path_of(alloc: Global, word: &Option<WordText>) -> Result<Option<Text>, AllocError>
     ensures { IfOk result (λ path. path ≡ word.now) }
 {
     match word {
@@ -93,8 +93,9 @@ fn open_store<O: KeeperOpener>(
     }
 }
 
-/// Says why an opening was refused, and gives the status of that.
-fn say_fault<Se: Sink>(alloc: Global, fault: &OpenFault, errors: &mut Se) -> u8
+/// Says why an opening was refused, and gives the status of that: 1 for a fault of the tables, 4 where the store failed, 5 for want of
+/// memory, of which nothing is said; and 3 where the line could not be written.
+pub fn say_fault<Se: Sink>(alloc: Global, fault: &OpenFault, errors: &mut Se) -> u8
     ensures said { IsSaid fault.now (told Se.written Se.faults errors.old) (told Se.written Se.faults errors.new) result }
     ensures later { Se.faults errors.old ≤ Se.faults errors.new }
 {
