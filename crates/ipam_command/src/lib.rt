@@ -43,7 +43,14 @@ fn run_none<Se: Sink>(errors: &mut Se) -> u8
 }
 
 /// Runs a command that was read, if it stands.
-fn run_command<R: Threads + Wait + Sync, So: Source, Si: Sink, Se: Sink, L: Listener, O: KeeperOpener>(
+fn run_command<
+    R: Threads + Wait + Sync,
+    So: Source,
+    Si: Sink,
+    Se: Sink,
+    L: Listener,
+    O: KeeperOpener,
+>(
     rt: &R,
     alloc: Global,
     command: &Command,

@@ -99,7 +99,14 @@ fn words_that_ask_for_nothing(rt: HostRuntime) -> Result<(), Fail> {
 #[test]
 fn what_a_block_leaves(rt: HostRuntime) -> Result<(), Fail> {
     let words = "free 10.0.0.0/30";
-    let done = run_on(&rt, rt.alloc(), words, b"10.0.0.0/31\n", 4_096, [&[], &[], &[]])?;
+    let done = run_on(
+        &rt,
+        rt.alloc(),
+        words,
+        b"10.0.0.0/31\n",
+        4_096,
+        [&[], &[], &[]],
+    )?;
     assert!(rt; done.status == 0 && done.output.as_slice() == b"10.0.0.2/31\n".as_slice());
     let refused = run_on(
         &rt,
