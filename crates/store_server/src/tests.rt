@@ -142,7 +142,14 @@ fn ran<R: Threads + Wait + Sync, L: Listener>(
 #[test]
 fn who_is_served_and_who_is_not(rt: HostRuntime) -> Result<(), Fail> {
     let alloc = rt.alloc();
-    let words = ["serve", "--bind", "x", "--workers=2", "--connections=1", "--db=a"];
+    let words = [
+        "serve",
+        "--bind",
+        "x",
+        "--workers=2",
+        "--connections=1",
+        "--db=a",
+    ];
     let mut opener = opener_of(alloc, 1)?;
     let mut listener = listener_of(alloc)?;
     let left = ran(&rt, alloc, &words, &mut listener, &mut opener)?;
