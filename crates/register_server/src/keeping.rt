@@ -1,16 +1,18 @@
 //! A register over a keeper from its opening to the end of its service.
-ghost use Rattle.std.specs.Prelude.{◌≡◌, ◌≤◌, ◌+◌, [], length};
+ghost use Rattle.std.specs.Prelude.{◌≡◌, ◌≤◌, ◌+◌, [], length, vec_capacity};
 ghost use Rattle.ipam_edge.specs.Faults.{Rose};
 ghost use Rattle.ipam_stored.specs.Stored.{Tells};
-ghost use Rattle.register_server.specs.Serving.{IsKeeperOutcome, IsListened, IsOutcome};
+ghost use Rattle.register_server.specs.Serving.{IsKeeperOutcome, IsListened, IsListening, IsOutcome, IsServedWhole};
 
 use crate::ending::{Listening, Served, Unserved};
 use crate::service::serve_all;
-use history_lock::Shared;
+use crate::watched::Watched;
+use history_lock::{Seat, Shared};
 use ipam_doors::Listener;
 use ipam_keeper::keeper::Keeper;
 use ipam_stored::opening::OpenFault;
 use register_core::{Register, Settings, open};
+use shared_workers::Worker;
 use std::alloc::Global;
 use std::marker::{Send, Sync};
 use std::sync::Wait;
@@ -26,6 +28,73 @@ fn said_of<K: Keeper>(register: &Register<K>, listening: Listening) -> Served
     Served {
         entries: register.log().len() as u64,
         listening,
+    }
+}
+
+/// Serves a shared register to a listener that is bound, and hands its keeper back.
+fn serve_bound<R: Threads + Wait + Sync, K: Keeper + Drop + Send, L: Listener>(
+    rt: &R,
+    alloc: Global,
+    shared: Shared<Register<K>>,
+    seat: Seat<Register<K>>,
+    workers: u32,
+    hired: Vec<Worker<K, Watched<L::Door>>>,
+    listener: &mut L,
+) -> (K, Served)
+    requires seat { (seat.lock ≡ shared) × (seat.weight ≡ 65536) × (seat.spare ≡ 65536) }
+    requires first { (seat.ended ≡ []) × (seat.seen ≡ []) × (seat.faults ≡ 0) }
+    requires first_number { seat.number ≡ 0 }
+    requires none_yet { hired.items ≡ [] }
+    requires few { workers ≤ 1000 }
+    requires room { workers ≤ vec_capacity hired }
+    requires none_out { length (L.returned listener.old) ≤ L.lanes listener.old }
+    ensures outcome { IsServedWhole seat.opening seat.base (K.faults result.0) (K.told result.0) (L.returned listener.old) (L.returned listener.new) (L.lanes listener.new ≡ L.lanes listener.old + workers) result.1.entries }
+    ensures lanes_back { length (L.returned listener.new) + L.lanes listener.old ≡ length (L.returned listener.old) + L.lanes listener.new }
+    ensures bound { L.bound listener.new ≡ L.bound listener.old }
+    ensures listening { IsListening (L.lanes listener.new ≡ L.lanes listener.old + workers) (Rose (L.faults listener.old) (L.faults listener.new)) result.1.listening }
+    ensures later { L.faults listener.old ≤ L.faults listener.new }
+{
+    let (register, listening) = serve_all(rt, alloc, shared, seat, workers, hired, listener);
+    let served = said_of(&register, listening);
+    (register.into_keeper(), served)
+}
+
+/// Binds the listener, serves a shared register to it, and hands the keeper back.
+fn serve_shared<R: Threads + Wait + Sync, K: Keeper + Drop + Send, L: Listener>(
+    rt: &R,
+    alloc: Global,
+    shared: Shared<Register<K>>,
+    seat: Seat<Register<K>>,
+    at: &[u8],
+    workers: u32,
+    connections: u32,
+    hired: Vec<Worker<K, Watched<L::Door>>>,
+    listener: &mut L,
+) -> (K, Result<Served, Unserved>)
+    requires seat { (seat.lock ≡ shared) × (seat.weight ≡ 65536) × (seat.spare ≡ 65536) }
+    requires first { (seat.ended ≡ []) × (seat.seen ≡ []) × (seat.faults ≡ 0) }
+    requires first_number { seat.number ≡ 0 }
+    requires none_yet { hired.items ≡ [] }
+    requires few { (1 ≤ workers) × (workers ≤ 1000) }
+    requires room { workers ≤ vec_capacity hired }
+    requires none_out { length (L.returned listener.old) ≤ L.lanes listener.old }
+    ensures outcome { IsOutcome seat.opening seat.base (K.faults result.0) (K.told result.0) (L.returned listener.old) (L.returned listener.new) (L.lanes listener.new ≡ L.lanes listener.old + workers) result.1 }
+    ensures lanes_back { length (L.returned listener.new) + L.lanes listener.old ≡ length (L.returned listener.old) + L.lanes listener.new }
+    ensures bound { L.lanes listener.new ≡ L.lanes listener.old + workers → L.bound listener.new ≡ connections }
+    ensures listened { IsListened (L.lanes listener.new ≡ L.lanes listener.old + workers) (Rose (L.faults listener.old) (L.faults listener.new)) result.1 }
+    ensures later { L.faults listener.old ≤ L.faults listener.new }
+{
+    match listener.bind(at, connections) {
+        Ok(()) => {
+            let (kept, served) = serve_bound(rt, alloc, shared, seat, workers, hired, listener);
+            (kept, Ok(served))
+        }
+        Err(_) => {
+            hired.destroy_empty();
+            let register = shared.close(seat);
+            register.told();
+            (register.into_keeper(), Err(Unserved::Place))
+        }
     }
 }
 
@@ -56,25 +125,26 @@ fn serve_register<R: Threads + Wait + Sync, K: Keeper + Drop + Send, L: Listener
             Err(Unserved::Opening(OpenFault::Memory)),
         );
     };
-    let (shared, seat) = match Shared::new(alloc, register) {
-        Ok(both) => both,
+    match Shared::new(alloc, register) {
+        Ok((shared, seat)) => serve_shared(
+            rt,
+            alloc,
+            shared,
+            seat,
+            at,
+            workers,
+            connections,
+            hired,
+            listener,
+        ),
         Err(register) => {
             hired.destroy_empty();
-            return (
+            (
                 register.into_keeper(),
                 Err(Unserved::Opening(OpenFault::Memory)),
-            );
+            )
         }
-    };
-    if listener.bind(at, connections).is_err() {
-        hired.destroy_empty();
-        let register = shared.close(seat);
-        register.told();
-        return (register.into_keeper(), Err(Unserved::Place));
     }
-    let (register, listening) = serve_all(rt, alloc, shared, seat, workers, hired, listener);
-    let served = said_of(&register, listening);
-    (register.into_keeper(), Ok(served))
 }
 
 /// Opens a register of the tables that a keeper keeps, serves it, and hands the keeper back.

@@ -147,6 +147,26 @@ fn serve_opened<So: Source, Si: Sink, O: KeeperOpener>(
     end
 }
 
+/// Runs `session` with a table of routes, which is lent.
+fn run_by<So: Source, Si: Sink, Se: Sink, O: KeeperOpener>(
+    alloc: Global,
+    routes: &Routes,
+    store: &Store,
+    input: &mut So,
+    output: &mut Si,
+    errors: &mut Se,
+    opener: &mut O,
+) -> u8
+    ensures { IsSession store.now
+        (outside (streams (told So.left So.faults input.old) (told Si.written Si.faults output.old) (told Se.written Se.faults errors.old)) (stores O.stored O.faults opener.old))
+        (outside (streams (told So.left So.faults input.new) (told Si.written Si.faults output.new) (told Se.written Se.faults errors.new)) (stores O.stored O.faults opener.new)) result }
+{
+    match open_store(alloc, store, opener) {
+        Ok(register) => status_of(serve_opened(alloc, routes, register, input, output, opener)),
+        Err(fault) => say_fault(alloc, &fault, errors),
+    }
+}
+
 /// Runs `session`: the requests of the input, by a register over the store. What a refused opening says goes to the messages.
 pub fn run_session<So: Source, Si: Sink, Se: Sink, O: KeeperOpener>(
     alloc: Global,
@@ -164,8 +184,5 @@ pub fn run_session<So: Source, Si: Sink, Se: Sink, O: KeeperOpener>(
         Ok(routes) => routes,
         Err(_) => return MEMORY,
     };
-    match open_store(alloc, store, opener) {
-        Ok(register) => status_of(serve_opened(alloc, &routes, register, input, output, opener)),
-        Err(fault) => say_fault(alloc, &fault, errors),
-    }
+    run_by(alloc, &routes, store, input, output, errors, opener)
 }

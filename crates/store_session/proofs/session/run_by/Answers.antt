@@ -3,7 +3,7 @@ use Rattle.command_streams.specs.Streams.{told}
 use Rattle.store_session.specs.Outside.{stores}
 use Rattle.store_session.proofs.Sessions.{of_ended}
 use Rattle.store_session.proofs.Refused.{of_refused}
-use Rattle.store_session.proofs.session.run_session.Goals as goal
+use Rattle.store_session.proofs.session.run_by.Goals as goal
 
 pub returns-in-Ok-open_store : goal.returns-in-Ok-open_store
 returns-in-Ok-open_store g c =
