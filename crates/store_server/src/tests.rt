@@ -1,10 +1,11 @@
-//! `serve` over connections and a store in memory, over a place that is none, and over tables that are refused.
+//! `serve` over connections and a store in memory, over a listener without lanes, and over tables that are refused.
 ghost use Rattle.std.specs.Prelude.{◌≡◌, ◌≤◌, [], IfOk, length};
 ghost use Rattle.ipam_doors.specs.ListLanes.{lane_told};
+ghost use Rattle.ipam_doors.specs.ListListeners.{listener_returned, listener_lanes};
 
 use crate::run_serve;
 use command_words::{Command, Serving, read_words};
-use ipam_doors::{ListLane, ListListener, Listener, TcpDoors};
+use ipam_doors::{ListLane, ListListener, Listener};
 use ipam_edge::{BytesSink, BytesSource};
 use ipam_keeper::empty::empty_tables;
 use ipam_keeper::memory::MemoryKeeper;
@@ -16,7 +17,6 @@ use std::str;
 use std::sync::Wait;
 use std::test::Fail;
 use std::thread::Threads;
-use std::time::Duration;
 
 /// What the clients ask, a line each: three prefixes are made.
 const CLIENTS: [&str; 2] = [
@@ -53,7 +53,7 @@ fn lane_of(alloc: Global, asked: &str) -> Result<ListLane, AllocError>
 
 /// A listener with a lane for each client.
 fn listener_of(alloc: Global) -> Result<ListListener, AllocError>
-    ensures { IfOk result (λ l. length (ListListener.Listener.returned l) ≤ ListListener.Listener.lanes l) }
+    ensures { IfOk result (λ l. (listener_returned l ≡ []) × (listener_lanes l ≡ 0)) }
 {
     let mut lanes = Vec::new(alloc);
     lanes.push(lane_of(alloc, CLIENTS[0])?)?;
@@ -162,10 +162,12 @@ fn who_is_served_and_who_is_not(rt: HostRuntime) -> Result<(), Fail> {
         6,
         "{told}"
     );
-    let mut doors = TcpDoors::new(&rt, alloc, Duration::from_secs(1));
+    let mut doors = ListListener::new(alloc, Vec::new(alloc))?;
     let left = ran(&rt, alloc, &words, &mut doors, &mut opener)?;
-    assert!(rt; left.status == 3 && left.output.is_empty() && left.errors.is_empty());
+    assert!(rt; left.status == 3 && left.errors.is_empty());
+    assert!(rt; left.output.as_slice() == b"entries 0\n".as_slice());
     let mut opener = opener_of(alloc, 9)?;
+    let mut doors = ListListener::new(alloc, Vec::new(alloc))?;
     let left = ran(&rt, alloc, &words, &mut doors, &mut opener)?;
     assert!(rt; left.status == 1 && left.output.is_empty());
     assert!(rt; left.errors.as_slice() == b"store: version 9\n".as_slice());
