@@ -107,7 +107,7 @@ pub fn pair_at<S: Space + Drop>(
     requires within { index < length book.now.rows }
     ensures { (x : SeenAddress) → slice_get book.now.rows index ≡ Some x → result ≡ option_map (λ y. (x.id, y.id)) (find (clash_in table x) (drop (index + 1) book.now.rows)) }
 {
-    let _ordered = book.len();
+    book.in_order();
     match book.at(index) {
         Some(row) => {
             if !is_one_table(Table::of(row.vrf), table) {

@@ -86,7 +86,7 @@ impl Space for BlockList {
     }
 
     fn insert(&mut self, block: Block) {
-        let _family = block.family();
+        block.bounds();
         let index = beginning_by(&self.blocks, block.first().value());
         match self.blocks.insert(index, block) {
             Ok(()) => self.spare -= 1,
@@ -110,7 +110,7 @@ impl Space for BlockList {
     }
 
     fn around(&self, block: Block) -> u32 {
-        let _short = block.len();
+        block.bounds();
         count_around(&self.blocks, block) as u32
     }
 

@@ -124,7 +124,7 @@ pub fn count_inside(blocks: &[Block], within: &Block, strict: bool) -> usize
     ensures counting { result ≡ length (counting_of blocks.now within.now strict) }
     ensures bound { result ≤ length blocks.now }
 {
-    let _family = within.family();
+    within.bounds();
     let (first, last) = ends_of(within);
     let (from, behind) = beginning_in(blocks, first, first);
     let (_, rest) = blocks.split_at(behind);
@@ -162,7 +162,7 @@ pub fn count_around(blocks: &[Block], block: Block) -> usize
     ensures counted { result ≡ around_of blocks.now block }
     ensures bound { result ≤ block.len }
 {
-    let _lawful = block.len();
+    block.bounds();
     let mut count = 0;
     let mut wide = block;
     'widen: while let Some(wider) = wide.enclosing() {

@@ -7,8 +7,6 @@ ghost use Rattle.command_words.specs.Asked.{Asks, IsNoCommand, WordsAskForOne};
 mod asked;
 mod builder;
 mod readers;
-#[cfg(test)]
-mod tests;
 mod values;
 
 pub use asked::{Command, KindName, Report, Serving, Store, WordText};

@@ -39,7 +39,7 @@ pub fn available_blocks<S: Space>(
     requires { within.family ≡ S.family_of kids.now }
     ensures { IfOk result (λ v. v.items ≡ take limit (available_blocks_of within (counting_of (S.held kids.now) within true))) }
 {
-    let _lawful = within.len();
+    within.bounds();
     let mut out = Vec::new(alloc);
     let mut from = within.first();
     'walk: while out.len() < limit as usize {

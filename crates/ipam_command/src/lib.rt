@@ -10,12 +10,6 @@ ghost use Rattle.store_server.specs.Serve.{doors};
 ghost use Rattle.ipam_command.specs.Runs.{IsUsage, Runs, RunsCommand};
 
 mod entry;
-#[cfg(test)]
-mod session_tests;
-#[cfg(test)]
-mod store_tests;
-#[cfg(test)]
-mod tests;
 
 use command_streams::{MEMORY, USAGE, end_with};
 use command_words::{Command, read_words};

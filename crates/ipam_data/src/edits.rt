@@ -61,8 +61,7 @@ pub fn edited_dns_name(given: &Option<DnsText>, old: &DnsName) -> Result<DnsName
     match given {
         Some(dns_name) => dns_name.lowered(),
         None => {
-            // A hint to the prover: the name of a row has no upper-case letter.
-            let _name = old.as_str();
+            old.bounds();
             old.copy()
         }
     }

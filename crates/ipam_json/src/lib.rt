@@ -17,8 +17,6 @@ mod replies;
 mod rir;
 mod role;
 mod rows;
-#[cfg(test)]
-mod tests;
 mod texts;
 mod vrf;
 mod writing;

@@ -16,5 +16,3 @@ pub use connects::{Connects, CountedKeeper};
 pub use keeper::SqliteKeeper;
 pub use opener::{SqliteOpener, StoreKeeper};
 
-#[cfg(test)]
-mod tests;

@@ -34,7 +34,7 @@ pub(crate) fn words(alloc: Global, text: &str) -> Result<Text, AllocError>
 pub(crate) fn block_text(alloc: Global, block: Block) -> Result<String, AllocError>
     ensures { IfOk result (λ s. string_bytes s ≡ block_text_of block) }
 {
-    let _len = block.len();
+    block.bounds();
     let mut text = Vec::new(alloc);
     write_block(block, &mut text)?;
     match std::str::from_utf8(text.as_slice()) {

@@ -32,12 +32,13 @@ use inet_num::{Block, Family};
 use ipam_data::kinds::{HasId, Table};
 pub use kinds::host_block;
 use rivals::{first_rival, ids_among, is_in_place, pair_at, times_itself};
-use row_book::Book;
+use row_book::{Book, in_order};
 use spaces::TableSpaces;
 use std::alloc::{AllocError, Global};
 use std::collections::HashMap;
 use std::marker::Model;
 use tables::Tables;
+pub use tables::number as table_number;
 
 /// A row that is in a table and has a block there.
 pub trait Located: HasId {
@@ -66,7 +67,7 @@ fn forget<T: Located + Drop, S: Space + Drop>(
     ensures there { (t : Table) → is_there tables.new t ≡ is_there tables.old t }
     ensures spares { (t : Table) → spare_of tables.old t ≤ spare_of tables.new t }
 {
-    let _ordered = rows.len();
+    in_order(rows);
     match rows.get(id) {
         Some(row) => tables.remove(Table::of(row.vrf()), row.block()),
         None => {}
@@ -83,7 +84,7 @@ fn forget_in_all<T: Located + Drop, S: Space + Drop>(
     ensures order { AreAll (map T.placed (without T.id_of rows.now.rows id)) all.new }
     ensures spare { all.old.spare ≤ all.new.spare }
 {
-    let _ordered = rows.len();
+    in_order(rows);
     match rows.get(id) {
         Some(row) => all.remove(row.block()),
         None => {}
@@ -102,7 +103,7 @@ fn forget_first<T: Located + Drop, S: Space + Drop>(
     ensures firsts { HasFirsts (map T.placed (without T.id_of rows.now.rows id)) firsts.new }
     ensures room { room_of firsts.old ≤ room_of firsts.new }
 {
-    let _ordered = rows.len();
+    in_order(rows);
     if let Some(row) = rows.get(id) {
         let spot = spot_at(Table::of(row.vrf()), &row.block());
         match first_rival(rows, tables, firsts, row) {
@@ -164,6 +165,14 @@ impl<T: Located + Drop, S: Space + Drop> PlacedBook<T, S> {
         self.rows.len()
     }
 
+    /// What holds of every book: the ids of its rows rise, and there are fewer than 2^30 of them. A law, for callers.
+    pub fn in_order(&self)
+        ensures few { length self.now.rows < 2 ^ 30 }
+        ensures ordered { Rises T.id_of 0 self.now.rows }
+    {
+        in_order(&self.rows);
+    }
+
     /// The row at an index, in the order of their ids.
     pub fn at(&self, index: u32) -> Option<&T>
         ensures { option_copied result ≡ slice_get self.now.rows index }
@@ -197,7 +206,7 @@ impl<T: Located + Drop, S: Space + Drop> PlacedBook<T, S> {
         ensures kept { self.old.spare ≤ self.new.spare }
         ensures err { OnErr result (self.new ≡ self.old) }
     {
-        let _few = self.rows.len();
+        in_order(&self.rows);
         self.rows.reserve(n)?;
         self.firsts.reserve(n as usize)?;
         self.all.reserve(n)?;
@@ -240,7 +249,7 @@ impl<T: Located + Drop, S: Space + Drop> PlacedBook<T, S> {
         ensures table_spare { spare_of self.old.tables (table_of (T.placed row).vrf) ≤ spare_of self.new.tables (table_of (T.placed row).vrf) + 1 }
         ensures other_spares { (t : Table) → same_table t (table_of (T.placed row).vrf) ≡ false → spare_of self.old.tables t ≤ spare_of self.new.tables t }
     {
-        let _ordered = self.rows.len();
+        in_order(&self.rows);
         let id = row.id();
         let table = Table::of(row.vrf());
         let block = row.block();
@@ -318,7 +327,7 @@ impl<T: Located + Drop, S: Space + Drop> PlacedBook<T, S> {
         requires { IsInOrder T.placed self.now }
         ensures { MatchBool result (least T.id_of (is_rival T.id_of T.placed row.now) self.now.rows ≡ None) (IsSome (least T.id_of (is_rival T.id_of T.placed row.now) self.now.rows)) }
     {
-        let _ordered = self.rows.len();
+        in_order(&self.rows);
         if self.tables.times(Table::of(row.vrf()), row.block()) <= times_itself(&self.rows, row) {
             return true;
         }

@@ -13,7 +13,7 @@ use block_space::Space;
 use indexed_book::IndexedBook;
 use inet_num::{Block, is_one_block};
 use ipam_data::kinds::{Table, is_one_table};
-use row_book::Book;
+use row_book::{Book, in_order};
 use std::alloc::{AllocError, Global};
 
 /// Whether the other row is of the row's table and has its block.
@@ -111,7 +111,7 @@ pub fn least_rival<T: Located + Drop, S: Space + Drop>(
     requires within { from ≤ length rows.now.rows }
     ensures { result ≡ least T.id_of (is_rival T.id_of T.placed row.now) (drop from rows.now.rows) }
 {
-    let _ordered = rows.len();
+    in_order(rows);
     if tables.times(Table::of(row.vrf()), row.block()) <= times_itself(rows, row) {
         return None;
     }
@@ -148,7 +148,7 @@ pub fn pair_at<T: Located + Drop, S: Space + Drop>(
     requires within { index < length rows.now.rows }
     ensures { (x : T) → slice_get rows.now.rows index ≡ Some x → result ≡ option_map (λ y. (T.id_of x, T.id_of y)) (find (coincide_in T.placed table x) (drop (index + 1) rows.now.rows)) }
 {
-    let _ordered = rows.len();
+    in_order(rows);
     match rows.at(index) {
         Some(row) => {
             if !is_one_table(Table::of(row.vrf()), table) {

@@ -13,7 +13,7 @@ ghost use Rattle.placed_book.specs.Changes.{IsOneMore, IsOneLess, IsRoomier, IsS
 ghost use Rattle.placed_book.specs.Keys.{number_of, key_of};
 
 use crate::spaces::TableSpaces;
-use block_space::Space;
+use block_space::{Space, lawful};
 use inet_num::{Block, Family};
 use ipam_data::kinds::Table;
 use std::alloc::{AllocError, Global};
@@ -69,7 +69,8 @@ fn count_strictly_inside<S: Space>(space: &S, block: Block) -> u32
     requires { block.family ≡ S.family_of space.now }
     ensures { (blocks : List Cidr) → IsPermutation blocks (S.held space.now) → result ≡ count_by (λ b. is_strictly_inside b block) blocks }
 {
-    let _lawful = (space.family(), block.len());
+    lawful(space);
+    block.bounds();
     space.counting(block, true)
 }
 
@@ -78,7 +79,8 @@ fn count_different_around<S: Space>(space: &S, block: Block) -> u32
     requires { block.family ≡ S.family_of space.now }
     ensures { (blocks : List Cidr) → IsPermutation blocks (S.held space.now) → result ≡ distinct (filter (λ b. is_strictly_inside block b) blocks) }
 {
-    let _lawful = (space.family(), block.len());
+    lawful(space);
+    block.bounds();
     space.around(block)
 }
 

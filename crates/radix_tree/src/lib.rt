@@ -112,7 +112,7 @@ impl Tree {
         requires family { block.family ≡ self.now.family }
         ensures { IfOk result (λ v. ListsCovering self.now.blocks block v.items) }
     {
-        let _lawful = block.len();
+        block.bounds();
         covering_counted::<Brand>(&self.linked, self.alloc, &block, Blank::new(1))
     }
 
@@ -122,7 +122,7 @@ impl Tree {
         requires family { within.family ≡ self.now.family }
         ensures { ListsInside self.now.blocks within result }
     {
-        let _lawful = within.len();
+        within.bounds();
         inside_counted::<Brand>(&self.linked, &within, Blank::new(1))
     }
 }
@@ -171,32 +171,32 @@ impl Space for Tree {
     }
 
     fn insert(&mut self, block: Block) {
-        let _lawful = block.len();
+        block.bounds();
         insert_counted::<Brand>(&mut self.linked, block, Blank::new(1));
     }
 
     fn remove(&mut self, block: Block) -> bool {
-        let _lawful = block.len();
+        block.bounds();
         remove_counted::<Brand>(&mut self.linked, &block, Blank::new(1))
     }
 
     fn times(&self, block: Block) -> u32 {
-        let _lawful = block.len();
+        block.bounds();
         times_counted::<Brand>(&self.linked, &block, Blank::new(1))
     }
 
     fn around(&self, block: Block) -> u32 {
-        let _lawful = block.len();
+        block.bounds();
         around_counted::<Brand>(&self.linked, &block, Blank::new(1))
     }
 
     fn counting(&self, within: Block, strict: bool) -> u32 {
-        let _lawful = within.len();
+        within.bounds();
         count_counted::<Brand>(&self.linked, &within, strict, Blank::new(1))
     }
 
     fn covered(&self, within: Block, strict: bool) -> u128 {
-        let _lawful = within.len();
+        within.bounds();
         covered_counted::<Brand>(&self.linked, &within, strict, Blank::new(1))
     }
 
@@ -208,7 +208,7 @@ impl Space for Tree {
         strict: bool,
         steps: &mut Steps<L>,
     ) -> Option<Block> {
-        let _lawful = within.len();
+        within.bounds();
         self.linked
             .first_fit(&within, len, from.value(), strict, steps)
     }
@@ -220,7 +220,7 @@ impl Space for Tree {
         strict: bool,
         steps: &mut Steps<L>,
     ) -> Option<Block> {
-        let _lawful = within.len();
+        within.bounds();
         self.linked
             .next_available(&within, from.value(), strict, steps)
     }

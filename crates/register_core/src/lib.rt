@@ -2,8 +2,6 @@
 //! and an accepted change is stored by the keeper before it is made. `open` makes a register of stored tables.
 #![tactic(auto)]
 
-#[cfg(test)]
-mod act_tests;
 mod books;
 mod log;
 mod machine;
@@ -11,8 +9,6 @@ mod opening;
 mod passes;
 mod register;
 mod stop;
-#[cfg(test)]
-mod tests;
 
 pub use log::Entry;
 pub use machine::SeenState;

@@ -8,7 +8,7 @@ ghost use Rattle.register_plans.specs.Broken.{broken_new};
 
 use crate::calls::{broken, plan_create, plan_delete, plan_get, plan_list};
 use crate::planned::Planned;
-use crate::{addresses, aggregates, prefixes, ranges, rirs, roles, vrfs};
+use crate::{addresses, aggregate, prefixes, ranges, rirs, roles, vrfs};
 use ipam_data::address::IpAddress;
 use ipam_data::aggregate::Aggregate;
 use ipam_data::calls::{Call, Draft, Edit, Filter};
@@ -76,7 +76,7 @@ fn plan_edit(shelves: &Shelves, id: u32, edit: &Edit) -> Result<Planned, AllocEr
         Edit::Vrf { .. } => vrfs::plan_edit(shelves, id, edit),
         Edit::Rir { .. } => rirs::plan_edit(shelves, id, edit),
         Edit::Role { .. } => roles::plan_edit(shelves, id, edit),
-        Edit::Aggregate { .. } => aggregates::plan_edit(shelves, id, edit),
+        Edit::Aggregate { .. } => aggregate::plan_edit(shelves, id, edit),
         Edit::Prefix { .. } => prefixes::plan_edit(shelves, id, edit),
         Edit::IpRange { .. } => ranges::plan_edit(shelves, id, edit),
         Edit::IpAddress { .. } => addresses::plan_edit(shelves, id, edit),

@@ -3,7 +3,7 @@
 #![tactic(auto)]
 
 mod addresses;
-mod aggregates;
+mod aggregate;
 mod calls;
 mod dispatch;
 mod filters;

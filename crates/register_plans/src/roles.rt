@@ -1,19 +1,18 @@
 //! Roles: their names and slugs are unique, and prefixes and ranges forget one that goes.
 
-ghost use Rattle.std.specs.Prelude.{◌≡◌, ℕ, ◌<◌, ◌++◌, ◌∷◌, [], Some, IfOk, OnOk, length, slice_get, find, filter, map, take, option_copied};
+ghost use Rattle.std.specs.Prelude.{◌≡◌, ◌<◌, ◌++◌, ◌∷◌, [], Some, IfOk, OnOk, length, slice_get, map};
 ghost use Rattle.ipam_data.specs.declared.prefix.Prefix.{Prefix};
 ghost use Rattle.ipam_data.specs.declared.range.IpRange.{IpRange};
-ghost use Rattle.ipam_data.specs.Shelf.{is_rival};
-ghost use Rattle.ipam_data.specs.Rows.{role_id};
 ghost use Rattle.ipam_data.specs.Plans.{change, nothing_told};
 ghost use Rattle.ipam_data.specs.Fields.{edited_role};
-ghost use Rattle.ipam_data.specs.Roles.{role_rules, role_fault, same_role_name, same_role_slug};
+ghost use Rattle.ipam_data.specs.Roles.{role_rules};
 ghost use Rattle.ipam_data.specs.Prefixes.{prefix_rules, prefixes_without_role};
 ghost use Rattle.ipam_data.specs.Ranges.{range_rules, ranges_without_role};
 ghost use Rattle.register_shelves.specs.Held.{state_of};
 ghost use Rattle.register_plans.specs.Planned.{IsPlanned};
 ghost use Rattle.register_plans.specs.Meets.{role_meets};
 
+use aggregates::RoleRules;
 use crate::calls::plan_replace;
 use crate::filters::asks_text;
 use crate::planned::Planned;
@@ -28,48 +27,6 @@ use ipam_data::role::{MOST_ROLES, Role};
 use register_shelves::{Prefixes, Shelves};
 use row_book::Book;
 use std::alloc::AllocError;
-
-/// Whether the other row is another role with the row's name.
-fn takes_name(row: &Role, other: &Role) -> bool
-    ensures { result ≡ is_rival role_id same_role_name row.now other.now }
-{
-    other.id != row.id && other.name.as_str() == row.name.as_str()
-}
-
-/// Whether the other row is another role with the row's slug.
-fn takes_slug(row: &Role, other: &Role) -> bool
-    ensures { result ≡ is_rival role_id same_role_slug row.now other.now }
-{
-    other.id != row.id && other.slug.as_str() == row.slug.as_str()
-}
-
-/// The first role that takes the row's name.
-fn name_rival<'a>(rows: &'a [Role], row: &Role) -> Option<&'a Role>
-    ensures { option_copied result ≡ find (is_rival role_id same_role_name row.now) rows.now }
-{
-    rows.iter().find(|other| takes_name(row, other))
-}
-
-/// The first role that takes the row's slug.
-fn slug_rival<'a>(rows: &'a [Role], row: &Role) -> Option<&'a Role>
-    ensures { option_copied result ≡ find (is_rival role_id same_role_slug row.now) rows.now }
-{
-    rows.iter().find(|other| takes_slug(row, other))
-}
-
-/// The first rule that a role breaks beside the rows of other ids.
-#[tactic(auto, unfolding(ipam_data::specs::Roles::role_fault))]
-fn fault(rows: &[Role], row: &Role) -> Option<Rule>
-    ensures { result ≡ role_fault rows.now row.now }
-{
-    if let Some(other) = name_rival(rows, row) {
-        return Some(Rule::NameTaken(other.id));
-    }
-    if let Some(other) = slug_rival(rows, row) {
-        return Some(Rule::SlugTaken(other.id));
-    }
-    None
-}
 
 /// Adds a prefix without the role, where it has it. `Err` is want of memory.
 fn forget_in_prefix(row: &Prefix, id: u32, views: &mut Vec<View>) -> Result<(), AllocError>
@@ -181,11 +138,11 @@ impl Registered for Role {
     }
 
     fn fault_new(&self, shelves: &Shelves) -> Option<Rule> {
-        fault(shelves.roles().rows(), self)
+        shelves.roles().fault(self)
     }
 
     fn fault_changed(&self, shelves: &Shelves) -> Option<Rule> {
-        fault(shelves.roles().rows(), self)
+        shelves.roles().fault(self)
     }
 
     fn user(_shelves: &Shelves, _id: u32) -> Option<Refusal> {

@@ -9,6 +9,7 @@ use Rattle.ipam_data.specs.declared.address.IpAddress.{IpAddress}
 use Rattle.ipam_data.specs.declared.kinds.Kind.{Kind}
 use Rattle.ipam_data.specs.declared.kinds.Kind.TheVariants.{Vrfs, Rirs, Roles, Aggregates, Prefixes, Ranges, Addresses}
 use Rattle.ipam_data.specs.declared.kinds.Table.{Table}
+use Rattle.ipam_data.specs.declared.kinds.Table.TheVariants.{Global}
 use Rattle.ipam_data.specs.declared.replies.View.{View}
 use Rattle.ipam_data.specs.declared.replies.View.TheVariants.{Vrf as VrfView, Rir as RirView, Role as RoleView, Aggregate as AggregateView, Prefix as PrefixView, IpRange as RangeView, IpAddress as AddressView}
 use Rattle.ipam_data.specs.Tables.{table_of, same_table}
@@ -21,7 +22,7 @@ pub record Held : Type 0 where
   pub vrfs : Book Vrf
   pub rirs : Book Rir
   pub roles : Book Role
-  pub aggregates : Book Aggregate
+  pub aggregates : TabledRows Aggregate
   pub prefixes : TabledRows Prefix
   pub ranges : Book IpRange
   pub addresses : TabledRows IpAddress
@@ -87,6 +88,7 @@ is_of kind view = place_of_kind (kind_of view) == place_of_kind kind
 
 -- the table of a row, where it is of the kind and the rows of that have places in tables
 abbrev pub table_in : Kind → View → Option Table
+table_in Aggregates (AggregateView row) = Some Global
 table_in Prefixes (PrefixView row depth children) = Some (table_of row.vrf)
 table_in Addresses (AddressView row) = Some (table_of row.vrf)
 table_in kind view = None
@@ -106,6 +108,7 @@ pub record HasRoom (held : Held) (views : List View) : Type 0 where
   pub rirs : count_by (is_of Rirs) views ≤ held.rirs.spare
   pub roles : count_by (is_of Roles) views ≤ held.roles.spare
   pub aggregates : count_by (is_of Aggregates) views ≤ held.aggregates.spare
+  pub aggregate_tables : (t : Table) → count_by (is_in Aggregates t) views ≤ spare_of held.aggregates.tables t
   pub prefixes : count_by (is_of Prefixes) views ≤ held.prefixes.spare
   pub prefix_tables : (t : Table) → count_by (is_in Prefixes t) views ≤ spare_of held.prefixes.tables t
   pub ranges : count_by (is_of Ranges) views ≤ held.ranges.spare

@@ -9,17 +9,17 @@ ghost use Rattle.ipam_data.specs.Updates.{with_view, without_row, with_next, upd
 ghost use Rattle.register_shelves.specs.Held.{state_of, next_in, HasRoom};
 ghost use Rattle.prefix_rules.specs.Book.{IsInOrder};
 ghost use Rattle.address_rules.specs.Book.{IsInOrder as IsAddressOrder};
+ghost use Rattle.aggregates.specs.Book.{IsInOrder as IsAggregateOrder};
 
+mod counts;
 mod figures;
 mod room;
 
 use address_rules::AddressBook;
-use ipam_data::aggregate::Aggregate;
+use aggregates::{AggregateBook, RirBook, RoleBook};
 use ipam_data::kinds::Kind;
 use ipam_data::range::IpRange;
 use ipam_data::replies::View;
-use ipam_data::rir::Rir;
-use ipam_data::role::Role;
 use ipam_data::update::Update;
 use prefix_rules::PrefixBook;
 use radix_tree::Tree;
@@ -27,6 +27,9 @@ use row_book::{Book, RowBook};
 use std::alloc::Global;
 use std::marker::Model;
 use vrf_table::VrfBook;
+
+/// What keeps the aggregates: their blocks stand in trees.
+pub type Aggregates = AggregateBook<Tree>;
 
 /// What keeps the prefixes: their tables are trees.
 pub type Prefixes = PrefixBook<Tree>;
@@ -40,9 +43,9 @@ pub type Addresses = AddressBook<Tree>;
 pub struct Shelves {
     alloc: Global,
     vrfs: VrfBook,
-    rirs: RowBook<Rir>,
-    roles: RowBook<Role>,
-    aggregates: RowBook<Aggregate>,
+    rirs: RirBook,
+    roles: RoleBook,
+    aggregates: Aggregates,
     prefixes: Prefixes,
     ranges: RowBook<IpRange>,
     addresses: Addresses,
@@ -61,12 +64,13 @@ impl Model for Shelves {
     ghost use Rattle.register_shelves.specs.Held.{Held};
     ghost use Rattle.prefix_rules.specs.Book.{IsInOrder};
     ghost use Rattle.address_rules.specs.Book.{IsInOrder as IsAddressOrder};
+    ghost use Rattle.aggregates.specs.Book.{IsInOrder as IsAggregateOrder};
 
     ghost Value = { Held };
 
     ghost view = { λ s. record { vrfs = s.vrfs; rirs = s.rirs; roles = s.roles; aggregates = s.aggregates; prefixes = s.prefixes; ranges = s.ranges; addresses = s.addresses; next_vrf = s.next_vrf; next_rir = s.next_rir; next_role = s.next_role; next_aggregate = s.next_aggregate; next_prefix = s.next_prefix; next_range = s.next_range; next_address = s.next_address; global_unique = s.global_unique; spent = s.spent } };
 
-    ghost invariant = { λ s. IsInOrder s.prefixes × IsAddressOrder s.addresses };
+    ghost invariant = { λ s. IsAggregateOrder s.aggregates × IsInOrder s.prefixes × IsAddressOrder s.addresses };
 }
 
 impl Shelves {
@@ -77,9 +81,9 @@ impl Shelves {
         Shelves {
             alloc,
             vrfs: VrfBook::new(alloc),
-            rirs: RowBook::new(alloc),
-            roles: RowBook::new(alloc),
-            aggregates: RowBook::new(alloc),
+            rirs: RirBook::new(alloc),
+            roles: RoleBook::new(alloc),
+            aggregates: AggregateBook::new(alloc),
             prefixes: PrefixBook::new(alloc),
             ranges: RowBook::new(alloc),
             addresses: AddressBook::new(alloc),
@@ -108,22 +112,23 @@ impl Shelves {
     }
 
     /// The book of RIRs.
-    pub fn rirs(&self) -> &RowBook<Rir>
+    pub fn rirs(&self) -> &RirBook
         ensures { result.now ≡ self.now.rirs }
     {
         &self.rirs
     }
 
     /// The book of roles.
-    pub fn roles(&self) -> &RowBook<Role>
+    pub fn roles(&self) -> &RoleBook
         ensures { result.now ≡ self.now.roles }
     {
         &self.roles
     }
 
-    /// The book of aggregates.
-    pub fn aggregates(&self) -> &RowBook<Aggregate>
-        ensures { result.now ≡ self.now.aggregates }
+    /// The book of aggregates, which is in order.
+    pub fn aggregates(&self) -> &Aggregates
+        ensures book { result.now ≡ self.now.aggregates }
+        ensures order { IsAggregateOrder self.now.aggregates }
     {
         &self.aggregates
     }

@@ -4,15 +4,17 @@ ghost use Rattle.std.specs.Prelude.{◌≡◌, ℕ, ◌<◌, ◌≤◌, ◌+◌,
 ghost use Rattle.ipam_data.specs.Updates.{with_view, IsFit};
 ghost use Rattle.ipam_data.specs.declared.kinds.Table.{Table as SeenTable};
 ghost use Rattle.placed_book.specs.Book.{spare_of, IsInOrder};
+ghost use Rattle.register_shelves.specs.Counts.{counted};
 ghost use Rattle.register_shelves.specs.Held.{state_of, place_of_kind, kind_of, is_of, table_in, is_in, HasRoom, HasAtMost};
 
 use crate::Shelves;
-use ipam_data::kinds::{Kind, Table, is_one_table};
+use crate::counts::{Counts, counted, counts_of};
+use ipam_data::kinds::{Kind, Table};
 use ipam_data::replies::View;
 use placed_book::{Located, PlacedBook};
 use radix_tree::Tree;
 use row_book::Book;
-use std::alloc::AllocError;
+use std::alloc::{AllocError, Global};
 
 /// How many rows an update may put: more of them want more memory than there is.
 const MOST_PUTS: usize = 500_000_000;
@@ -59,10 +61,11 @@ fn is_of_kind(view: &View, kind: Kind) -> bool
 }
 
 /// The table of a row, where it is of the kind and the rows of that have places in tables.
-fn table_of_view(view: &View, kind: Kind) -> Option<Table>
+pub(crate) fn table_of_view(view: &View, kind: Kind) -> Option<Table>
     ensures { result ≡ table_in kind view.now }
 {
     match (kind, view) {
+        (Kind::Aggregates, View::Aggregate(_)) => Some(Table::Global),
         (
             Kind::Prefixes,
             View::Prefix {
@@ -76,16 +79,6 @@ fn table_of_view(view: &View, kind: Kind) -> Option<Table>
     }
 }
 
-/// Whether the row is of the kind and has its place in the table.
-fn is_placed_in(view: &View, kind: Kind, table: Table) -> bool
-    ensures { result ≡ is_in kind table view.now }
-{
-    match table_of_view(view, kind) {
-        Some(found) => is_one_table(found, table),
-        None => false,
-    }
-}
-
 /// How many of the rows are of the kind.
 fn count_of_kind(views: &[View], kind: Kind) -> usize
     ensures { result ≡ count_by (is_of kind) views.now }
@@ -93,42 +86,30 @@ fn count_of_kind(views: &[View], kind: Kind) -> usize
     views.iter().filter(|view| is_of_kind(view, kind)).count()
 }
 
-/// How many of the rows are of the kind and have their place in the table.
-fn count_placed_in(views: &[View], kind: Kind, table: Table) -> usize
-    ensures { result ≡ count_by (is_in kind table) views.now }
-{
-    views
-        .iter()
-        .filter(|view| is_placed_in(view, kind, table))
-        .count()
-}
-
-/// Makes room in the table of a row, where it is of the kind, for all rows of that kind and table.
+/// Makes room in the table of a row, where it is of the kind, for all rows that are counted for that table.
 fn reserve_table_of<T: Located + Drop>(
     book: &mut PlacedBook<T, Tree>,
     kind: Kind,
-    views: &[View],
+    counts: &Counts,
     view: &View,
 ) -> Result<(), AllocError>
     requires order { IsInOrder T.placed book.old }
-    requires few { length book.old.rows + length views.now < 2 ^ 30 }
+    requires few { (t : SeenTable) → length book.old.rows + counted counts.now t < 2 ^ 30 }
     ensures order { IsInOrder T.placed book.new }
     ensures rows { book.new.rows ≡ book.old.rows }
     ensures spare { book.new.spare ≡ book.old.spare }
     ensures kept { (t : SeenTable) → spare_of book.old.tables t ≤ spare_of book.new.tables t }
-    ensures ok { OnOk result ((t : SeenTable) → is_in kind t view.now ≡ true → count_by (is_in kind t) views.now ≤ spare_of book.new.tables t) }
+    ensures ok { OnOk result ((t : SeenTable) → is_in kind t view.now ≡ true → counted counts.now t ≤ spare_of book.new.tables t) }
 {
     match table_of_view(view, kind) {
-        Some(table) => {
-            let count = count_placed_in(views, kind, table);
-            book.reserve_table(table, count as u32)
-        }
+        Some(table) => book.reserve_table(table, counted(counts, table)),
         None => Ok(()),
     }
 }
 
-/// Makes room in the tables of all rows of the kind.
+/// Makes room in the tables of all rows of the kind: each table is asked for all its rows, which are counted in one pass.
 fn reserve_tables<T: Located + Drop>(
+    alloc: Global,
     book: &mut PlacedBook<T, Tree>,
     kind: Kind,
     views: &[View],
@@ -140,8 +121,9 @@ fn reserve_tables<T: Located + Drop>(
     ensures spare { book.new.spare ≡ book.old.spare }
     ensures ok { OnOk result ((t : SeenTable) → count_by (is_in kind t) views.now ≤ spare_of book.new.tables t) }
 {
+    let counts = counts_of(alloc, views, kind)?;
     for view in views {
-        reserve_table_of(book, kind, views, view)?;
+        reserve_table_of(book, kind, &counts, view)?;
     }
     Ok(())
 }
@@ -168,8 +150,9 @@ impl Shelves {
             .reserve(count_of_kind(views, Kind::Ranges) as u32)?;
         self.addresses
             .reserve(count_of_kind(views, Kind::Addresses) as u32)?;
-        reserve_tables(&mut self.prefixes, Kind::Prefixes, views)?;
-        reserve_tables(&mut self.addresses, Kind::Addresses, views)
+        reserve_tables(self.alloc, &mut self.aggregates, Kind::Aggregates, views)?;
+        reserve_tables(self.alloc, &mut self.prefixes, Kind::Prefixes, views)?;
+        reserve_tables(self.alloc, &mut self.addresses, Kind::Addresses, views)
     }
 
     /// Whether a kind has so many rows that one more wants more memory than there is.

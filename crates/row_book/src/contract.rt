@@ -60,3 +60,11 @@ pub trait Book: Sized {
         ensures rows { rows self.new ≡ without Self.Item.id_of (rows self.old) id }
         ensures spare { spare self.old ≤ spare self.new };
 }
+
+/// A law: the ids of a book's rows rise, and there are fewer than 2^30 of them.
+pub fn in_order<B: Book>(book: &B)
+    ensures few { length (B.rows book.now) < 2 ^ 30 }
+    ensures ordered { Rises B.Item.id_of 0 (B.rows book.now) }
+{
+    let _len = book.len();
+}

@@ -1,6 +1,6 @@
 //! Keepers over databases in memory.
 
-use crate::SqliteKeeper;
+use ipam_store::SqliteKeeper;
 use ipam_data::kinds::Kind;
 use ipam_data::update::Ids;
 use ipam_keeper::keeper::{KeepFault, Keeper};

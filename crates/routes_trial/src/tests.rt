@@ -1,6 +1,6 @@
 //! Requests and answers, a case to a line.
 
-use crate::{
+use rest_routes::{
     Routes, answer_of_fault, answer_of_refusal_by, answer_of_reply, answer_of_want, finish_links,
     page_end, read_call, read_call_by,
 };

@@ -4,7 +4,7 @@ use Rattle.ipam_data.specs.Fields.{edited_aggregate}
 use Rattle.ipam_data.proofs.DraftLaws.{aggregate_stays}
 use Rattle.register_shelves.specs.Held.{state_of}
 use Rattle.register_plans.proofs.Verdicts.{change_planned}
-use Rattle.register_plans.proofs.aggregates.plan_edit.Goals as goal
+use Rattle.register_plans.proofs.aggregate.plan_edit.Goals as goal
 
 pub returns : goal.returns
 returns c =

@@ -1,6 +1,6 @@
 //! `run` over objects in memory: words that are no command yet, each status, and messages that fail.
 
-use crate::run;
+use ipam_command::run;
 use ipam_doors::ListListener;
 use ipam_edge::{BytesSink, BytesSource};
 use ipam_keeper::opener::MemoryOpener;

@@ -1,6 +1,6 @@
 //! Words that are refused, and what words that are taken ask for.
 
-use crate::read_words;
+use command_words::read_words;
 use std::alloc::Global;
 use std::test::Fail;
 

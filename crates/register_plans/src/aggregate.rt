@@ -1,21 +1,19 @@
 //! Aggregates: blocks that an operator has from registries. None shares an address with another.
 
-ghost use Rattle.std.specs.Prelude.{◌≡◌, ℕ, ◌&&◌, ◌||◌, [], IfOk, find, option_copied};
-ghost use Rattle.ipam_data.specs.Shelf.{is_rival};
-ghost use Rattle.ipam_data.specs.Rows.{aggregate_id};
+ghost use Rattle.std.specs.Prelude.{IfOk};
 ghost use Rattle.ipam_data.specs.Plans.{change, nothing_told};
 ghost use Rattle.ipam_data.specs.Fields.{edited_aggregate};
-ghost use Rattle.ipam_data.specs.Aggregates.{aggregate_rules, aggregate_fault, overlaps};
+ghost use Rattle.ipam_data.specs.Aggregates.{aggregate_rules};
 ghost use Rattle.register_shelves.specs.Held.{state_of};
 ghost use Rattle.register_plans.specs.Planned.{IsPlanned};
 ghost use Rattle.register_plans.specs.Meets.{aggregate_meets};
 
+use aggregates::AggregateRules;
 use crate::calls::plan_replace;
 use crate::filters::{asks_family, asks_id};
 use crate::planned::Planned;
 use crate::references::missing_rir;
 use crate::registered::Registered;
-use inet_num::is_block_inside;
 use ipam_data::aggregate::{Aggregate, MOST_AGGREGATES};
 use ipam_data::calls::{Edit, Filter};
 use ipam_data::kinds::Kind;
@@ -23,35 +21,6 @@ use ipam_data::replies::{Refusal, Rule, View};
 use register_shelves::Shelves;
 use row_book::Book;
 use std::alloc::AllocError;
-
-/// Whether the other row is another aggregate that shares addresses with this one.
-fn is_overlapping(row: &Aggregate, other: &Aggregate) -> bool
-    ensures { result ≡ is_rival aggregate_id overlaps row.now other.now }
-{
-    other.id != row.id
-        && (is_block_inside(&row.block, &other.block) || is_block_inside(&other.block, &row.block))
-}
-
-/// The first such row.
-fn rival<'a>(rows: &'a [Aggregate], row: &Aggregate) -> Option<&'a Aggregate>
-    ensures { option_copied result ≡ find (is_rival aggregate_id overlaps row.now) rows.now }
-{
-    rows.iter().find(|other| is_overlapping(row, other))
-}
-
-/// The first rule past its registry that an aggregate breaks beside the rows of other ids.
-#[tactic(auto, unfolding(ipam_data::specs::Aggregates::aggregate_fault))]
-fn fault(rows: &[Aggregate], row: &Aggregate) -> Option<Rule>
-    ensures { result ≡ aggregate_fault rows.now row.now }
-{
-    if row.block.len() == 0 {
-        return Some(Rule::ZeroMask);
-    }
-    match rival(rows, row) {
-        Some(other) => Some(Rule::AggregateOverlap(other.id)),
-        None => None,
-    }
-}
 
 impl Registered for Aggregate {
     ghost rules = { aggregate_rules };
@@ -104,11 +73,11 @@ impl Registered for Aggregate {
     }
 
     fn fault_new(&self, shelves: &Shelves) -> Option<Rule> {
-        fault(shelves.aggregates().rows(), self)
+        shelves.aggregates().fault(self)
     }
 
     fn fault_changed(&self, shelves: &Shelves) -> Option<Rule> {
-        fault(shelves.aggregates().rows(), self)
+        shelves.aggregates().fault(self)
     }
 
     fn user(_shelves: &Shelves, _id: u32) -> Option<Refusal> {

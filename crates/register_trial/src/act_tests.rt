@@ -1,6 +1,6 @@
 //! Calls over a keeper in memory: what they answer, what is noted, and what is found again where the tables are opened.
 
-use crate::{Register, Settings, open};
+use register_core::{Register, Settings, open};
 use inet_num::{Addr, Block, Family, read_block};
 use ipam_data::calls::{Call, Draft, Edit, Filter};
 use ipam_data::kinds::Kind;

@@ -1,6 +1,6 @@
 //! Bodies and replies byte for byte, a case to a line.
 
-use crate::{Links, read_body, read_edit, refusal_bytes, reply_bytes, write_reply};
+use ipam_json::{Links, read_body, read_edit, refusal_bytes, reply_bytes, write_reply};
 use inet_num::{read_addr, read_block};
 use ipam_data::address::{AddressRole, AddressStatus, IpAddress};
 use ipam_data::aggregate::Aggregate;

@@ -1,0 +1,9 @@
+//! The commands, tried whole: their words, inputs and outputs, over a store in memory and a listener of lists.
+#![tactic(auto)]
+
+#[cfg(test)]
+mod session_tests;
+#[cfg(test)]
+mod store_tests;
+#[cfg(test)]
+mod tests;

@@ -1,0 +1,5 @@
+//! The words of the commands, tried line by line.
+#![tactic(auto)]
+
+#[cfg(test)]
+mod tests;
