@@ -4,7 +4,8 @@
 # `spread` are random ones over the tables of the 1,000 VRFs, and of `nested` the first 1,000 are /18 blocks round the random ones, and
 # its pages are those of the 1,000. Each time is the best of three runs; memory is the peak of the process
 # less that of a run that opens a register and makes nothing, and so it has what the log keeps of each call.
-# A last run says how long `open` takes for the tables of as many rising prefixes.
+# Further runs say how long `open` takes for the tables of as many rising prefixes, how long 500,000 addresses in no order take to be made
+# and to be opened, and how long it takes to delete a role that as many prefixes have.
 # It also sees that every prefix that is made is found, and that the 200,001st is refused.
 # It writes a program into a scratch copy outside the repository, proves and builds it there, and runs it.
 # usage: bench/act.sh [prefixes]; with SCRATCH=DIR the program stays there
@@ -42,11 +43,13 @@ cat > "$bench/src/main.rt" <<'E'
 #![tactic(auto)]
 
 use inet_num::{Addr, Block, Family};
+use ipam_data::address::AddressStatus;
 use ipam_data::calls::{Call, Draft, Filter};
+use ipam_data::host::Host;
 use ipam_data::kinds::Kind;
 use ipam_data::prefix::PrefixStatus;
 use ipam_data::replies::Reply;
-use ipam_data::text::{Description, Name};
+use ipam_data::text::{Description, DnsText, Name, Slug, Weight};
 use ipam_keeper::empty::empty_tables;
 use ipam_keeper::keeper::Keeper;
 use ipam_keeper::memory::MemoryKeeper;
@@ -63,6 +66,7 @@ enum Order {
     Random,
     Spread,
     Nested,
+    Roled,
     Nothing,
 }
 
@@ -94,6 +98,13 @@ fn table(order: Order, n: u32) -> Option<u32> {
     }
 }
 
+fn role_of(order: Order) -> Option<u32> {
+    match order {
+        Order::Roled => Some(1),
+        _ => None,
+    }
+}
+
 /// Whether the VRF was made.
 fn make_vrf<K: Keeper>(alloc: Global, register: &mut Register<K>) -> Result<bool, AllocError> {
     let name = Name::of(String::from_str(alloc, "customer")?);
@@ -107,12 +118,60 @@ fn make_vrf<K: Keeper>(alloc: Global, register: &mut Register<K>) -> Result<bool
     }
 }
 
+/// Whether the role was made.
+fn make_role<K: Keeper>(alloc: Global, register: &mut Register<K>) -> Result<bool, AllocError> {
+    let name = Name::of(String::from_str(alloc, "customers")?);
+    let slug = Slug::of(String::from_str(alloc, "customers")?);
+    let description = Description::of(String::from_str(alloc, "")?);
+    match (name, slug, Weight::of(1000), description) {
+        (Some(name), Some(slug), Some(weight), Some(description)) => {
+            let draft = Draft::Role { name, slug, weight, description };
+            Ok(matches!(register.act(0, Call::Create { draft }), Reply::Made(_)))
+        }
+        _ => Ok(false),
+    }
+}
+
+/// Whether the address was made: that of the mixed number in 10.0.0.0/8.
+fn make_address<K: Keeper>(alloc: Global, register: &mut Register<K>, n: u32) -> Result<bool, AllocError> {
+    let value = 0x0a000000 | u128::from(mixed(u64::from(n)) & 0xffffff);
+    let host = match Addr::of(Family::V4, value) {
+        Some(addr) => Host::of(addr, 24),
+        None => None,
+    };
+    let dns_name = DnsText::of(String::from_str(alloc, "host.example.net")?);
+    let description = Description::of(String::from_str(alloc, "a customer's host")?);
+    match (host, dns_name, description) {
+        (Some(host), Some(dns_name), Some(description)) => {
+            let draft = Draft::IpAddress {
+                host,
+                vrf: None,
+                status: AddressStatus::Active,
+                role: None,
+                dns_name,
+                description,
+            };
+            Ok(matches!(register.act(0, Call::Create { draft }), Reply::Made(_)))
+        }
+        _ => Ok(false),
+    }
+}
+
+fn make_addresses<K: Keeper>(alloc: Global, register: &mut Register<K>, count: u32) -> Result<u64, AllocError> {
+    let mut done = 0u64;
+    for n in 0..count {
+        done = done.wrapping_add(one(make_address(alloc, register, n)?));
+    }
+    Ok(done)
+}
+
 /// Whether the prefix was made.
 fn make_prefix<K: Keeper>(
     alloc: Global,
     register: &mut Register<K>,
     block: Block,
     vrf: Option<u32>,
+    role: Option<u32>,
 ) -> Result<bool, AllocError> {
     match Description::of(String::from_str(alloc, "a customer's host")?) {
         Some(description) => {
@@ -120,7 +179,7 @@ fn make_prefix<K: Keeper>(
                 block,
                 vrf,
                 status: PrefixStatus::Active,
-                role: None,
+                role,
                 is_pool: false,
                 mark_utilized: false,
                 description,
@@ -152,7 +211,7 @@ fn make_prefixes<K: Keeper>(
     let mut done = 0u64;
     for n in 0..count {
         if let Some(block) = block(order, n) {
-            done = done.wrapping_add(one(make_prefix(alloc, register, block, table(order, n))?));
+            done = done.wrapping_add(one(make_prefix(alloc, register, block, table(order, n), role_of(order))?));
         }
     }
     Ok(done)
@@ -229,6 +288,37 @@ fn time_open(rt: &HostRuntime, count: u32) -> anyhow::Result<u128> {
     Ok(start.elapsed(rt)?.as_nanos())
 }
 
+/// The nanoseconds in which so many addresses are made, those in which their tables are opened, and how many were made.
+fn time_addresses(rt: &HostRuntime, count: u32) -> anyhow::Result<(u128, u128, u64)> {
+    let alloc = rt.alloc();
+    let empty = empty_tables(alloc)?;
+    let mut register = over(alloc, MemoryKeeper::new(empty, Vec::new(alloc)))?;
+    let start = Instant::now(rt)?;
+    let made = make_addresses(alloc, &mut register, count);
+    let for_making = start.elapsed(rt)?.as_nanos();
+    let tables = register.into_keeper().into_tables();
+    let made = made?;
+    let keeper = MemoryKeeper::new(tables, Vec::new(alloc));
+    let start = Instant::now(rt)?;
+    let register = over(alloc, keeper)?;
+    let for_opening = start.elapsed(rt)?.as_nanos();
+    drop(register);
+    Ok((for_making, for_opening, made))
+}
+
+/// The nanoseconds in which a role that so many prefixes have is deleted, and whether it was.
+fn time_role<K: Keeper>(rt: &HostRuntime, register: &mut Register<K>, count: u32) -> anyhow::Result<(u128, bool)> {
+    let alloc = rt.alloc();
+    let role = make_role(alloc, register)?;
+    let made = make_prefixes(alloc, register, Order::Roled, count)?;
+    let start = Instant::now(rt)?;
+    let reply = register.act(0, Call::Delete { kind: Kind::Roles, id: 1 });
+    let for_deletion = start.elapsed(rt)?.as_nanos();
+    let gone = matches!(reply, Reply::Gone);
+    drop(reply);
+    Ok((for_deletion, role && gone && made == u64::from(count)))
+}
+
 fn settings() -> Settings {
     Settings { global_unique: false }
 }
@@ -279,6 +369,19 @@ fn main(rt: HostRuntime) -> anyhow::Result<()> {
         println!(rt; "{opened}")?;
         return Ok(());
     }
+    if order.as_str() == "addresses" {
+        let (making, opening, made) = time_addresses(&rt, count)?;
+        println!(rt; "{making} {opening} {made}")?;
+        return Ok(());
+    }
+    if order.as_str() == "role" {
+        let mut register = begin(rt.alloc(), Unkept::new(rt.alloc()), settings());
+        let timed = time_role(&rt, &mut register, count);
+        drop(register);
+        let (deletion, gone) = timed?;
+        println!(rt; "{deletion} {gone}")?;
+        return Ok(());
+    }
     let order = order_named(order.as_str());
     let (vrfs, count) = if matches!(order, Order::Nothing) { (0, 0) } else { (1000, count) };
     let mut register = begin(rt.alloc(), Unkept::new(rt.alloc()), settings());
@@ -313,3 +416,9 @@ for order in rising random spread nested; do
 done
 echo
 awk -v c="$prefixes" '{ printf "`open` of the tables of %d rising prefixes: %.2f s\n", c, $1 / 1e9 }' <("$program" open "$prefixes")
+full=$(peak "$program" addresses 500000)
+awk -v k=$((full - base)) '{ printf "500,000 addresses, of which %d are made: %.2f s; `open` of their tables: %.2f s; at most %.2f GB\n", $3, $1 / 1e9, $2 / 1e9, k / 1e6 }' "$scratch/answer"
+full=$(peak "$program" role "$prefixes")
+awk -v c="$prefixes" -v k=$((full - base)) '
+    $2 != "true" { print "the role is not deleted" > "/dev/stderr"; exit 1 }
+    { printf "a role that %d prefixes have is deleted in %.2f s; at most %.2f GB\n", c, $1 / 1e9, k / 1e6 }' "$scratch/answer"

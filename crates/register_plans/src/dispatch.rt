@@ -1,7 +1,7 @@
 //! What each call comes to, by its kind: a line a kind in each dispatch.
 
 ghost use Rattle.std.specs.Prelude.{◌≡◌, IfOk};
-ghost use Rattle.ipam_data.specs.Steps.{create_plan, change_plan, delete_plan, get_plan, list_plan, plan_of};
+ghost use Rattle.ipam_data.specs.Steps.{create_plan, change_plan, delete_plan, get_plan, list_plan};
 ghost use Rattle.register_shelves.specs.Held.{state_of};
 ghost use Rattle.register_plans.specs.Planned.{IsPlanned};
 ghost use Rattle.register_plans.specs.Broken.{broken_new};
@@ -11,7 +11,7 @@ use crate::planned::Planned;
 use crate::{addresses, aggregate, prefixes, ranges, rirs, roles, vrfs};
 use ipam_data::address::IpAddress;
 use ipam_data::aggregate::Aggregate;
-use ipam_data::calls::{Call, Draft, Edit, Filter};
+use ipam_data::calls::{Draft, Edit, Filter};
 use ipam_data::kinds::Kind;
 use ipam_data::prefix::Prefix;
 use ipam_data::range::IpRange;
@@ -42,7 +42,7 @@ pub fn broken_by_view(shelves: &Shelves, view: &View) -> Option<Rule>
 }
 
 /// Plans the row of a draft. `Err` is want of memory.
-fn plan_draft(shelves: &Shelves, draft: &Draft) -> Result<Planned, AllocError>
+pub fn plan_draft(shelves: &Shelves, draft: &Draft) -> Result<Planned, AllocError>
     ensures { IfOk result (λ p. IsPlanned (create_plan (state_of shelves.now) draft.now) p) }
 {
     match draft {
@@ -69,7 +69,7 @@ fn plan_draft(shelves: &Shelves, draft: &Draft) -> Result<Planned, AllocError>
 }
 
 /// Plans the row of an id with the fields of an edit changed. `Err` is want of memory.
-fn plan_edit(shelves: &Shelves, id: u32, edit: &Edit) -> Result<Planned, AllocError>
+pub fn plan_edit(shelves: &Shelves, id: u32, edit: &Edit) -> Result<Planned, AllocError>
     ensures { IfOk result (λ p. IsPlanned (change_plan (state_of shelves.now) id edit.now) p) }
 {
     match edit {
@@ -84,7 +84,7 @@ fn plan_edit(shelves: &Shelves, id: u32, edit: &Edit) -> Result<Planned, AllocEr
 }
 
 /// Plans that the row of an id is taken out. `Err` is want of memory.
-fn plan_gone(shelves: &Shelves, kind: Kind, id: u32) -> Result<Planned, AllocError>
+pub fn plan_gone(shelves: &Shelves, kind: Kind, id: u32) -> Result<Planned, AllocError>
     ensures { IfOk result (λ p. IsPlanned (delete_plan (state_of shelves.now) kind id) p) }
 {
     match kind {
@@ -99,7 +99,7 @@ fn plan_gone(shelves: &Shelves, kind: Kind, id: u32) -> Result<Planned, AllocErr
 }
 
 /// Reads the row of an id. `Err` is want of memory.
-fn plan_one(shelves: &Shelves, kind: Kind, id: u32) -> Result<Planned, AllocError>
+pub fn plan_one(shelves: &Shelves, kind: Kind, id: u32) -> Result<Planned, AllocError>
     ensures { IfOk result (λ p. IsPlanned (get_plan (state_of shelves.now) kind id) p) }
 {
     match kind {
@@ -114,7 +114,7 @@ fn plan_one(shelves: &Shelves, kind: Kind, id: u32) -> Result<Planned, AllocErro
 }
 
 /// Reads the rows of a page, and how many meet the filter. `Err` is want of memory.
-fn plan_page(
+pub fn plan_page(
     shelves: &Shelves,
     filter: &Filter,
     limit: u32,
@@ -155,23 +155,5 @@ fn plan_page(
             parent: _,
             dns_name: _,
         } => plan_list::<IpAddress>(shelves, filter, limit, offset),
-    }
-}
-
-/// What a call comes to. It changes nothing. `Err` is want of memory.
-pub fn plan(shelves: &Shelves, call: &Call) -> Result<Planned, AllocError>
-    ensures { IfOk result (λ p. IsPlanned (plan_of (state_of shelves.now) call.now) p) }
-{
-    match call {
-        Call::List {
-            kind: _,
-            filter,
-            limit,
-            offset,
-        } => plan_page(shelves, filter, *limit, *offset),
-        Call::Get { kind, id } => plan_one(shelves, *kind, *id),
-        Call::Create { draft } => plan_draft(shelves, draft),
-        Call::Change { id, edit } => plan_edit(shelves, *id, edit),
-        Call::Delete { kind, id } => plan_gone(shelves, *kind, *id),
     }
 }

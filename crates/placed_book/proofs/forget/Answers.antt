@@ -6,12 +6,12 @@ use Rattle.placed_book.proofs.forget.Goals as goal
 pub remove-requires : goal.remove-requires
 remove-requires g c =
     held g.T.HasId.id_of g.T.Located.placed g.met.T.Located.same c.args.rows.now.rows c.args.id c.in-Some.row.now c.args.tables.now c.of.result c.block.result
-    c.len-ordered.ensures.ordered (sym c.in-Some.ensures) (c.of.ensures ∙ ap table_of c.vrf.ensures) c.block.ensures c.requires
+    c.in_order.ensures.ordered (sym c.in-Some.ensures) (c.of.ensures ∙ ap table_of c.vrf.ensures) c.block.ensures c.requires
 
 pub returns-in-Some-clause-order : goal.returns-in-Some-clause-order
 returns-in-Some-clause-order g c =
     cut_places g.T.HasId.id_of g.T.Located.placed g.met.T.Located.same c.args.rows.now.rows c.args.id c.in-Some.row.now c.args.tables.now c.remove.new.self c.of.result c.block.result
-    c.len-ordered.ensures.ordered (sym c.in-Some.ensures) (c.of.ensures ∙ ap table_of c.vrf.ensures) c.block.ensures c.requires c.remove.ensures
+    c.in_order.ensures.ordered (sym c.in-Some.ensures) (c.of.ensures ∙ ap table_of c.vrf.ensures) c.block.ensures c.requires c.remove.ensures
 
 pub returns-in-Some-clause-there : goal.returns-in-Some-clause-there
 returns-in-Some-clause-there g c =

@@ -15,14 +15,14 @@ change_first-requires g c =
 pub returns-in-Some-first_rival-clause-firsts : goal.returns-in-Some-first_rival-clause-firsts
 returns-in-Some-first_rival-clause-firsts g c =
     cut_row_firsts g.T.HasId.id_of g.T.Located.placed g.met.T.Located.same c.args.rows.now.rows c.args.id c.in-Some.row.now c.args.firsts.now c.change_first.new.firsts c.spot_at-spot.result (Some c.in-Some-first_rival.other)
-    c.len-ordered.ensures.ordered (sym c.in-Some.ensures) (row_id g.T.HasId.id_of g.T.Located.placed g.met.T.Located.same c.args.rows.now.rows c.args.id c.in-Some.row.now (sym c.in-Some.ensures)) c.requires.firsts
+    c.in_order.ensures.ordered (sym c.in-Some.ensures) (row_id g.T.HasId.id_of g.T.Located.placed g.met.T.Located.same c.args.rows.now.rows c.args.id c.in-Some.row.now (sym c.in-Some.ensures)) c.requires.firsts
     (c.spot_at-spot.ensures ∙ ap (λ (t : Table). spot_of t c.block.result) (c.of.ensures ∙ ap table_of c.vrf.ensures) ∙ ap (λ (b : Cidr). spot_of (table_of (g.T.Located.placed c.in-Some.row.now).vrf) b) c.block.ensures)
     c.change_first.ensures.set c.in-Some-first_rival.ensures
 
 pub returns-in-None-clause-firsts : goal.returns-in-None-clause-firsts
 returns-in-None-clause-firsts g c =
     cut_row_firsts g.T.HasId.id_of g.T.Located.placed g.met.T.Located.same c.args.rows.now.rows c.args.id c.in-Some.row.now c.args.firsts.now c.drop_first.new.firsts c.spot_at-spot.result None
-    c.len-ordered.ensures.ordered (sym c.in-Some.ensures) (row_id g.T.HasId.id_of g.T.Located.placed g.met.T.Located.same c.args.rows.now.rows c.args.id c.in-Some.row.now (sym c.in-Some.ensures)) c.requires.firsts
+    c.in_order.ensures.ordered (sym c.in-Some.ensures) (row_id g.T.HasId.id_of g.T.Located.placed g.met.T.Located.same c.args.rows.now.rows c.args.id c.in-Some.row.now (sym c.in-Some.ensures)) c.requires.firsts
     (c.spot_at-spot.ensures ∙ ap (λ (t : Table). spot_of t c.block.result) (c.of.ensures ∙ ap table_of c.vrf.ensures) ∙ ap (λ (b : Cidr). spot_of (table_of (g.T.Located.placed c.in-Some.row.now).vrf) b) c.block.ensures)
     c.drop_first.ensures.set c.in-None.ensures
 

@@ -14,7 +14,7 @@ invariant_of-self c =
     let len = c.in-Ok.ensures.len in
     let capacity = c.in-Ok.ensures.capacity in (
       insert_listing c.self.inside.family c.self.inside.blocks.items c.deref.result.now c.insert.new.self.items c.beginning_by-index.result c.value.result c.self.inside.spare c.args.block c.self.invariant.0 c.deref.ensures.value
-          (c.value.ensures.value ∙ ap (λ (a : Address). a.value) c.first.ensures) c.beginning_by-index.ensures.bound c.beginning_by-index.ensures.below c.beginning_by-index.ensures.others c.in-Ok.ensures.items c.family-family.ensures.lawful
+          (c.value.ensures.value ∙ ap (λ (a : Address). a.value) c.first.ensures) c.beginning_by-index.ensures.bound c.beginning_by-index.ensures.below c.beginning_by-index.ensures.others c.in-Ok.ensures.items c.bounds.ensures
           (c.requires.family ∙ sym family_is) some,
       omega arith,
     )

@@ -4,11 +4,11 @@ use Rattle.block_list.proofs.Around.{IsCountedTo, counted_first, counted_more, c
 use Rattle.block_list.proofs.search.count_around.Goals as goal
 
 pub widen-init : goal.widen-init
-widen-init c = counted_first c.args.blocks.now c.args.block c.len-lawful.ensures.lawful
+widen-init c = counted_first c.args.blocks.now c.args.block c.bounds.ensures
 
 pub widen-preserved : goal.widen-preserved
 widen-preserved c =
-    subst (λ (n : ℕ). IsCountedTo c.args.blocks.now c.args.block c.in-Some.wider (c.widen.count + n)) (sym c.min-count.ensures) (counted_more c.args.blocks.now c.args.block c.widen.wide c.in-Some.wider c.widen.count c.times_in.result c.len-lawful.ensures.lawful c.widen.invariant (c.in-Some.ensures.cause.0 refl) c.in-Some.ensures.some c.times_in.ensures)
+    subst (λ (n : ℕ). IsCountedTo c.args.blocks.now c.args.block c.in-Some.wider (c.widen.count + n)) (sym c.min-count.ensures) (counted_more c.args.blocks.now c.args.block c.widen.wide c.in-Some.wider c.widen.count c.times_in.result c.bounds.ensures c.widen.invariant (c.in-Some.ensures.cause.0 refl) c.in-Some.ensures.some c.times_in.ensures)
 
 pub returns-clause-counted : goal.returns-clause-counted
 returns-clause-counted c =

@@ -10,7 +10,7 @@ beginning_by-inside-requires c = subst (Rises 0) (sym c.split_at.ensures.back) (
 pub overflow_add-result : goal.overflow_add-result
 overflow_add-result c =
     let read = count_read c.args.within.now c.args.strict c.args.blocks.now c.split_at.result.1.now c.beginning_in-from.result.0 c.beginning_in-from.result.1 c.beginning_by-inside.result c.ends_of-first.result.0 c.ends_of-first.result.1
-    c.family-family.ensures.lawful c.ends_of-first.ensures.first c.ends_of-first.ensures.last c.requires.lawful c.beginning_in-from.ensures.order c.beginning_in-from.ensures.bound c.split_at.ensures.back c.beginning_in-from.ensures.before
+    c.bounds.ensures c.ends_of-first.ensures.first c.ends_of-first.ensures.last c.requires.lawful c.beginning_in-from.ensures.order c.beginning_in-from.ensures.bound c.split_at.ensures.back c.beginning_in-from.ensures.before
     c.beginning_in-from.ensures.behind c.beginning_by-inside.ensures.bound c.beginning_by-inside.ensures.below c.beginning_by-inside.ensures.others in
     let sum = read.0 in
     let few = read.1 in
@@ -20,7 +20,7 @@ overflow_add-result c =
 pub returns-clause-counting : goal.returns-clause-counting
 returns-clause-counting c =
     let read = count_read c.args.within.now c.args.strict c.args.blocks.now c.split_at.result.1.now c.beginning_in-from.result.0 c.beginning_in-from.result.1 c.beginning_by-inside.result c.ends_of-first.result.0 c.ends_of-first.result.1
-    c.family-family.ensures.lawful c.ends_of-first.ensures.first c.ends_of-first.ensures.last c.requires.lawful c.beginning_in-from.ensures.order c.beginning_in-from.ensures.bound c.split_at.ensures.back c.beginning_in-from.ensures.before
+    c.bounds.ensures c.ends_of-first.ensures.first c.ends_of-first.ensures.last c.requires.lawful c.beginning_in-from.ensures.order c.beginning_in-from.ensures.bound c.split_at.ensures.back c.beginning_in-from.ensures.before
     c.beginning_in-from.ensures.behind c.beginning_by-inside.ensures.bound c.beginning_by-inside.ensures.below c.beginning_by-inside.ensures.others in
     let sum = read.0 in
     let few = read.1 in
@@ -30,7 +30,7 @@ returns-clause-counting c =
 pub returns-clause-bound : goal.returns-clause-bound
 returns-clause-bound c =
     let read = count_read c.args.within.now c.args.strict c.args.blocks.now c.split_at.result.1.now c.beginning_in-from.result.0 c.beginning_in-from.result.1 c.beginning_by-inside.result c.ends_of-first.result.0 c.ends_of-first.result.1
-    c.family-family.ensures.lawful c.ends_of-first.ensures.first c.ends_of-first.ensures.last c.requires.lawful c.beginning_in-from.ensures.order c.beginning_in-from.ensures.bound c.split_at.ensures.back c.beginning_in-from.ensures.before
+    c.bounds.ensures c.ends_of-first.ensures.first c.ends_of-first.ensures.last c.requires.lawful c.beginning_in-from.ensures.order c.beginning_in-from.ensures.bound c.split_at.ensures.back c.beginning_in-from.ensures.before
     c.beginning_in-from.ensures.behind c.beginning_by-inside.ensures.bound c.beginning_by-inside.ensures.below c.beginning_by-inside.ensures.others in
     let sum = read.0 in
     let few = read.1 in

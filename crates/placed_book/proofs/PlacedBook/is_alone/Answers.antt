@@ -10,7 +10,7 @@ pub returns-then-times-times_itself : goal.returns-then-times-times_itself
 returns-then-times-times_itself g c =
     let order = subst (λ (b : TabledRows g.row.T.Denot). IsInOrder g.T.Located.placed b) (sym c.self.view_is) c.requires in
     let none = none_rival g.T.HasId.id_of g.T.Located.placed c.self.inside.rows.rows c.self.inside.tables c.args.row.now c.of.result c.block.result c.times.result c.times_itself.result
-    c.len-ordered.ensures.ordered order.tables (c.of.ensures ∙ ap table_of c.vrf.ensures) c.block.ensures c.times.ensures c.times_itself.ensures 0 c.if-times-times_itself.true in
+    c.in_order.ensures.ordered order.tables (c.of.ensures ∙ ap table_of c.vrf.ensures) c.block.ensures c.times.ensures c.times_itself.ensures 0 c.if-times-times_itself.true in
     subst (λ (b : TabledRows g.row.T.Denot). least g.T.HasId.id_of (is_rival g.T.HasId.id_of g.T.Located.placed c.args.row.now) b.rows ≡ None) c.self.view_is (sym none)
 
 pub returns : goal.returns
@@ -18,5 +18,5 @@ returns g c =
     let order = subst (λ (b : TabledRows g.row.T.Denot). IsInOrder g.T.Located.placed b) (sym c.self.view_is) c.requires in
     let more = c.if-times-times_itself.false in
     let some = some_rival g.T.HasId.id_of g.T.Located.placed c.self.inside.rows.rows c.self.inside.tables c.args.row.now c.of.result c.block.result c.times.result c.times_itself.result
-    c.len-ordered.ensures.ordered order.tables (c.of.ensures ∙ ap table_of c.vrf.ensures) c.block.ensures c.times.ensures c.times_itself.ensures (omega arith) in
+    c.in_order.ensures.ordered order.tables (c.of.ensures ∙ ap table_of c.vrf.ensures) c.block.ensures c.times.ensures c.times_itself.ensures (omega arith) in
     subst (λ (b : TabledRows g.row.T.Denot). IsSome (least g.T.HasId.id_of (is_rival g.T.HasId.id_of g.T.Located.placed c.args.row.now) b.rows)) c.self.view_is some

@@ -15,13 +15,13 @@ use Rattle.placed_book.proofs.PlacedBook.put_anew.Goals as goal
 pub insert-requires-clause-few : goal.insert-requires-clause-few
 insert-requires-clause-few g c =
     let few = few_placed g.T.HasId.id_of g.T.Located.placed g.met.T.Located.same c.self.inside.rows.rows c.id-id.result c.forget.new.tables c.of-table.result c.block-block.result.family c.forget.ensures.order in
-    let bound = c.len-ordered.ensures.few in
+    let bound = c.in_order.ensures.few in
     omega arith
 
 pub insert-requires-2-clause-few : goal.insert-requires-2-clause-few
 insert-requires-2-clause-few g c =
     let few = few_all_placed g.T.HasId.id_of g.T.Located.placed g.met.T.Located.same c.self.inside.rows.rows c.id-id.result c.forget_in_all.new.all c.block-block.result.family c.forget_in_all.ensures.order in
-    let bound = c.len-ordered.ensures.few in
+    let bound = c.in_order.ensures.few in
     omega arith
 
 pub returns-clause-order : goal.returns-clause-order
@@ -32,12 +32,12 @@ returns-clause-order g c =
     let less_all = subst (λ (n : ℕ). AreAll (map g.T.Located.placed (without g.T.HasId.id_of c.self.inside.rows.rows n)) c.forget_in_all.new.all) c.id-id.ensures c.forget_in_all.ensures.order in
     record {
       tables = put_places g.T.HasId.id_of g.T.Located.placed g.met.T.Located.same c.self.inside.rows.rows c.put.new.self.rows c.args.row c.forget.new.tables c.insert.new.self c.of-table.result c.block-block.result
-          c.len-ordered.ensures.ordered c.put.ensures.rows (c.of-table.ensures ∙ ap table_of c.vrf.ensures) c.block-block.ensures less
+          c.in_order.ensures.ordered c.put.ensures.rows (c.of-table.ensures ∙ ap table_of c.vrf.ensures) c.block-block.ensures less
           (λ other d. c.forget.ensures.there (table_of other.vrf) ∙ order.tables.named other d)
           (c.forget.ensures.there (table_of (g.T.Located.placed c.args.row).vrf) ∙ room_there c.self.inside.tables (table_of (g.T.Located.placed c.args.row).vrf) room)
           c.insert.ensures;
       all = put_all_places g.T.HasId.id_of g.T.Located.placed g.met.T.Located.same c.self.inside.rows.rows c.put.new.self.rows c.args.row c.forget_in_all.new.all c.insert-2.new.self c.block-block.result
-          c.len-ordered.ensures.ordered c.put.ensures.rows c.block-block.ensures less_all c.insert-2.ensures;
+          c.in_order.ensures.ordered c.put.ensures.rows c.block-block.ensures less_all c.insert-2.ensures;
     }
 
 pub invariant_of-self : goal.invariant_of-self
@@ -51,7 +51,7 @@ invariant_of-self g c =
       omega (arith, c.forget_in_all.ensures.spare, c.insert-2.ensures.spare, c.self.invariant.1),
       room,
       put_row_firsts g.T.HasId.id_of g.T.Located.placed g.met.T.Located.same c.self.inside.rows.rows c.put.new.self.rows c.args.row c.forget_first.new.firsts c.note_first.new.firsts c.spot_at.result c.id-id.result
-          c.len-ordered.ensures.ordered c.put.ensures.rows c.id-id.ensures fits c.forget_first.ensures.firsts
+          c.in_order.ensures.ordered c.put.ensures.rows c.id-id.ensures fits c.forget_first.ensures.firsts
           (c.spot_at.ensures ∙ ap (λ (t : Table). spot_of t c.block-block.result) (c.of-table.ensures ∙ ap table_of c.vrf.ensures) ∙ ap (λ (b : Cidr). spot_of (table_of (g.T.Located.placed c.args.row).vrf) b) c.block-block.ensures)
           c.note_first.ensures.set,
     )

@@ -14,10 +14,10 @@ pub returns-in-Some-least_rival : goal.returns-in-Some-least_rival
 returns-in-Some-least_rival g c = λ x e.
     let own : same_table (table_of (g.T.Located.placed c.in-Some.row.now).vrf) c.args.table ≡ true =
     ap (λ (t : Table). same_table t c.args.table) (sym (c.of.ensures ∙ ap table_of c.vrf.ensures)) ∙ sym c.is_one_table.ensures ∙ c.if-not-is_one_table.false in
-    pair_found g.T.HasId.id_of g.T.Located.placed c.args.table c.args.rows.now.rows c.args.index c.in-Some.row.now x c.in-Some.ensures e c.len-ordered.ensures.ordered own c.id.result c.in-Some-least_rival.other c.id.ensures c.in-Some-least_rival.ensures
+    pair_found g.T.HasId.id_of g.T.Located.placed c.args.table c.args.rows.now.rows c.args.index c.in-Some.row.now x c.in-Some.ensures e c.in_order.ensures.ordered own c.id.result c.in-Some-least_rival.other c.id.ensures c.in-Some-least_rival.ensures
 
 pub returns-in-None-least_rival : goal.returns-in-None-least_rival
 returns-in-None-least_rival g c = λ x e.
     let own : same_table (table_of (g.T.Located.placed c.in-Some.row.now).vrf) c.args.table ≡ true =
     ap (λ (t : Table). same_table t c.args.table) (sym (c.of.ensures ∙ ap table_of c.vrf.ensures)) ∙ sym c.is_one_table.ensures ∙ c.if-not-is_one_table.false in
-    pair_none g.T.HasId.id_of g.T.Located.placed c.args.table c.args.rows.now.rows c.args.index c.in-Some.row.now x c.in-Some.ensures e c.len-ordered.ensures.ordered own c.in-None-least_rival.ensures
+    pair_none g.T.HasId.id_of g.T.Located.placed c.args.table c.args.rows.now.rows c.args.index c.in-Some.row.now x c.in-Some.ensures e c.in_order.ensures.ordered own c.in-None-least_rival.ensures
