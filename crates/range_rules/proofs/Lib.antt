@@ -1,0 +1,5 @@
+mod Counts
+mod Rows
+mod Lanes
+mod Entries
+mod Spanned
