@@ -1,9 +1,9 @@
 //! Ranges: runs of addresses of a table. Two of one table never share an address.
 
-ghost use Rattle.std.specs.Prelude.{◌≡◌, ℕ, ◌&&◌, ◌==◌, ◌∷◌, [], Some, None, IfOk, find, option_copied};
+ghost use Rattle.std.specs.Prelude.{◌≡◌, ◌==◌, ◌∷◌, [], Some, IfOk};
 ghost use Rattle.inet_num.specs.Net.{first_of, last_of};
 ghost use Rattle.ipam_data.specs.declared.kinds.Kind.TheVariants.{Vrfs, Roles, Ranges};
-ghost use Rattle.ipam_data.specs.Shelf.{is_rival, row_at};
+ghost use Rattle.ipam_data.specs.Shelf.{row_at};
 ghost use Rattle.ipam_data.specs.Rows.{vrf_id, role_id, range_id, range_status_number};
 ghost use Rattle.ipam_data.specs.Checks.{first, asks, no_such};
 ghost use Rattle.inet_num.specs.Blocks.{is_run_inside};
@@ -11,7 +11,7 @@ ghost use Rattle.ipam_data.specs.Plans.{change, replace};
 ghost use Rattle.ipam_data.specs.ByKind.{by_view};
 ghost use Rattle.ipam_data.specs.Fields.{drafted, told_of_draft, kind_of_draft, edited_range, told_of_change};
 ghost use Rattle.ipam_data.specs.Steps.{next_for, create_plan};
-ghost use Rattle.ipam_data.specs.Ranges.{range_rules, range_fault, range_told, range_family, crosses};
+ghost use Rattle.ipam_data.specs.Ranges.{range_rules, range_told, range_family};
 ghost use Rattle.register_shelves.specs.Held.{state_of};
 ghost use Rattle.register_plans.specs.Planned.{IsPlanned};
 ghost use Rattle.register_plans.specs.Meets.{range_meets};
@@ -25,36 +25,12 @@ use inet_num::{Addr, Block, is_in_run, is_one_family};
 use ipam_data::calls::{Draft, Edit, Filter};
 use ipam_data::edits::edited_value;
 use ipam_data::host::Host;
-use ipam_data::kinds::{Kind, Table, is_one_table};
+use ipam_data::kinds::Kind;
 use ipam_data::range::{IpRange, MOST_RANGES, RangeStatus};
 use ipam_data::replies::{Refusal, Rule, View};
 use register_shelves::Shelves;
 use row_book::Book;
 use std::alloc::AllocError;
-
-/// Whether the two are of one table and family, and neither ends before the other begins.
-fn is_crossing(row: &IpRange, other: &IpRange) -> bool
-    ensures { result ≡ crosses row.now other.now }
-{
-    is_one_table(Table::of(other.vrf), Table::of(row.vrf))
-        && is_one_family(other.ends.start().family(), row.ends.start().family())
-        && other.ends.start().value() <= row.ends.end().value()
-        && row.ends.start().value() <= other.ends.end().value()
-}
-
-/// Whether it is so, and the other one has another id.
-fn is_another(row: &IpRange, other: &IpRange) -> bool
-    ensures { result ≡ is_rival range_id crosses row.now other.now }
-{
-    other.id != row.id && is_crossing(row, other)
-}
-
-/// The first such row.
-fn rival<'a>(rows: &'a [IpRange], row: &IpRange) -> Option<&'a IpRange>
-    ensures { option_copied result ≡ find (is_rival range_id crosses row.now) rows.now }
-{
-    rows.iter().find(|other| is_another(row, other))
-}
 
 /// Why start and end make no range, by their families.
 fn family_fault(start: Addr, end: Addr) -> Option<Rule>
@@ -77,31 +53,6 @@ fn told(start: Host, end: Host) -> Option<Rule>
         return None;
     }
     Some(Rule::RangeMask)
-}
-
-/// The first rule past the rows that it names that a range breaks beside the rows of other ids.
-#[tactic(auto, unfolding(ipam_data::specs::Ranges::range_fault))]
-fn fault(rows: &[IpRange], row: &IpRange) -> Option<Rule>
-    ensures { result ≡ range_fault rows.now row.now }
-{
-    if let Some(rule) = family_fault(row.ends.start(), row.ends.end()) {
-        return Some(rule);
-    }
-    if row.ends.len() == 0 {
-        return Some(Rule::ZeroMask);
-    }
-    let first = row.ends.start().value();
-    let last = row.ends.end().value();
-    if last <= first {
-        return Some(Rule::RangeOrder);
-    }
-    if last - first >= 4_294_967_295 {
-        return Some(Rule::RangeSize);
-    }
-    match rival(rows, row) {
-        Some(other) => Some(Rule::RangeOverlap(other.id)),
-        None => None,
-    }
 }
 
 /// The first row that a range names and that is not there.
@@ -195,11 +146,11 @@ impl Registered for IpRange {
     }
 
     fn fault_new(&self, shelves: &Shelves) -> Option<Rule> {
-        fault(shelves.ranges().rows(), self)
+        shelves.ranges().fault(self)
     }
 
     fn fault_changed(&self, shelves: &Shelves) -> Option<Rule> {
-        fault(shelves.ranges().rows(), self)
+        shelves.ranges().fault(self)
     }
 
     fn user(_shelves: &Shelves, _id: u32) -> Option<Refusal> {

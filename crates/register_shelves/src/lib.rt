@@ -18,12 +18,12 @@ mod room;
 use address_rules::AddressBook;
 use aggregates::{AggregateBook, RirBook, RoleBook};
 use ipam_data::kinds::Kind;
-use ipam_data::range::IpRange;
 use ipam_data::replies::View;
 use ipam_data::update::Update;
 use prefix_rules::PrefixBook;
 use radix_tree::Tree;
-use row_book::{Book, RowBook};
+use range_rules::RangeBook;
+use row_book::Book;
 use std::alloc::Global;
 use std::marker::Model;
 use vrf_table::VrfBook;
@@ -47,7 +47,7 @@ pub struct Shelves {
     roles: RoleBook,
     aggregates: Aggregates,
     prefixes: Prefixes,
-    ranges: RowBook<IpRange>,
+    ranges: RangeBook,
     addresses: Addresses,
     next_vrf: u32,
     next_rir: u32,
@@ -85,7 +85,7 @@ impl Shelves {
             roles: RoleBook::new(alloc),
             aggregates: AggregateBook::new(alloc),
             prefixes: PrefixBook::new(alloc),
-            ranges: RowBook::new(alloc),
+            ranges: RangeBook::new(alloc),
             addresses: AddressBook::new(alloc),
             next_vrf: 1,
             next_rir: 1,
@@ -142,7 +142,7 @@ impl Shelves {
     }
 
     /// The book of ranges.
-    pub fn ranges(&self) -> &RowBook<IpRange>
+    pub fn ranges(&self) -> &RangeBook
         ensures { result.now ≡ self.now.ranges }
     {
         &self.ranges
