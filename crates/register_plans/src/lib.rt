@@ -7,10 +7,8 @@ mod aggregates;
 mod calls;
 mod dispatch;
 mod filters;
-mod planned;
 mod prefixes;
 mod ranges;
-mod references;
 mod registered;
 mod rirs;
 mod roles;
@@ -19,5 +17,4 @@ mod vrfs;
 
 pub use calls::broken;
 pub use dispatch::{broken_by_view, plan};
-pub use planned::Planned;
 pub use registered::Registered;

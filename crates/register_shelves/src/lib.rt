@@ -10,7 +10,10 @@ ghost use Rattle.register_shelves.specs.Held.{state_of, next_in, HasRoom};
 ghost use Rattle.prefix_rules.specs.Book.{IsInOrder};
 ghost use Rattle.address_rules.specs.Book.{IsInOrder as IsAddressOrder};
 
+mod claims;
 mod figures;
+mod planned;
+mod references;
 mod room;
 
 use address_rules::AddressBook;
@@ -21,8 +24,10 @@ use ipam_data::replies::View;
 use ipam_data::rir::Rir;
 use ipam_data::role::Role;
 use ipam_data::update::Update;
+pub use planned::Planned;
 use prefix_rules::PrefixBook;
 use radix_tree::Tree;
+pub use references::{missing_rir, missing_role, missing_vrf};
 use row_book::{Book, RowBook};
 use std::alloc::Global;
 use std::marker::Model;
