@@ -1,6 +1,7 @@
 -- What the checks of a claim come to where each of its parts is known, and the rows that it makes.
 use Rattle.std.proofs.Common.{◌≡◌, ℕ, zero, suc, ◌+◌, ◌<◌, ◌≤◌, nat_lt, nat_le, Bool, true, false, List, [], ◌∷◌, ◌++◌, map, take, length, get_or, Option, Some, None, refl, ap, sym, ◌∙◌, subst, arith, add-one, Result, Ok, Err, IfOk, if◌then◌else◌}
 use Rattle.std.proofs.lemmas.Bool.Decides.{nat_tests}
+use Rattle.std.proofs.lemmas.List.{map-append}
 use Rattle.std.specs.List.{flat_map}
 use Rattle.std.specs.declared.alloc.AllocError.{AllocError}
 use Rattle.inet_num.specs.Net.{Cidr, width_of}
@@ -169,7 +170,37 @@ pub views_more : (row : Prefix) (next i id : ℕ) (items : List BlockItem) (bloc
     → i < length items → length blocks ≡ length items → id ≡ next + i → item ≡ get_or items i item → block ≡ get_or blocks i block
     → old ≡ map prefix_rules.view (claimed_prefixes row next (take i items) blocks) → view ≡ prefix_rules.view (claimed_prefix row id item block) → new ≡ old ++ view ∷ []
     → new ≡ map prefix_rules.view (claimed_prefixes row next (take (i + 1) items) blocks)
-views_more row next i id items blocks item block old new view h k n e f o v w = ?
+views_more row next i id items blocks item block old new view h k n e f o v w =
+    w ∙ ap (λ (views : List View). views ++ view ∷ []) o
+    ∙ ap (λ (y : View). map prefix_rules.view (claimed_prefixes row next (take i items) blocks) ++ y ∷ []) v
+    ∙ sym (map-append prefix_rules.view (claimed_prefixes row next (take i items) blocks) (claimed_prefix row id item block ∷ []))
+    ∙ ap (λ (rows : List Prefix). map prefix_rules.view rows) (sym (more row next i id items blocks item block h (omega (arith, k)) n e f))
+    ∙ rw add-one refl
+
+-- ---- a claim of blocks
+
+module _ (s : State) (row : Prefix) (answered : Answered) (items : List BlockItem) where
+  -- each item got a block, beside a state that stayed
+  pub blocks_planned : (t : State) (fits blocks : List Cidr) (p : Result Planned AllocError) → t ≡ s → blocks ≡ fits → length blocks ≡ length items
+      → first (too_many Claims most_items (length items) ∷ flat_map (told_of_block s row) items) ≡ None
+      → IfOk p (λ q. IsPlanned (claim prefix_rules t [] (length items) answered (claimed_prefixes row t.prefixes.next items blocks)) q)
+      → IfOk p (λ q. IsPlanned (claim prefix_rules s (flat_map (told_of_block s row) items) (length items) answered (claimed_prefixes row s.prefixes.next items fits)) q)
+  blocks_planned t fits blocks p same found each e h =
+      let all : length fits ≡ length items = sym (ap length found) ∙ each in
+      claim_known prefix_rules s answered (flat_map (told_of_block s row) items) (length items) (claimed_prefixes row s.prefixes.next items fits) p e
+      (claimed_length row s.prefixes.next items fits (omega (arith, all)) ∙ all)
+      (subst (λ (bs : List Cidr). IfOk p (λ q. IsPlanned (claim prefix_rules s [] (length items) answered (claimed_prefixes row s.prefixes.next items bs)) q)) found
+      (subst (λ (u : State). IfOk p (λ q. IsPlanned (claim prefix_rules u [] (length items) answered (claimed_prefixes row u.prefixes.next items blocks)) q)) same h))
+
+  -- the first items alone got one
+  pub short_of_blocks : (fits : List Cidr) (p : Result Planned AllocError) → first (too_many Claims most_items (length items) ∷ flat_map (told_of_block s row) items) ≡ None
+      → IfOk p (λ q. (q ≡ Refused (NoSpace (length fits))) × (length fits < length items))
+      → IfOk p (λ q. IsPlanned (claim prefix_rules s (flat_map (told_of_block s row) items) (length items) answered (claimed_prefixes row s.prefixes.next items fits)) q)
+  short_of_blocks fits (Ok q) e h =
+      let less = h.1 in
+      short_planned prefix_rules s answered (flat_map (told_of_block s row) items) (length items) (length fits) (claimed_prefixes row s.prefixes.next items fits) (Ok q) e
+      (claimed_length row s.prefixes.next items fits (omega (arith, less))) h
+  short_of_blocks fits (Err f) e h = h
 
 -- ---- what is answered
 

@@ -1,5 +1,5 @@
 -- The blocks that count for a prefix or an aggregate, as a space has them and as the rows say.
-use Rattle.std.proofs.Common.{◌≡◌, ℕ, ◌&&◌, ◌||◌, ◌+◌, ◌-◌, ◌<◌, ◌≤◌, nat_le, Bool, true, false, not, cond, List, [], ◌∷◌, map, filter, Option, Some, option_map, refl, ap, sym, ◌∙◌, arith, Contains, IsPermutation, if◌then◌else◌}
+use Rattle.std.proofs.Common.{◌≡◌, ℕ, ◌&&◌, ◌||◌, ◌+◌, ◌-◌, ◌<◌, ◌≤◌, nat_le, Bool, true, false, not, cond, List, [], ◌∷◌, map, filter, Option, Some, option_map, refl, ap, sym, subst, ◌∙◌, arith, Contains, IsPermutation, if◌then◌else◌}
 use Rattle.std.proofs.lemmas.Bool.Decides.{nat_tests}
 use Rattle.std.proofs.lemmas.Nat.{pow_pos}
 use Rattle.inet_num.specs.declared.Family.{Family}
@@ -20,6 +20,7 @@ use Rattle.ipam_data.specs.Shelf.{row_at, AllAre}
 use Rattle.ipam_data.specs.Lawful.{IsPrefix}
 use Rattle.ipam_data.specs.Prefixes.{in_one_table, is_child}
 use Rattle.ipam_data.specs.Claims.{sees_all, is_child_prefix, child_blocks, own_blocks, aggregated_blocks}
+use Rattle.ipam_data.proofs.Kept.{found_there}
 use Rattle.ipam_data.proofs.Shelves.{contains_rest, contains_head}
 use Rattle.placed_book.specs.Book.{Placed, TableBlocks, placed_id, is_there, is_of, AreInOrder}
 use Rattle.placed_book.specs.Kinds.{placed_prefix}
@@ -29,7 +30,13 @@ use Rattle.placed_book.proofs.Rows.{found_row}
 use Rattle.register_shelves.specs.Beside.{blocks_in_table, blocks_in_all}
 use Rattle.register_claims.specs.Children.{IsThere, own_table_blocks, blocks_beside}
 
--- ---- a prefix that is there has its table
+-- ---- a prefix that is there is lawful, and has its table
+
+pub lawful_there : (rows : List Prefix) (row : Prefix) → AllAre IsPrefix rows → IsThere rows row → IsPrefix row
+lawful_there rows row each there = each row (found_there prefix_id rows row.id row there).0
+
+pub there_at : (rows : List Prefix) (n : ℕ) (row : Prefix) → row_at prefix_id rows n ≡ Some row → IsThere rows row
+there_at rows n row e = subst (λ (m : ℕ). row_at prefix_id rows m ≡ Some row) (sym (found_there prefix_id rows n row e).1) e
 
 pub table_there : (rows : List Prefix) (tables : List TableBlocks) (row : Prefix) → AreInOrder (map placed_prefix rows) tables → IsThere rows row → is_there tables (table_of row.vrf) ≡ true
 table_there rows tables row h there =
@@ -137,21 +144,28 @@ module _ (rows : List Prefix) (each : AllAre IsPrefix rows) where
       ∙ sym (through (is_child row) (is_of (table_of row.vrf) row.block.family) (λ b. is_strictly_inside b row.block)
       (λ x. in_table (same_table (table_of x.vrf) (table_of row.vrf)) (same_family x.block.family row.block.family) (is_strictly_inside x.block row.block) (strictly_again x.block row.block)) rows)
 
+  seen : (s : Bool) (row x : Prefix) → sees_all row ≡ s → is_child_prefix row x ≡ ((s || in_one_table row x) && is_strictly_inside x.block row.block)
+  seen s row x e = ap (λ (u : Bool). (u || in_one_table row x) && is_strictly_inside x.block row.block) e
+
+  -- where the rows of every table count, and where those of its own
+  pub all_counted : (row : Prefix) → IsBlock row.block → sees_all row ≡ true → counting_of (blocks_in_all rows row.block.family) row.block true ≡ child_blocks rows row
+  all_counted row hw e =
+      strictly row.block (blocks_in_all rows row.block.family) hw (of_family row.block.family (λ x. same_family x.block.family row.block.family) rows (all_family row.block.family) each)
+      ∙ sym (through (is_child_prefix row) (λ x. same_family x.block.family row.block.family) (λ b. is_strictly_inside b row.block)
+      (λ x. seen true row x e ∙ strictly_again x.block row.block) rows)
+
+  pub table_counted : (row : Prefix) → IsBlock row.block → sees_all row ≡ false → counting_of (own_table_blocks rows row) row.block true ≡ child_blocks rows row
+  table_counted row hw e =
+      strictly row.block (own_table_blocks rows row) hw (of_family row.block.family (is_of (table_of row.vrf) row.block.family) rows (table_family (table_of row.vrf) row.block.family) each)
+      ∙ sym (through (is_child_prefix row) (is_of (table_of row.vrf) row.block.family) (λ b. is_strictly_inside b row.block)
+      (λ x. seen false row x e ∙ in_table (same_table (table_of x.vrf) (table_of row.vrf)) (same_family x.block.family row.block.family) (is_strictly_inside x.block row.block) (strictly_again x.block row.block)) rows)
+
   pub beside_counted : (row : Prefix) → IsBlock row.block → counting_of (blocks_beside rows row) row.block true ≡ child_blocks rows row
   beside_counted row hw = go (sees_all row) refl
     where
-      seen : (s : Bool) → sees_all row ≡ s → (x : Prefix) → is_child_prefix row x ≡ ((s || in_one_table row x) && is_strictly_inside x.block row.block)
-      seen s e x = ap (λ (u : Bool). (u || in_one_table row x) && is_strictly_inside x.block row.block) e
-
       go : (s : Bool) → sees_all row ≡ s → counting_of (if s then blocks_in_all rows row.block.family else own_table_blocks rows row) row.block true ≡ child_blocks rows row
-      go true e =
-          strictly row.block (blocks_in_all rows row.block.family) hw (of_family row.block.family (λ x. same_family x.block.family row.block.family) rows (all_family row.block.family) each)
-          ∙ sym (through (is_child_prefix row) (λ x. same_family x.block.family row.block.family) (λ b. is_strictly_inside b row.block)
-          (λ x. seen true e x ∙ strictly_again x.block row.block) rows)
-      go false e =
-          strictly row.block (own_table_blocks rows row) hw (of_family row.block.family (is_of (table_of row.vrf) row.block.family) rows (table_family (table_of row.vrf) row.block.family) each)
-          ∙ sym (through (is_child_prefix row) (is_of (table_of row.vrf) row.block.family) (λ b. is_strictly_inside b row.block)
-          (λ x. seen false e x ∙ in_table (same_table (table_of x.vrf) (table_of row.vrf)) (same_family x.block.family row.block.family) (is_strictly_inside x.block row.block) (strictly_again x.block row.block)) rows)
+      go true e = all_counted row hw e
+      go false e = table_counted row hw e
 
   pub aggregate_counted : (row : Aggregate) → counting_of (blocks_in_all rows row.block.family) row.block false ≡ aggregated_blocks rows row
   aggregate_counted row =

@@ -32,7 +32,6 @@ fn available_in(shelves: &Shelves, row: &Prefix, limit: u32) -> Result<Vec<Block
     requires there { IsThere shelves.now.prefixes.rows row.now }
     ensures { IfOk result (λ v. v.items ≡ take limit (available_blocks_of row.now.block (child_blocks shelves.now.prefixes.rows row.now))) }
 {
-    let _lawful = row.block.len();
     let kids = space_beside(shelves.prefixes(), row);
     available_blocks(shelves.allocator(), kids, row.block, limit)
 }
@@ -65,7 +64,6 @@ fn fits(shelves: &mut Shelves, row: &Prefix, wanted: &[u8]) -> Result<Vec<Block>
     ensures ok { IfOk result (λ v. (v.items ≡ fits_of row.now.block (child_blocks shelves.old.prefixes.rows row.now) wanted.now) × (length v.items ≡ length wanted.now)) }
     ensures err { IfErr result (IsShort (length wanted.now) (length (fits_of row.now.block (child_blocks shelves.old.prefixes.rows row.now) wanted.now))) }
 {
-    let _lawful = row.block.len();
     let _order = shelves.prefixes();
     if sees_all(row) {
         return shelves.fits_in_all(row.block, wanted);

@@ -28,7 +28,6 @@ fn container_figure(shelves: &Shelves, row: &Prefix) -> u8
     requires there { IsThere shelves.now.prefixes.rows row.now }
     ensures { result ≡ percent_of (covered_of (own_blocks shelves.now.prefixes.rows row.now) row.now.block) (size_of row.now.block) }
 {
-    let _lawful = row.block.len();
     of_container(own_space(shelves.prefixes(), row), row.block)
 }
 
@@ -53,7 +52,6 @@ fn figure_of_aggregate(shelves: &Shelves, row: &Aggregate) -> u8
     requires there { row_at aggregate_id shelves.now.aggregates.rows row.now.id ≡ Some row.now }
     ensures { result ≡ aggregate_figure (state_of shelves.now) row.now }
 {
-    let _lawful = row.block.len();
     of_aggregate(shelves.prefixes().all(row.block.family()), row.block)
 }
 
