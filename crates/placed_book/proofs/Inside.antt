@@ -16,7 +16,7 @@ use Rattle.placed_book.proofs.Orders.{count_yes, count_no, count_alike}
 use Rattle.placed_book.proofs.Around.{shorter}
 
 -- what counts strictly is what lies strictly inside
-counts_strictly : (w b : Cidr) → IsBlock w → IsBlock b → b.family ≡ w.family → counts w true b ≡ is_strictly_inside b w
+pub counts_strictly : (w b : Cidr) → IsBlock w → IsBlock b → b.family ≡ w.family → counts w true b ≡ is_strictly_inside b w
 counts_strictly w b hw hb e = go (is_inside b w) refl (is_same b w) refl
   where
     only_inside : is_strictly_inside b w ≡ true → is_inside b w ≡ true

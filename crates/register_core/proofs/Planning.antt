@@ -15,14 +15,14 @@ use Rattle.ipam_data.specs.Lawful.{IsLawful}
 use Rattle.ipam_data.proofs.AllCalls.{steps_keep, calls_can}
 use Rattle.ipam_data.proofs.Sound.{nothing_done}
 use Rattle.ipam_stored.proofs.StoredLaws.{change_told, lawful_ordered}
-use Rattle.register_plans.specs.declared.planned.Planned.{Planned}
-use Rattle.register_plans.specs.declared.planned.Planned.TheVariants.{Read, Change}
+use Rattle.register_shelves.specs.declared.planned.Planned.{Planned}
+use Rattle.register_shelves.specs.declared.planned.Planned.TheVariants.{Read, Change}
 use Rattle.ipam_data.specs.declared.replies.Refusal.{Refusal}
 use Rattle.ipam_data.specs.declared.replies.Refusal.TheVariants.{Memory, Keeper}
 use Rattle.register_core.specs.declared.stop.Stop.{Stop}
 use Rattle.register_core.specs.declared.stop.Stop.TheVariants.{Memory as NoMemory, Keeper as KeeperStop}
 use Rattle.register_core.specs.Stops.{refusal_of}
-use Rattle.register_plans.specs.Planned.{IsPlanned, IsRead, IsChange}
+use Rattle.register_shelves.specs.Planned.{IsPlanned, IsRead, IsChange}
 use Rattle.register_core.specs.Kept.{Kept, Leads, IsLastChange}
 
 -- a change that was planned is that of the plan

@@ -7,6 +7,7 @@ mod log;
 mod machine;
 mod opening;
 mod passes;
+mod planning;
 mod register;
 mod stop;
 

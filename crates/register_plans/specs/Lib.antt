@@ -1,4 +1,3 @@
-pub mod Planned
 pub mod Pages
 pub mod Meets
 pub mod Broken

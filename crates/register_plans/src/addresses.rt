@@ -8,20 +8,18 @@ ghost use Rattle.ipam_data.specs.Plans.{change, nothing_told};
 ghost use Rattle.ipam_data.specs.Fields.{edited_address};
 ghost use Rattle.ipam_data.specs.Addresses.{address_rules, address_fault, has_role};
 ghost use Rattle.register_shelves.specs.Held.{state_of};
-ghost use Rattle.register_plans.specs.Planned.{IsPlanned};
+ghost use Rattle.register_shelves.specs.Planned.{IsPlanned};
 ghost use Rattle.register_plans.specs.Meets.{address_meets};
 
 use crate::calls::plan_replace;
 use crate::filters::{asks_family, asks_name, asks_parent, asks_text};
-use crate::planned::Planned;
-use crate::references::missing_vrf;
 use crate::registered::Registered;
 use address_rules::AddressRules;
 use ipam_data::address::{AddressRole, AddressStatus, IpAddress, MOST_ADDRESSES};
 use ipam_data::calls::{Edit, Filter};
 use ipam_data::kinds::{Kind, Table};
 use ipam_data::replies::{Refusal, Rule, View};
-use register_shelves::Shelves;
+use register_shelves::{Planned, Shelves, missing_vrf};
 use std::alloc::AllocError;
 use vrf_table::VrfRules;
 

@@ -5,20 +5,18 @@ ghost use Rattle.ipam_data.specs.Plans.{change, nothing_told};
 ghost use Rattle.ipam_data.specs.Fields.{edited_aggregate};
 ghost use Rattle.ipam_data.specs.Aggregates.{aggregate_rules};
 ghost use Rattle.register_shelves.specs.Held.{state_of};
-ghost use Rattle.register_plans.specs.Planned.{IsPlanned};
+ghost use Rattle.register_shelves.specs.Planned.{IsPlanned};
 ghost use Rattle.register_plans.specs.Meets.{aggregate_meets};
 
 use aggregates::AggregateRules;
 use crate::calls::plan_replace;
 use crate::filters::{asks_family, asks_id};
-use crate::planned::Planned;
-use crate::references::missing_rir;
 use crate::registered::Registered;
 use ipam_data::aggregate::{Aggregate, MOST_AGGREGATES};
 use ipam_data::calls::{Edit, Filter};
 use ipam_data::kinds::Kind;
 use ipam_data::replies::{Refusal, Rule, View};
-use register_shelves::Shelves;
+use register_shelves::{Planned, Shelves, missing_rir};
 use row_book::Book;
 use std::alloc::AllocError;
 

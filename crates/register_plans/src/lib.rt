@@ -7,10 +7,8 @@ mod aggregate;
 mod calls;
 mod dispatch;
 mod filters;
-mod planned;
 mod prefixes;
 mod ranges;
-mod references;
 mod registered;
 mod rirs;
 mod roles;
@@ -18,6 +16,5 @@ mod same;
 mod vrfs;
 
 pub use calls::broken;
-pub use dispatch::{broken_by_view, plan};
-pub use planned::Planned;
+pub use dispatch::{broken_by_view, plan_draft, plan_edit, plan_gone, plan_one, plan_page};
 pub use registered::Registered;

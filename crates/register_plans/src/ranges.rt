@@ -13,13 +13,11 @@ ghost use Rattle.ipam_data.specs.Fields.{drafted, told_of_draft, kind_of_draft, 
 ghost use Rattle.ipam_data.specs.Steps.{next_for, create_plan};
 ghost use Rattle.ipam_data.specs.Ranges.{range_rules, range_told, range_family};
 ghost use Rattle.register_shelves.specs.Held.{state_of};
-ghost use Rattle.register_plans.specs.Planned.{IsPlanned};
+ghost use Rattle.register_shelves.specs.Planned.{IsPlanned};
 ghost use Rattle.register_plans.specs.Meets.{range_meets};
 
 use crate::calls::{plan_create, plan_replace};
 use crate::filters::{asks_family, asks_name};
-use crate::planned::Planned;
-use crate::references::{missing_role, missing_vrf};
 use crate::registered::Registered;
 use inet_num::{Addr, Block, is_in_run, is_one_family};
 use ipam_data::calls::{Draft, Edit, Filter};
@@ -28,7 +26,7 @@ use ipam_data::host::Host;
 use ipam_data::kinds::Kind;
 use ipam_data::range::{IpRange, MOST_RANGES, RangeStatus};
 use ipam_data::replies::{Refusal, Rule, View};
-use register_shelves::Shelves;
+use register_shelves::{Planned, Shelves, missing_role, missing_vrf};
 use row_book::Book;
 use std::alloc::AllocError;
 

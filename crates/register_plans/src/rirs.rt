@@ -5,19 +5,18 @@ ghost use Rattle.ipam_data.specs.Plans.{change, nothing_told};
 ghost use Rattle.ipam_data.specs.Fields.{edited_rir};
 ghost use Rattle.ipam_data.specs.Rirs.{rir_rules};
 ghost use Rattle.register_shelves.specs.Held.{state_of};
-ghost use Rattle.register_plans.specs.Planned.{IsPlanned};
+ghost use Rattle.register_shelves.specs.Planned.{IsPlanned};
 ghost use Rattle.register_plans.specs.Meets.{rir_meets};
 
 use aggregates::{AggregateRules, RirRules};
 use crate::calls::plan_replace;
 use crate::filters::asks_text;
-use crate::planned::Planned;
 use crate::registered::Registered;
 use ipam_data::calls::{Edit, Filter};
 use ipam_data::kinds::Kind;
 use ipam_data::replies::{Refusal, Rule, View};
 use ipam_data::rir::{MOST_RIRS, Rir};
-use register_shelves::Shelves;
+use register_shelves::{Planned, Shelves};
 use row_book::Book;
 use std::alloc::AllocError;
 

@@ -9,13 +9,12 @@ ghost use Rattle.ipam_data.specs.Roles.{role_rules};
 ghost use Rattle.ipam_data.specs.Prefixes.{prefix_rules, prefixes_without_role};
 ghost use Rattle.ipam_data.specs.Ranges.{range_rules, ranges_without_role};
 ghost use Rattle.register_shelves.specs.Held.{state_of};
-ghost use Rattle.register_plans.specs.Planned.{IsPlanned};
+ghost use Rattle.register_shelves.specs.Planned.{IsPlanned};
 ghost use Rattle.register_plans.specs.Meets.{role_meets};
 
 use aggregates::RoleRules;
 use crate::calls::plan_replace;
 use crate::filters::asks_text;
-use crate::planned::Planned;
 use crate::registered::Registered;
 use crate::same::names;
 use ipam_data::calls::{Edit, Filter};
@@ -24,7 +23,7 @@ use ipam_data::prefix::Prefix;
 use ipam_data::range::IpRange;
 use ipam_data::replies::{Refusal, Rule, View};
 use ipam_data::role::{MOST_ROLES, Role};
-use register_shelves::{Prefixes, Shelves};
+use register_shelves::{Planned, Prefixes, Shelves};
 use row_book::Book;
 use std::alloc::AllocError;
 

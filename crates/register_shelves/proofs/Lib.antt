@@ -1,3 +1,5 @@
 pub mod Counting
 pub mod Putting
 pub mod Mapped
+pub mod Beside
+pub mod Firsts

@@ -1,2 +1,4 @@
 pub mod Held
 pub mod Counts
+pub mod Planned
+pub mod Beside

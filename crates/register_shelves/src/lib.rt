@@ -11,8 +11,11 @@ ghost use Rattle.prefix_rules.specs.Book.{IsInOrder};
 ghost use Rattle.address_rules.specs.Book.{IsInOrder as IsAddressOrder};
 ghost use Rattle.aggregates.specs.Book.{IsInOrder as IsAggregateOrder};
 
+mod claims;
 mod counts;
 mod figures;
+mod planned;
+mod references;
 mod room;
 
 use address_rules::AddressBook;
@@ -20,9 +23,11 @@ use aggregates::{AggregateBook, RirBook, RoleBook};
 use ipam_data::kinds::Kind;
 use ipam_data::replies::View;
 use ipam_data::update::Update;
+pub use planned::Planned;
 use prefix_rules::PrefixBook;
 use radix_tree::Tree;
 use range_rules::RangeBook;
+pub use references::{missing_rir, missing_role, missing_vrf};
 use row_book::Book;
 use std::alloc::Global;
 use std::marker::Model;

@@ -10,7 +10,7 @@ use Rattle.ipam_data.specs.Addresses.{address_rules}
 use Rattle.ipam_data.specs.Plans.{list}
 use Rattle.ipam_data.specs.Steps.{list_plan}
 use Rattle.register_shelves.specs.Held.{state_of}
-use Rattle.register_plans.specs.Planned.{IsPlanned}
+use Rattle.register_shelves.specs.Planned.{IsPlanned}
 use Rattle.register_plans.specs.Meets.{vrf_meets, rir_meets, role_meets, aggregate_meets, prefix_meets, range_meets, address_meets}
 use Rattle.register_plans.proofs.dispatch.plan_page.Goals as goal
 

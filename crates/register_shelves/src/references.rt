@@ -6,9 +6,9 @@ ghost use Rattle.ipam_data.specs.Checks.{no_such};
 ghost use Rattle.ipam_data.specs.Shelf.{row_at};
 ghost use Rattle.ipam_data.specs.Rows.{vrf_id, rir_id, role_id};
 
+use crate::Shelves;
 use ipam_data::kinds::Kind;
 use ipam_data::replies::Rule;
-use register_shelves::Shelves;
 use row_book::Book;
 
 /// The VRF that is named, where it is not there.

@@ -2,8 +2,8 @@
 use Rattle.std.specs.Prelude.{◌≡◌, Some, None, true, false}
 use Rattle.ipam_data.specs.State.{Plan, verdict_of, no_update}
 use Rattle.ipam_data.specs.Replays.{is_accepted}
-use Rattle.register_plans.specs.declared.planned.Planned.{Planned}
-use Rattle.register_plans.specs.declared.planned.Planned.TheVariants.{Refused, Read, Change}
+use Rattle.register_shelves.specs.declared.planned.Planned.{Planned}
+use Rattle.register_shelves.specs.declared.planned.Planned.TheVariants.{Refused, Read, Change}
 use Rattle.ipam_data.specs.declared.replies.Reply.{Reply}
 use Rattle.ipam_data.specs.declared.update.Update.{Update}
 

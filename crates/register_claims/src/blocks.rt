@@ -1,0 +1,153 @@
+//! The calls on the blocks of a prefix: which are free, and a claim of some.
+
+ghost use Rattle.std.specs.Prelude.{◌≡◌, ℕ, ◌+◌, ◌≤◌, ◌<◌, ◌^◌, [], IfOk, IfErr, length, take};
+ghost use Rattle.inet_num.specs.Free.{available_blocks_of};
+ghost use Rattle.block_space.specs.Fit.{fits_of};
+ghost use Rattle.block_claim.specs.Claims.{IsShort, FitInside};
+ghost use Rattle.ipam_data.specs.Lawful.{IsLawful};
+ghost use Rattle.ipam_data.specs.Shelf.{row_at};
+ghost use Rattle.ipam_data.specs.Rows.{prefix_id};
+ghost use Rattle.ipam_data.specs.Prefixes.{prefix_rules};
+ghost use Rattle.ipam_data.specs.Claims.{most_items, child_blocks, claimed_prefixes, claim, claim_blocks_of, blocks_plan, claim_blocks_plan};
+ghost use Rattle.register_shelves.specs.Held.{state_of};
+ghost use Rattle.register_shelves.specs.Planned.{IsPlanned};
+ghost use Rattle.register_claims.specs.Children.{IsThere};
+
+use crate::checks::{changed, no_place, served, stopped};
+use crate::children::{sees_all, space_beside};
+use crate::items::{claim_fault, claimed_views, lengths};
+use block_claim::ClaimFault;
+use free_space::available_blocks;
+use inet_num::Block;
+use ipam_data::calls::{Answered, BlockItem};
+use ipam_data::kinds::{Kind, Table};
+use ipam_data::prefix::{MOST_PREFIXES, Prefix};
+use ipam_data::replies::{Blocks, Refusal, Reply};
+use register_shelves::{Planned, Shelves};
+use std::alloc::AllocError;
+
+/// The first available blocks of a prefix that is there, at most `limit`. `Err` is want of memory.
+fn available_in(shelves: &Shelves, row: &Prefix, limit: u32) -> Result<Vec<Block>, AllocError>
+    requires lawful { IsLawful (state_of shelves.now) }
+    requires there { IsThere shelves.now.prefixes.rows row.now }
+    ensures { IfOk result (λ v. v.items ≡ take limit (available_blocks_of row.now.block (child_blocks shelves.now.prefixes.rows row.now))) }
+{
+    let kids = space_beside(shelves.prefixes(), row);
+    available_blocks(shelves.allocator(), kids, row.block, limit)
+}
+
+/// Reads the first available blocks of the prefix of an id, at most `limit`: the largest free ones, in order. `Err` is want of
+/// memory.
+pub fn plan_available_blocks(shelves: &Shelves, id: u32, limit: u32) -> Result<Planned, AllocError>
+    requires { IsLawful (state_of shelves.now) }
+    ensures { IfOk result (λ p. IsPlanned (blocks_plan (state_of shelves.now) id limit) p) }
+{
+    match shelves.prefixes().get(id) {
+        Some(row) => {
+            let list = available_in(shelves, row, limit)?;
+            Ok(Planned::Read(Reply::Blocks {
+                vrf: row.vrf,
+                list: Blocks::of(list),
+            }))
+        }
+        None => Ok(Planned::Refused(Refusal::NotFound(Kind::Prefixes, id))),
+    }
+}
+
+/// What lengths get in a prefix that is there, beside the prefixes that count for it.
+fn fits(shelves: &mut Shelves, row: &Prefix, wanted: &[u8]) -> Result<Vec<Block>, ClaimFault>
+    requires lawful { IsLawful (state_of shelves.old) }
+    requires there { IsThere shelves.old.prefixes.rows row.now }
+    requires lengths { FitInside row.now.block wanted.now }
+    requires few { length wanted.now ≤ most_items }
+    ensures state { state_of shelves.new ≡ state_of shelves.old }
+    ensures ok { IfOk result (λ v. (v.items ≡ fits_of row.now.block (child_blocks shelves.old.prefixes.rows row.now) wanted.now) × (length v.items ≡ length wanted.now)) }
+    ensures err { IfErr result (IsShort (length wanted.now) (length (fits_of row.now.block (child_blocks shelves.old.prefixes.rows row.now) wanted.now))) }
+{
+    let _order = shelves.prefixes();
+    if sees_all(row) {
+        return shelves.fits_in_all(row.block, wanted);
+    }
+    shelves.fits_in_table(Table::of(row.vrf), row.block, wanted)
+}
+
+/// Plans the prefixes of items that got a block each. `Err` is want of memory.
+fn plan_rows(
+    shelves: &Shelves,
+    row: &Prefix,
+    answered: Answered,
+    items: &[BlockItem],
+    blocks: &[Block],
+) -> Result<Planned, AllocError>
+    requires each { length blocks.now ≡ length items.now }
+    requires few { length items.now ≤ most_items }
+    ensures { IfOk result (λ p. IsPlanned (claim prefix_rules (state_of shelves.now) [] (length items.now) answered (claimed_prefixes row.now shelves.now.next_prefix items.now blocks.now)) p) }
+{
+    let wanted = items.len() as u32;
+    let next = shelves.next(Kind::Prefixes);
+    let count = shelves.prefixes().len();
+    match no_place(Kind::Prefixes, MOST_PREFIXES, count, next, shelves.spent(), wanted) {
+        Some(refusal) => return Ok(Planned::Refused(refusal)),
+        None => {}
+    }
+    let alloc = shelves.allocator();
+    let puts = claimed_views(alloc, row, next, items, blocks)?;
+    let again = claimed_views(alloc, row, next, items, blocks)?;
+    let reply = served(answered, again);
+    changed(alloc, puts, Kind::Prefixes, next + wanted, wanted, reply)
+}
+
+/// Plans a claim in a prefix that is there. `Err` is want of memory.
+fn plan_claimed(
+    shelves: &mut Shelves,
+    row: &Prefix,
+    answered: Answered,
+    items: &[BlockItem],
+) -> Result<Planned, AllocError>
+    requires lawful { IsLawful (state_of shelves.old) }
+    requires there { IsThere shelves.old.prefixes.rows row.now }
+    ensures state { state_of shelves.new ≡ state_of shelves.old }
+    ensures plan { IfOk result (λ p. IsPlanned (claim_blocks_of (state_of shelves.old) answered items.now row.now) p) }
+{
+    match claim_fault(shelves, row, items) {
+        Some(refusal) => return Ok(Planned::Refused(refusal)),
+        None => {}
+    }
+    let wanted = lengths(shelves.allocator(), items)?;
+    match fits(shelves, row, wanted.as_slice()) {
+        Ok(blocks) => plan_rows(shelves, row, answered, items, blocks.as_slice()),
+        Err(fault) => stopped(fault),
+    }
+}
+
+/// The prefix of an id, as a row of its own. `Err` is want of memory.
+fn prefix_of(shelves: &Shelves, id: u32) -> Result<Option<Prefix>, AllocError>
+    ensures { IfOk result (λ found. found ≡ row_at prefix_id shelves.now.prefixes.rows id) }
+{
+    match shelves.prefixes().get(id) {
+        Some(row) => {
+            let row = row.copy()?;
+            Ok(Some(row))
+        }
+        None => Ok(None),
+    }
+}
+
+/// Plans a claim of blocks in the prefix of an id: each item gets the lowest free block of its length beside the prefixes that
+/// count and the blocks of the items before it. The rows stay; a space of the book is lent to the plan, and no room is left in
+/// its table. `Err` is want of memory.
+pub fn plan_claim_blocks(
+    shelves: &mut Shelves,
+    id: u32,
+    answered: Answered,
+    items: &[BlockItem],
+) -> Result<Planned, AllocError>
+    requires { IsLawful (state_of shelves.old) }
+    ensures state { state_of shelves.new ≡ state_of shelves.old }
+    ensures plan { IfOk result (λ p. IsPlanned (claim_blocks_plan (state_of shelves.old) id answered items.now) p) }
+{
+    match prefix_of(shelves, id)? {
+        Some(row) => plan_claimed(shelves, &row, answered, items),
+        None => Ok(Planned::Refused(Refusal::NotFound(Kind::Prefixes, id))),
+    }
+}
