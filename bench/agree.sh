@@ -1,0 +1,16 @@
+#!/usr/bin/env bash
+# Random conversations with the built program (./ipamd builds it; IPAMD=PROGRAM takes another one) and with the plain register of
+# bench/plain_register.py, compared byte for byte: conflicts, clashes, overlaps, coincidences, full prefixes, roles that are removed and bad
+# values are frequent in them. It tells how many answers of each kind agreed, or the first that did not. The worked rows come first.
+#   bench/agree.sh [--streams N] [--requests N, at most 999] [--seed N] [--without-claims]
+set -euo pipefail
+top=$(cd "$(dirname "$0")/.." && pwd)
+program=${IPAMD:-$top/crates/ipamd/out/ipamd}
+[ -x "$program" ] || { echo "build the program first: ./ipamd free 10.0.0.0/8 </dev/null" >&2; exit 1; }
+rows=$top/bench/data/claims.
+for word in "$@"; do
+    [ "$word" != --without-claims ] || rows=$top/crates/ipamd/
+done
+python3 "$top/bench/worked_rows.py"
+"$program" session < "${rows}stdin" | cmp - "${rows}stdout"
+exec python3 "$top/bench/agree.py" --program "$program" "$@"
