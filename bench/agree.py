@@ -6,6 +6,7 @@ import random
 import re
 import subprocess
 import sys
+import tempfile
 from concurrent.futures import ThreadPoolExecutor
 
 from plain_register import Service, converse
@@ -146,7 +147,7 @@ class Talker:
     def claim(self, asked):
         if self.chance(0.5):
             return self.item(asked)
-        items = [self.item(asked) for _ in range(self.pick.choice([1, 2, 2, 3, 4, 9]) if self.chance(0.98) else self.pick.choice([0, 40, 1001]))]
+        items = [self.item(asked) for _ in range(self.pick.choice([1, 2, 2, 3, 4, 9]) if self.chance(0.95) else self.pick.choice([0, 40, 1001]))]
         return items if self.chance(0.98) else items + [self.pick.choice([5, [], None])]
 
     # -- targets
@@ -179,7 +180,7 @@ class Talker:
             # a table begins or ends to enforce
             body = self.text({"enforce_unique": self.chance(0.5)})
             return f"PATCH /api/ipam/vrfs/{self.number('vrfs')}/ HTTP/1.1\r\nHost: x\r\nContent-Length: {len(body)}\r\n\r\n".encode() + body
-        if self.claims and kind in FIGURES and self.chance(0.45):
+        if self.claims and kind in FIGURES and self.chance(0.5):
             asked = self.pick.choice(CLAIMS.get(kind, []) * 2 + ["utilization"])
             method = "GET" if asked == "utilization" else self.pick.choice(["GET", "POST"])
             body = self.text(self.claim(asked)) if method == "POST" else b""
@@ -201,6 +202,17 @@ class Talker:
         return f"{method} {target} HTTP/1.1\r\nHost: x\r\n{length}\r\n".encode() + body
 
 
+LIST = b"GET /api/ipam/vrfs/ HTTP/1.1\r\n"
+# what closes a connection; what stands behind it is not read
+CLOSINGS = [LIST + fields + b"\r\n" for fields in [
+    b"Connection: keep-alive, CLOSE\r\n", b"connection: x\r\nConnection:\tclose\r\n", b"Transfer-Encoding:\r\nContent-Length: x\r\n",
+    b"Content-Length: 1\r\ncontent-length: 1\r\n", b"Content-Length:\r\n", b"Content-Length: +1\r\n", b"Content-Length: 4194305\r\n",
+    b"Content-Length: 9999999999999999999\r\n", b"Content-Length: 00000000000000000001\r\n", b"X: " + b"a" * 16384 + b"\r\n"]]
+CLOSINGS += [b"DELETE /api/ipam/ip-addresses/1/ HTTP/1.0\r\nConnection: keep-alive\r\n\r\n", b"HEAD /x HTTP/1.0\r\n\r\n"]
+# what is cut by the end of the input
+CUT = [b"", LIST, LIST[:9], LIST + b"Content-Length: 4194304\r\n\r\nbody", b"G", LIST + b"X: " + b"a" * 16382]
+
+
 def first_difference(requests, ours, plain):
     """The request that is answered in two ways, and both answers."""
     for request, answer in zip(requests, plain):
@@ -210,18 +222,33 @@ def first_difference(requests, ours, plain):
     return f"behind the last answer of the plain register: {ours[:400]!r}"
 
 
-def agrees(seed, given):
-    unique = "yes" if seed % 4 else "no"
+def conversations(seed, given, unique):
+    """Random requests, as one conversation or, over a store, as two, of which the second begins with what the first left."""
     service = Service(unique == "yes", not given.without_claims)
-    talker, requests, plain = Talker(seed, service), [], []
+    talker, requests = Talker(seed, service), []
     for _ in range(given.requests):
         requests.append(talker.request())
-        plain += converse(requests[-1], service)
-    done = subprocess.run([given.program, "session", "--global-unique", unique], input=b"".join(requests), capture_output=True)
-    if done.returncode == 0 and done.stdout == b"".join(plain):
-        return None, plain
-    told = f"stream {seed}, --global-unique {unique}, status {done.returncode}\n"
-    return told + first_difference(requests, done.stdout, plain), plain
+        list(converse(requests[-1], service))
+    requests.append(talker.pick.choice([one + LIST + b"\r\n" for one in CLOSINGS] + CUT))
+    half = len(requests) // 2
+    return [requests[:half], requests[half:]] if given.stored else [requests]
+
+
+def agrees(seed, given):
+    """What differs, or None, and the answers of the plain register."""
+    unique, answers = "yes" if seed % 4 else "no", []
+    service = Service(unique == "yes", not given.without_claims)
+    with tempfile.TemporaryDirectory() as folder:
+        words = [given.program, "session", "--global-unique", unique] + (["--db", os.path.join(folder, "office.db")] if given.stored else [])
+        for requests in conversations(seed, given, unique):
+            service.register.place = service.register.spent = 0
+            plain = list(converse(b"".join(requests), service))
+            done = subprocess.run(words, input=b"".join(requests), capture_output=True)
+            if done.returncode != 0 or done.stdout != b"".join(plain):
+                told = f"stream {seed}, --global-unique {unique}, status {done.returncode} {done.stderr[:200]!r}\n"
+                return told + first_difference(requests, done.stdout, plain), answers
+            answers += plain
+    return None, answers
 
 
 def main():
@@ -231,6 +258,7 @@ def main():
     words.add_argument("--requests", type=int, default=300)
     words.add_argument("--seed", type=int, default=1)
     words.add_argument("--without-claims", action="store_true")
+    words.add_argument("--stored", action="store_true")
     given = words.parse_args()
     answers = {}
     with ThreadPoolExecutor(2) as pool:
