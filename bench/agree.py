@@ -21,6 +21,8 @@ STATUSES = ["container", "active", "reserved", "deprecated", "dhcp", "slaac"]
 CLAIMS = {"prefixes": ["available-prefixes", "available-ips"], "ip-ranges": ["available-ips"]}
 FIGURES = ["prefixes", "ip-ranges", "aggregates"]
 NOT_WELL = [None, "", 0, 1, -1, 7.5, "1", True, False, [], {}, "x" * 101, "x" * 201, "a\u0007", "\u20ac" * 90, 4294967295, 4294967296, 32767, 32768]
+# the bytes that a target may have
+PRINTED = range(0x21, 0x7F)
 FILTERS = {"vrfs": ["name", "rd"], "rirs": ["name", "slug"], "roles": ["name", "slug"], "aggregates": ["family", "rir_id"],
            "prefixes": ["family", "vrf_id", "status", "role_id", "prefix", "within", "within_include", "contains"],
            "ip-ranges": ["family", "vrf_id", "status", "role_id", "contains"],
@@ -137,7 +139,12 @@ class Talker:
         text = json.dumps(body, ensure_ascii=self.chance(0.3), separators=self.pick.choice([(",", ":"), (", ", ": ")]))
         if self.chance(0.01):
             text = self.pick.choice([text[:-1], text + "}", "[" + text + "]", "null", "", text.replace(":", ": 0", 1), '{"x":[1e999]}', '{"x":"\\udc00"}', '{"x":-0,"x":1}'])
-        return text.encode()
+        return self.mangled(text.encode(), range(256)) if self.chance(0.03) else text.encode()
+
+    def mangled(self, text, signs):
+        """The text with one byte put in, left out or replaced."""
+        at = self.pick.randint(0, len(text))
+        return text[:at] + self.pick.choice([b"", bytes([self.pick.choice(signs)]), bytes([self.pick.choice(b'"\\{}[]:,0-.eE+u%&=/')])]) + text[at + self.pick.choice([0, 1]):]
 
     def item(self, asked):
         if asked == "available-prefixes":
@@ -170,7 +177,8 @@ class Talker:
         pairs = [f"{name}={self.value(name)}" for name in self.pick.sample(names, self.pick.choice([0, 1, 1, 1, 2, 3]) % (len(names) + 1))]
         pairs += [f"{name}={self.value(name)}" for name in ("limit", "offset") if self.chance(0.4)]
         self.pick.shuffle(pairs)
-        return "?" + "&".join(pairs + self.pick.choice([[], [], [], ["x=1"], [""]])) if pairs else ""
+        text = "?" + "&".join(pairs + self.pick.choice([[], [], [], ["x=1"], [""]])) if pairs else ""
+        return self.mangled(text.encode(), PRINTED).decode() if self.chance(0.03) else text
 
     def request(self):
         kind = self.pick.choices(KINDS, WEIGHTS)[0]
@@ -180,13 +188,15 @@ class Talker:
             # a table begins or ends to enforce
             body = self.text({"enforce_unique": self.chance(0.5)})
             return f"PATCH /api/ipam/vrfs/{self.number('vrfs')}/ HTTP/1.1\r\nHost: x\r\nContent-Length: {len(body)}\r\n\r\n".encode() + body
-        if self.claims and kind in FIGURES and self.chance(0.5):
+        if self.claims and kind in FIGURES and self.chance(0.5 if self.rows[kind] else 0.1):
             asked = self.pick.choice(CLAIMS.get(kind, []) * 2 + ["utilization"])
             method = "GET" if asked == "utilization" else self.pick.choice(["GET", "POST"])
             body = self.text(self.claim(asked)) if method == "POST" else b""
             target += f"{self.row(kind)}/{asked}/" + (self.query([]) if self.chance(0.5) else "")
         else:
             method = self.pick.choices(["POST", "GET", "LIST", "PATCH", "DELETE", "PUT"], [10, 2, 5, 8, 2.5, 0.3])[0]
+            if len(self.rows[kind]) < 5 and self.chance(0.5):
+                method = "POST"
             if method == "POST" and len(self.rows[kind]) >= FEW.get(kind, 30):
                 method = self.pick.choice(["PATCH", "DELETE"])
             if method == "POST":
