@@ -10,6 +10,7 @@ import tempfile
 from concurrent.futures import ThreadPoolExecutor
 
 from plain_register import Service, converse
+from worked_rows import conversation
 
 KINDS = ["vrfs", "rirs", "roles", "aggregates", "prefixes", "ip-ranges", "ip-addresses"]
 # how often each is asked for, beside the others
@@ -261,6 +262,15 @@ def agrees(seed, given):
     return None, answers
 
 
+def check_rows(given):
+    """The worked rows, with the program's answers."""
+    found = conversation(not given.without_claims)
+    done = subprocess.run([given.program, "session"], input=b"".join(found.requests), capture_output=True)
+    if done.returncode != 0 or done.stdout != b"".join(found.answers):
+        sys.exit(f"agree: worked rows, status {done.returncode} {done.stderr[:200]!r}\n" + first_difference(found.requests, done.stdout, found.answers))
+    print(f"agree: {len(found.answers)} requests of the worked rows")
+
+
 def main():
     words = argparse.ArgumentParser()
     words.add_argument("--program", required=True)
@@ -270,6 +280,7 @@ def main():
     words.add_argument("--without-claims", action="store_true")
     words.add_argument("--stored", action="store_true")
     given = words.parse_args()
+    check_rows(given)
     answers = {}
     with ThreadPoolExecutor(2) as pool:
         for difference, plain in pool.map(lambda seed: agrees(seed, given), range(given.seed, given.seed + given.streams)):

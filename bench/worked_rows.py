@@ -19,6 +19,8 @@ from row_words import Raw, delete, request_of
 from worked_claims import CLAIM_GROUPS
 from worked_kinds import END, KIND_GROUPS
 
+# where the files are, and whether claims are in them
+FILES = {"crates/ipamd/": False, "bench/data/claims.": True}
 TOP = os.path.join(os.path.dirname(os.path.abspath(__file__)), "..")
 REMOVED = ["ip-addresses", "ip-ranges", "prefixes", "aggregates", "roles", "rirs", "vrfs"]
 WITHOUT_PLACE = ["bad_head", "too_large", "coding", "no_route", "method", "bad_json", "field", "host_bits"]
@@ -116,15 +118,15 @@ def conversation(claims):
 
 
 def main():
-    for claims, stdin, stdout in ((False, "crates/ipamd/stdin", "crates/ipamd/stdout"), (True, "bench/data/claims.stdin", "bench/data/claims.stdout")):
+    for path, claims in FILES.items():
         found = conversation(claims)
-        for path, text in ((stdin, b"".join(found.requests)), (stdout, b"".join(found.answers))):
-            path = os.path.join(TOP, path)
+        for name, text in (("stdin", b"".join(found.requests)), ("stdout", b"".join(found.answers))):
+            place = os.path.join(TOP, path + name)
             if sys.argv[1:] == ["--write"]:
-                with open(path, "wb") as file:
+                with open(place, "wb") as file:
                     file.write(text)
-            elif not os.path.exists(path) or open(path, "rb").read() != text:
-                sys.exit(f"worked_rows: {path} is not what the rows make; bench/worked_rows.py --write writes it")
+            elif not os.path.exists(place) or open(place, "rb").read() != text:
+                sys.exit(f"worked_rows: {path}{name} is not what the rows make; bench/worked_rows.py --write writes it")
         print(f"worked_rows: {len(found.answers)} requests {'with' if claims else 'without'} claims agree")
 
 
