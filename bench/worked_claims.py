@@ -1,5 +1,7 @@
 """Requests for what is available, for claims of it and for figures, with the answers that they have to have. bench/row_words.py says how a
 row is read."""
+from ipaddress import IPv6Address
+
 from row_words import BAD_JSON, NO_METHOD, NO_ROUTE, Group, ask, bad, delete, get, made, no, patch, post
 
 NOT_FIT = no("wanted_length", "the length does not fit the prefix")
@@ -68,6 +70,9 @@ SIX = Group("blocks of IPv6, and of the table of a VRF", [
     post("a host", "prefixes/@site/available-prefixes/", '{"prefix_length":128}', 201, {"prefix": "2001:db8:0:2::/128"}),
     post("a half, of which none is left", "prefixes/@site/available-prefixes/", '[{"prefix_length":33},{"prefix_length":33}]', 409, no_space(1)),
     get("with its VRF", "prefixes/@site/available-prefixes/?limit=1", 200, '[{"family":6,"prefix":"2001:db8:0:2::1/128","vrf":@red}]'),
+    made("prefixes", prefix="2001:db8::/32", keep="wide"),
+    made("prefixes", prefix="2001:db8::/128", keep="host"),
+    get("more than 50, without a limit", "prefixes/@wide/available-prefixes/", 200, [f"{IPv6Address('2001:db8::') + 2 ** n}/{128 - n}" for n in range(96)]),
 ])
 
 CONTAINER = Group("a container of the global table", [

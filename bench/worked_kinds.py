@@ -269,6 +269,8 @@ PAGES = Group("pages and links", [
     made("prefixes", prefix="10.0.1.0/24", keep="two"),
     made("prefixes", prefix="10.0.2.0/24", keep="three"),
     get("the first page", "prefixes/?limit=2", 200, {"count": 3, "next": "/api/ipam/prefixes/?limit=2&offset=2", "previous": None, "results": ["@one", "@two"]}),
+    get("a page that is just full", "prefixes/?limit=3", 200, {"next": None, "previous": None, "results": ["@one", "@two", "@three"]}),
+    get("a second one that is", "prefixes/?limit=1&offset=2", 200, {"next": None, "previous": "/api/ipam/prefixes/?limit=1&offset=1", "results": ["@three"]}),
     get("the last", "prefixes/?status=active&limit=2&offset=2", 200,
         {"count": 3, "next": None, "previous": "/api/ipam/prefixes/?status=active&limit=2&offset=0", "results": ["@three"]}),
     get("an offset that is less than a page", "prefixes/?offset=1", 200, {"next": None, "previous": "/api/ipam/prefixes/?limit=50&offset=0"}),
