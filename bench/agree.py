@@ -15,6 +15,11 @@ from worked_rows import conversation
 KINDS = ["vrfs", "rirs", "roles", "aggregates", "prefixes", "ip-ranges", "ip-addresses"]
 # how often each is asked for, beside the others
 WEIGHTS = [4, 2, 3, 3, 10, 6, 10]
+# what addresses and blocks are taken from, two for a conversation: a family, a first address, a length; small, or at an end of the family
+LANDS = [(4, 0x0A000000, 27), (4, 0x0A000000, 28), (4, 0xFFFFFFF0, 28), (4, 0, 29), (4, 0xC0000200, 24),
+         (6, 0x20010DB8 << 96, 124), (6, 2 ** 128 - 32, 123), (6, 0x20010DB8_00000000_00000001_00000000, 122)]
+DNS_NAMES = ["a", "A.b", "*.a", "a.", "x_1-2.Example.com", ""]
+NO_DNS_NAMES = [".", "a..b", "a.*", "*", "-", "a b", "\u00e9", "a" * 255, "a" * 256]
 # how many rows there are at most, before they are changed and removed in place of more
 FEW = {"vrfs": 3, "rirs": 3, "roles": 4, "aggregates": 5}
 ADDRESS_ROLES = ["loopback", "secondary", "anycast", "vip", "vrrp", "hsrp", "glbp", "carp"]
@@ -36,9 +41,7 @@ class Talker:
     def __init__(self, seed, service):
         self.pick = random.Random(seed)
         self.claims, self.rows = service.claims, service.register.rows
-        # the lands of a conversation, small or at an end of a family, or of the length of the longest text
-        self.lands = self.pick.sample([(4, 0x0A000000, 27), (4, 0x0A000000, 28), (4, 0xFFFFFFF0, 28), (4, 0, 29), (6, 0x20010DB8 << 96, 124), (6, 2 ** 128 - 32, 123),
-                                       (6, 0x20010DB8_00000000_00000001_00000000, 122), (4, 0xC0000200, 24)], 2)
+        self.lands = self.pick.sample(LANDS, 2)
 
     def chance(self, part):
         return self.pick.random() < part
@@ -98,7 +101,7 @@ class Talker:
         return self.pick.choice(["a", "b", "c", "A", "d e", "\u00e9", "a&b=c"])
 
     def dns_name(self):
-        return self.pick.choice(["a", "A.b", "*.a", "a.", "x_1-2.Example.com", ""] if self.chance(0.9) else [".", "a..b", "a.*", "*", "-", "a b", "\u00e9", "a" * 255, "a" * 256])
+        return self.pick.choice(DNS_NAMES if self.chance(0.9) else NO_DNS_NAMES)
 
     # -- bodies
 
@@ -139,13 +142,15 @@ class Talker:
     def text(self, body):
         text = json.dumps(body, ensure_ascii=self.chance(0.3), separators=self.pick.choice([(",", ":"), (", ", ": ")]))
         if self.chance(0.01):
-            text = self.pick.choice([text[:-1], text + "}", "[" + text + "]", "null", "", text.replace(":", ": 0", 1), '{"x":[1e999]}', '{"x":"\\udc00"}', '{"x":-0,"x":1}'])
+            text = self.pick.choice([text[:-1], text + "}", "[" + text + "]", "null", "", text.replace(":", ": 0", 1), '{"x":[1e999]}', '{"x":"\\udc00"}',
+                                     '{"x":-0,"x":1}'])
         return self.mangled(text.encode(), range(256)) if self.chance(0.03) else text.encode()
 
     def mangled(self, text, signs):
         """The text with one byte put in, left out or replaced."""
         at = self.pick.randint(0, len(text))
-        return text[:at] + self.pick.choice([b"", bytes([self.pick.choice(signs)]), bytes([self.pick.choice(b'"\\{}[]:,0-.eE+u%&=/')])]) + text[at + self.pick.choice([0, 1]):]
+        put_in = [b"", bytes([self.pick.choice(signs)]), bytes([self.pick.choice(b'"\\{}[]:,0-.eE+u%&=/')])]
+        return text[:at] + self.pick.choice(put_in) + text[at + self.pick.choice([0, 1]):]
 
     def item(self, asked):
         if asked == "available-prefixes":
@@ -165,7 +170,8 @@ class Talker:
             return self.pick.choice(["", "x", "null", "0", "01", "+1", "4294967296", "%ff", "%", "a%2", "%00"])
         values = {"name": self.name, "rd": lambda: self.pick.choice(["1:1", "1:2", ""]), "slug": lambda: self.pick.choice("abc"), "dns_name": self.dns_name,
                   "family": lambda: self.pick.choice("46"), "status": lambda: self.pick.choice(STATUSES), "role": lambda: self.pick.choice(ADDRESS_ROLES),
-                  "limit": lambda: self.pick.choice(["0", "1", "2", "3", "1001", "9999999999"]), "offset": lambda: self.pick.choice(["0", "1", "2", "7", "4294967295"])}
+                  "limit": lambda: self.pick.choice(["0", "1", "2", "3", "1001", "9999999999"]),
+                  "offset": lambda: self.pick.choice(["0", "1", "2", "7", "4294967295"])}
         if name in ("vrf_id", "role_id", "rir_id"):
             return "null" if self.chance(0.3) else str(self.number(name[:-3] + "s"))
         found = values.get(name, self.host if name == "contains" and self.chance(0.4) else self.block)()

@@ -1,10 +1,11 @@
 """The words in which bench/worked_kinds.py and bench/worked_claims.py say their rows.
 
 A row is a request and its answer, as it has to be. The path is that behind `/api/ipam/`. A body is a text that is sent as it stands, or a
-dict. What is wanted of the body of the answer is a text (all of it), a dict (these members, and others may stand beside them), a list
-(the blocks or addresses of a list of available things or of rows, in order), bytes (the whole answer), or nothing. `keep` is a name for the id of the row that is made:
-`@name` stands for that id from then on, in paths, bodies and answers. What a group made is removed at its end, so that each group begins
-with an empty register, but for the ids that were given.
+dict. What is wanted of the body of the answer is a text (all of it), a dict (these members, and others may stand beside them; the results
+of a page are their ids), a list (the blocks or addresses of a list, in order), bytes (the whole answer, with its head), or nothing.
+
+`keep` is a name for the id of the row that is made: `@name` stands for that id from then on, in paths, bodies and answers. What a group
+made is removed at its end, so that each group begins with an empty register, but for the ids that were given.
 """
 import json
 from dataclasses import dataclass
@@ -67,7 +68,7 @@ def bad(name):
 
 
 def made(kind, **members):
-    """The row that answers are compared with is made for the rows behind it, and its name is its id."""
+    """A row of the register that those behind it need."""
     keep = members.pop("keep")
     return post(f"{kind}: {keep}", f"{kind}/", members, 201, None, keep)
 
