@@ -1,5 +1,5 @@
-//! `ipamd` once more, without files and without a network, run on lines of which none is refused; `ipamd` itself is run on a refused
-//! one, so that each status is seen.
+//! `ipamd` once more, without files and without a network, run on lines of which one is refused; `ipamd` itself is run on a
+//! conversation that ends well, so that more than one status is seen.
 #![tactic(auto)]
 
 use ipam_command::program;
