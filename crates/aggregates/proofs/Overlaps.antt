@@ -1,12 +1,15 @@
 -- Aggregates that share addresses: of two blocks that do, one lies strictly inside the other, or they are one.
-use Rattle.std.proofs.Common.{◌≡◌, ℕ, ◌+◌, ◌-◌, ◌≤◌, ◌<◌, ◌==◌, ◌&&◌, ◌||◌, nat_lt, nat_le, Bool, true, false, not, cond, List, [], ◌∷◌, Contains, IsPermutation, Option, Some, None, find, map, filter, refl, ap, subst, sym, ◌∙◌, arith, inl, inr, ◌⊎◌, option_map}
+use Rattle.std.proofs.Common.{◌≡◌, ℕ, ◌+◌, ◌-◌, ◌≤◌, ◌<◌, ◌==◌, ◌&&◌, ◌||◌, nat_lt, nat_le, Bool, true, false, not, cond, List, [], ◌∷◌, length, Contains, IsPermutation, Option, Some, None, find, map, filter, MatchBool, IsSome, refl, ap, subst, sym, ◌∙◌, arith, inl, inr, ◌⊎◌, option_map}
 use Rattle.std.proofs.lemmas.Bool.{cases_lt}
 use Rattle.std.proofs.lemmas.Bool.Decides.{nat_tests}
 use Rattle.std.proofs.lemmas.Nat.{pow_pos}
-use Rattle.std.proofs.lemmas.List.Sorted.{Contains-permutation}
+use Rattle.std.proofs.lemmas.List.Sorted.{Contains-permutation, IsPermutation-refl}
+use Rattle.std.specs.List.{list_any, count_by, AllByRecursion}
 use Rattle.inet_num.specs.declared.Family.{Family}
+use Rattle.inet_num.specs.declared.Family.TheVariants.{V4, V6}
 use Rattle.inet_num.specs.Net.{Cidr, IsBlock, size_of, width_of, last_of}
-use Rattle.inet_num.specs.Blocks.{same_family, same_block, is_block_inside, is_strictly_inside}
+use Rattle.inet_num.specs.Blocks.{same_family, same_block, is_block_inside, is_strictly_inside, distinct}
+use Rattle.block_space.specs.Listed.{AreBlocksOf, IsBlockOf, around_of, counting_of}
 use Rattle.inet_num.proofs.Insides.{both, one_family, same_block-refl}
 use Rattle.inet_num.proofs.Numbers.{inside_by_ends}
 use Rattle.inet_num.proofs.Nested.{same_by_len}
@@ -19,6 +22,9 @@ use Rattle.ipam_data.proofs.Kept.{none_from_map}
 use Rattle.ipam_data.proofs.Shelves.{contains_head, contains_rest, contains_cases, find_none}
 use Rattle.placed_book.specs.Book.{Placed, blocks_of_rows, is_of}
 use Rattle.placed_book.proofs.Orders.{is_block}
+use Rattle.placed_book.proofs.Searches.{none_counted}
+use Rattle.placed_book.proofs.Around.{around_any_order}
+use Rattle.placed_book.proofs.Inside.{inside_any_order}
 use Rattle.placed_book.specs.Kinds.{placed_aggregate}
 use Rattle.placed_book.specs.Rivals.{is_rival as is_placed_rival}
 
@@ -73,14 +79,14 @@ strangers a b e = go a.family b.family e (nat_le b.first a.first) (nat_le (last_
 -- ---- what a list has
 
 contains_mapped : {X Y : Type 0} (f : X → Y) (xs : List X) (x : X) → Contains xs x → Contains (map f xs) (f x)
-contains_mapped f [] x c = c
+contains_mapped f [] x c = let h = c.1 in absurd (omega arith)
 contains_mapped {X} {Y} f (z ∷ zs) x c = elim (contains_cases z x zs c) [
   | inl is ↦ subst (λ (w : X). Contains (f z ∷ map f zs) (f w)) is (contains_head (f z) (map f zs))
   | inr later ↦ contains_rest (f z) (f x) (map f zs) (contains_mapped f zs x later)
 ]
 
 contains_kept : {X : Type 0} (p : X → Bool) (xs : List X) (x : X) → Contains xs x → p x ≡ true → Contains (filter p xs) x
-contains_kept p [] x c t = c
+contains_kept p [] x c t = let h = c.1 in absurd (omega arith)
 contains_kept {X} p (z ∷ zs) x c t = go (p z) refl (elim (contains_cases z x zs c) [ | inl is ↦ inl is | inr later ↦ inr (contains_kept p zs x later t) ]) where
   go : (b : Bool) → p z ≡ b → (z ≡ x) ⊎ Contains (filter p zs) x → Contains (cond b (z ∷ filter p zs) (filter p zs)) x
   go true e (inl is) = subst (λ (w : X). Contains (z ∷ filter p zs) w) is (contains_head z (filter p zs))
@@ -92,7 +98,48 @@ not_found : {X : Type 0} (p : X → Bool) (xs : List X) → ((x : X) → Contain
 not_found p [] h = refl
 not_found p (x ∷ xs) h = rw (h x (contains_head x xs)) (not_found p xs (λ y c. h y (contains_rest x y xs c)))
 
+each_of : {X : Type 0} (P : X → Type 0) (xs : List X) (x : X) → AllByRecursion P xs → Contains xs x → P x
+each_of P [] x h c = let less = c.1 in absurd (omega arith)
+each_of P (y ∷ ys) x h c = elim (contains_cases y x ys c) [ | inl is ↦ subst P is h.0 | inr later ↦ each_of P ys x h.1 later ]
+
+-- a list without different blocks is empty
+no_distinct : (bs : List Cidr) → distinct bs ≡ 0 → bs ≡ []
+no_distinct [] e = refl
+no_distinct (b ∷ bs) e = go (list_any (same_block b) bs) refl e (no_distinct bs) where
+  go : (t : Bool) → list_any (same_block b) bs ≡ t → cond t (distinct bs) (distinct bs + 1) ≡ 0 → (distinct bs ≡ 0 → bs ≡ []) → b ∷ bs ≡ []
+  go true t e ih = (let wrong : false ≡ true = sym (ap (λ (xs : List Cidr). list_any (same_block b) xs) (ih e)) ∙ t in cc)
+  go false t e ih = absurd (omega arith)
+
+not_kept : {X : Type 0} (p : X → Bool) (xs : List X) (x : X) → filter p xs ≡ [] → Contains xs x → p x ≡ false
+not_kept {X} p xs x e c = go (p x) refl where
+  go : (t : Bool) → p x ≡ t → p x ≡ false
+  go false h = h
+  go true h = (let k = subst (λ (ys : List X). Contains ys x) e (contains_kept p xs x c h) in let less = k.1 in absurd (omega arith))
+
+-- what a space says where it counts nothing
+pub are_beside : (family : Family) (block : Cidr) (held : List Cidr) (around inside : ℕ) → IsBlock block → block.family ≡ family → AreBlocksOf family held → around ≡ around_of held block → inside ≡ length (counting_of held block true)
+    → around ≡ 0 → inside ≡ 0 → (b : Cidr) → Contains held b → IsBlock b × (is_strictly_inside b block ≡ false) × (is_strictly_inside block b ≡ false)
+are_beside family block held around inside lawful own blocks e f none_around none_inside b c =
+    let same = IsPermutation-refl held in
+    let outer = no_distinct (filter (λ (x : Cidr). is_strictly_inside block x) held) (sym (around_any_order family block held held lawful own blocks same) ∙ sym e ∙ none_around) in
+    let inner = none_counted (λ (x : Cidr). is_strictly_inside x block) held (sym (inside_any_order family block held held lawful own blocks same) ∙ sym f ∙ none_inside) in
+    (
+      (each_of (IsBlockOf family) held b blocks c).lawful,
+      find_none (λ (x : Cidr). is_strictly_inside x block) held b inner c,
+      not_kept (λ (x : Cidr). is_strictly_inside block x) held b outer c,
+    )
+
 -- ---- the rows of a book
+
+-- a row whose block stands alone in the book, by the book's answer
+pub alone : (rows : List Aggregate) (row : Aggregate) (b : Bool) → b ≡ true
+    → MatchBool b (least aggregate_id (is_placed_rival aggregate_id placed_aggregate row) rows ≡ None) (IsSome (least aggregate_id (is_placed_rival aggregate_id placed_aggregate row) rows)) → least aggregate_id (is_placed_rival aggregate_id placed_aggregate row) rows ≡ None
+alone rows row true e h = h
+alone rows row false e h = cc
+
+pub turned_down : (b : Bool) → not b ≡ true → b ≡ false
+turned_down true e = cc
+turned_down false e = refl
 
 -- what a space says of the blocks that it has, beside one block
 abbrev pub AreBeside : Cidr → List Cidr → Type 0

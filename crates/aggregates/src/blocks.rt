@@ -1,6 +1,6 @@
 //! Aggregates: blocks that an operator has from registries. None shares an address with another.
 
-ghost use Rattle.std.specs.Prelude.{◌≡◌, ◌==◌, ◌×◌, ◌→◌, true, false, List, Contains, None, find, length, option_copied, slice_get};
+ghost use Rattle.std.specs.Prelude.{◌≡◌, ◌==◌, true, false, List, Contains, None};
 ghost use Rattle.inet_num.specs.Net.{Cidr, IsBlock};
 ghost use Rattle.inet_num.specs.Blocks.{is_strictly_inside};
 ghost use Rattle.ipam_data.specs.declared.aggregate.Aggregate.{Aggregate as SeenAggregate};
@@ -89,6 +89,13 @@ fn least_overlap<S: Space + Drop>(book: &AggregateBook<S>, row: &Aggregate) -> O
     None
 }
 
+/// Whether the aggregate is of the RIR of an id.
+fn is_of(row: &Aggregate, rir: u32) -> bool
+    ensures { result ≡ (row.now.rir == rir) }
+{
+    row.rir == rir
+}
+
 impl<S: Space + Drop> AggregateRules for AggregateBook<S> {
     ghost use Rattle.aggregates.specs.Book.{IsInOrder};
 
@@ -114,7 +121,7 @@ impl<S: Space + Drop> AggregateRules for AggregateBook<S> {
         let count = self.len();
         'rows: for index in 0..count {
             if let Some(row) = self.at(index) {
-                if row.rir == rir {
+                if is_of(row, rir) {
                     return Some(row.id);
                 }
             }
