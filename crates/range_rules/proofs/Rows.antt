@@ -1,5 +1,5 @@
 -- How many of the rows pass a test, with a row put in or taken out.
-use Rattle.std.proofs.Common.{◌≡◌, ℕ, ◌+◌, ◌<◌, ◌≤◌, ◌==◌, Bool, true, false, not, cond, List, [], ◌∷◌, None, Some, refl, ap, sym, ◌∙◌, arith, if◌then◌else◌, Contains}
+use Rattle.std.proofs.Common.{◌≡◌, ℕ, ◌+◌, ◌<◌, ◌≤◌, ◌==◌, Bool, true, false, not, cond, List, [], ◌∷◌, None, Some, refl, ap, sym, subst, ◌∙◌, arith, if◌then◌else◌, Contains}
 use Rattle.std.specs.List.{count_by}
 use Rattle.std.proofs.lemmas.Bool.Decides.{nat_tests}
 use Rattle.ipam_data.specs.declared.range.IpRange.{IpRange}
@@ -65,3 +65,11 @@ module _ (t : IpRange → Bool) where
     go : (s : Bool) → t x ≡ s → count_by t xs ≤ 1 → count_by t (x ∷ xs) ≤ 1
     go true s ih = let a = count_yes t x xs s in let b = none_contained t xs (λ y c. other s y c (t y) refl) in omega arith
     go false s ih = let a = count_no t x xs s in omega arith
+
+-- a row that is found is one
+pub found_there : (rows : List IpRange) (n : ℕ) (x : IpRange) → row_at range_id rows n ≡ Some x → Contains rows x
+found_there [] n x e = cc
+found_there (y ∷ ys) n x e = go (y.id == n) e (found_there ys n x) where
+  go : (t : Bool) → cond t (Some y) (row_at range_id ys n) ≡ Some x → (row_at range_id ys n ≡ Some x → Contains ys x) → Contains (y ∷ ys) x
+  go true e ih = (let is : y ≡ x = cc in subst (Contains (y ∷ ys)) is (contains_head y ys))
+  go false e ih = contains_rest y x ys (ih e)

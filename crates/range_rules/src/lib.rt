@@ -8,15 +8,19 @@ ghost use Rattle.ipam_data.specs.Ranges.{crosses, range_fault, ShareAddress};
 ghost use Rattle.ipam_data.specs.Lawful.{IsRange};
 ghost use Rattle.range_rules.specs.declared.Which.TheVariants.{All as EachOne, Marked as MarkedOnes};
 ghost use Rattle.range_rules.specs.declared.tracks.Entry.{Entry as SeenEntry};
+ghost use Rattle.ipam_data.specs.declared.range.IpRange.{IpRange as SeenRange};
+ghost use Rattle.range_rules.specs.Pieces.{ArePieces};
 ghost use Rattle.range_rules.specs.Spans.{AreSpansOf, is_meant};
 ghost use Rattle.range_rules.specs.Tracks.{entry_of, passes, one, one_of, IsTrackOf};
 
 mod crossing;
+mod pieces;
 mod tracks;
 
 use crate::crossing::{least_crossing, own_fault};
+use crate::pieces::pieces_of;
 use crate::tracks::{Entry, Track, lane_of};
-use inet_num::{Family, Span};
+use inet_num::{Block, Family, Span};
 use ipam_data::kinds::{HasId, Table};
 use ipam_data::range::IpRange;
 use ipam_data::replies::Rule;
@@ -142,6 +146,19 @@ impl RangeBook {
         match which {
             Which::All => self.all.lane(lane),
             Which::Marked => self.marked.lane(lane),
+        }
+    }
+
+    /// A range as blocks, in address order: the fewest that have just its addresses. The range of the id is there. `Err` is want of
+    /// memory.
+    pub fn pieces(&self, id: u32) -> Result<Vec<Block>, AllocError>
+        requires there { IsSome (row_at range_id self.now.rows id) }
+        requires each { AllAre IsRange self.now.rows }
+        ensures { IfOk result (λ v. (row : SeenRange) → row_at range_id self.now.rows id ≡ Some row → ArePieces row v.items) }
+    {
+        match self.rows.get(id) {
+            Some(row) => pieces_of(self.alloc, row),
+            None => unreachable!(),
         }
     }
 
