@@ -21,11 +21,11 @@ use Rattle.range_rules.specs.declared.Which.{Which}
 use Rattle.range_rules.specs.declared.Which.TheVariants.{All, Marked}
 use Rattle.range_rules.specs.declared.tracks.Entry.{Entry}
 use Rattle.range_rules.specs.Spans.{is_meant, is_spanned, span_of, spans_of_rows, AreSpansOf}
-use Rattle.range_rules.specs.Tracks.{lane_of, entry_of, is_in_lane, is_met, is_same, lane_spans, passes, one, one_of, IsTrackOf}
+use Rattle.range_rules.specs.Tracks.{lane_of, entry_of, is_in_lane, is_met, is_same, lane_spans, passes, one, one_of, IsKept, IsTrackOf}
 use Rattle.range_rules.proofs.Counts.{count_cons, count_yes, count_same, count_picked, none_contained, none_found, by_counts}
 use Rattle.range_rules.proofs.Rows.{count_without, count_with, at_least_once, at_most_once}
 use Rattle.range_rules.proofs.Lanes.{lane_same}
-use Rattle.range_rules.proofs.Entries.{is_same-refl, same_span, same_span-is, same_span-refl}
+use Rattle.range_rules.proofs.Entries.{is_same-is, is_same-refl, same_span, same_span-is, same_span-refl}
 
 -- ---- crossings
 
@@ -71,6 +71,15 @@ put_track which rows new old kept noted row n id t gone more is = λ p. (
     let d = count_with (passes which p) rows row in
     let e = ap (count_by (passes which p)) is in
     let f = ap (λ m. one_of (passes which p) (row_at range_id rows m)) id in
+    omega arith
+    )
+
+pub kept_track : (which : Which) (rows new : List IpRange) (entries : List Entry) (row : IpRange) → IsTrackOf which rows entries → IsKept rows row → new ≡ with_row range_id rows row → IsTrackOf which new entries
+kept_track which rows new entries row t kept is = λ p. (
+    let a = t p in
+    let b = kept which p in
+    let d = count_with (passes which p) rows row in
+    let e = ap (count_by (passes which p)) is in
     omega arith
     )
 

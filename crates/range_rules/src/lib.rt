@@ -1,8 +1,8 @@
 //! The ranges of the register: a book of rows that also keeps their spans in order, and the rules that it answers of ranges.
 #![tactic(auto)]
 
-ghost use Rattle.std.specs.Prelude.{◌≡◌, ℕ, ◌+◌, ◌≤◌, ◌&&◌, [], Bool, Some, IfOk, IsSome, count_by};
-ghost use Rattle.ipam_data.specs.Shelf.{AllAre, IsApart, Rises, least_rival, row_at};
+ghost use Rattle.std.specs.Prelude.{◌≡◌, ℕ, ◌+◌, ◌≤◌, ◌&&◌, [], Bool, Some, IfOk, IsSome, IsTrue, count_by};
+ghost use Rattle.ipam_data.specs.Shelf.{AllAre, IsApart, IsFitting, Rises, least_rival, row_at, with_row};
 ghost use Rattle.ipam_data.specs.Rows.{range_id};
 ghost use Rattle.ipam_data.specs.Ranges.{crosses, range_fault, ShareAddress};
 ghost use Rattle.ipam_data.specs.Lawful.{IsRange};
@@ -11,7 +11,7 @@ ghost use Rattle.range_rules.specs.declared.tracks.Entry.{Entry as SeenEntry};
 ghost use Rattle.ipam_data.specs.declared.range.IpRange.{IpRange as SeenRange};
 ghost use Rattle.range_rules.specs.Pieces.{ArePieces};
 ghost use Rattle.range_rules.specs.Spans.{AreSpansOf, is_meant};
-ghost use Rattle.range_rules.specs.Tracks.{entry_of, passes, one, one_of, IsTrackOf};
+ghost use Rattle.range_rules.specs.Tracks.{entry_of, passes, one, one_of, IsKept, IsTrackOf};
 
 mod crossing;
 mod pieces;
@@ -19,9 +19,9 @@ mod tracks;
 
 use crate::crossing::{least_crossing, own_fault};
 use crate::pieces::pieces_of;
-use crate::tracks::{Entry, Track, lane_of};
+use crate::tracks::{Entry, Track, is_same, lane_of};
 use inet_num::{Block, Family, Span};
-use ipam_data::kinds::{HasId, Table};
+use ipam_data::kinds::Table;
 use ipam_data::range::IpRange;
 use ipam_data::replies::Rule;
 use row_book::{Book, RowBook};
@@ -82,6 +82,17 @@ fn note(which: Which, track: &mut Track, row: &IpRange)
 {
     if is_meant(which, row) {
         track.insert(entry(row));
+    }
+}
+
+/// Whether the row of the row's id is there, with its span, its table and its mark.
+fn is_kept(rows: &RowBook<IpRange>, row: &IpRange) -> bool
+    ensures { IsTrue result → IsKept rows.now.rows row.now }
+{
+    match rows.get(row.id) {
+        Some(old) => is_same(&entry(old), &entry(row))
+            && is_meant(Which::Marked, old) == is_meant(Which::Marked, row),
+        None => false,
     }
 }
 
@@ -187,6 +198,36 @@ impl RangeBook {
         }
         None
     }
+
+    /// Puts a row where its span, its table and its mark stay: the tracks stay as they are.
+    fn put_in_place(&mut self, row: IpRange)
+        requires room { 1 ≤ self.old.spare }
+        requires id { 1 ≤ row.id }
+        requires fits { IsFitting range_id self.old.rows row }
+        requires kept { IsKept self.old.rows row }
+        ensures rows { self.new.rows ≡ with_row range_id self.old.rows row }
+        ensures spare { self.old.spare ≤ self.new.spare + 1 }
+    {
+        self.rows.put(row);
+        self.spare -= 1;
+    }
+
+    /// Puts a row, and takes its span out of where it was.
+    fn put_anew(&mut self, row: IpRange)
+        requires room { 1 ≤ self.old.spare }
+        requires id { 1 ≤ row.id }
+        requires fits { IsFitting range_id self.old.rows row }
+        ensures rows { self.new.rows ≡ with_row range_id self.old.rows row }
+        ensures spare { self.old.spare ≤ self.new.spare + 1 }
+    {
+        let _ordered = self.rows.len();
+        forget(&self.rows, Which::All, &mut self.all, row.id);
+        forget(&self.rows, Which::Marked, &mut self.marked, row.id);
+        note(Which::All, &mut self.all, &row);
+        note(Which::Marked, &mut self.marked, &row);
+        self.rows.put(row);
+        self.spare -= 1;
+    }
 }
 
 /// The rows stand side by side, and what changes them changes the tracks of their spans.
@@ -224,13 +265,11 @@ impl Book for RangeBook {
     }
 
     fn put(&mut self, row: IpRange) {
-        let _ordered = self.rows.len();
-        forget(&self.rows, Which::All, &mut self.all, row.id());
-        forget(&self.rows, Which::Marked, &mut self.marked, row.id());
-        note(Which::All, &mut self.all, &row);
-        note(Which::Marked, &mut self.marked, &row);
-        self.rows.put(row);
-        self.spare -= 1;
+        if is_kept(&self.rows, &row) {
+            self.put_in_place(row);
+        } else {
+            self.put_anew(row);
+        }
     }
 
     fn cut(&mut self, id: u32) -> Option<IpRange> {
