@@ -1,13 +1,13 @@
 -- A run of fewer than 2^32 numbers is covered by 64 blocks at most: from a number that many powers of two divide, one of each size
 -- downwards and one of each size upwards.
-use Rattle.std.proofs.Common.{◌≡◌, ℕ, zero, suc, ◌+◌, ◌-◌, ◌*◌, ◌/◌, ◌%◌, ◌^◌, ◌<◌, ◌≤◌, ◌==◌, nat_lt, nat_le, Bool, true, false, IsTrue, List, [], ◌∷◌, ◌++◌, length, refl, ap, sym, subst, ◌∙◌, arith}
+use Rattle.std.proofs.Common.{◌≡◌, ℕ, zero, suc, ◌+◌, ◌-◌, ◌*◌, ◌/◌, ◌%◌, ◌^◌, ◌<◌, ◌≤◌, nat_lt, Bool, true, false, IsTrue, List, [], ◌∷◌, ◌++◌, length, refl, ap, sym, ◌∙◌, arith}
 use Rattle.std.specs.List.{AllByRecursion}
 use Rattle.std.proofs.lemmas.Bool.Decides.{nat_tests}
 use Rattle.std.proofs.lemmas.Nat.{pow_pos, div-add-mod', mod-pow-add}
 use Rattle.std.proofs.lemmas.List.{length-append}
 use Rattle.std.proofs.Math.Nat.{add-mod_right, mul-mod_left, mod-lt, two-pow-succ}
 use Rattle.inet_num.specs.declared.Family.{Family}
-use Rattle.inet_num.specs.Net.{width_of, Cidr, IsBlock, size_of, HasAddress}
+use Rattle.inet_num.specs.Net.{width_of, Cidr, IsBlock, size_of}
 use Rattle.inet_num.specs.Free.{has_address, is_taken}
 use Rattle.span_set.proofs.Greedy.{All-more, taken_left, taken_right}
 

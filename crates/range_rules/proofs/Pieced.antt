@@ -4,7 +4,7 @@ use Rattle.std.specs.List.{AllByRecursion}
 use Rattle.std.proofs.lemmas.Bool.Decides.{nat_tests}
 use Rattle.std.proofs.lemmas.Nat.{pow_pos}
 use Rattle.inet_num.specs.declared.Family.{Family}
-use Rattle.inet_num.specs.Net.{width_of, Cidr, IsBlock, size_of, HasAddress}
+use Rattle.inet_num.specs.Net.{width_of, Cidr, IsBlock, size_of}
 use Rattle.inet_num.specs.Count.{numbers_from, addresses_of}
 use Rattle.inet_num.specs.Free.{InOrder, has_address, is_taken}
 use Rattle.inet_num.specs.declared.Family.TheVariants.{V4, V6}

@@ -1,5 +1,5 @@
 -- A range as blocks.
-use Rattle.std.specs.Prelude.{◌≡◌, ℕ, ◌+◌, ◌-◌, ◌≤◌, List, length}
+use Rattle.std.specs.Prelude.{◌≡◌, ◌+◌, ◌-◌, ◌≤◌, List, length}
 use Rattle.std.specs.List.{flat_map, AllByRecursion}
 use Rattle.inet_num.specs.Net.{Cidr, IsBlock}
 use Rattle.inet_num.specs.Count.{numbers_from, addresses_of}

@@ -1,5 +1,5 @@
 -- A track: the spans of ranges in the order of their lanes and first addresses. Each table has a lane for each family.
-use Rattle.std.specs.Prelude.{◌≡◌, ℕ, ◌+◌, ◌-◌, ◌*◌, ◌^◌, ◌<◌, ◌≤◌, ◌==◌, ◌&&◌, nat_le, Bool, List, [], ◌∷◌, Option, None, Some, map, filter, cond, length, slice_index_or, count_by}
+use Rattle.std.specs.Prelude.{◌≡◌, ℕ, ◌+◌, ◌*◌, ◌^◌, ◌<◌, ◌≤◌, ◌==◌, ◌&&◌, nat_le, Bool, List, [], ◌∷◌, Option, None, Some, map, filter, cond, length, slice_index_or, count_by}
 use Rattle.std.specs.List.Sorted.{IsPartitionPoint}
 use Rattle.inet_num.specs.declared.Family.{Family}
 use Rattle.inet_num.specs.declared.Family.TheVariants.{V4, V6}

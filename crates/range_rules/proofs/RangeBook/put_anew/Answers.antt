@@ -1,4 +1,4 @@
-use Rattle.std.proofs.Common.{◌≡◌, ◌≤◌, ◌+◌, arith, sym, refl, ap, ◌∙◌}
+use Rattle.std.proofs.Common.{arith, refl, ap}
 use Rattle.ipam_data.specs.declared.range.IpRange.{IpRange}
 use Rattle.row_book.specs.Book.{Book}
 use Rattle.range_rules.specs.declared.Which.TheVariants.{All, Marked}

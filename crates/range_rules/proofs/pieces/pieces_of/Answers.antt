@@ -1,4 +1,4 @@
-use Rattle.std.proofs.Common.{◌≡◌, ap, ◌∙◌}
+use Rattle.std.proofs.Common.{ap, ◌∙◌}
 use Rattle.inet_num.specs.Net.{Address}
 use Rattle.span_set.specs.Spans.{Spans}
 use Rattle.range_rules.proofs.Pieced.{just_from, pieces_ok}
