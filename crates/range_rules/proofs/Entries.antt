@@ -1,7 +1,7 @@
 -- Entries in order: what putting one in and taking one out does, the entries of a lane, and what meets a span.
-use Rattle.std.proofs.Common.{◌≡◌, ℕ, zero, suc, ◌+◌, ◌-◌, ◌*◌, ◌^◌, ◌<◌, ◌≤◌, ◌==◌, ◌&&◌, nat_lt, nat_le, not, IsFalse, Bool, true, false, cond, List, [], ◌∷◌, ◌++◌, length, map, filter, take, drop, get_or, insert, remove, refl, ap, sym, subst, ◌∙◌, arith}
-use Rattle.std.specs.List.{count_by, AllWithin}
-use Rattle.std.specs.List.Sorted.{IsNonDecreasingBy, IsPartitionPoint}
+use Rattle.std.proofs.Common.{◌≡◌, ℕ, zero, suc, ◌+◌, ◌-◌, ◌^◌, ◌<◌, ◌≤◌, ◌==◌, ◌&&◌, nat_lt, nat_le, not, IsFalse, Bool, true, false, cond, List, [], ◌∷◌, length, map, filter, take, drop, get_or, insert, remove, refl, ap, sym, subst, ◌∙◌, arith}
+use Rattle.std.specs.List.{count_by}
+use Rattle.std.specs.List.Sorted.{IsNonDecreasingBy}
 use Rattle.std.proofs.lemmas.Bool.Decides.{nat_tests}
 use Rattle.std.proofs.lemmas.List.{get_or-map, length-map, take-map, drop-map}
 use Rattle.std.proofs.lemmas.List.Edits.{length-remove, get_or-remove_below, get_or-remove_above}
@@ -9,7 +9,6 @@ use Rattle.std.proofs.lemmas.List.Elements.{filter_passes}
 use Rattle.std.proofs.lemmas.List.Sums.{sum_by-insert, sum_by-remove}
 use Rattle.std.proofs.lemmas.List.Sorted.{IsNonDecreasingBy-insert}
 use Rattle.std.proofs.lemmas.List.Kept.{IsNonDecreasingBy-filter}
-use Rattle.inet_num.specs.declared.Family.{Family}
 use Rattle.inet_num.specs.declared.Span.{Span}
 use Rattle.inet_num.specs.Net.{Address}
 use Rattle.inet_num.specs.Blocks.{same_family, same_address}
@@ -17,7 +16,7 @@ use Rattle.inet_num.proofs.Insides.{both, one_family, same_address-refl}
 use Rattle.row_book.proofs.Places.{eq_true, eq_false, any_default}
 use Rattle.range_rules.specs.declared.tracks.Entry.{Entry}
 use Rattle.range_rules.specs.Tracks.{number, low, high, is_in_lane, is_met, is_same, is_wild, lane_spans, AreSeparate, FitsAt, BeginBefore, EndBefore, one}
-use Rattle.range_rules.proofs.Counts.{count_none, count_none_before, none_counted}
+use Rattle.range_rules.proofs.Counts.{count_none, none_counted}
 
 -- ---- lists with one more, and with one less
 

@@ -3,3 +3,5 @@ mod Rows
 mod Lanes
 mod Entries
 mod Spanned
+mod Covered
+mod Pieced

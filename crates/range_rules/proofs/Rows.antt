@@ -1,10 +1,10 @@
 -- How many of the rows pass a test, with a row put in or taken out.
-use Rattle.std.proofs.Common.{◌≡◌, ℕ, ◌+◌, ◌<◌, ◌≤◌, ◌==◌, Bool, true, false, not, cond, List, [], ◌∷◌, None, Some, refl, ap, sym, ◌∙◌, arith, if◌then◌else◌, Contains}
+use Rattle.std.proofs.Common.{◌≡◌, ℕ, ◌+◌, ◌≤◌, ◌==◌, Bool, true, false, not, cond, List, [], ◌∷◌, Some, refl, ap, subst, ◌∙◌, arith, if◌then◌else◌, Contains}
 use Rattle.std.specs.List.{count_by}
 use Rattle.std.proofs.lemmas.Bool.Decides.{nat_tests}
 use Rattle.ipam_data.specs.declared.range.IpRange.{IpRange}
 use Rattle.ipam_data.specs.Rows.{range_id}
-use Rattle.ipam_data.specs.Shelf.{row_at, with_row, without, Rises}
+use Rattle.ipam_data.specs.Shelf.{row_at, with_row, without, Rises, AllBelow}
 use Rattle.ipam_data.proofs.Shelves.{contains_head, contains_rest}
 use Rattle.row_book.proofs.Places.{none_below, without_none, all_above}
 use Rattle.range_rules.specs.Tracks.{one, one_of}
@@ -65,3 +65,19 @@ module _ (t : IpRange → Bool) where
     go : (s : Bool) → t x ≡ s → count_by t xs ≤ 1 → count_by t (x ∷ xs) ≤ 1
     go true s ih = let a = count_yes t x xs s in let b = none_contained t xs (λ y c. other s y c (t y) refl) in omega arith
     go false s ih = let a = count_no t x xs s in omega arith
+
+-- a row that is found is one
+pub found_there : (rows : List IpRange) (n : ℕ) (x : IpRange) → row_at range_id rows n ≡ Some x → Contains rows x
+found_there [] n x e = cc
+found_there (y ∷ ys) n x e = go (y.id == n) e (found_there ys n x) where
+  go : (t : Bool) → cond t (Some y) (row_at range_id ys n) ≡ Some x → (row_at range_id ys n ≡ Some x → Contains ys x) → Contains (y ∷ ys) x
+  go true e ih = (let is : y ≡ x = cc in subst (Contains (y ∷ ys)) is (contains_head y ys))
+  go false e ih = contains_rest y x ys (ih e)
+
+-- a row above all, put in, is the last
+pub below_with : (rows : List IpRange) (row : IpRange) → AllBelow range_id row.id rows → AllBelow range_id (row.id + 1) (with_row range_id rows row)
+below_with [] row h = (omega arith, tt)
+below_with (x ∷ xs) row h = go (x.id == row.id) refl (below_with xs row h.1) where
+  go : (t : Bool) → (x.id == row.id) ≡ t → AllBelow range_id (row.id + 1) (with_row range_id xs row) → AllBelow range_id (row.id + 1) (if t then row ∷ xs else x ∷ with_row range_id xs row)
+  go true t ih = (let l = h.0 in let e : x.id ≡ row.id = grind (arith, nat_tests, t) in absurd (omega arith))
+  go false t ih = (let l = h.0 in omega arith, ih)

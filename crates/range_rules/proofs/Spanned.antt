@@ -1,11 +1,10 @@
 -- The spans of a table's ranges from the entries of its lane, and what a crossing is among entries.
-use Rattle.std.proofs.Common.{◌≡◌, ℕ, zero, suc, ◌+◌, ◌<◌, ◌≤◌, ◌==◌, ◌&&◌, nat_lt, nat_le, not, Bool, true, false, cond, List, [], ◌∷◌, Option, None, Some, length, map, filter, drop, get_or, option_map, refl, ap, sym, subst, ◌∙◌, arith, find, Contains, IsPermutation}
+use Rattle.std.proofs.Common.{◌≡◌, ℕ, suc, ◌+◌, ◌<◌, ◌≤◌, ◌==◌, ◌&&◌, nat_lt, nat_le, not, Bool, true, false, List, [], ◌∷◌, Option, None, Some, length, get_or, option_map, refl, ap, sym, ◌∙◌, arith}
 use Rattle.std.specs.List.{count_by}
 use Rattle.std.specs.List.Sorted.{IsNonDecreasingBy}
 use Rattle.std.proofs.lemmas.Bool.Decides.{nat_tests}
 use Rattle.inet_num.specs.declared.Family.{Family}
 use Rattle.inet_num.specs.declared.Span.{Span}
-use Rattle.inet_num.specs.Net.{Address}
 use Rattle.inet_num.specs.Blocks.{same_family}
 use Rattle.inet_num.proofs.Insides.{both, one_family}
 use Rattle.block_space.specs.Usable.{AreApart, is_in_span}
@@ -15,13 +14,13 @@ use Rattle.ipam_data.specs.declared.range.IpRange.{IpRange}
 use Rattle.ipam_data.specs.Rows.{range_id}
 use Rattle.ipam_data.specs.Tables.{table_of, same_table}
 use Rattle.ipam_data.specs.Shelf.{AllAre, IsApart, Rises, is_rival, least_rival, row_at, with_row, without}
-use Rattle.ipam_data.specs.Ranges.{crosses, RangeHas, ShareAddress}
+use Rattle.ipam_data.specs.Ranges.{crosses, ShareAddress}
 use Rattle.ipam_data.specs.Lawful.{IsRange}
 use Rattle.range_rules.specs.declared.Which.{Which}
-use Rattle.range_rules.specs.declared.Which.TheVariants.{All, Marked}
+use Rattle.range_rules.specs.declared.Which.TheVariants.{All}
 use Rattle.range_rules.specs.declared.tracks.Entry.{Entry}
 use Rattle.range_rules.specs.Spans.{is_meant, is_spanned, span_of, spans_of_rows, AreSpansOf}
-use Rattle.range_rules.specs.Tracks.{lane_of, entry_of, is_in_lane, is_met, is_same, lane_spans, passes, one, one_of, IsTrackOf}
+use Rattle.range_rules.specs.Tracks.{lane_of, entry_of, is_in_lane, is_met, is_same, lane_spans, passes, one, one_of, IsKept, IsTrackOf}
 use Rattle.range_rules.proofs.Counts.{count_cons, count_yes, count_same, count_picked, none_contained, none_found, by_counts}
 use Rattle.range_rules.proofs.Rows.{count_without, count_with, at_least_once, at_most_once}
 use Rattle.range_rules.proofs.Lanes.{lane_same}
@@ -71,6 +70,15 @@ put_track which rows new old kept noted row n id t gone more is = λ p. (
     let d = count_with (passes which p) rows row in
     let e = ap (count_by (passes which p)) is in
     let f = ap (λ m. one_of (passes which p) (row_at range_id rows m)) id in
+    omega arith
+    )
+
+pub kept_track : (which : Which) (rows new : List IpRange) (entries : List Entry) (row : IpRange) → IsTrackOf which rows entries → IsKept rows row → new ≡ with_row range_id rows row → IsTrackOf which new entries
+kept_track which rows new entries row t kept is = λ p. (
+    let a = t p in
+    let b = kept which p in
+    let d = count_with (passes which p) rows row in
+    let e = ap (count_by (passes which p)) is in
     omega arith
     )
 

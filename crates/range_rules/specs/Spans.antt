@@ -1,5 +1,5 @@
 -- The spans of a table's ranges of one family, all of them or those that count as full.
-use Rattle.std.specs.Prelude.{◌≡◌, ℕ, ◌+◌, ◌-◌, ◌==◌, nat_lt, nat_le, Bool, true, false, ◌&&◌, List, [], ◌∷◌, Option, Some, None, map, filter, IsPermutation, if◌then◌else◌}
+use Rattle.std.specs.Prelude.{◌+◌, ◌-◌, ◌==◌, nat_lt, nat_le, Bool, true, ◌&&◌, List, [], ◌∷◌, Option, Some, None, map, filter, IsPermutation, if◌then◌else◌}
 use Rattle.inet_num.specs.declared.Family.{Family}
 use Rattle.inet_num.specs.declared.Span.{Span}
 use Rattle.inet_num.specs.Blocks.{same_family}

@@ -1,5 +1,5 @@
 -- A track: the spans of ranges in the order of their lanes and first addresses. Each table has a lane for each family.
-use Rattle.std.specs.Prelude.{◌≡◌, ℕ, ◌+◌, ◌-◌, ◌*◌, ◌^◌, ◌<◌, ◌≤◌, ◌==◌, ◌&&◌, nat_le, Bool, List, [], ◌∷◌, Option, None, Some, map, filter, cond, length, slice_index_or, count_by}
+use Rattle.std.specs.Prelude.{◌≡◌, ℕ, ◌+◌, ◌*◌, ◌^◌, ◌<◌, ◌≤◌, ◌==◌, ◌&&◌, nat_le, Bool, List, [], ◌∷◌, Option, None, Some, map, filter, cond, length, slice_index_or, count_by}
 use Rattle.std.specs.List.Sorted.{IsPartitionPoint}
 use Rattle.inet_num.specs.declared.Family.{Family}
 use Rattle.inet_num.specs.declared.Family.TheVariants.{V4, V6}
@@ -9,6 +9,8 @@ use Rattle.ipam_data.specs.declared.kinds.Table.{Table}
 use Rattle.ipam_data.specs.declared.kinds.Table.TheVariants.{Global, Of}
 use Rattle.ipam_data.specs.declared.range.IpRange.{IpRange}
 use Rattle.ipam_data.specs.Tables.{table_of}
+use Rattle.ipam_data.specs.Rows.{range_id}
+use Rattle.ipam_data.specs.Shelf.{row_at}
 use Rattle.range_rules.specs.declared.Which.{Which}
 use Rattle.range_rules.specs.declared.tracks.Entry.{Entry}
 use Rattle.range_rules.specs.Spans.{is_meant, span_of}
@@ -98,3 +100,7 @@ IsTrackOf which rows entries = (p : Entry → Bool) → count_by p entries ≡ c
 abbrev pub one_of : (IpRange → Bool) → Option IpRange → ℕ
 one_of t None = 0
 one_of t (Some row) = one (t row)
+
+-- where the row is put, no track changes: one of its id is there, and the two pass the same tests
+abbrev pub IsKept : List IpRange → IpRange → Type 0
+IsKept rows row = (which : Which) (p : Entry → Bool) → one_of (passes which p) (row_at range_id rows row.id) ≡ one (passes which p row)

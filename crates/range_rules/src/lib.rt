@@ -1,23 +1,29 @@
 //! The ranges of the register: a book of rows that also keeps their spans in order, and the rules that it answers of ranges.
 #![tactic(auto)]
 
-ghost use Rattle.std.specs.Prelude.{◌≡◌, ℕ, ◌+◌, ◌≤◌, ◌&&◌, [], Bool, Some, IfOk, IsSome, count_by};
-ghost use Rattle.ipam_data.specs.Shelf.{AllAre, IsApart, Rises, least_rival, row_at};
+ghost use Rattle.std.specs.Prelude.{◌≡◌, ℕ, ◌+◌, ◌≤◌, ◌&&◌, [], Bool, Some, IfOk, IsSome, IsTrue, count_by};
+ghost use Rattle.ipam_data.specs.Shelf.{AllAre, IsApart, IsFitting, Rises, least_rival, row_at, with_row};
 ghost use Rattle.ipam_data.specs.Rows.{range_id};
 ghost use Rattle.ipam_data.specs.Ranges.{crosses, range_fault, ShareAddress};
 ghost use Rattle.ipam_data.specs.Lawful.{IsRange};
 ghost use Rattle.range_rules.specs.declared.Which.TheVariants.{All as EachOne, Marked as MarkedOnes};
 ghost use Rattle.range_rules.specs.declared.tracks.Entry.{Entry as SeenEntry};
+ghost use Rattle.ipam_data.specs.declared.range.IpRange.{IpRange as SeenRange};
+ghost use Rattle.range_rules.specs.Pieces.{ArePieces};
 ghost use Rattle.range_rules.specs.Spans.{AreSpansOf, is_meant};
-ghost use Rattle.range_rules.specs.Tracks.{entry_of, passes, one, one_of, IsTrackOf};
+ghost use Rattle.range_rules.specs.Tracks.{entry_of, passes, one, one_of, IsKept, IsTrackOf};
 
 mod crossing;
+mod pieces;
+#[cfg(test)]
+mod tests;
 mod tracks;
 
 use crate::crossing::{least_crossing, own_fault};
-use crate::tracks::{Entry, Track, lane_of};
-use inet_num::{Family, Span};
-use ipam_data::kinds::{HasId, Table};
+use crate::pieces::pieces_of;
+use crate::tracks::{Entry, Track, is_same, lane_of};
+use inet_num::{Block, Family, Span};
+use ipam_data::kinds::Table;
 use ipam_data::range::IpRange;
 use ipam_data::replies::Rule;
 use row_book::{Book, RowBook};
@@ -78,6 +84,17 @@ fn note(which: Which, track: &mut Track, row: &IpRange)
 {
     if is_meant(which, row) {
         track.insert(entry(row));
+    }
+}
+
+/// Whether the row of the row's id is there, with its span, its table and its mark.
+fn is_kept(rows: &RowBook<IpRange>, row: &IpRange) -> bool
+    ensures { IsTrue result → IsKept rows.now.rows row.now }
+{
+    match rows.get(row.id) {
+        Some(old) => is_same(&entry(old), &entry(row))
+            && is_meant(Which::Marked, old) == is_meant(Which::Marked, row),
+        None => false,
     }
 }
 
@@ -145,6 +162,19 @@ impl RangeBook {
         }
     }
 
+    /// A range as blocks, in address order: the fewest that have just its addresses. The range of the id is there. `Err` is want of
+    /// memory.
+    pub fn pieces(&self, id: u32) -> Result<Vec<Block>, AllocError>
+        requires there { IsSome (row_at range_id self.now.rows id) }
+        requires each { AllAre IsRange self.now.rows }
+        ensures { IfOk result (λ v. (row : SeenRange) → row_at range_id self.now.rows id ≡ Some row → ArePieces row v.items) }
+    {
+        match self.rows.get(id) {
+            Some(row) => pieces_of(self.alloc, row),
+            None => unreachable!(),
+        }
+    }
+
     /// The first rule past the rows that it names that a range breaks beside the rows of other ids: `RangeFamily`, `ZeroMask`,
     /// `RangeOrder`, `RangeSize`, or `RangeOverlap` with the least id of one of its table with which it shares an address. It takes no
     /// memory. That none crosses it is found by halving, as long as no two of a table do; else it looks at all rows.
@@ -169,6 +199,36 @@ impl RangeBook {
             return least_crossing(self.rows.rows(), row);
         }
         None
+    }
+
+    /// Puts a row where its span, its table and its mark stay: the tracks stay as they are.
+    fn put_in_place(&mut self, row: IpRange)
+        requires room { 1 ≤ self.old.spare }
+        requires id { 1 ≤ row.id }
+        requires fits { IsFitting range_id self.old.rows row }
+        requires kept { IsKept self.old.rows row }
+        ensures rows { self.new.rows ≡ with_row range_id self.old.rows row }
+        ensures spare { self.old.spare ≤ self.new.spare + 1 }
+    {
+        self.rows.put(row);
+        self.spare -= 1;
+    }
+
+    /// Puts a row, and takes its span out of where it was.
+    fn put_anew(&mut self, row: IpRange)
+        requires room { 1 ≤ self.old.spare }
+        requires id { 1 ≤ row.id }
+        requires fits { IsFitting range_id self.old.rows row }
+        ensures rows { self.new.rows ≡ with_row range_id self.old.rows row }
+        ensures spare { self.old.spare ≤ self.new.spare + 1 }
+    {
+        let _ordered = self.rows.len();
+        forget(&self.rows, Which::All, &mut self.all, row.id);
+        forget(&self.rows, Which::Marked, &mut self.marked, row.id);
+        note(Which::All, &mut self.all, &row);
+        note(Which::Marked, &mut self.marked, &row);
+        self.rows.put(row);
+        self.spare -= 1;
     }
 }
 
@@ -207,13 +267,11 @@ impl Book for RangeBook {
     }
 
     fn put(&mut self, row: IpRange) {
-        let _ordered = self.rows.len();
-        forget(&self.rows, Which::All, &mut self.all, row.id());
-        forget(&self.rows, Which::Marked, &mut self.marked, row.id());
-        note(Which::All, &mut self.all, &row);
-        note(Which::Marked, &mut self.marked, &row);
-        self.rows.put(row);
-        self.spare -= 1;
+        if is_kept(&self.rows, &row) {
+            self.put_in_place(row);
+        } else {
+            self.put_anew(row);
+        }
     }
 
     fn cut(&mut self, id: u32) -> Option<IpRange> {

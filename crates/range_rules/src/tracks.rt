@@ -68,7 +68,7 @@ fn is_before(a: Place, b: Place) -> bool
 }
 
 /// Whether the two are one.
-fn is_same(a: &Entry, b: &Entry) -> bool
+pub fn is_same(a: &Entry, b: &Entry) -> bool
     ensures { result ≡ is_same a.now b.now }
 {
     a.lane == b.lane

@@ -1,4 +1,4 @@
-use Rattle.std.proofs.Common.{◌≡◌, ap, sym, ◌∙◌, option_copied}
+use Rattle.std.proofs.Common.{ap, sym, ◌∙◌, option_copied}
 use Rattle.range_rules.proofs.Spanned.{is_noted}
 use Rattle.range_rules.proofs.forget.Goals as goal
 

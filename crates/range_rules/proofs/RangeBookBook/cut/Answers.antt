@@ -1,4 +1,4 @@
-use Rattle.std.proofs.Common.{◌≡◌, ◌≤◌, arith, sym, ◌∙◌}
+use Rattle.std.proofs.Common.{arith}
 use Rattle.range_rules.specs.declared.Which.TheVariants.{All, Marked}
 use Rattle.range_rules.proofs.Spanned.{cut_track}
 use Rattle.range_rules.proofs.RangeBookBook.cut.Goals as goal

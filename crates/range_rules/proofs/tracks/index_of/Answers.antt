@@ -1,4 +1,4 @@
-use Rattle.std.proofs.Common.{◌≡◌, ◌<◌, arith}
+use Rattle.std.proofs.Common.{arith}
 use Rattle.range_rules.specs.Tracks.{is_same}
 use Rattle.range_rules.proofs.Counts.{count_none_before}
 use Rattle.range_rules.proofs.Entries.{before_other}

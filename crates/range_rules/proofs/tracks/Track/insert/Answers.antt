@@ -1,6 +1,5 @@
-use Rattle.std.proofs.Common.{◌≡◌, ◌+◌, ◌≤◌, ◌<◌, ◌^◌, Bool, List, ap, sym, subst, ◌∙◌, arith}
-use Rattle.range_rules.specs.declared.tracks.Entry.{Entry}
-use Rattle.range_rules.specs.Tracks.{Listed, number}
+use Rattle.std.proofs.Common.{ap, arith}
+use Rattle.range_rules.specs.Tracks.{Listed}
 use Rattle.range_rules.proofs.Entries.{put_sorted, put_spans, put_separate, put_wild}
 use Rattle.range_rules.proofs.tracks.Track.insert.Goals as goal
 

@@ -1,4 +1,4 @@
-use Rattle.std.proofs.Common.{◌≡◌, ◌-◌, List, take, drop, ap, sym, subst, ◌∙◌}
+use Rattle.std.proofs.Common.{◌-◌, List, take, drop, ap, sym, subst, ◌∙◌}
 use Rattle.std.specs.List.Sorted.{IsNonDecreasingBy}
 use Rattle.inet_num.specs.declared.Span.{Span}
 use Rattle.range_rules.specs.Tracks.{Listed, lane_spans}

@@ -1,4 +1,4 @@
-use Rattle.std.proofs.Common.{◌≡◌, ap, sym, subst, ◌∙◌, arith}
+use Rattle.std.proofs.Common.{◌≡◌, sym, subst, ◌∙◌, arith}
 use Rattle.std.specs.List.{count_by}
 use Rattle.range_rules.specs.Tracks.{Listed, is_met}
 use Rattle.range_rules.proofs.Entries.{none_met, none_met_from, was_true}

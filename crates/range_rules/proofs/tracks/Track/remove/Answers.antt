@@ -1,7 +1,6 @@
-use Rattle.std.proofs.Common.{◌≡◌, ◌+◌, Bool, List, ap, sym, subst, ◌∙◌, arith}
+use Rattle.std.proofs.Common.{ap, ◌∙◌, arith}
 use Rattle.std.specs.List.{count_by}
-use Rattle.range_rules.specs.declared.tracks.Entry.{Entry}
-use Rattle.range_rules.specs.Tracks.{Listed, is_wild, one}
+use Rattle.range_rules.specs.Tracks.{Listed, is_wild}
 use Rattle.range_rules.proofs.Entries.{gone_counts, gone_sorted, gone_spans, gone_separate}
 use Rattle.range_rules.proofs.tracks.Track.remove.Goals as goal
 

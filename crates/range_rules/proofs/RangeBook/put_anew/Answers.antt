@@ -1,9 +1,9 @@
-use Rattle.std.proofs.Common.{◌≡◌, ◌≤◌, ◌+◌, arith, sym, ap, ◌∙◌}
+use Rattle.std.proofs.Common.{arith, refl, ap}
 use Rattle.ipam_data.specs.declared.range.IpRange.{IpRange}
 use Rattle.row_book.specs.Book.{Book}
 use Rattle.range_rules.specs.declared.Which.TheVariants.{All, Marked}
 use Rattle.range_rules.proofs.Spanned.{put_track}
-use Rattle.range_rules.proofs.RangeBookBook.put.Goals as goal
+use Rattle.range_rules.proofs.RangeBook.put_anew.Goals as goal
 
 pub invariant_of-self : goal.invariant_of-self
 invariant_of-self c =
@@ -18,6 +18,6 @@ invariant_of-self c =
       omega (arith, held.0),
       omega (arith, held.1),
       omega (arith, held.2),
-      put_track All rows c.put.new.self.rows c.self.inside.all.entries c.forget.new.track.entries c.note.new.track.entries c.args.row c.id.result c.id.ensures held.3 c.forget.ensures.counts c.note.ensures.counts c.put.ensures.rows,
-      put_track Marked rows c.put.new.self.rows c.self.inside.marked.entries c.forget-2.new.track.entries c.note-2.new.track.entries c.args.row c.id-2.result c.id-2.ensures held.4 c.forget-2.ensures.counts c.note-2.ensures.counts c.put.ensures.rows,
+      put_track All rows c.put.new.self.rows c.self.inside.all.entries c.forget.new.track.entries c.note.new.track.entries c.args.row c.args.row.id refl held.3 c.forget.ensures.counts c.note.ensures.counts c.put.ensures.rows,
+      put_track Marked rows c.put.new.self.rows c.self.inside.marked.entries c.forget-2.new.track.entries c.note-2.new.track.entries c.args.row c.args.row.id refl held.4 c.forget-2.ensures.counts c.note-2.ensures.counts c.put.ensures.rows,
     )
