@@ -35,8 +35,9 @@ use Rattle.register_claims.specs.Children.{IsThere, own_table_blocks, blocks_bes
 pub lawful_there : (rows : List Prefix) (row : Prefix) → AllAre IsPrefix rows → IsThere rows row → IsPrefix row
 lawful_there rows row each there = each row (found_there prefix_id rows row.id row there).0
 
-pub there_at : (rows : List Prefix) (n : ℕ) (row : Prefix) → row_at prefix_id rows n ≡ Some row → IsThere rows row
-there_at rows n row e = subst (λ (m : ℕ). row_at prefix_id rows m ≡ Some row) (sym (found_there prefix_id rows n row e).1) e
+-- what was found under an id is there under its own
+pub there_at : {T : Type 0} (id : T → ℕ) (rows : List T) (n : ℕ) (row : T) → row_at id rows n ≡ Some row → row_at id rows (id row) ≡ Some row
+there_at id rows n row e = subst (λ (m : ℕ). row_at id rows m ≡ Some row) (sym (found_there id rows n row e).1) e
 
 pub table_there : (rows : List Prefix) (tables : List TableBlocks) (row : Prefix) → AreInOrder (map placed_prefix rows) tables → IsThere rows row → is_there tables (table_of row.vrf) ≡ true
 table_there rows tables row h there =
