@@ -22,7 +22,7 @@ use Rattle.ipam_data.specs.Prefixes.{in_one_table, is_child}
 use Rattle.ipam_data.specs.Claims.{sees_all, is_child_prefix, child_blocks, own_blocks, aggregated_blocks}
 use Rattle.ipam_data.proofs.Kept.{found_there}
 use Rattle.ipam_data.proofs.Shelves.{contains_rest, contains_head}
-use Rattle.placed_book.specs.Book.{Placed, TableBlocks, placed_id, is_there, is_of, AreInOrder}
+use Rattle.placed_book.specs.Book.{Placed, TableBlocks, TabledRows, placed_id, is_there, is_of, AreInOrder}
 use Rattle.placed_book.specs.Kinds.{placed_prefix}
 use Rattle.placed_book.proofs.Inside.{counts_strictly}
 use Rattle.placed_book.proofs.Places.{places_at}
@@ -185,3 +185,14 @@ pub covered_beside : (within : Cidr) (strict : Bool) (blocks held counted : List
     → covered_of (counting_of held within strict) within ≡ covered_of counted within
 covered_beside within strict blocks held counted h e =
     sym (((answer_alike blocks held h).counting within strict).covered within) ∙ ap (λ (bs : List Cidr). covered_of bs within) e
+
+-- the same blocks, where the book is known under another name
+pub beside_in : (book known : TabledRows Prefix) (row : Prefix) (held : List Cidr) → book ≡ known → IsPermutation (blocks_beside book.rows row) held → IsPermutation (blocks_beside known.rows row) held
+beside_in book known row held e h = subst (λ (b : TabledRows Prefix). IsPermutation (blocks_beside b.rows row) held) e h
+
+pub own_in : (book known : TabledRows Prefix) (row : Prefix) (held : List Cidr) → book ≡ known → IsPermutation (own_table_blocks book.rows row) held → IsPermutation (own_table_blocks known.rows row) held
+own_in book known row held e h = subst (λ (b : TabledRows Prefix). IsPermutation (own_table_blocks b.rows row) held) e h
+
+pub all_in : (book known : TabledRows Prefix) (f g : Family) (held : List Cidr) → book ≡ known → f ≡ g → IsPermutation (blocks_in_all book.rows f) held → IsPermutation (blocks_in_all known.rows g) held
+all_in book known f g held e k h =
+    subst (λ (x : Family). IsPermutation (blocks_in_all known.rows x) held) k (subst (λ (b : TabledRows Prefix). IsPermutation (blocks_in_all b.rows f) held) e h)

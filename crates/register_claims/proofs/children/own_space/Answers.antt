@@ -9,5 +9,5 @@ unreachable-requires g c =
     let there : is_there c.args.book.now.tables c.of.result ≡ true =
     ap (λ (t : Table). is_there c.args.book.now.tables t) c.of.ensures
     ∙ table_there c.args.book.now.rows c.args.book.now.tables c.args.row.now c.requires.order.tables c.requires.there in
-    let wrong = (c.in-None.ensures tt).there.1 there in
+    let wrong = c.in-None.ensures.there.1 there in
     cc
