@@ -22,7 +22,7 @@ use Rattle.ipam_data.specs.Prefixes.{in_one_table, is_child}
 use Rattle.ipam_data.specs.Claims.{sees_all, is_child_prefix, child_blocks, own_blocks, aggregated_blocks}
 use Rattle.ipam_data.proofs.Kept.{found_there}
 use Rattle.ipam_data.proofs.Shelves.{contains_rest, contains_head}
-use Rattle.placed_book.specs.Book.{Placed, TableBlocks, placed_id, is_there, is_of, AreInOrder}
+use Rattle.placed_book.specs.Book.{Placed, TableBlocks, TabledRows, placed_id, is_there, is_of, AreInOrder}
 use Rattle.placed_book.specs.Kinds.{placed_prefix}
 use Rattle.placed_book.proofs.Inside.{counts_strictly}
 use Rattle.placed_book.proofs.Places.{places_at}
@@ -35,8 +35,9 @@ use Rattle.register_claims.specs.Children.{IsThere, own_table_blocks, blocks_bes
 pub lawful_there : (rows : List Prefix) (row : Prefix) → AllAre IsPrefix rows → IsThere rows row → IsPrefix row
 lawful_there rows row each there = each row (found_there prefix_id rows row.id row there).0
 
-pub there_at : (rows : List Prefix) (n : ℕ) (row : Prefix) → row_at prefix_id rows n ≡ Some row → IsThere rows row
-there_at rows n row e = subst (λ (m : ℕ). row_at prefix_id rows m ≡ Some row) (sym (found_there prefix_id rows n row e).1) e
+-- what was found under an id is there under its own
+pub there_at : {T : Type 0} (id : T → ℕ) (rows : List T) (n : ℕ) (row : T) → row_at id rows n ≡ Some row → row_at id rows (id row) ≡ Some row
+there_at id rows n row e = subst (λ (m : ℕ). row_at id rows m ≡ Some row) (sym (found_there id rows n row e).1) e
 
 pub table_there : (rows : List Prefix) (tables : List TableBlocks) (row : Prefix) → AreInOrder (map placed_prefix rows) tables → IsThere rows row → is_there tables (table_of row.vrf) ≡ true
 table_there rows tables row h there =
@@ -184,3 +185,14 @@ pub covered_beside : (within : Cidr) (strict : Bool) (blocks held counted : List
     → covered_of (counting_of held within strict) within ≡ covered_of counted within
 covered_beside within strict blocks held counted h e =
     sym (((answer_alike blocks held h).counting within strict).covered within) ∙ ap (λ (bs : List Cidr). covered_of bs within) e
+
+-- the same blocks, where the book is known under another name
+pub beside_in : (book known : TabledRows Prefix) (row : Prefix) (held : List Cidr) → book ≡ known → IsPermutation (blocks_beside book.rows row) held → IsPermutation (blocks_beside known.rows row) held
+beside_in book known row held e h = subst (λ (b : TabledRows Prefix). IsPermutation (blocks_beside b.rows row) held) e h
+
+pub own_in : (book known : TabledRows Prefix) (row : Prefix) (held : List Cidr) → book ≡ known → IsPermutation (own_table_blocks book.rows row) held → IsPermutation (own_table_blocks known.rows row) held
+own_in book known row held e h = subst (λ (b : TabledRows Prefix). IsPermutation (own_table_blocks b.rows row) held) e h
+
+pub all_in : (book known : TabledRows Prefix) (f g : Family) (held : List Cidr) → book ≡ known → f ≡ g → IsPermutation (blocks_in_all book.rows f) held → IsPermutation (blocks_in_all known.rows g) held
+all_in book known f g held e k h =
+    subst (λ (x : Family). IsPermutation (blocks_in_all known.rows x) held) k (subst (λ (b : TabledRows Prefix). IsPermutation (blocks_in_all b.rows f) held) e h)

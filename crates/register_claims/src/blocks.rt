@@ -86,7 +86,14 @@ fn plan_rows(
     let wanted = items.len() as u32;
     let next = shelves.next(Kind::Prefixes);
     let count = shelves.prefixes().len();
-    match no_place(Kind::Prefixes, MOST_PREFIXES, count, next, shelves.spent(), wanted) {
+    match no_place(
+        Kind::Prefixes,
+        MOST_PREFIXES,
+        count,
+        next,
+        shelves.spent(),
+        wanted,
+    ) {
         Some(refusal) => return Ok(Planned::Refused(refusal)),
         None => {}
     }
