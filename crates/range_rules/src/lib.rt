@@ -26,7 +26,7 @@ use inet_num::{Block, Family, Span};
 use ipam_data::kinds::Table;
 use ipam_data::range::IpRange;
 use ipam_data::replies::Rule;
-use row_book::{Book, RowBook};
+use row_book::{Book, RowBook, in_order};
 use std::alloc::{AllocError, Global};
 use std::marker::Model;
 
@@ -154,7 +154,7 @@ impl RangeBook {
         requires apart { IsApart range_id ShareAddress self.now.rows }
         ensures { AreSpansOf self.now.rows table family which result.now }
     {
-        let _ordered = self.rows.len();
+        in_order(&self.rows);
         let lane = lane_of(table, family);
         match which {
             Which::All => self.all.lane(lane),
@@ -222,7 +222,7 @@ impl RangeBook {
         ensures rows { self.new.rows ≡ with_row range_id self.old.rows row }
         ensures spare { self.old.spare ≤ self.new.spare + 1 }
     {
-        let _ordered = self.rows.len();
+        in_order(&self.rows);
         forget(&self.rows, Which::All, &mut self.all, row.id);
         forget(&self.rows, Which::Marked, &mut self.marked, row.id);
         note(Which::All, &mut self.all, &row);
@@ -275,7 +275,7 @@ impl Book for RangeBook {
     }
 
     fn cut(&mut self, id: u32) -> Option<IpRange> {
-        let _ordered = self.rows.len();
+        in_order(&self.rows);
         forget(&self.rows, Which::All, &mut self.all, id);
         forget(&self.rows, Which::Marked, &mut self.marked, id);
         self.rows.cut(id)

@@ -15,7 +15,7 @@ returns-in-All c =
     let entries = c.self.inside.all.entries in
     let rows = c.args.self.now.rows in
     let rows_is = ap (λ (b : Book IpRange). b.rows) c.self.view_is in
-    let ordered = subst (Rises range_id 0) rows_is c.len-ordered.ensures.ordered in
+    let ordered = subst (Rises range_id 0) rows_is c.in_order.ensures.ordered in
     let track = subst (λ (xs : List IpRange). IsTrackOf All xs entries) rows_is c.self.invariant.3 in
     let spans_are = c.lane.ensures.spans ∙ ap (λ (l : ℕ). lane_spans l entries) c.lane_of-lane.ensures.lane in
     subst (λ (w : Which). AreSpansOf rows c.args.table c.args.family w c.lane.result.now) (sym c.in-All.is)
@@ -26,7 +26,7 @@ returns-in-Marked c =
     let entries = c.self.inside.marked.entries in
     let rows = c.args.self.now.rows in
     let rows_is = ap (λ (b : Book IpRange). b.rows) c.self.view_is in
-    let ordered = subst (Rises range_id 0) rows_is c.len-ordered.ensures.ordered in
+    let ordered = subst (Rises range_id 0) rows_is c.in_order.ensures.ordered in
     let track = subst (λ (xs : List IpRange). IsTrackOf Marked xs entries) rows_is c.self.invariant.4 in
     let spans_are = c.lane-in-Marked.ensures.spans ∙ ap (λ (l : ℕ). lane_spans l entries) c.lane_of-lane.ensures.lane in
     subst (λ (w : Which). AreSpansOf rows c.args.table c.args.family w c.lane-in-Marked.result.now) (sym c.in-Marked.is)

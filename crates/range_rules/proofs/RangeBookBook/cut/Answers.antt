@@ -13,6 +13,6 @@ invariant_of-self c =
       omega (arith, held.0),
       omega (arith, held.1),
       omega (arith, held.2),
-      cut_track All rows c.cut.new.self.rows c.self.inside.all.entries c.forget.new.track.entries c.args.id c.len-ordered.ensures.ordered held.3 c.forget.ensures.counts c.cut.ensures.rows,
-      cut_track Marked rows c.cut.new.self.rows c.self.inside.marked.entries c.forget-2.new.track.entries c.args.id c.len-ordered.ensures.ordered held.4 c.forget-2.ensures.counts c.cut.ensures.rows,
+      cut_track All rows c.cut.new.self.rows c.self.inside.all.entries c.forget.new.track.entries c.args.id c.in_order.ensures.ordered held.3 c.forget.ensures.counts c.cut.ensures.rows,
+      cut_track Marked rows c.cut.new.self.rows c.self.inside.marked.entries c.forget-2.new.track.entries c.args.id c.in_order.ensures.ordered held.4 c.forget-2.ensures.counts c.cut.ensures.rows,
     )
