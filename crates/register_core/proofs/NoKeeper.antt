@@ -1,9 +1,13 @@
 -- No plan answers that the keeper failed: that answer is the keeper's alone.
-use Rattle.std.proofs.Common.{◌≡◌, ◌≢◌, ℕ, ◌+◌, Bool, true, false, nat_le, List, [], ◌∷◌, ◌++◌, map, length, Option, Some, None, option_map, refl, ◌∙◌, if◌then◌else◌}
+use Rattle.std.proofs.Common.{◌≡◌, ◌≢◌, ℕ, ◌+◌, Bool, true, false, nat_le, nat_lt, List, [], ◌∷◌, ◌++◌, map, length, Option, Some, None, option_map, refl, ◌∙◌, if◌then◌else◌}
 use Rattle.ipam_data.specs.declared.kinds.Kind.{Kind}
 use Rattle.ipam_data.specs.declared.kinds.Kind.TheVariants.{Vrfs, Rirs, Roles, Aggregates, Prefixes, Ranges, Addresses}
 use Rattle.ipam_data.specs.declared.calls.Call.{Call}
-use Rattle.ipam_data.specs.declared.calls.Call.TheVariants.{List as ListOf, Get, Create, Change, Delete}
+use Rattle.ipam_data.specs.declared.calls.Call.TheVariants.{List as ListOf, Get, Create, Change, Delete, Blocks as BlocksOf, PrefixAddrs, RangeAddrs, ClaimBlocks, ClaimPrefixAddrs, ClaimRangeAddrs, Utilization}
+use Rattle.ipam_data.specs.declared.calls.Answered.{Answered}
+use Rattle.ipam_data.specs.declared.calls.Answered.TheVariants.{AsOne, AsList}
+use Rattle.ipam_data.specs.declared.calls.BlockItem.{BlockItem}
+use Rattle.ipam_data.specs.declared.calls.AddrItem.{AddrItem}
 use Rattle.ipam_data.specs.declared.calls.Filter.{Filter}
 use Rattle.ipam_data.specs.declared.calls.Filter.TheVariants.{Vrfs as SomeVrfs, Rirs as SomeRirs, Roles as SomeRoles, Aggregates as SomeAggregates, Prefixes as SomePrefixes, Ranges as SomeRanges, Addresses as SomeAddresses}
 use Rattle.ipam_data.specs.declared.calls.Draft.{Draft}
@@ -13,13 +17,19 @@ use Rattle.ipam_data.specs.declared.replies.View.{View}
 use Rattle.ipam_data.specs.declared.replies.View.TheVariants.{Vrf as VrfView, Rir as RirView, Role as RoleView, Aggregate as AggregateView, Prefix as PrefixView, IpRange as RangeView, IpAddress as AddressView}
 use Rattle.ipam_data.specs.declared.replies.Which.{Which}
 use Rattle.ipam_data.specs.declared.replies.Refusal.{Refusal}
-use Rattle.ipam_data.specs.declared.replies.Refusal.TheVariants.{Keeper, Limit, InUse}
+use Rattle.ipam_data.specs.declared.replies.Refusal.TheVariants.{Keeper, Limit, InUse, NoSpace}
+use Rattle.ipam_data.specs.declared.replies.Which.TheVariants.{Claims}
+use Rattle.ipam_data.specs.declared.prefix.Prefix.{Prefix}
+use Rattle.ipam_data.specs.declared.range.IpRange.{IpRange}
+use Rattle.inet_num.specs.declared.Family.{Family}
+use Rattle.std.specs.List.{flat_map}
+use Rattle.ipam_data.specs.Claims.{claim, served, most_items, no_space, told_of_block, told_of_address, claim_blocks_of, claim_addresses_of, usable_in, usable_of_range, prefix_figure, range_figure, aggregate_figure, figure_plan, utilization_plan, claim_blocks_plan, claim_prefix_addrs_plan, claim_range_addrs_plan}
 use Rattle.ipam_data.specs.declared.replies.Reply.{Reply}
 use Rattle.ipam_data.specs.declared.replies.Reply.TheVariants.{Made, MadeMany, Changed, Gone, Imported, One, Page, Blocks, Addrs, Percent, Refused}
 use Rattle.ipam_data.specs.Shelf.{row_at}
 use Rattle.ipam_data.specs.Checks.{first, too_many, no_ids, no_log, breaks}
 use Rattle.ipam_data.specs.State.{State, Plan, verdict_of}
-use Rattle.ipam_data.specs.Plans.{KindRules, broken, no_seats, create, replace, change, take_out, delete, get, list, with_found, nothing_told}
+use Rattle.ipam_data.specs.Plans.{KindRules, broken, no_seats, no_place, create, replace, change, take_out, delete, get, list, with_found, nothing_told}
 use Rattle.ipam_data.specs.Vrfs.{vrf_rules}
 use Rattle.ipam_data.specs.Rirs.{rir_rules}
 use Rattle.ipam_data.specs.Roles.{role_rules}
@@ -83,24 +93,39 @@ never_outcome s plan p = go (verdict_of plan) refl
     go (Some refusal) e = λ h. p.checks (e ∙ (let h : Refused refusal ≡ Refused Keeper = rw (e, outcome) at h in cc))
     go None e = λ h. answered_alike (updated s plan.update) plan.reply (p.reply e) (rw (e, outcome) at h)
 
-module _ {T : Type 0} (rules : KindRules T) (s : State) where
-  never_log : first (no_log s.spent 1 ∷ []) ≢ Some Keeper
-  never_log = never_one (no_log s.spent 1) (never_many _ _ _)
+never_short : (wanted got : ℕ) → no_space wanted got ≢ Some Keeper
+never_short wanted got = go (nat_lt got wanted) where
+  go : (t : Bool) → (if t then Some (NoSpace got) else None) ≢ Some Keeper
+  go true = λ e. cc
+  go false = λ e. cc
 
-  never_seats : first (no_seats rules s 1) ≢ Some Keeper
-  never_seats =
-      never_append (too_many _ rules.most (length (rules.shelf s).rows + 1) ∷ []) (no_ids (rules.shelf s).next 1 ∷ []) (never_one (too_many _ rules.most (length (rules.shelf s).rows + 1)) (never_many _ _ _))
-      (never_one (no_ids (rules.shelf s).next 1) (limited (nat_le _ _) _ _))
+never_served : (form : Answered) (views : List View) (refusal : Refusal) → served form views ≢ Refused refusal
+never_served AsOne (view ∷ views) refusal = λ e. cc
+never_served AsOne [] refusal = λ e. cc
+never_served AsList views refusal = λ e. cc
+
+never_told : {A : Type 0} (told : A → List (Option Refusal)) (items : List A) → ((item : A) → first (told item) ≢ Some Keeper) → first (flat_map told items) ≢ Some Keeper
+never_told told [] h = λ e. cc
+never_told told (item ∷ items) h = never_append (told item) (flat_map told items) (h item) (never_told told items h)
+
+module _ {T : Type 0} (rules : KindRules T) (s : State) where
+  never_log : (more : ℕ) → first (no_log s.spent more ∷ []) ≢ Some Keeper
+  never_log more = never_one (no_log s.spent more) (never_many _ _ _)
+
+  never_seats : (more : ℕ) → first (no_seats rules s more) ≢ Some Keeper
+  never_seats more =
+      never_append (too_many _ rules.most (length (rules.shelf s).rows + more) ∷ []) (no_ids (rules.shelf s).next more ∷ []) (never_one (too_many _ rules.most (length (rules.shelf s).rows + more)) (never_many _ _ _))
+      (never_one (no_ids (rules.shelf s).next more) (limited (nat_le _ _) _ _))
 
   create_rules : (told : List (Option Rule)) (row : T) → IsOfRules (create rules s told row)
   create_rules told row = record {
-    checks = never_append (broken rules s None told row ++ no_seats rules s 1) (no_log s.spent 1 ∷ []) (never_append (broken rules s None told row) (no_seats rules s 1) (never_breaks (rules.references s row ++ told ++ rules.faults s None row)) never_seats) never_log;
+    checks = never_append (broken rules s None told row ++ no_seats rules s 1) (no_log s.spent 1 ∷ []) (never_append (broken rules s None told row) (no_seats rules s 1) (never_breaks (rules.references s row ++ told ++ rules.faults s None row)) (never_seats 1)) (never_log 1);
     reply = λ v refusal e. cc;
   }
 
   replace_rules : (old : T) (told : List (Option Rule)) (row : T) → IsOfRules (replace rules s old told row)
   replace_rules old told row = record {
-    checks = never_append (broken rules s (Some old) told row) (no_log s.spent 1 ∷ []) (never_breaks (rules.references s row ++ told ++ rules.faults s (Some old) row)) never_log;
+    checks = never_append (broken rules s (Some old) told row) (no_log s.spent 1 ∷ []) (never_breaks (rules.references s row ++ told ++ rules.faults s (Some old) row)) (never_log 1);
     reply = λ v refusal e. cc;
   }
 
@@ -113,7 +138,7 @@ module _ {T : Type 0} (rules : KindRules T) (s : State) where
 
   delete_rules : (n : ℕ) → first (rules.users s n) ≢ Some Keeper → IsOfRules (delete rules s n)
   delete_rules n u = found_rules n (λ old. take_out rules s n) (row_at rules.id (rules.shelf s).rows n) (λ old. record {
-    checks = never_append (rules.users s n) (no_log s.spent 1 ∷ []) u never_log;
+    checks = never_append (rules.users s n) (no_log s.spent 1 ∷ []) u (never_log 1);
     reply = λ v refusal e. cc;
   })
 
@@ -122,6 +147,17 @@ module _ {T : Type 0} (rules : KindRules T) (s : State) where
 
   list_rules : (meets : T → Bool) (limit offset : ℕ) → IsOfRules (list rules s meets limit offset)
   list_rules meets limit offset = record { checks = λ e. cc; reply = λ v refusal e. cc }
+
+  claim_rules : (told : List (Option Refusal)) (wanted : ℕ) (form : Answered) (rows : List T) → first told ≢ Some Keeper → IsOfRules (claim rules s told wanted form rows)
+  claim_rules told wanted form rows t = record {
+    checks = never_append (too_many Claims most_items wanted ∷ told) (no_space wanted (length rows) ∷ no_place rules s wanted)
+        (never_append (too_many Claims most_items wanted ∷ []) told (never_one _ (never_many _ _ _)) t)
+        (never_append (no_space wanted (length rows) ∷ []) (no_place rules s wanted) (never_one _ (never_short wanted (length rows))) (never_append (no_seats rules s wanted) (no_log s.spent wanted ∷ []) (never_seats wanted) (never_log wanted)));
+    reply = λ v refusal. never_served form (map rules.view rows) refusal;
+  }
+
+  figure_rules : (figure : State → T → ℕ) (n : ℕ) → IsOfRules (figure_plan rules figure s n)
+  figure_rules figure n = found_rules n _ (row_at rules.id (rules.shelf s).rows n) (λ row. record { checks = λ e. cc; reply = λ v refusal e. cc })
 
 view_of_rules : (s : State) (told : List (Option Rule)) (view : View) → IsOfRules (by_view view (λ T rules row. create rules s told row))
 view_of_rules s told (VrfView row) = create_rules vrf_rules s told row
@@ -181,12 +217,34 @@ list_all s (SomePrefixes family vrf_id status role_id prefix within within_inclu
 list_all s (SomeRanges family vrf_id status role_id contains) limit offset = list_rules range_rules s _ limit offset
 list_all s (SomeAddresses family vrf_id status role parent dns_name) limit offset = list_rules address_rules s _ limit offset
 
+claimed_blocks : (s : State) (form : Answered) (items : List BlockItem) (row : Prefix) → IsOfRules (claim_blocks_of s form items row)
+claimed_blocks s form items row = claim_rules prefix_rules s _ _ form _ (never_told (told_of_block s row) items (λ item. never_breaks (_ ∷ _ ∷ [])))
+
+claimed_addresses : (s : State) (form : Answered) (items : List AddrItem) (vrf : Option ℕ) (len : ℕ) (family : Family) (usable : List ℕ) → IsOfRules (claim_addresses_of s form items vrf len family usable)
+claimed_addresses s form items vrf len family usable = claim_rules address_rules s _ _ form _ (never_told (told_of_address family) items (λ item. never_breaks (_ ∷ _ ∷ [])))
+
+utilization_all : (s : State) (kind : Kind) (n : ℕ) → IsOfRules (utilization_plan s kind n)
+utilization_all s Vrfs n = record { checks = λ e. cc; reply = λ v refusal e. cc }
+utilization_all s Rirs n = record { checks = λ e. cc; reply = λ v refusal e. cc }
+utilization_all s Roles n = record { checks = λ e. cc; reply = λ v refusal e. cc }
+utilization_all s Aggregates n = figure_rules aggregate_rules s aggregate_figure n
+utilization_all s Prefixes n = figure_rules prefix_rules s prefix_figure n
+utilization_all s Ranges n = figure_rules range_rules s range_figure n
+utilization_all s Addresses n = record { checks = λ e. cc; reply = λ v refusal e. cc }
+
 all_rules : (s : State) (call : Call) → IsOfRules (plan_of s call)
 all_rules s (ListOf kind filter limit offset) = list_all s filter limit offset
 all_rules s (Get kind n) = get_all s kind n
 all_rules s (Create draft) = create_all s draft
 all_rules s (Change n edit) = change_all s n edit
 all_rules s (Delete kind n) = delete_all s kind n
+all_rules s (BlocksOf n limit) = found_rules prefix_rules s n _ _ (λ row. record { checks = λ e. cc; reply = λ v refusal e. cc })
+all_rules s (PrefixAddrs n limit) = found_rules prefix_rules s n _ _ (λ row. record { checks = λ e. cc; reply = λ v refusal e. cc })
+all_rules s (RangeAddrs n limit) = found_rules range_rules s n _ _ (λ row. record { checks = λ e. cc; reply = λ v refusal e. cc })
+all_rules s (ClaimBlocks n form items) = found_rules prefix_rules s n _ _ (λ row. claimed_blocks s form items row)
+all_rules s (ClaimPrefixAddrs n form items) = found_rules prefix_rules s n _ _ (λ row. claimed_addresses s form items row.vrf row.block.len row.block.family (usable_in s row))
+all_rules s (ClaimRangeAddrs n form items) = found_rules range_rules s n _ _ (λ row. claimed_addresses s form items row.vrf row.ends.len row.ends.start.family (usable_of_range s row))
+all_rules s (Utilization kind n) = utilization_all s kind n
 
 -- the plain step never answers that the keeper failed
 pub no_keeper : (s : State) (call : Call) → (plain_step s call).1 ≢ Refused Keeper
