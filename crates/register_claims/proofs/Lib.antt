@@ -1,0 +1,4 @@
+mod HostTests
+mod HostSpans
+mod HostLists
+mod HostClaims
