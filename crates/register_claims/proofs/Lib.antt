@@ -1,2 +1,6 @@
 pub mod Counted
 pub mod Claiming
+mod HostTests
+mod HostSpans
+mod HostLists
+mod HostClaims

@@ -1,4 +1,4 @@
-//! How much is used of prefixes and aggregates, where the prefixes inside them decide.
+//! How much is used: of a prefix, a range or an aggregate.
 
 ghost use Rattle.std.specs.Prelude.{◌≡◌, ℕ, false, MatchOption};
 ghost use Rattle.inet_num.specs.Net.{size_of};
@@ -8,12 +8,14 @@ ghost use Rattle.ipam_data.specs.Lawful.{IsLawful};
 ghost use Rattle.ipam_data.specs.Shelf.{row_at};
 ghost use Rattle.ipam_data.specs.Rows.{aggregate_id};
 ghost use Rattle.ipam_data.specs.Aggregates.{aggregate_rules};
-ghost use Rattle.ipam_data.specs.Claims.{is_container, own_blocks, prefix_figure, aggregate_figure, figure_plan};
+ghost use Rattle.ipam_data.specs.Prefixes.{prefix_rules};
+ghost use Rattle.ipam_data.specs.Claims.{is_container, own_blocks, prefix_figure, aggregate_figure, figure_plan, utilization_plan};
 ghost use Rattle.register_shelves.specs.Held.{state_of};
 ghost use Rattle.register_shelves.specs.Planned.{IsPlanned};
 ghost use Rattle.register_claims.specs.Children.{IsThere};
 
 use crate::children::{is_container, own_space};
+use crate::hosts::{hosts_figure, plan_range_figure};
 use ipam_data::aggregate::Aggregate;
 use ipam_data::kinds::Kind;
 use ipam_data::prefix::Prefix;
@@ -32,7 +34,7 @@ fn container_figure(shelves: &Shelves, row: &Prefix) -> u8
 }
 
 /// How much of a prefix that is there is used, where that does not rest on its addresses: it counts as full, or is a container.
-pub fn settled_figure(shelves: &Shelves, row: &Prefix) -> Option<u8>
+fn settled_figure(shelves: &Shelves, row: &Prefix) -> Option<u8>
     requires lawful { IsLawful (state_of shelves.now) }
     requires there { IsThere shelves.now.prefixes.rows row.now }
     ensures { MatchOption result ((row.now.mark_utilized ≡ false) × (is_container row.now.status ≡ false)) (λ n. n ≡ prefix_figure (state_of shelves.now) row.now) }
@@ -56,12 +58,51 @@ fn figure_of_aggregate(shelves: &Shelves, row: &Aggregate) -> u8
 }
 
 /// Reads how much of the aggregate of an id is used.
-pub fn plan_aggregate_figure(shelves: &Shelves, id: u32) -> Planned
+fn plan_aggregate_figure(shelves: &Shelves, id: u32) -> Planned
     requires { IsLawful (state_of shelves.now) }
     ensures { IsPlanned (figure_plan aggregate_rules aggregate_figure (state_of shelves.now) id) result }
 {
     match shelves.aggregates().get(id) {
         Some(row) => Planned::Read(Reply::Percent(figure_of_aggregate(shelves, row))),
         None => Planned::Refused(Refusal::NotFound(Kind::Aggregates, id)),
+    }
+}
+
+/// How much of a prefix that is there is used.
+fn figure_of_prefix(shelves: &Shelves, row: &Prefix) -> u8
+    requires lawful { IsLawful (state_of shelves.now) }
+    requires there { IsThere shelves.now.prefixes.rows row.now }
+    ensures { result ≡ prefix_figure (state_of shelves.now) row.now }
+{
+    match settled_figure(shelves, row) {
+        Some(figure) => figure,
+        None => hosts_figure(shelves, row),
+    }
+}
+
+/// Reads how much of the prefix of an id is used.
+fn plan_prefix_figure(shelves: &Shelves, id: u32) -> Planned
+    requires { IsLawful (state_of shelves.now) }
+    ensures { IsPlanned (figure_plan prefix_rules prefix_figure (state_of shelves.now) id) result }
+{
+    match shelves.prefixes().get(id) {
+        Some(row) => Planned::Read(Reply::Percent(figure_of_prefix(shelves, row))),
+        None => Planned::Refused(Refusal::NotFound(Kind::Prefixes, id)),
+    }
+}
+
+/// Reads how much of the row of an id is used, in whole percent; a row of a kind that has no figure is not there. It takes no memory.
+pub fn plan_utilization(shelves: &Shelves, kind: Kind, id: u32) -> Planned
+    requires { IsLawful (state_of shelves.now) }
+    ensures { IsPlanned (utilization_plan (state_of shelves.now) kind id) result }
+{
+    match kind {
+        Kind::Aggregates => plan_aggregate_figure(shelves, id),
+        Kind::Prefixes => plan_prefix_figure(shelves, id),
+        Kind::Ranges => plan_range_figure(shelves, id),
+        Kind::Vrfs => Planned::Refused(Refusal::NotFound(Kind::Vrfs, id)),
+        Kind::Rirs => Planned::Refused(Refusal::NotFound(Kind::Rirs, id)),
+        Kind::Roles => Planned::Refused(Refusal::NotFound(Kind::Roles, id)),
+        Kind::Addresses => Planned::Refused(Refusal::NotFound(Kind::Addresses, id)),
     }
 }

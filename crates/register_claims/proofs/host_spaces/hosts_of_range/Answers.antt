@@ -1,0 +1,11 @@
+use Rattle.std.proofs.Common.{◌∙◌, ap}
+use Rattle.inet_num.specs.Net.{Address}
+use Rattle.register_claims.proofs.HostTests.{beside_in, singles_in_table}
+use Rattle.register_claims.proofs.host_spaces.hosts_of_range.Goals as goal
+
+pub returns-clause-singles : goal.returns-clause-singles
+returns-clause-singles g c = singles_in_table c.args.book.now.rows (g.S.Space.held c.in_table.result.now) c.of.result c.family.result c.in_table.ensures.hosts
+
+pub returns-clause-hosts : goal.returns-clause-hosts
+returns-clause-hosts g c =
+    beside_in c.args.book.now.rows c.args.row.now (g.S.Space.held c.in_table.result.now) c.of.result c.family.result c.of.ensures (c.family.ensures.family ∙ ap (λ (a : Address). a.family) c.start.ensures.start) c.in_table.ensures.hosts

@@ -1,0 +1,307 @@
+//! Claims of addresses: each item gets the lowest address of a prefix or a range that can be given out, or none gets any.
+
+ghost use Rattle.std.specs.Prelude.{◌≡◌, ℕ, ◌+◌, ◌^◌, ◌<◌, ◌≤◌, ◌∷◌, [], None, List, length, map, IfOk};
+ghost use Rattle.std.specs.List.{AllByRecursion, flat_map};
+ghost use Rattle.inet_num.specs.declared.Family.{Family};
+ghost use Rattle.inet_num.specs.Net.{width_of};
+ghost use Rattle.inet_num.specs.Count.{addresses_of};
+ghost use Rattle.block_space.specs.Usable.{addressed};
+ghost use Rattle.block_claim.specs.Claims.{IsServed};
+ghost use Rattle.ipam_data.specs.declared.kinds.Kind.TheVariants.{Addresses as AddressKind};
+ghost use Rattle.ipam_data.specs.declared.replies.Which.TheVariants.{Claims as ClaimItems};
+ghost use Rattle.ipam_data.specs.declared.replies.View.TheVariants.{IpAddress as AddressView};
+ghost use Rattle.ipam_data.specs.Checks.{first, too_many};
+ghost use Rattle.ipam_data.specs.Shelf.{last_next};
+ghost use Rattle.ipam_data.specs.Tables.{table_of};
+ghost use Rattle.ipam_data.specs.Plans.{no_place};
+ghost use Rattle.ipam_data.specs.Addresses.{address_rules, is_slaac_of_v4};
+ghost use Rattle.ipam_data.specs.Lawful.{IsLawful};
+ghost use Rattle.register_shelves.specs.Held.{state_of};
+ghost use Rattle.register_shelves.specs.Planned.{IsPlanned};
+ghost use Rattle.ipam_data.specs.Claims.{most_items, told_of_address, claimed_addresses, served, numbers_in, usable_in, usable_of_range, claim_addresses_of, claim_prefix_addrs_plan, claim_range_addrs_plan};
+ghost use Rattle.range_rules.specs.declared.Which.TheVariants.{All as AllRanges};
+ghost use Rattle.range_rules.specs.Spans.{AreSpansOf};
+
+use crate::checks::{changed, no_place, served, stopped, too_many_items};
+use crate::hosts::{claimed_of_prefix, claimed_of_range};
+use crate::ranges::{pieces_of, spans_of};
+use block_claim::ClaimFault;
+use inet_num::{Addr, Block, Family, Span};
+use ipam_data::address::{AddressStatus, IpAddress, MOST_ADDRESSES};
+use ipam_data::calls::{AddrItem, Answered};
+use ipam_data::host::Host;
+use ipam_data::host_names::is_dns_name;
+use ipam_data::kinds::{Kind, Table};
+use ipam_data::prefix::Prefix;
+use ipam_data::range::IpRange;
+use ipam_data::replies::{Refusal, Rule, View};
+use range_rules::Which as Wanted;
+use register_shelves::{Planned, Shelves};
+use row_book::Book;
+use std::alloc::{AllocError, Global};
+
+// ---- what is told of the items
+
+/// Whether an address of IPv4 is said to be made by SLAAC.
+fn is_slaac_of_ipv4(status: AddressStatus, family: Family) -> bool
+    ensures { result ≡ is_slaac_of_v4 status family }
+{
+    match (status, family) {
+        (AddressStatus::Slaac, Family::V4) => true,
+        _ => false,
+    }
+}
+
+/// Why an item can't be served by what it says, if so. `Err` is want of memory.
+fn fault_of_item(item: &AddrItem, family: Family) -> Result<Option<Refusal>, AllocError>
+    ensures { IfOk result (λ r. r ≡ first (told_of_address family item.now)) }
+{
+    if is_slaac_of_ipv4(item.status, family) {
+        return Ok(Some(Refusal::Rule(Rule::SlaacFamily)));
+    }
+    let dns_name = item.dns_name.lowered()?;
+    if !is_dns_name(dns_name.as_str().as_bytes()) {
+        return Ok(Some(Refusal::Rule(Rule::DnsName)));
+    }
+    Ok(None)
+}
+
+/// The same of the first item that can't. `Err` is want of memory.
+fn fault_of_items(items: &[AddrItem], family: Family) -> Result<Option<Refusal>, AllocError>
+    ensures { IfOk result (λ r. r ≡ first (flat_map (told_of_address family) items.now)) }
+{
+    'items: for item in items {
+        let fault = fault_of_item(item, family)?;
+        if fault.is_some() {
+            return Ok(fault);
+        }
+    }
+    Ok(None)
+}
+
+/// Why a claim can't be served by what its items say, if so: there are too many of them, or one of them is at fault. `Err` is want of
+/// memory.
+fn fault_of_claim(items: &[AddrItem], family: Family) -> Result<Option<Refusal>, AllocError>
+    ensures { IfOk result (λ r. r ≡ first (too_many ClaimItems most_items (length items.now) ∷ flat_map (told_of_address family) items.now)) }
+{
+    if let Some(refusal) = too_many_items(items.len()) {
+        return Ok(Some(refusal));
+    }
+    fault_of_items(items, family)
+}
+
+// ---- the rows that the items get
+
+/// An address with a mask that fits it.
+fn masked(addr: Addr, len: u8) -> Host
+    requires { len ≤ width_of addr.family }
+    ensures { result ≡ record { addr = addr; len = len } }
+{
+    match Host::of(addr, len) {
+        Some(host) => host,
+        None => unreachable!(),
+    }
+}
+
+/// The row that an item gets under an id. `Err` is want of memory.
+fn claimed_row(
+    item: &AddrItem,
+    host: Host,
+    vrf: Option<u32>,
+    id: u32,
+) -> Result<IpAddress, AllocError>
+    ensures { IfOk result (λ row. row ∷ [] ≡ claimed_addresses vrf host.len id (item.now ∷ []) (host.addr ∷ [])) }
+{
+    let dns_name = item.dns_name.lowered()?;
+    let description = item.description.copy()?;
+    Ok(IpAddress {
+        id,
+        host,
+        vrf,
+        status: item.status,
+        role: item.role,
+        dns_name,
+        description,
+    })
+}
+
+/// The rows that items get, each the next address, under ids from one on. `Err` is want of memory.
+fn claimed_rows(
+    alloc: Global,
+    items: &[AddrItem],
+    found: &[Addr],
+    vrf: Option<u32>,
+    len: u8,
+    next: u32,
+) -> Result<Vec<View>, AllocError>
+    requires count { length found.now ≡ length items.now }
+    requires mask { AllByRecursion (λ a. len ≤ width_of a.family) found.now }
+    requires ids { next + length items.now < 2 ^ 32 }
+    ensures { IfOk result (λ v. v.items ≡ map AddressView (claimed_addresses vrf len next items.now found.now)) }
+{
+    let mut views = Vec::new(alloc);
+    'items: for index in 0..items.len() {
+        let host = masked(found[index], len);
+        let row = claimed_row(&items[index], host, vrf, next + index as u32)?;
+        views.push(View::IpAddress(row))?;
+    }
+    Ok(views)
+}
+
+/// What is done and answered where the items get these addresses. `Err` is want of memory.
+fn made(
+    shelves: &Shelves,
+    answered: Answered,
+    items: &[AddrItem],
+    found: &[Addr],
+    vrf: Option<u32>,
+    len: u8,
+) -> Result<Planned, AllocError>
+    requires count { length found.now ≡ length items.now }
+    requires mask { AllByRecursion (λ a. len ≤ width_of a.family) found.now }
+    requires ids { shelves.now.next_address + length items.now ≤ last_next }
+    ensures { IfOk result (λ p. let views = map AddressView (claimed_addresses vrf len shelves.now.next_address items.now found.now) in p ≡ Planned.Change (record { puts = views; cuts = []; next = (AddressKind, shelves.now.next_address + length items.now) ∷ []; spent = length items.now }) (served answered views)) }
+{
+    let alloc = shelves.allocator();
+    let next = shelves.next(Kind::Addresses);
+    let wanted = items.len() as u32;
+    let puts = claimed_rows(alloc, items, found, vrf, len, next)?;
+    let again = claimed_rows(alloc, items, found, vrf, len, next)?;
+    let reply = served(answered, again);
+    changed(alloc, puts, Kind::Addresses, next + wanted, wanted, reply)
+}
+
+/// Plans a claim of which nothing is told and whose items get these addresses. `Err` is want of memory.
+fn plan_served(
+    shelves: &Shelves,
+    answered: Answered,
+    items: &[AddrItem],
+    found: &[Addr],
+    vrf: Option<u32>,
+    len: u8,
+    family: Family,
+) -> Result<Planned, AllocError>
+    requires told { first (too_many ClaimItems most_items (length items.now) ∷ flat_map (told_of_address family) items.now) ≡ None }
+    requires count { length found.now ≡ length items.now }
+    requires mask { AllByRecursion (λ a. len ≤ width_of a.family) found.now }
+    ensures { IfOk result (λ p. (usable : List ℕ) → IsServed (length items.now) (addressed family usable) found.now → IsPlanned (claim_addresses_of (state_of shelves.now) answered items.now vrf len family usable) p) }
+{
+    let wanted = items.len() as u32;
+    let next = shelves.next(Kind::Addresses);
+    let count = shelves.addresses().len();
+    match no_place(
+        Kind::Addresses,
+        MOST_ADDRESSES,
+        count,
+        next,
+        shelves.spent(),
+        wanted,
+    ) {
+        Some(refusal) => Ok(Planned::Refused(refusal)),
+        None => made(shelves, answered, items, found, vrf, len),
+    }
+}
+
+// ---- the calls
+
+/// Plans a claim in a prefix that is there, beside the spans of the ranges of its table. `Err` is want of memory.
+fn claim_in_prefix(
+    shelves: &Shelves,
+    answered: Answered,
+    items: &[AddrItem],
+    held: &[Span],
+    row: &Prefix,
+) -> Result<Planned, AllocError>
+    requires { AreSpansOf shelves.now.ranges.rows (table_of row.now.vrf) row.now.block.family AllRanges held.now }
+    ensures { IfOk result (λ p. IsPlanned (claim_addresses_of (state_of shelves.now) answered items.now row.now.vrf row.now.block.len row.now.block.family (usable_in (state_of shelves.now) row.now)) p) }
+{
+    let family = row.block.family();
+    let len = row.block.len();
+    let fault = fault_of_claim(items, family)?;
+    match fault {
+        Some(refusal) => return Ok(Planned::Refused(refusal)),
+        None => {}
+    }
+    match claimed_of_prefix(shelves, held, row, items.len() as u32) {
+        Ok(found) => plan_served(
+            shelves,
+            answered,
+            items,
+            found.as_slice(),
+            row.vrf,
+            len,
+            family,
+        ),
+        Err(fault) => stopped(fault),
+    }
+}
+
+/// Plans a claim in a range that is there, given by its pieces. `Err` is want of memory.
+fn claim_in_range(
+    shelves: &Shelves,
+    answered: Answered,
+    items: &[AddrItem],
+    pieces: &[Block],
+    row: &IpRange,
+) -> Result<Planned, AllocError>
+    requires numbers { flat_map addresses_of pieces.now ≡ numbers_in row.now }
+    requires family { AllByRecursion (λ b. b.family ≡ row.now.ends.start.family) pieces.now }
+    ensures { IfOk result (λ p. IsPlanned (claim_addresses_of (state_of shelves.now) answered items.now row.now.vrf row.now.ends.len row.now.ends.start.family (usable_of_range (state_of shelves.now) row.now)) p) }
+{
+    let start = row.ends.start();
+    let family = start.family();
+    let len = row.ends.len();
+    let fault = fault_of_claim(items, family)?;
+    match fault {
+        Some(refusal) => return Ok(Planned::Refused(refusal)),
+        None => {}
+    }
+    match claimed_of_range(shelves, pieces, row, items.len() as u32) {
+        Ok(found) => plan_served(
+            shelves,
+            answered,
+            items,
+            found.as_slice(),
+            row.vrf,
+            len,
+            family,
+        ),
+        Err(fault) => stopped(fault),
+    }
+}
+
+/// Plans a claim of addresses of the prefix of an id: each item gets the lowest usable one, the first item the first. It came as
+/// one item or as a list, and is answered so. `Err` is want of memory.
+pub fn plan_claim_prefix_addrs(
+    shelves: &Shelves,
+    id: u32,
+    answered: Answered,
+    items: &[AddrItem],
+) -> Result<Planned, AllocError>
+    requires { IsLawful (state_of shelves.now) }
+    ensures { IfOk result (λ p. IsPlanned (claim_prefix_addrs_plan (state_of shelves.now) id answered items.now) p) }
+{
+    let Some(row) = shelves.prefixes().get(id) else {
+        return Ok(Planned::Refused(Refusal::NotFound(Kind::Prefixes, id)));
+    };
+    let family = row.block.family();
+    let held = spans_of(shelves, Table::of(row.vrf), family, Wanted::All);
+    claim_in_prefix(shelves, answered, items, held, row)
+}
+
+/// Plans a claim of addresses of the range of an id: each item gets the lowest one that no host has. `Err` is want of memory.
+pub fn plan_claim_range_addrs(
+    shelves: &Shelves,
+    id: u32,
+    answered: Answered,
+    items: &[AddrItem],
+) -> Result<Planned, AllocError>
+    requires { IsLawful (state_of shelves.now) }
+    ensures { IfOk result (λ p. IsPlanned (claim_range_addrs_plan (state_of shelves.now) id answered items.now) p) }
+{
+    let Some(row) = shelves.ranges().get(id) else {
+        return Ok(Planned::Refused(Refusal::NotFound(Kind::Ranges, id)));
+    };
+    let pieces = pieces_of(shelves, id, row)?;
+    claim_in_range(shelves, answered, items, pieces.as_slice(), row)
+}
