@@ -4,9 +4,8 @@
     python3 bench/worked_rows.py --write    checks, and writes the files
 
 Each row's status, the place of its answer and what it says of the body were written by hand, and the plain register
-(bench/plain_register.py) has to agree with them; the bytes that no row gives are those of the plain register. Two conversations are
-written, each as what goes in (`stdin`) and what has to come out (`stdout`): the one in crates/ipamd is that on which the program is run
-by the gate, with the kinds alone, and the one in bench/data has claims, what is available, and figures too.
+(bench/plain_register.py) has to agree with them; the bytes that no row gives are those of the plain register. The conversation is
+written as what goes in (`stdin`) and what has to come out (`stdout`) into crates/ipamd, where the gate runs the program on it.
 """
 import json
 import os
@@ -20,7 +19,7 @@ from worked_claims import CLAIM_GROUPS
 from worked_kinds import END, KIND_GROUPS
 
 # where the files are, and whether claims are in them
-FILES = {"crates/ipamd/": False, "bench/data/claims.": True}
+FILES = {"crates/ipamd/": True}
 TOP = os.path.join(os.path.dirname(os.path.abspath(__file__)), "..")
 REMOVED = ["ip-addresses", "ip-ranges", "prefixes", "aggregates", "roles", "rirs", "vrfs"]
 WITHOUT_PLACE = ["bad_head", "too_large", "coding", "no_route", "method", "bad_json", "field", "host_bits"]
