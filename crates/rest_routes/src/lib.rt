@@ -4,6 +4,7 @@
 mod answer;
 mod call;
 mod laws;
+mod parts;
 mod route;
 mod table;
 #[cfg(test)]
@@ -15,5 +16,5 @@ pub use answer::{
 };
 pub use call::{read_call, read_call_by};
 pub use laws::request_is_one;
-pub use route::{Method, Route};
+pub use route::{Method, Route, RowPart};
 pub use table::Routes;
