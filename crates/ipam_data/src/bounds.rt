@@ -1,12 +1,13 @@
 //! What drafts, edits and calls keep by their types: laws, for callers that make states of them.
 
 ghost use Rattle.std.specs.Prelude.{◌≡◌};
+ghost use Rattle.std.specs.List.{AllByRecursion};
 ghost use Rattle.inet_num.specs.Net.{IsBlock};
 ghost use Rattle.ipam_data.specs.Texts.{IsWeight};
 ghost use Rattle.ipam_data.specs.Hosts.{IsMasked};
-ghost use Rattle.ipam_data.specs.Steps.{Given, IsDistinguisherToo, HasDraftBounds, HasEditBounds, HasCallBounds};
+ghost use Rattle.ipam_data.specs.Steps.{Given, IsDistinguisherToo, HasDraftBounds, HasEditBounds, HasBlockItemBounds, HasAddrItemBounds, HasCallBounds};
 
-use crate::calls::{Call, Draft, Edit};
+use crate::calls::{AddrItem, AddrItems, BlockItem, BlockItems, Call, Draft, Edit};
 use crate::host::Host;
 use crate::text::{Bounded, Bounds, Distinguisher, Weight};
 use crate::vrf::distinguisher_bounds;
@@ -211,6 +212,47 @@ impl Edit {
     }
 }
 
+impl BlockItem {
+    /// The description of an item is in its bounds, by its type.
+    pub fn bounds(&self)
+        ensures { HasBlockItemBounds self.now }
+    {
+        self.description.bounds();
+    }
+}
+
+impl AddrItem {
+    /// The texts of an item are in their bounds, by their types.
+    pub fn bounds(&self)
+        ensures { HasAddrItemBounds self.now }
+    {
+        self.dns_name.bounds();
+        self.description.bounds();
+    }
+}
+
+impl BlockItems {
+    /// Each item is in its bounds, by its type.
+    pub fn bounds(&self)
+        ensures { AllByRecursion HasBlockItemBounds self.now }
+    {
+        for item in self.as_slice() {
+            item.bounds();
+        }
+    }
+}
+
+impl AddrItems {
+    /// Each item is in its bounds, by its type.
+    pub fn bounds(&self)
+        ensures { AllByRecursion HasAddrItemBounds self.now }
+    {
+        for item in self.as_slice() {
+            item.bounds();
+        }
+    }
+}
+
 impl Call {
     /// What a call holds is in its bounds, by its types.
     pub fn bounds(&self)
@@ -227,6 +269,25 @@ impl Call {
             Call::Create { draft } => draft.bounds(),
             Call::Change { id: _, edit } => edit.bounds(),
             Call::Delete { kind: _, id: _ } => {}
+            Call::Blocks { id: _, limit: _ } => {}
+            Call::PrefixAddrs { id: _, limit: _ } => {}
+            Call::RangeAddrs { id: _, limit: _ } => {}
+            Call::ClaimBlocks {
+                id: _,
+                answered: _,
+                items,
+            } => items.bounds(),
+            Call::ClaimPrefixAddrs {
+                id: _,
+                answered: _,
+                items,
+            } => items.bounds(),
+            Call::ClaimRangeAddrs {
+                id: _,
+                answered: _,
+                items,
+            } => items.bounds(),
+            Call::Utilization { kind: _, id: _ } => {}
         }
     }
 }
