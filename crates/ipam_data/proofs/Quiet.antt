@@ -1,9 +1,11 @@
 -- A plan that answers no accepted change does nothing; so a call whose reply is none leaves the state.
-use Rattle.std.proofs.Common.{◌≡◌, ℕ, Bool, true, false, List, Option, Some, None, refl, ap, sym, ◌∙◌}
+use Rattle.std.proofs.Common.{◌≡◌, ℕ, Bool, true, false, List, [], ◌∷◌, map, take, Option, Some, None, refl, ap, sym, ◌∙◌}
 use Rattle.ipam_data.specs.declared.kinds.Kind.{Kind}
 use Rattle.ipam_data.specs.declared.kinds.Kind.TheVariants.{Vrfs, Rirs, Roles, Aggregates, Prefixes, Ranges, Addresses}
 use Rattle.ipam_data.specs.declared.calls.Call.{Call}
-use Rattle.ipam_data.specs.declared.calls.Call.TheVariants.{List as ListOf, Get, Create, Change, Delete}
+use Rattle.ipam_data.specs.declared.calls.Call.TheVariants.{List as ListOf, Get, Create, Change, Delete, Blocks as BlocksOf, PrefixAddrs, RangeAddrs, ClaimBlocks, ClaimPrefixAddrs, ClaimRangeAddrs, Utilization}
+use Rattle.ipam_data.specs.declared.calls.Answered.{Answered}
+use Rattle.ipam_data.specs.declared.calls.Answered.TheVariants.{AsOne, AsList}
 use Rattle.ipam_data.specs.declared.calls.Filter.{Filter}
 use Rattle.ipam_data.specs.declared.calls.Filter.TheVariants.{Vrfs as SomeVrfs, Rirs as SomeRirs, Roles as SomeRoles, Aggregates as SomeAggregates, Prefixes as SomePrefixes, Ranges as SomeRanges, Addresses as SomeAddresses}
 use Rattle.ipam_data.specs.declared.calls.Draft.{Draft}
@@ -15,8 +17,8 @@ use Rattle.ipam_data.specs.declared.replies.Refusal.{Refusal}
 use Rattle.ipam_data.specs.declared.replies.Reply.{Reply}
 use Rattle.ipam_data.specs.declared.replies.Reply.TheVariants.{Made, MadeMany, Changed, Gone, Imported, One, Page, Blocks, Addrs, Percent, Refused}
 use Rattle.ipam_data.specs.Shelf.{row_at}
-use Rattle.ipam_data.specs.State.{State, Plan, verdict_of, no_update}
-use Rattle.ipam_data.specs.Plans.{KindRules, with_found, create, replace, change, take_out, delete, get, list, nothing_told}
+use Rattle.ipam_data.specs.State.{State, Plan, verdict_of, no_update, reading}
+use Rattle.ipam_data.specs.Plans.{KindRules, with_found, with_row_at, create, replace, change, take_out, delete, get, list, nothing_told}
 use Rattle.ipam_data.specs.Updates.{updated, answered, outcome}
 use Rattle.ipam_data.specs.Vrfs.{vrf_rules, meets_vrf}
 use Rattle.ipam_data.specs.Rirs.{rir_rules, meets_rir}
@@ -27,6 +29,9 @@ use Rattle.ipam_data.specs.Ranges.{range_rules, meets_range}
 use Rattle.ipam_data.specs.Addresses.{address_rules, meets_address}
 use Rattle.ipam_data.specs.ByKind.{by_view}
 use Rattle.ipam_data.specs.Fields.{drafted, told_of_draft, kind_of_edit, edited_vrf, edited_rir, edited_role, edited_aggregate, edited_prefix, edited_range, edited_address, told_of_change}
+use Rattle.inet_num.specs.Free.{available_blocks_of}
+use Rattle.block_space.specs.Usable.{addressed}
+use Rattle.ipam_data.specs.Claims.{child_blocks, usable_in, usable_of_range, aggregate_figure, prefix_figure, range_figure, utilization_plan, served, claim, claim_blocks_of, claim_addresses_of}
 use Rattle.ipam_data.specs.Steps.{plan_of, next_for, create_plan, change_of_kind, change_plan, delete_plan, get_plan, list_plan}
 use Rattle.ipam_data.specs.Replays.{is_accepted}
 use Rattle.ipam_data.specs.Lawful.{StepsStay}
@@ -144,12 +149,45 @@ list_all s (SomeRanges family vrf_id status role_id contains) limit offset = lis
 list_all s (SomeAddresses family vrf_id status role parent dns_name) limit offset =
     list_quiet address_rules s (meets_address family vrf_id status role parent dns_name) limit offset
 
+-- ---- claims, and what is read of a row
+
+module _ {T : Type 0} (rules : KindRules T) where
+  -- a row of which something is read
+  pub read_quiet : (s : State) (n : ℕ) (reply : T → Reply) → IsQuiet (with_row_at rules s n (λ row. reading (reply row)))
+  read_quiet s n reply = found_quiet rules n (λ row. reading (reply row)) (row_at rules.id (rules.shelf s).rows n) (λ row. record { nothing = λ a. refl })
+
+  pub claim_quiet : (s : State) (told : List (Option Refusal)) (wanted : ℕ) (form : Answered) (rows : List T) → IsQuiet (claim rules s told wanted form rows)
+  claim_quiet s told wanted form rows = accepting_quiet (claim rules s told wanted form rows) (accepts form (map rules.view rows))
+    where
+      accepts : (form : Answered) (views : List View) → is_accepted (served form views) ≡ true
+      accepts AsOne (view ∷ views) = refl
+      accepts AsOne [] = refl
+      accepts AsList views = refl
+
+utilization_quiet : (s : State) (kind : Kind) (n : ℕ) → IsQuiet (utilization_plan s kind n)
+utilization_quiet s Vrfs n = record { nothing = λ a. refl }
+utilization_quiet s Rirs n = record { nothing = λ a. refl }
+utilization_quiet s Roles n = record { nothing = λ a. refl }
+utilization_quiet s Aggregates n = read_quiet aggregate_rules s n (λ row. Percent (aggregate_figure s row))
+utilization_quiet s Prefixes n = read_quiet prefix_rules s n (λ row. Percent (prefix_figure s row))
+utilization_quiet s Ranges n = read_quiet range_rules s n (λ row. Percent (range_figure s row))
+utilization_quiet s Addresses n = record { nothing = λ a. refl }
+
 all_quiet : (s : State) (call : Call) → IsQuiet (plan_of s call)
 all_quiet s (ListOf kind filter limit offset) = list_all s filter limit offset
 all_quiet s (Get kind n) = get_all s kind n
 all_quiet s (Create draft) = create_all s draft
 all_quiet s (Change n edit) = change_all s n edit
 all_quiet s (Delete kind n) = delete_all s kind n
+all_quiet s (BlocksOf n limit) = read_quiet prefix_rules s n (λ row. Blocks row.vrf (take limit (available_blocks_of row.block (child_blocks s.prefixes.rows row))))
+all_quiet s (PrefixAddrs n limit) = read_quiet prefix_rules s n (λ row. Addrs row.vrf row.block.len (take limit (addressed row.block.family (usable_in s row))))
+all_quiet s (RangeAddrs n limit) = read_quiet range_rules s n (λ row. Addrs row.vrf row.ends.len (take limit (addressed row.ends.start.family (usable_of_range s row))))
+all_quiet s (ClaimBlocks n form items) = found_quiet prefix_rules n (claim_blocks_of s form items) (row_at prefix_rules.id s.prefixes.rows n) (λ row. claim_quiet prefix_rules s _ _ form _)
+all_quiet s (ClaimPrefixAddrs n form items) =
+    found_quiet prefix_rules n (λ row. claim_addresses_of s form items row.vrf row.block.len row.block.family (usable_in s row)) (row_at prefix_rules.id s.prefixes.rows n) (λ row. claim_quiet address_rules s _ _ form _)
+all_quiet s (ClaimRangeAddrs n form items) =
+    found_quiet range_rules n (λ row. claim_addresses_of s form items row.vrf row.ends.len row.ends.start.family (usable_of_range s row)) (row_at range_rules.id s.ranges.rows n) (λ row. claim_quiet address_rules s _ _ form _)
+all_quiet s (Utilization kind n) = utilization_quiet s kind n
 
 pub steps_stay : StepsStay
 steps_stay s call a = quiet_stays s (plan_of s call) (all_quiet s call) a

@@ -236,7 +236,8 @@ impl BlockItems {
     pub fn bounds(&self)
         ensures { AllByRecursion HasBlockItemBounds self.now }
     {
-        for item in self.as_slice() {
+        let items = self.as_slice();
+        for item in items {
             item.bounds();
         }
     }
@@ -247,7 +248,8 @@ impl AddrItems {
     pub fn bounds(&self)
         ensures { AllByRecursion HasAddrItemBounds self.now }
     {
-        for item in self.as_slice() {
+        let items = self.as_slice();
+        for item in items {
             item.bounds();
         }
     }
