@@ -1,11 +1,13 @@
 -- Claims: items that are read one after another.
-use Rattle.std.proofs.Common.{◌≡◌, ◌⊎◌, ℕ, zero, suc, ◌+◌, ◌≤◌, ◌<◌, List, [], ◌∷◌, ◌++◌, length, get_or, take, drop, map, Option, Some, None, Result, Ok, Err, inl, inr, sym, ◌∙◌, ap, subst, refl, arith, true, false, Bool}
+use Rattle.std.proofs.Common.{◌≡◌, ◌≢◌, ◌⊎◌, if◌then◌else◌, ℕ, zero, suc, ◌+◌, ◌≤◌, ◌<◌, List, [], ◌∷◌, ◌++◌, length, get_or, take, drop, map, Option, Some, None, Result, Ok, Err, inl, inr, sym, ◌∙◌, ap, subst, refl, arith, true, false, Bool}
 use Rattle.std.proofs.lemmas.List.{map-append, take_more, take-append-drop}
+use Rattle.std.proofs.lemmas.List.Folds.{list_all-map}
 use Rattle.std.specs.List.{list_all}
 use Rattle.ipam_data.specs.declared.calls.Answered.{Answered}
 use Rattle.ipam_data.specs.declared.calls.Answered.TheVariants.{AsOne, AsList}
 use Rattle.ipam_data.specs.declared.replies.Refusal.{Refusal}
-use Rattle.ipam_data.specs.declared.replies.Refusal.TheVariants.{Memory}
+use Rattle.ipam_data.specs.declared.replies.FieldName.TheVariants.{Body}
+use Rattle.ipam_data.specs.declared.replies.Refusal.TheVariants.{BadJson, Field, Memory}
 use Rattle.serde_json.specs.Data.{Data, Items}
 use Rattle.serde_json.specs.Find.{as_array}
 use Rattle.serde_json.specs.View.{items_of}
@@ -17,7 +19,24 @@ pub values_are : (ds : List Data) → values_of (items_of ds) ≡ ds
 values_are [] = refl
 values_are (d ∷ ds) = ap (λ (rest : List Data). d ∷ rest) (values_are ds)
 
-both : {A : Type 0} → Result (List A) Refusal → Result (List A) Refusal → Result (List A) Refusal
+-- what a list of values is, as it is seen
+module _ {V : Type 0} (view : V → Data) where
+  pub checked_none : (list : List V) → length list ≡ 0 → list_checked (map view list) ≡ Err (Field Body)
+  checked_none [] e = refl
+  checked_none (v ∷ vs) e = absurd (omega arith)
+
+  by_test : (list : List V) → length list ≢ 0 → (b : Bool) → list_all (λ (v : V). is_object (view v)) list ≡ b
+      → list_checked (map view list) ≡ if b then Ok tt else Err BadJson
+  by_test [] n b e = absurd (n refl)
+  by_test (v ∷ vs) n b e = ap (λ (x : Bool). if x then Ok tt else Err BadJson) (list_all-map is_object view (v ∷ vs) ∙ e)
+
+  pub checked_well : (list : List V) → length list ≢ 0 → list_all (λ (v : V). is_object (view v)) list ≡ true → list_checked (map view list) ≡ Ok tt
+  checked_well list n e = by_test list n true e
+
+  pub checked_ill : (list : List V) → length list ≢ 0 → list_all (λ (v : V). is_object (view v)) list ≡ false → list_checked (map view list) ≡ Err BadJson
+  checked_ill list n e = by_test list n false e
+
+abbrev both : {A : Type 0} → Result (List A) Refusal → Result (List A) Refusal → Result (List A) Refusal
 both (Ok a) (Ok b) = Ok (a ++ b)
 both (Ok a) (Err e) = Err e
 both (Err e) r = Err e

@@ -10,7 +10,7 @@ use Rattle.ipam_data.specs.declared.replies.Refusal.TheVariants.{BadJson, Field}
 use Rattle.serde_json.specs.Data.{Data, Items, no_items, item}
 use Rattle.serde_json.specs.Find.{as_array, as_object}
 use Rattle.serde_json.specs.Read.{read}
-use Rattle.ipam_json.specs.Outcomes.{then}
+use Rattle.ipam_json.specs.Outcomes.{then as and_then}
 
 -- the bytes are a JSON text of this value
 pub record IsJsonText (body : List ℕ) (d : Data) : Type 0 where
@@ -36,7 +36,7 @@ list_checked (d ∷ ds) = if list_all is_object (d ∷ ds) then Ok tt else Err B
 
 -- one more item before others
 abbrev pub with_item : {A : Type 0} → Result A Refusal → Result (List A) Refusal → Result (List A) Refusal
-with_item first others = then first λ a. then others λ rest. Ok (a ∷ rest)
+with_item first others = and_then first λ a. and_then others λ rest. Ok (a ∷ rest)
 
 -- the items of objects, as this reads one: the first that is refused is answered
 abbrev pub items_in : {A : Type 0} → (Data → Result A Refusal) → List Data → Result (List A) Refusal
@@ -45,11 +45,11 @@ items_in read_item (d ∷ ds) = with_item (read_item d) (items_in read_item ds)
 
 -- a claim by one object
 abbrev pub one_claim : {A : Type 0} → (Data → Result A Refusal) → Data → Result (Answered × List A) Refusal
-one_claim read_item d = if is_object d then then (read_item d) (λ a. Ok (AsOne, a ∷ [])) else Err BadJson
+one_claim read_item d = if is_object d then and_then (read_item d) (λ a. Ok (AsOne, a ∷ [])) else Err BadJson
 
 -- a claim by a list of objects
 abbrev pub list_claim : {A : Type 0} → (Data → Result A Refusal) → List Data → Result (Answered × List A) Refusal
-list_claim read_item ds = then (list_checked ds) λ _. then (items_in read_item ds) λ items. Ok (AsList, items)
+list_claim read_item ds = and_then (list_checked ds) λ _. and_then (items_in read_item ds) λ items. Ok (AsList, items)
 
 -- a claim by a value, which may be an array
 abbrev pub claim_by : {A : Type 0} → (Data → Result A Refusal) → Data → Option Items → Result (Answered × List A) Refusal

@@ -10,8 +10,8 @@ ghost use Rattle.ipam_json.specs.AddrItems as spec;
 use crate::choices::{address_role, address_status};
 use crate::claims::{check_list, read_value};
 use crate::members::{description, dns_name};
-use ipam_data::calls::{Answered, AddrItem, AddrItems};
-use ipam_data::replies::{Refusal};
+use ipam_data::calls::{AddrItem, AddrItems, Answered};
+use ipam_data::replies::Refusal;
 use serde_json::Value;
 use std::alloc::Global;
 
@@ -47,7 +47,8 @@ fn addr_items(alloc: Global, list: &[Value]) -> Result<AddrItems, Refusal>
 
 /// A claim by a list of objects.
 fn claim_by_list(alloc: Global, list: &[Value]) -> Result<(Answered, AddrItems), Refusal>
-    ensures { OrMemory (λ r. list_claim spec.addr_item (map view list.now) ≡ r) result }
+    ensures claim { OrMemory (λ r. list_claim spec.addr_item (map view list.now) ≡ r) result }
+    ensures items { IfOk result (λ claim. HasItems claim.0 (length claim.1)) }
 {
     check_list(list)?;
     let items = addr_items(alloc, list)?;
@@ -56,7 +57,8 @@ fn claim_by_list(alloc: Global, list: &[Value]) -> Result<(Answered, AddrItems),
 
 /// A claim by one object.
 fn claim_by_one(alloc: Global, body: &Value) -> Result<(Answered, AddrItems), Refusal>
-    ensures { OrMemory (λ r. one_claim spec.addr_item (view body.now) ≡ r) result }
+    ensures claim { OrMemory (λ r. one_claim spec.addr_item (view body.now) ≡ r) result }
+    ensures items { IfOk result (λ claim. HasItems claim.0 (length claim.1)) }
 {
     if !body.is_object() {
         return Err(Refusal::BadJson);

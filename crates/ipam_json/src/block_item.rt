@@ -52,7 +52,8 @@ fn block_items(alloc: Global, list: &[Value]) -> Result<BlockItems, Refusal>
 
 /// A claim by a list of objects.
 fn claim_by_list(alloc: Global, list: &[Value]) -> Result<(Answered, BlockItems), Refusal>
-    ensures { OrMemory (λ r. list_claim spec.block_item (map view list.now) ≡ r) result }
+    ensures claim { OrMemory (λ r. list_claim spec.block_item (map view list.now) ≡ r) result }
+    ensures items { IfOk result (λ claim. HasItems claim.0 (length claim.1)) }
 {
     check_list(list)?;
     let items = block_items(alloc, list)?;
@@ -61,7 +62,8 @@ fn claim_by_list(alloc: Global, list: &[Value]) -> Result<(Answered, BlockItems)
 
 /// A claim by one object.
 fn claim_by_one(alloc: Global, body: &Value) -> Result<(Answered, BlockItems), Refusal>
-    ensures { OrMemory (λ r. one_claim spec.block_item (view body.now) ≡ r) result }
+    ensures claim { OrMemory (λ r. one_claim spec.block_item (view body.now) ≡ r) result }
+    ensures items { IfOk result (λ claim. HasItems claim.0 (length claim.1)) }
 {
     if !body.is_object() {
         return Err(Refusal::BadJson);

@@ -24,9 +24,9 @@ pub(crate) fn read_value(alloc: Global, body: &[u8]) -> Result<Value, Refusal>
 
 /// Whether all of these are objects.
 fn are_objects(list: &[Value]) -> bool
-    ensures { result ≡ list_all is_object (map view list.now) }
+    ensures { result ≡ list_all (λ value. is_object (view value)) list.now }
 {
-    list.iter().all(Value::is_object)
+    list.iter().all(|value| value.is_object())
 }
 
 /// Sees that a list has objects alone, and one at least.

@@ -11,7 +11,9 @@ use ipam_data::host::{Ends, Host};
 use ipam_data::kinds::Kind;
 use ipam_data::prefix::{Prefix, PrefixStatus};
 use ipam_data::range::{IpRange, RangeStatus};
-use ipam_data::replies::{Addrs, Blocks, FieldName, Part, Refusal, Reply, RowFault, Rule, View, Views, Which};
+use ipam_data::replies::{
+    Addrs, Blocks, FieldName, Part, Refusal, Reply, RowFault, Rule, View, Views, Which,
+};
 use ipam_data::rir::Rir;
 use ipam_data::role::Role;
 use ipam_data::text::{Description, Distinguisher, DnsText, Name, Slug, Text, Weight};
@@ -443,7 +445,8 @@ fn free_addrs(rt: &impl Abort, alloc: Global) -> Result<Reply, AllocError> {
 fn available(rt: HostRuntime) -> Result<(), Fail> {
     let want = "[{\"family\":4,\"prefix\":\"10.0.2.0/23\",\"vrf\":null}]";
     is_next(&rt, rt.alloc(), &free_blocks(&rt, rt.alloc())?, want)?;
-    let want = "[{\"address\":\"2001:db8::1/126\",\"family\":6,\"vrf\":2},{\"address\":\"2001:db8::2/126\",\"family\":6,\"vrf\":2}]";
+    let want =
+        "[{\"address\":\"2001:db8::1/126\",\"family\":6,\"vrf\":2},{\"address\":\"2001:db8::2/126\",\"family\":6,\"vrf\":2}]";
     is_next(&rt, rt.alloc(), &free_addrs(&rt, rt.alloc())?, want)?;
     Ok(())
 }
