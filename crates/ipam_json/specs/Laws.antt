@@ -4,6 +4,9 @@ use Rattle.ipam_data.specs.Texts.{IsPlain}
 use Rattle.ipam_data.specs.declared.kinds.Kind.{Kind}
 use Rattle.ipam_data.specs.declared.calls.Draft.{Draft}
 use Rattle.ipam_data.specs.declared.calls.Edit.{Edit}
+use Rattle.ipam_data.specs.declared.calls.Answered.{Answered}
+use Rattle.ipam_data.specs.declared.calls.BlockItem.{BlockItem}
+use Rattle.ipam_data.specs.declared.calls.AddrItem.{AddrItem}
 use Rattle.ipam_data.specs.declared.replies.Refusal.{Refusal}
 use Rattle.ipam_data.specs.declared.vrf.Vrf.{Vrf}
 use Rattle.ipam_data.specs.declared.rir.Rir.{Rir}
@@ -23,6 +26,8 @@ use Rattle.ipam_json.specs.Prefixes.{prefix_members}
 use Rattle.ipam_json.specs.Ranges.{range_members}
 use Rattle.ipam_json.specs.Addresses.{address_members}
 use Rattle.ipam_json.specs.Bodies.{IsBodyOf, IsEditOf}
+use Rattle.ipam_json.specs.BlockItems.{IsBlockClaim}
+use Rattle.ipam_json.specs.AddrItems.{IsAddrClaim}
 
 -- a body asks for one thing
 abbrev pub BodyIsOne : Type 0
@@ -31,6 +36,11 @@ BodyIsOne = (kind : Kind) (body : List ℕ) (a b : Result Draft Refusal) → IsB
 -- and so does the body of an edit
 abbrev pub EditIsOne : Type 0
 EditIsOne = (kind : Kind) (body : List ℕ) (a b : Result Edit Refusal) → IsEditOf kind body a → IsEditOf kind body b → a ≡ b
+
+-- and so does the body of a claim
+pub record ClaimIsOne : Type 0 where
+  pub blocks : (body : List ℕ) (a b : Result (Answered × List BlockItem) Refusal) → IsBlockClaim body a → IsBlockClaim body b → a ≡ b
+  pub addrs : (body : List ℕ) (a b : Result (Answered × List AddrItem) Refusal) → IsAddrClaim body a → IsAddrClaim body b → a ≡ b
 
 -- the texts of a body have the bounds of the texts of rows
 abbrev pub BoundsAreThose : Type 0

@@ -11,6 +11,9 @@ pub mod Prefixes
 pub mod Sizes
 pub mod Ranges
 pub mod Addresses
+pub mod Claims
+pub mod BlockItems
+pub mod AddrItems
 pub mod Bodies
 pub mod Replies
 pub mod Written

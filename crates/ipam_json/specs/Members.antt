@@ -81,6 +81,15 @@ id_of (Some d) =
     if is_some (as_null d) then Some None
     else option_map Some (option_and_then id_within (option_and_then as_u64 (as_number d)))
 
+-- the length of a block is a whole number from 0 to 255; whether it fits where it is wanted is a rule of the register
+abbrev pub length_within : ℕ → Option ℕ
+length_within n = if nat_le n 255 then Some n else None
+
+-- the length of a block that is wanted is required
+abbrev pub prefix_length_of : Option Data → Option ℕ
+prefix_length_of None = None
+prefix_length_of (Some d) = option_and_then length_within (option_and_then as_u64 (as_number d))
+
 -- the status of a prefix is one of four words; an absent one is active
 abbrev pub prefix_status_of : Option Data → Option PrefixStatus
 prefix_status_of None = Some ActivePrefix

@@ -1,10 +1,10 @@
-//! Members that are numbers: ids of other rows, and weights.
+//! Members that are numbers: ids of other rows, weights, and lengths of blocks.
 
 ghost use Rattle.std.specs.Prelude.{◌≡◌, Some, None};
 ghost use Rattle.serde_json.specs.View.{view};
-ghost use Rattle.ipam_json.specs.Members.{id_of, id_within, row_id_of, weight_of, weight_within};
+ghost use Rattle.ipam_json.specs.Members.{id_of, id_within, length_within, prefix_length_of, row_id_of, weight_of, weight_within};
 ghost use Rattle.ipam_json.specs.Outcomes.{field, read_member, read_given};
-ghost use Rattle.ipam_data.specs.declared.replies.FieldName.TheVariants.{Weight as WeightField};
+ghost use Rattle.ipam_data.specs.declared.replies.FieldName.TheVariants.{PrefixLength as PrefixLengthField, Weight as WeightField};
 
 use crate::members::member;
 use ipam_data::replies::{FieldName, Refusal};
@@ -90,6 +90,37 @@ pub(crate) fn given_row_id(body: &Value, name: FieldName) -> Result<Option<u32>,
     match row_id_in(value) {
         Some(id) => Ok(Some(id)),
         None => Err(Refusal::Field(name)),
+    }
+}
+
+/// A number that is a length.
+fn length_of_number(number: u64) -> Option<u8>
+    ensures { result ≡ length_within number }
+{
+    match u8::try_from(number) {
+        Ok(len) => Some(len),
+        Err(_) => None,
+    }
+}
+
+/// The length that a value is.
+fn length_in(value: &Value) -> Option<u8>
+    ensures { result ≡ prefix_length_of (Some (view value.now)) }
+{
+    let number = value.as_u64()?;
+    length_of_number(number)
+}
+
+/// The length of a block that is wanted, which is required.
+pub(crate) fn prefix_length(body: &Value) -> Result<u8, Refusal>
+    ensures { read_member PrefixLengthField prefix_length_of (view body.now) ≡ result }
+{
+    let Some(value) = member(body, FieldName::PrefixLength) else {
+        return Err(Refusal::Field(FieldName::PrefixLength));
+    };
+    match length_in(value) {
+        Some(len) => Ok(len),
+        None => Err(Refusal::Field(FieldName::PrefixLength)),
     }
 }
 

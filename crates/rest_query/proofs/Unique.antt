@@ -11,15 +11,16 @@ use Rattle.rest_query.specs.declared.asked.AggregateTests.{AggregateTests}
 use Rattle.rest_query.specs.declared.asked.PrefixTests.{PrefixTests}
 use Rattle.rest_query.specs.declared.asked.RangeTests.{RangeTests}
 use Rattle.rest_query.specs.declared.asked.AddressTests.{AddressTests}
-use Rattle.ipam_data.specs.declared.replies.FieldName.TheVariants.{DnsName, VrfId, RoleId}
+use Rattle.ipam_data.specs.declared.replies.FieldName.TheVariants.{DnsName, Limit, VrfId, RoleId}
+use Rattle.ipam_json.specs.Outcomes.{field}
 use Rattle.rest_query.specs.Query.{value_in}
-use Rattle.rest_query.specs.Readings.{HasId, HasIdOrNull, IsIdTest, IsRowTest, IsBlockTest, HasBlock, IsAreaOf, IsAreaTest, limit_of, IsLimit, IsOffset}
+use Rattle.rest_query.specs.Readings.{HasId, HasIdOrNull, IsIdTest, IsRowTest, IsBlockTest, HasBlock, IsAreaOf, IsAreaTest, available_limit, default_limit, limit_of, IsLimit, IsOffset}
 use Rattle.rest_query.specs.Aggregates.{AreAggregateTests, aggregate_filter}
 use Rattle.rest_query.specs.Prefixes.{ArePrefixTests, prefix_filter}
 use Rattle.rest_query.specs.Ranges.{AreRangeTests, range_filter}
 use Rattle.rest_query.specs.Addresses.{AreAddressTests, address_filter, lower}
-use Rattle.rest_query.specs.Lists.{IsFilterOf, listing_of}
-use Rattle.rest_query.specs.Laws.{ListingIsOne}
+use Rattle.rest_query.specs.Lists.{IsFilterOf, IsLimitAsked, listing_of}
+use Rattle.rest_query.specs.Laws.{LimitIsOne, ListingIsOne}
 
 one_number : (text : List ℕ) (m n : ℕ) → m < 10000000000 → n < 10000000000 → text ≡ decimal m → text ≡ decimal n → m ≡ n
 one_number text m n a b h k = decimal_injective m n (omega arith) (omega arith) (sym h ∙ k)
@@ -88,12 +89,12 @@ one_area_test None a b h k = h ∙ sym k
 one_area_test (Some text) a b h k =
     one_area_of k.0 text a b (subst (λ (block : Option Cidr). IsAreaOf block text a) (one_block text h.0 k.0 h.1 k.1) h.2) k.2
 
-one_limit : (text : Option (List ℕ)) (a b : Option ℕ) → IsLimit text a → IsLimit text b → a ≡ b
-one_limit None a b h k = h ∙ sym k
-one_limit (Some text) None None h k = refl
-one_limit (Some text) None (Some b) h k = absurd (h k.0 k.2 k.1)
-one_limit (Some text) (Some a) None h k = absurd (k h.0 h.2 h.1)
-one_limit (Some text) (Some a) (Some b) h k = ap Some (h.3 ∙ ap limit_of (one_number text h.0 k.0 h.2 k.2 h.1 k.1) ∙ sym k.3)
+one_limit : (default : ℕ) (text : Option (List ℕ)) (a b : Option ℕ) → IsLimit default text a → IsLimit default text b → a ≡ b
+one_limit default None a b h k = h ∙ sym k
+one_limit default (Some text) None None h k = refl
+one_limit default (Some text) None (Some b) h k = absurd (h k.0 k.2 k.1)
+one_limit default (Some text) (Some a) None h k = absurd (k h.0 h.2 h.1)
+one_limit default (Some text) (Some a) (Some b) h k = ap Some (h.3 ∙ ap limit_of (one_number text h.0 k.0 h.2 k.2 h.1 k.1) ∙ sym k.3)
 
 one_offset : (text : Option (List ℕ)) (a b : Option ℕ) → IsOffset text a → IsOffset text b → a ≡ b
 one_offset None a b h k = h ∙ sym k
@@ -151,6 +152,10 @@ pub listing_is_one : ListingIsOne
 listing_is_one kind query a b h k =
     h.is
     ∙ ap (λ (filter : Result Filter Refusal). listing_of filter h.limit h.offset) (one_filter kind query h.filter k.filter h.filtered k.filtered)
-    ∙ ap (λ (limit : Option ℕ). listing_of k.filter limit h.offset) (one_limit _ h.limit k.limit h.limited k.limited)
+    ∙ ap (λ (limit : Option ℕ). listing_of k.filter limit h.offset) (one_limit default_limit _ h.limit k.limit h.limited k.limited)
     ∙ ap (λ (offset : Option ℕ). listing_of k.filter k.limit offset) (one_offset _ h.offset k.offset h.moved k.moved)
     ∙ sym k.is
+
+pub limit_is_one : LimitIsOne
+limit_is_one available query a b h k =
+    h.2 ∙ ap (λ (limit : Option ℕ). field Limit limit) (one_limit (available_limit available) (value_in query Limit) h.0 k.0 h.1 k.1) ∙ sym k.2

@@ -13,9 +13,10 @@ use Rattle.rest_query.specs.declared.asked.AggregateTests.{AggregateTests}
 use Rattle.rest_query.specs.declared.asked.PrefixTests.{PrefixTests}
 use Rattle.rest_query.specs.declared.asked.RangeTests.{RangeTests}
 use Rattle.rest_query.specs.declared.asked.AddressTests.{AddressTests}
+use Rattle.rest_query.specs.declared.asked.Available.{Available}
 use Rattle.rest_query.specs.declared.asked.Listing.{Listing}
 use Rattle.rest_query.specs.Query.{value_in}
-use Rattle.rest_query.specs.Readings.{IsLimit, IsOffset}
+use Rattle.rest_query.specs.Readings.{available_limit, default_limit, IsLimit, IsOffset}
 use Rattle.rest_query.specs.Vrfs.{vrf_filter, with_vrf_filters}
 use Rattle.rest_query.specs.Rirs.{rir_filter, with_rir_filters}
 use Rattle.rest_query.specs.Roles.{role_filter, with_role_filters}
@@ -49,9 +50,14 @@ pub record IsListing (kind : Kind) (query : List ℕ) (answer : Result Listing R
   pub limit : Option ℕ
   pub offset : Option ℕ
   pub filtered : IsFilterOf kind query filter
-  pub limited : IsLimit (value_in query Limit) limit
+  pub limited : IsLimit default_limit (value_in query Limit) limit
   pub moved : IsOffset (value_in query Offset) offset
   pub is : answer ≡ listing_of filter limit offset
+
+-- what the query of a list of available things asks for: a limit alone
+abbrev pub IsLimitAsked : Available → List ℕ → Result ℕ Refusal → Type 0
+IsLimitAsked available query answer =
+    (limit : Option ℕ) × IsLimit (available_limit available) (value_in query Limit) limit × (answer ≡ field Limit limit)
 
 -- a form with the filters of a kind that are given, as they were given
 abbrev pub with_filters : Kind → List ℕ → List ℕ → List ℕ

@@ -4,6 +4,8 @@ use Rattle.inet_num.specs.declared.Family.{Family}
 use Rattle.inet_num.specs.declared.Family.TheVariants.{V4, V6}
 use Rattle.inet_num.specs.Net.{Address, Cidr, width_of, block_at}
 use Rattle.inet_num.specs.Text.{IsBlockText, IsAddressText, IsNoAddressText}
+use Rattle.rest_query.specs.declared.asked.Available.{Available}
+use Rattle.rest_query.specs.declared.asked.Available.TheVariants.{Blocks, Addrs}
 
 -- a family is the number of its version
 abbrev pub family_named : List ℕ → Option Family
@@ -61,15 +63,27 @@ abbrev pub IsAreaTest : Option (List ℕ) → Option (Option Cidr) → Type 0
 IsAreaTest None area = area ≡ Some None
 IsAreaTest (Some text) area = (block : Option Cidr) × HasBlock text block × IsAreaOf block text area
 
--- a limit of 0 and each above 1000 count as 1000
-abbrev pub limit_of : ℕ → ℕ
-limit_of n = if n == 0 || nat_lt 1000 n then 1000 else n
+-- at most so many things are listed
+abbrev pub most_listed : ℕ
+most_listed = 1000
 
--- a limit is a number of at most ten digits, in decimal, without a leading zero; an absent one is 50
-abbrev pub IsLimit : Option (List ℕ) → Option ℕ → Type 0
-IsLimit None limit = limit ≡ Some 50
-IsLimit (Some text) None = (n : ℕ) → n < 10000000000 → text ≢ decimal n
-IsLimit (Some text) (Some limit) = (n : ℕ) × (text ≡ decimal n) × (n < 10000000000) × (limit ≡ limit_of n)
+-- a limit of 0 and each above the most count as the most
+abbrev pub limit_of : ℕ → ℕ
+limit_of n = if n == 0 || nat_lt most_listed n then most_listed else n
+
+-- so many things are listed where no limit is given, but available blocks, which are listed up to the most
+abbrev pub default_limit : ℕ
+default_limit = 50
+
+abbrev pub available_limit : Available → ℕ
+available_limit Blocks = most_listed
+available_limit Addrs = default_limit
+
+-- a limit is a number of at most ten digits, in decimal, without a leading zero; an absent one is the default
+abbrev pub IsLimit : ℕ → Option (List ℕ) → Option ℕ → Type 0
+IsLimit default None limit = limit ≡ Some default
+IsLimit default (Some text) None = (n : ℕ) → n < 10000000000 → text ≢ decimal n
+IsLimit default (Some text) (Some limit) = (n : ℕ) × (text ≡ decimal n) × (n < 10000000000) × (limit ≡ limit_of n)
 
 -- an offset is a number up to 4294967295 likewise; an absent one is 0
 abbrev pub IsOffset : Option (List ℕ) → Option ℕ → Type 0

@@ -53,3 +53,10 @@ pub struct Listing {
     pub limit: u32,
     pub offset: u32,
 }
+
+/// What of a prefix or a range is available and listed. It decides how many are listed where no limit is given.
+#[derive(Clone, Copy, Debug)]
+pub enum Available {
+    Blocks,
+    Addrs,
+}

@@ -1,8 +1,13 @@
-//! Laws of the definitions: the function is empty, and its contract is the law.
+//! Laws of the definitions: each function is empty, and its contract is the law.
 
-ghost use Rattle.rest_query.specs.Laws.{ListingIsOne};
+ghost use Rattle.rest_query.specs.Laws.{LimitIsOne, ListingIsOne};
 
 /// The query of a list asks for one thing.
 pub fn listing_is_one()
     ensures { ListingIsOne }
+{}
+
+/// The query of a list of available things asks for one thing.
+pub fn limit_is_one()
+    ensures { LimitIsOne }
 {}

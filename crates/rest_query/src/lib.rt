@@ -15,7 +15,7 @@ mod rir;
 mod role;
 mod vrf;
 
-pub use asked::Listing;
-pub use laws::listing_is_one;
-pub use lists::{link_query, read_listing};
+pub use asked::{Available, Listing};
+pub use laws::{limit_is_one, listing_is_one};
+pub use lists::{link_query, read_limit, read_listing};
 pub use query::cut;

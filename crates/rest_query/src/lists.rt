@@ -5,16 +5,16 @@ ghost use Rattle.ipam_json.specs.Outcomes.{OrMemory};
 ghost use Rattle.ipam_data.specs.declared.replies.FieldName.TheVariants.{Limit, Offset};
 ghost use Rattle.rest_query.specs.Query.{value_in};
 ghost use Rattle.rest_query.specs.Readings.{IsLimit, IsOffset};
-ghost use Rattle.rest_query.specs.Lists.{IsFilterOf, IsListing, listing_of, kind_of, with_filters};
+ghost use Rattle.rest_query.specs.Lists.{IsFilterOf, IsLimitAsked, IsListing, listing_of, kind_of, with_filters};
 ghost use Rattle.rest_query.specs.Lists as spec;
 
 use crate::address::{add_address_filters, address_filter};
 use crate::aggregate::{add_aggregate_filters, aggregate_filter};
-use crate::asked::Listing;
+use crate::asked::{Available, Listing};
 use crate::prefix::{add_prefix_filters, prefix_filter};
 use crate::query::value;
 use crate::range::{add_range_filters, range_filter};
-use crate::readings::{limit, offset};
+use crate::readings::{DEFAULT_LIMIT, available_limit, limit, offset};
 use crate::rir::{add_rir_filters, rir_filter};
 use crate::role::{add_role_filters, role_filter};
 use crate::vrf::{add_vrf_filters, vrf_filter};
@@ -52,11 +52,11 @@ fn filter_of(alloc: Global, kind: Kind, query: &[u8]) -> Result<Filter, Refusal>
 }
 
 /// The limit of a query.
-fn limit_in(alloc: Global, query: &[u8]) -> Result<Option<u32>, AllocError>
-    ensures { IfOk result (IsLimit (value_in query.now Limit)) }
+fn limit_in(alloc: Global, query: &[u8], default: u32) -> Result<Option<u32>, AllocError>
+    ensures { IfOk result (IsLimit default (value_in query.now Limit)) }
 {
     let text = value(alloc, query, FieldName::Limit)?;
-    Ok(limit(&text))
+    Ok(limit(&text, default))
 }
 
 /// The offset of a query.
@@ -91,7 +91,7 @@ pub fn read_listing(alloc: Global, kind: Kind, query: &[u8]) -> Result<Listing, 
     ensures listing { OrMemory (IsListing kind query.now) result }
     ensures kind { IfOk result (λ l. kind_of l.filter ≡ kind) }
 {
-    let Ok(limit) = limit_in(alloc, query) else {
+    let Ok(limit) = limit_in(alloc, query, DEFAULT_LIMIT) else {
         return Err(Refusal::Memory);
     };
     let Ok(offset) = offset_in(alloc, query) else {
@@ -100,6 +100,20 @@ pub fn read_listing(alloc: Global, kind: Kind, query: &[u8]) -> Result<Listing, 
     match filter_of(alloc, kind, query) {
         Ok(filter) => listed(filter, limit, offset),
         Err(refusal) => Err(refusal),
+    }
+}
+
+/// What the query of a list of available things asks for: a limit alone, so that other parameters do not count. `Field` comes
+/// where it is malformed; `Memory` may come in place of any answer.
+pub fn read_limit(alloc: Global, available: Available, query: &[u8]) -> Result<u32, Refusal>
+    ensures { OrMemory (IsLimitAsked available query.now) result }
+{
+    let Ok(limit) = limit_in(alloc, query, available_limit(available)) else {
+        return Err(Refusal::Memory);
+    };
+    match limit {
+        Some(limit) => Ok(limit),
+        None => Err(Refusal::Field(FieldName::Limit)),
     }
 }
 

@@ -4,6 +4,7 @@ ghost use Rattle.std.specs.Prelude.{◌≡◌, None, Some, bytes_eq, codes};
 ghost use Rattle.rest_query.specs.Readings.{test_of, IsIdTest, IsRowTest, IsBlockTest, IsAreaTest, IsAreaOf, HasBlock, IsLimit, IsOffset, HasId, HasIdOrNull};
 ghost use Rattle.rest_query.specs.Readings as spec;
 
+use crate::asked::Available;
 use crate::numbers::{is_decimal, number_below, number_of};
 use inet_num::{Block, Family, read_addr, read_block};
 use ipam_data::text::Text;
@@ -137,22 +138,38 @@ pub(crate) fn block_test(text: &Option<Text>) -> Option<Option<Block>>
     }
 }
 
+/// At most so many things are listed.
+const MOST_LISTED: u32 = 1000;
+
+/// So many rows or addresses are listed where no limit is given.
+pub(crate) const DEFAULT_LIMIT: u32 = 50;
+
+/// How many available things are listed where no limit is given.
+pub(crate) fn available_limit(available: Available) -> u32
+    ensures { result ≡ spec.available_limit available }
+{
+    match available {
+        Available::Blocks => MOST_LISTED,
+        Available::Addrs => DEFAULT_LIMIT,
+    }
+}
+
 /// The number of a limit that counts.
 fn limit_of(number: u64) -> u32
     ensures { result ≡ spec.limit_of number }
 {
-    if number == 0 || number > 1000 {
-        return 1000;
+    if number == 0 || number > u64::from(MOST_LISTED) {
+        return MOST_LISTED;
     }
     number as u32
 }
 
-/// A limit.
-pub(crate) fn limit(text: &Option<Text>) -> Option<u32>
-    ensures { IsLimit text.now result }
+/// A limit, which is the default where it is absent.
+pub(crate) fn limit(text: &Option<Text>, default: u32) -> Option<u32>
+    ensures { IsLimit default text.now result }
 {
     let Some(text) = text else {
-        return Some(50);
+        return Some(default);
     };
     match number_below(text.as_str(), 10000000000) {
         Some(number) => Some(limit_of(number)),

@@ -8,13 +8,13 @@ use Rattle.route_table.specs.Paths.{IsPiece, IsOfForm}
 use Rattle.route_table.proofs.Search.{split_at_slash}
 use Rattle.ipam_data.specs.declared.kinds.Kind.{Kind}
 use Rattle.rest_routes.specs.declared.route.Route.{Route}
-use Rattle.rest_routes.specs.declared.route.Route.TheVariants.{Many, Single}
+use Rattle.rest_routes.specs.declared.route.Route.TheVariants.{Many, Single, Within}
 use Rattle.rest_routes.specs.declared.table.Stem.{Stem}
-use Rattle.rest_routes.specs.declared.table.Stem.TheVariants.{Rows, Row}
+use Rattle.rest_routes.specs.declared.table.Stem.TheVariants.{Rows, Row, PartOf}
 use Rattle.ipam_data.specs.Answers.{kind_text}
-use Rattle.rest_routes.specs.Routes.{rows_path, path_of, IsRoute}
+use Rattle.rest_routes.specs.Routes.{rows_path, part_text, path_of, IsRoute}
 use Rattle.rest_routes.specs.Stems.{stem_of, id_text, form_of}
-use Rattle.rest_routes.proofs.Names.{one_kind, kind_no_slash}
+use Rattle.rest_routes.proofs.Names.{one_kind, one_part, kind_no_slash, part_no_slash}
 use Rattle.rest_routes.proofs.Listed.{kind_of}
 
 -- the kind of a path, and what follows
@@ -29,12 +29,15 @@ front_is j k a b e =
 abbrev IsTail : Stem → Option (List ℕ) → List ℕ → Type 0
 IsTail (Rows kind) text rest = (text ≡ None) × (rest ≡ [])
 IsTail (Row kind) text rest = (piece : List ℕ) × (text ≡ Some piece) × IsPiece piece × (rest ≡ piece ++ 47 ∷ [])
+IsTail (PartOf part) text rest = (piece : List ℕ) × (text ≡ Some piece) × IsPiece piece × (rest ≡ piece ++ 47 ∷ (part_text part ++ 47 ∷ []))
 
 tail_of : (stem : Stem) (path : List ℕ) (text : Option (List ℕ)) → IsOfForm (form_of stem) path text → (rest : List ℕ) × (path ≡ rows_path (kind_of stem) ++ rest) × IsTail stem text rest
 tail_of (Rows kind) path None h = ([], h ∙ sym (append-nil (rows_path kind)), (refl, refl))
 tail_of (Rows kind) path (Some piece) h = absurd h
 tail_of (Row kind) path None h = absurd h
 tail_of (Row kind) path (Some piece) h = (piece ++ 47 ∷ [], h.1, (piece, refl, h.0, refl))
+tail_of (PartOf part) path None h = absurd h
+tail_of (PartOf part) path (Some piece) h = (piece ++ 47 ∷ (part_text part ++ 47 ∷ []), h.1, (piece, refl, h.0, refl))
 
 not_empty : (a : List ℕ) (x : ℕ) (b rest : List ℕ) → rest ≡ [] → rest ≢ a ++ x ∷ b
 not_empty a x b rest e q =
@@ -44,10 +47,22 @@ not_empty a x b rest e q =
 one_tail : (s t : Stem) (a b : Option (List ℕ)) (rest : List ℕ) → kind_of s ≡ kind_of t → IsTail s a rest → IsTail t b rest → (s ≡ t) × (a ≡ b)
 one_tail (Rows j) (Rows k) a b rest e h g = (ap Rows e, h.0 ∙ sym g.0)
 one_tail (Rows j) (Row k) a b rest e h g = absurd (not_empty g.0 47 [] rest h.1 g.3)
+one_tail (Rows j) (PartOf part) a b rest e h g = absurd (not_empty g.0 47 (part_text part ++ 47 ∷ []) rest h.1 g.3)
 one_tail (Row j) (Rows k) a b rest e h g = absurd (not_empty h.0 47 [] rest g.1 h.3)
 one_tail (Row j) (Row k) a b rest e h g =
     let s = split_at_slash h.0 g.0 [] [] h.2.no_slash g.2.no_slash (sym h.3 ∙ g.3) in
     (ap Row e, h.1 ∙ ap Some s.0 ∙ sym g.1)
+one_tail (Row j) (PartOf part) a b rest e h g =
+    let s = split_at_slash h.0 g.0 [] (part_text part ++ 47 ∷ []) h.2.no_slash g.2.no_slash (sym h.3 ∙ g.3) in
+    absurd (not_empty (part_text part) 47 [] [] refl s.1)
+one_tail (PartOf part) (Rows k) a b rest e h g = absurd (not_empty h.0 47 (part_text part ++ 47 ∷ []) rest g.1 h.3)
+one_tail (PartOf part) (Row k) a b rest e h g =
+    let s = split_at_slash h.0 g.0 (part_text part ++ 47 ∷ []) [] h.2.no_slash g.2.no_slash (sym h.3 ∙ g.3) in
+    absurd (not_empty (part_text part) 47 [] [] refl (sym s.1))
+one_tail (PartOf p) (PartOf q) a b rest e h g =
+    let s = split_at_slash h.0 g.0 (part_text p ++ 47 ∷ []) (part_text q ++ 47 ∷ []) h.2.no_slash g.2.no_slash (sym h.3 ∙ g.3) in
+    let t = split_at_slash (part_text p) (part_text q) [] [] (part_no_slash p) (part_no_slash q) s.1 in
+    (ap PartOf (one_part p q e t.0), h.1 ∙ ap Some s.0 ∙ sym g.1)
 
 -- a path has one stem, and one text of an id
 pub one_stem : (s t : Stem) (path : List ℕ) (a b : Option (List ℕ)) → IsOfForm (form_of s) path a → IsOfForm (form_of t) path b → (s ≡ t) × (a ≡ b)
@@ -77,7 +92,9 @@ decimal_piece id l = record { some = decimal_nonempty id (omega arith); no_slash
 pub of_form : (route : Route) → IsRoute route → IsOfForm (form_of (stem_of route)) (path_of route) (id_text route)
 of_form (Many kind) h = refl
 of_form (Single kind id) h = (decimal_piece id h.1, refl)
+of_form (Within part id) h = (decimal_piece id h.1, refl)
 
 pub is_path : (route : Route) (path : List ℕ) → IsOfForm (form_of (stem_of route)) path (id_text route) → path ≡ path_of route
 is_path (Many kind) path h = h
 is_path (Single kind id) path h = h.1
+is_path (Within part id) path h = h.1

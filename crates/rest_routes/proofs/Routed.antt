@@ -8,13 +8,14 @@ use Rattle.route_table.specs.Paths.{Form, IsOfForm}
 use Rattle.route_table.proofs.Texts.{literal_is_text}
 use Rattle.ipam_data.specs.declared.kinds.Kind.{Kind}
 use Rattle.rest_routes.specs.declared.route.Route.{Route}
-use Rattle.rest_routes.specs.declared.route.Route.TheVariants.{Many, Single}
+use Rattle.rest_routes.specs.declared.route.Route.TheVariants.{Many, Single, Within}
+use Rattle.rest_routes.specs.declared.route.RowPart.{RowPart}
 use Rattle.rest_routes.specs.declared.table.Stem.{Stem}
-use Rattle.rest_routes.specs.declared.table.Stem.TheVariants.{Rows, Row}
+use Rattle.rest_routes.specs.declared.table.Stem.TheVariants.{Rows, Row, PartOf}
 use Rattle.ipam_data.specs.Answers.{kind_text}
-use Rattle.rest_routes.specs.Routes.{rows_path, path_of, IsId, IsRoute, IsPathOf, HasRoute}
+use Rattle.rest_routes.specs.Routes.{rows_path, part_kind, part_text, part_end, path_of, IsId, IsRoute, IsPathOf, HasRoute}
 use Rattle.rest_routes.specs.Stems.{stem_of, id_text, form_of, item_of, stems, Lists, IsRouteAt}
-use Rattle.rest_routes.proofs.Names.{kind_literal}
+use Rattle.rest_routes.proofs.Names.{kind_literal, part_literal}
 use Rattle.rest_routes.proofs.Listed.{kind_of, listed}
 use Rattle.rest_routes.proofs.Paths.{one_stem, of_form, is_path}
 
@@ -59,15 +60,27 @@ made (Rows kind) (Some piece) route r = absurd (cc)
 made (Row kind) None route r = absurd (cc)
 made (Row kind) (Some piece) route r =
     subst (λ (z : Route). (stem_of z ≡ Row kind) × (id_text z ≡ Some piece) × IsRoute z) (sym r.3) (refl, ap Some (sym r.2), r.1)
+made (PartOf part) None route r = absurd (cc)
+made (PartOf part) (Some piece) route r =
+    subst (λ (z : Route). (stem_of z ≡ PartOf part) × (id_text z ≡ Some piece) × IsRoute z) (sym r.3) (refl, ap Some (sym r.2), r.1)
 
 unmade : (stem : Stem) (text : Option (List ℕ)) → IsRouteAt stem text None → (route : Route) → stem_of route ≡ stem → IsRoute route → id_text route ≢ text
 unmade (Rows kind) None r route s i e = absurd (cc)
 unmade (Rows kind) (Some piece) r (Many k) s i e = cc
 unmade (Rows kind) (Some piece) r (Single k id) s i e = cc
+unmade (Rows kind) (Some piece) r (Within part id) s i e = cc
 unmade (Row kind) None r (Many k) s i e = cc
 unmade (Row kind) None r (Single k id) s i e = cc
+unmade (Row kind) None r (Within part id) s i e = cc
 unmade (Row kind) (Some piece) r (Many k) s i e = cc
 unmade (Row kind) (Some piece) r (Single k id) s i e = r id i (sym (ap text_or_none e))
+unmade (Row kind) (Some piece) r (Within part id) s i e = cc
+unmade (PartOf part) None r (Many k) s i e = cc
+unmade (PartOf part) None r (Single k id) s i e = cc
+unmade (PartOf part) None r (Within p id) s i e = cc
+unmade (PartOf part) (Some piece) r (Many k) s i e = cc
+unmade (PartOf part) (Some piece) r (Single k id) s i e = cc
+unmade (PartOf part) (Some piece) r (Within p id) s i e = r id i (sym (ap text_or_none e))
 
 -- the target is text, and the table has a form for it
 pub found : (table : List (Form × Stem)) (path : List ℕ) (form : Form) (stem : Stem) (text : Option (List ℕ)) (result : Option Route) → Lists table stems
@@ -105,20 +118,38 @@ rows_text kind =
 id_is_text : (id : ℕ) → IsId id → (rest : List ℕ) → IsUtf8 rest → IsUtf8 (decimal id ++ rest)
 id_is_text id h rest u = IsUtf8-append (decimal id) rest (IsUtf8-from_ascii (decimal id) (IsAscii-decimal id (omega (arith, h.1)))) u
 
+end_is_text : (part : RowPart) → IsUtf8 (part_end part)
+end_is_text part =
+    IsUtf8-append (codes "/") (part_text part ++ codes "/") (literal_is_text (codes "/") refl)
+    (IsUtf8-append (part_text part) (codes "/") (literal_is_text (part_text part) (part_literal part)) (literal_is_text (codes "/") refl))
+
 path_text : (route : Route) → IsRoute route → IsUtf8 (path_of route)
 path_text (Many kind) h = rows_text kind
 path_text (Single kind id) h = IsUtf8-append (rows_path kind) (decimal id ++ codes "/") (rows_text kind) (id_is_text id h (codes "/") (literal_is_text (codes "/") refl))
+path_text (Within part id) h =
+    IsUtf8-append (rows_path (part_kind part)) (decimal id ++ part_end part) (rows_text (part_kind part)) (id_is_text id h (part_end part) (end_is_text part))
 
 pub no_text : (target : List ℕ) → ¬ IsUtf8 target → HasRoute target None
 no_text target n = λ route p. n (subst IsUtf8 (sym p.path) (path_text route p.served))
 
 -- two routes with one path are one
+abbrev part_or : RowPart → Stem → RowPart
+part_or part (Rows kind) = part
+part_or part (Row kind) = part
+part_or part (PartOf other) = other
+
 one_id : (a b : Route) → stem_of a ≡ stem_of b → id_text a ≡ id_text b → IsRoute a → IsRoute b → a ≡ b
 one_id (Many j) (Many k) s e h g = ap Many (ap kind_of s)
 one_id (Many j) (Single k id) s e h g = cc
+one_id (Many j) (Within part id) s e h g = cc
 one_id (Single j id) (Many k) s e h g = cc
 one_id (Single j id) (Single k other) s e h g =
     ap (λ (z : Kind). Single z id) (ap kind_of s) ∙ ap (Single k) (decimal_injective id other (omega (arith, h.1)) (omega (arith, g.1)) (ap text_or_none e))
+one_id (Single j id) (Within part other) s e h g = cc
+one_id (Within part id) (Many k) s e h g = cc
+one_id (Within part id) (Single k other) s e h g = cc
+one_id (Within part id) (Within end other) s e h g =
+    ap (λ (z : RowPart). Within z id) (ap (part_or part) s) ∙ ap (Within end) (decimal_injective id other (omega (arith, h.1)) (omega (arith, g.1)) (ap text_or_none e))
 
 one_path : (target : List ℕ) (a b : Route) → IsPathOf target a → IsPathOf target b → a ≡ b
 one_path target a b h g =

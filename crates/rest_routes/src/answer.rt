@@ -172,6 +172,13 @@ pub fn page_end(call: &Call) -> u64
         Call::Create { .. } => 0,
         Call::Change { .. } => 0,
         Call::Delete { .. } => 0,
+        Call::Blocks { .. } => 0,
+        Call::PrefixAddrs { .. } => 0,
+        Call::RangeAddrs { .. } => 0,
+        Call::ClaimBlocks { .. } => 0,
+        Call::ClaimPrefixAddrs { .. } => 0,
+        Call::ClaimRangeAddrs { .. } => 0,
+        Call::Utilization { .. } => 0,
     }
 }
 

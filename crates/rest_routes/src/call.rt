@@ -5,6 +5,7 @@ ghost use Rattle.ipam_json.specs.Bodies.{OrMemory};
 ghost use Rattle.rest_routes.specs.Requests.{IsListAsked, IsRowsAsked, IsRowAsked, IsRequest, IsWellMade, link_text, links_of};
 ghost use Rattle.rest_routes.specs.Requests as spec;
 
+use crate::parts::call_of_part;
 use crate::route::{Method, Route};
 use crate::table::Routes;
 use ipam_data::calls::Call;
@@ -17,7 +18,7 @@ use rest_query::{cut, link_query, read_listing};
 use std::alloc::{AllocError, Global};
 
 /// A call with no page before or after.
-fn asks(call: Call) -> (Call, Links)
+pub(crate) fn asks(call: Call) -> (Call, Links)
     ensures { result ≡ (call, spec.no_links) }
 {
     let links = Links {
@@ -163,6 +164,9 @@ pub fn read_call_by(
         Some(Route::Many(kind)) => { call_of_rows(alloc, kind, Method::named(method), query, body) }
         Some(Route::Single(kind, id)) => {
             call_of_row(alloc, kind, id, Method::named(method), body)
+        }
+        Some(Route::Within(part, id)) => {
+            call_of_part(alloc, part, id, Method::named(method), query, body)
         }
     }
 }

@@ -4,6 +4,7 @@
 mod answer;
 mod call;
 mod laws;
+mod parts;
 mod route;
 mod table;
 
@@ -13,5 +14,5 @@ pub use answer::{
 };
 pub use call::{read_call, read_call_by};
 pub use laws::request_is_one;
-pub use route::{Method, Route};
+pub use route::{Method, Route, RowPart};
 pub use table::Routes;

@@ -1,15 +1,71 @@
 //! Routes: which targets name something, and by which methods.
 
 ghost use Rattle.std.specs.Prelude.{◌≡◌};
-ghost use Rattle.rest_routes.specs.Routes.{method_named, methods_text};
+ghost use Rattle.rest_routes.specs.Routes.{method_named, methods_text, part_kind, part_methods, part_text};
 
 use ipam_data::kinds::Kind;
 
-/// What a target names: the rows of a kind, or the row of an id.
+/// What a path may name within a row: what is available in it, or how much of it is used.
+#[derive(Clone, Copy, Debug)]
+pub enum RowPart {
+    PrefixBlocks,
+    PrefixAddresses,
+    RangeAddresses,
+    PrefixUtilization,
+    RangeUtilization,
+    AggregateUtilization,
+}
+
+impl RowPart {
+    /// The kind of the row.
+    pub fn kind(self) -> Kind
+        ensures { result ≡ part_kind self }
+    {
+        match self {
+            RowPart::PrefixBlocks => Kind::Prefixes,
+            RowPart::PrefixAddresses => Kind::Prefixes,
+            RowPart::RangeAddresses => Kind::Ranges,
+            RowPart::PrefixUtilization => Kind::Prefixes,
+            RowPart::RangeUtilization => Kind::Ranges,
+            RowPart::AggregateUtilization => Kind::Aggregates,
+        }
+    }
+
+    /// The part's name in a path.
+    pub fn name(self) -> &'static str
+        ensures { result.now ≡ part_text self }
+    {
+        match self {
+            RowPart::PrefixBlocks => "available-prefixes",
+            RowPart::PrefixAddresses => "available-ips",
+            RowPart::RangeAddresses => "available-ips",
+            RowPart::PrefixUtilization => "utilization",
+            RowPart::RangeUtilization => "utilization",
+            RowPart::AggregateUtilization => "utilization",
+        }
+    }
+
+    /// The methods of the part, as the field `Allow` prints them.
+    pub fn methods(self) -> &'static str
+        ensures { result.now ≡ part_methods self }
+    {
+        match self {
+            RowPart::PrefixBlocks => "GET, POST",
+            RowPart::PrefixAddresses => "GET, POST",
+            RowPart::RangeAddresses => "GET, POST",
+            RowPart::PrefixUtilization => "GET",
+            RowPart::RangeUtilization => "GET",
+            RowPart::AggregateUtilization => "GET",
+        }
+    }
+}
+
+/// What a target names: the rows of a kind, the row of an id, or a part of that row.
 #[derive(Clone, Copy, Debug)]
 pub enum Route {
     Many(Kind),
     Single(Kind, u32),
+    Within(RowPart, u32),
 }
 
 /// The methods that some route has.
@@ -50,6 +106,7 @@ impl Route {
         match self {
             Route::Many(_) => "GET, POST",
             Route::Single(_, _) => "GET, PATCH, DELETE",
+            Route::Within(part, _) => part.methods(),
         }
     }
 }

@@ -2,10 +2,10 @@
 
 ghost use Rattle.std.specs.Prelude.{◌≡◌, ◌≢◌, ◌↔◌, ℕ, ◌^◌, ◌<◌, List, [], ◌∷◌, ◌++◌, decimal, Some, IfOk, IfSome, IfNone, IsTrue, OnOk, option_copied};
 ghost use Rattle.std.specs.String.{string_bytes};
-ghost use Rattle.rest_routes.specs.Routes.{HasRoute, IsId, rows_path};
+ghost use Rattle.rest_routes.specs.Routes.{HasRoute, IsId, part_end, rows_path};
 ghost use Rattle.rest_routes.specs.Stems.{Lists, IsRouteAt};
 
-use crate::route::Route;
+use crate::route::{Route, RowPart};
 use ipam_data::kinds::Kind;
 use ipam_words::kind_name;
 use itoa::Buffer;
@@ -18,6 +18,7 @@ use std::marker::Model;
 pub(crate) enum Stem {
     Rows(Kind),
     Row(Kind),
+    PartOf(RowPart),
 }
 
 /// The number that the text is read as: at least every decimal text of one is.
@@ -59,6 +60,10 @@ fn route_at(stem: Stem, text: Option<&str>) -> Option<Route>
             Some(id) => Some(Route::Single(kind, id)),
             None => None,
         },
+        (Stem::PartOf(part), Some(text)) => match id_of(text) {
+            Some(id) => Some(Route::Within(part, id)),
+            None => None,
+        },
         _ => None,
     }
 }
@@ -73,6 +78,16 @@ fn rows_text(alloc: Global, kind: Kind) -> Result<String, AllocError>
     Ok(text)
 }
 
+/// What follows the id in the path of a part of a row.
+fn end_text(alloc: Global, part: RowPart) -> Result<String, AllocError>
+    ensures { IfOk result (λ t. string_bytes t ≡ part_end part) }
+{
+    let mut text = String::from_str(alloc, "/")?;
+    text.push_str(part.name())?;
+    text.push_str("/")?;
+    Ok(text)
+}
+
 /// Adds the rows and the single rows of a kind.
 fn add_kind(table: &mut RouteTable<Stem>, alloc: Global, kind: Kind) -> Result<(), AllocError>
     ensures { OnOk result ((list : List Stem) → Lists table.old list → Lists table.new (list ++ (Stem.Rows kind ∷ Stem.Row kind ∷ []))) }
@@ -80,6 +95,15 @@ fn add_kind(table: &mut RouteTable<Stem>, alloc: Global, kind: Kind) -> Result<(
     let front = rows_text(alloc, kind)?;
     table.add_whole(front.as_str(), Stem::Rows(kind))?;
     table.add_around(front.as_str(), "/", Stem::Row(kind))
+}
+
+/// Adds a part of the rows of its kind.
+fn add_part(table: &mut RouteTable<Stem>, alloc: Global, part: RowPart) -> Result<(), AllocError>
+    ensures { OnOk result ((list : List Stem) → Lists table.old list → Lists table.new (list ++ Stem.PartOf part ∷ [])) }
+{
+    let front = rows_text(alloc, part.kind())?;
+    let end = end_text(alloc, part)?;
+    table.add_around(front.as_str(), end.as_str(), Stem::PartOf(part))
 }
 
 /// All routes, built once. A look-up takes no memory.
@@ -109,6 +133,12 @@ impl Routes {
         add_kind(&mut table, alloc, Kind::Prefixes)?;
         add_kind(&mut table, alloc, Kind::Ranges)?;
         add_kind(&mut table, alloc, Kind::Addresses)?;
+        add_part(&mut table, alloc, RowPart::PrefixBlocks)?;
+        add_part(&mut table, alloc, RowPart::PrefixAddresses)?;
+        add_part(&mut table, alloc, RowPart::RangeAddresses)?;
+        add_part(&mut table, alloc, RowPart::PrefixUtilization)?;
+        add_part(&mut table, alloc, RowPart::RangeUtilization)?;
+        add_part(&mut table, alloc, RowPart::AggregateUtilization)?;
         Ok(Routes { table })
     }
 

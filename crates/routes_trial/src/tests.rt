@@ -16,7 +16,7 @@ use std::process::Abort;
 use std::test::Fail;
 
 /// Requests: a method, a target, ` = `, and the call with its links, or the refusal with its status and its `Allow`. Each has
-/// one body, that of a VRF.
+/// one body, that of a VRF and of a claim.
 const REQUESTS: &[u8] =
     b"GET /api/ipam/vrfs/ = List { kind: Vrfs, filter: Vrfs { name: None, rd: None }, limit: 50, offset: 0 } /api/ipam/vrfs/?limit=50&offset=50
 GET /api/ipam/prefixes/?limit=2 = List { kind: Prefixes, filter: Prefixes { family: None, vrf_id: None, status: None, role_id: None, prefix: None, within: None, within_include: None, contains: None }, limit: 2, offset: 0 } /api/ipam/prefixes/?limit=2&offset=2
@@ -62,7 +62,34 @@ GET /api/ipam/ip-addresses/?dns_name=A.b&parent=2001:DB8::/32&role=vip&status=sl
 GET /api/ipam/ip-addresses/?parent=x&role= = Field(Role) 400 
 GET /api/ipam/ip-addresses/?parent=10.0.0.1 = Field(Parent) 400 
 GET /api/ipam/asns/ = NoRoute 404 
-GET /api/ipam/prefixes/7/utilization/ = NoRoute 404 
+GET /api/ipam/prefixes/7/available-prefixes/ = Blocks { id: 7, limit: 1000 }
+GET /api/ipam/prefixes/7/available-prefixes/?limit=2&offset=x&family=5 = Blocks { id: 7, limit: 2 }
+GET /api/ipam/prefixes/4294967295/available-ips/ = PrefixAddrs { id: 4294967295, limit: 50 }
+GET /api/ipam/prefixes/7/available-ips/?limit=0 = PrefixAddrs { id: 7, limit: 1000 }
+GET /api/ipam/ip-ranges/7/available-ips/ = RangeAddrs { id: 7, limit: 50 }
+GET /api/ipam/ip-ranges/7/available-ips/?limit=x&limit=1001 = RangeAddrs { id: 7, limit: 1000 }
+GET /api/ipam/prefixes/7/available-prefixes/?limit=01 = Field(Limit) 400 
+GET /api/ipam/ip-ranges/7/available-ips/?limit = Field(Limit) 400 
+POST /api/ipam/prefixes/7/available-prefixes/?limit=x = ClaimBlocks { id: 7, answered: AsOne, items: BlockItems { items: [BlockItem { len: 24, status: Active, role: None, is_pool: false, mark_utilized: false, description: \"\" }] } }
+POST /api/ipam/prefixes/7/available-ips/ = ClaimPrefixAddrs { id: 7, answered: AsOne, items: AddrItems { items: [AddrItem { status: Active, role: None, dns_name: \"\", description: \"\" }] } }
+POST /api/ipam/ip-ranges/7/available-ips/ = ClaimRangeAddrs { id: 7, answered: AsOne, items: AddrItems { items: [AddrItem { status: Active, role: None, dns_name: \"\", description: \"\" }] } }
+GET /api/ipam/prefixes/7/utilization/?limit=x = Utilization { kind: Prefixes, id: 7 }
+GET /api/ipam/ip-ranges/7/utilization/ = Utilization { kind: Ranges, id: 7 }
+GET /api/ipam/aggregates/7/utilization/ = Utilization { kind: Aggregates, id: 7 }
+PATCH /api/ipam/prefixes/7/available-prefixes/ = Method 405 GET, POST
+DELETE /api/ipam/prefixes/7/available-ips/ = Method 405 GET, POST
+PUT /api/ipam/ip-ranges/7/available-ips/ = Method 405 GET, POST
+POST /api/ipam/prefixes/7/utilization/ = Method 405 GET
+HEAD /api/ipam/ip-ranges/7/utilization/ = Method 405 GET
+DELETE /api/ipam/aggregates/7/utilization/ = Method 405 GET
+GET /api/ipam/ip-ranges/7/available-prefixes/ = NoRoute 404 
+GET /api/ipam/aggregates/7/available-ips/ = NoRoute 404 
+GET /api/ipam/vrfs/7/utilization/ = NoRoute 404 
+GET /api/ipam/prefixes/0/available-ips/ = NoRoute 404 
+POST /api/ipam/prefixes/07/available-prefixes/ = NoRoute 404 
+GET /api/ipam/prefixes/7/utilization = NoRoute 404 
+GET /api/ipam/prefixes/7/utilization/x/ = NoRoute 404 
+GET /api/ipam/prefixes/available-ips/ = NoRoute 404 
 GET /api/ipam/vrfs = NoRoute 404 
 GET /api/ipam/vrfs/7 = NoRoute 404 
 GET /api/ipam/vrfs// = NoRoute 404 
@@ -112,7 +139,7 @@ fn told(
     method: &[u8],
     target: &[u8],
 ) -> Result<Vec<u8>, AllocError> {
-    let body = b"{\"name\":\"red\"}";
+    let body = b"{\"name\":\"red\",\"prefix_length\":24}";
     match read_call_by(alloc, routes, method, target, body) {
         Ok((call, links)) => call_words(alloc, &call, &links),
         Err(refusal) => refusal_text(alloc, routes, target, &refusal),

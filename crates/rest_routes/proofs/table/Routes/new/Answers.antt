@@ -9,4 +9,10 @@ invariant_of-result c =
     let aggregates = c.in_ok-add_kind-4.ensures _ roles in
     let prefixes = c.in_ok-add_kind-5.ensures _ aggregates in
     let ranges = c.in_ok-add_kind-6.ensures _ prefixes in
-    c.in_ok-add_kind-7.ensures _ ranges
+    let addresses = c.in_ok-add_kind-7.ensures _ ranges in
+    let prefix_blocks = c.in_ok-add_part.ensures _ addresses in
+    let prefix_addresses = c.in_ok-add_part-2.ensures _ prefix_blocks in
+    let range_addresses = c.in_ok-add_part-3.ensures _ prefix_addresses in
+    let prefix_figures = c.in_ok-add_part-4.ensures _ range_addresses in
+    let range_figures = c.in_ok-add_part-5.ensures _ prefix_figures in
+    c.in_ok-add_part-6.ensures _ range_figures

@@ -1,0 +1,8 @@
+use Rattle.std.proofs.Common.{◌≡◌, take, map, Ok}
+use Rattle.serde_json.specs.View.{view}
+use Rattle.ipam_json.specs.Claims.{items_in}
+use Rattle.ipam_json.specs.AddrItems.{addr_item}
+use Rattle.ipam_json.proofs.addr_item.addr_items.Given as goal
+
+abbrev pub invariant-loop-value : goal.invariant-loop-value
+invariant-loop-value l = items_in addr_item (map view (take l.value-index l.list)) ≡ Ok l.items.items
