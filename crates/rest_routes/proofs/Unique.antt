@@ -21,6 +21,7 @@ use Rattle.rest_routes.specs.Answers.{refused_answer}
 use Rattle.rest_routes.specs.Laws.{RequestIsOne}
 use Rattle.rest_query.specs.Query.{path_in, query_in}
 use Rattle.rest_query.specs.declared.asked.Available.{Available}
+use Rattle.rest_query.specs.declared.asked.Available.TheVariants.{Blocks, Addrs}
 use Rattle.rest_query.proofs.Unique.{limit_is_one, listing_is_one}
 use Rattle.rest_routes.proofs.Routed.{one_route}
 
@@ -42,7 +43,7 @@ one_available : (available : Available) (call : ℕ → Call) (query : List ℕ)
 one_available available call query a b h g = h.2 ∙ ap (asks_available call) (limit_is_one available query h.0 g.0 h.1 g.1) ∙ sym g.2
 
 one_of_blocks : (id : ℕ) (method : Option Method) (query body : List ℕ) (a b : Asked) → IsBlocksAsked id method query body a → IsBlocksAsked id method query body b → a ≡ b
-one_of_blocks id (Some Get) query body a b h g = one_available _ (ListBlocks id) query a b h g
+one_of_blocks id (Some Get) query body a b h g = one_available Blocks (ListBlocks id) query a b h g
 one_of_blocks id (Some Post) query body a b h g = h.2 ∙ ap (asks_claim (ClaimBlocks id)) (one_answer block_item body h.0 g.0 h.1 g.1) ∙ sym g.2
 one_of_blocks id (Some Patch) query body a b h g = h ∙ sym g
 one_of_blocks id (Some Delete) query body a b h g = h ∙ sym g
@@ -50,7 +51,7 @@ one_of_blocks id None query body a b h g = h ∙ sym g
 
 one_of_addrs : (list : ℕ → Call) (claims : Answered → List AddrItem → Call) (method : Option Method) (query body : List ℕ) (a b : Asked)
     → IsAddrsAsked list claims method query body a → IsAddrsAsked list claims method query body b → a ≡ b
-one_of_addrs list claims (Some Get) query body a b h g = one_available _ list query a b h g
+one_of_addrs list claims (Some Get) query body a b h g = one_available Addrs list query a b h g
 one_of_addrs list claims (Some Post) query body a b h g = h.2 ∙ ap (asks_claim claims) (one_answer addr_item body h.0 g.0 h.1 g.1) ∙ sym g.2
 one_of_addrs list claims (Some Patch) query body a b h g = h ∙ sym g
 one_of_addrs list claims (Some Delete) query body a b h g = h ∙ sym g
