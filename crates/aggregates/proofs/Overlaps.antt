@@ -87,7 +87,7 @@ contains_mapped {X} {Y} f (z ∷ zs) x c = elim (contains_cases z x zs c) [
 
 contains_kept : {X : Type 0} (p : X → Bool) (xs : List X) (x : X) → Contains xs x → p x ≡ true → Contains (filter p xs) x
 contains_kept p [] x c t = let h = c.1 in absurd (omega arith)
-contains_kept {X} p (z ∷ zs) x c t = go (p z) refl (elim (contains_cases z x zs c) [ | inl is ↦ inl is | inr later ↦ inr (contains_kept p zs x later t) ]) where
+contains_kept {X} p (z ∷ zs) x c t = go (p z) refl (elim (contains_cases z x zs c) [ inl is ↦ inl is | inr later ↦ inr (contains_kept p zs x later t) ]) where
   go : (b : Bool) → p z ≡ b → (z ≡ x) ⊎ Contains (filter p zs) x → Contains (cond b (z ∷ filter p zs) (filter p zs)) x
   go true e (inl is) = subst (λ (w : X). Contains (z ∷ filter p zs) w) is (contains_head z (filter p zs))
   go true e (inr later) = contains_rest z x (filter p zs) later
@@ -100,7 +100,7 @@ not_found p (x ∷ xs) h = rw (h x (contains_head x xs)) (not_found p xs (λ y c
 
 each_of : {X : Type 0} (P : X → Type 0) (xs : List X) (x : X) → AllByRecursion P xs → Contains xs x → P x
 each_of P [] x h c = let less = c.1 in absurd (omega arith)
-each_of P (y ∷ ys) x h c = elim (contains_cases y x ys c) [ | inl is ↦ subst P is h.0 | inr later ↦ each_of P ys x h.1 later ]
+each_of P (y ∷ ys) x h c = elim (contains_cases y x ys c) [ inl is ↦ subst P is h.0 | inr later ↦ each_of P ys x h.1 later ]
 
 -- a list without different blocks is empty
 no_distinct : (bs : List Cidr) → distinct bs ≡ 0 → bs ≡ []
@@ -122,8 +122,7 @@ pub are_beside : (family : Family) (block : Cidr) (held : List Cidr) (around ins
 are_beside family block held around inside lawful own blocks e f none_around none_inside b c =
     let same = IsPermutation-refl held in
     let outer = no_distinct (filter (λ (x : Cidr). is_strictly_inside block x) held) (sym (around_any_order family block held held lawful own blocks same) ∙ sym e ∙ none_around) in
-    let inner = none_counted (λ (x : Cidr). is_strictly_inside x block) held (sym (inside_any_order family block held held lawful own blocks same) ∙ sym f ∙ none_inside) in
-    (
+    let inner = none_counted (λ (x : Cidr). is_strictly_inside x block) held (sym (inside_any_order family block held held lawful own blocks same) ∙ sym f ∙ none_inside) in (
       (each_of (IsBlockOf family) held b blocks c).lawful,
       find_none (λ (x : Cidr). is_strictly_inside x block) held b inner c,
       not_kept (λ (x : Cidr). is_strictly_inside block x) held b outer c,

@@ -15,4 +15,3 @@ mod tables;
 pub use connects::{Connects, CountedKeeper};
 pub use keeper::SqliteKeeper;
 pub use opener::{SqliteOpener, StoreKeeper};
-

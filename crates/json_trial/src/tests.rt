@@ -1,9 +1,5 @@
 //! Bodies and replies byte for byte, a case to a line.
 
-use ipam_json::{
-    Links, read_addr_claim, read_block_claim, read_body, read_edit, refusal_bytes, reply_bytes,
-    write_reply,
-};
 use inet_num::{read_addr, read_block};
 use ipam_data::address::{AddressRole, AddressStatus, IpAddress};
 use ipam_data::aggregate::Aggregate;
@@ -18,6 +14,10 @@ use ipam_data::rir::Rir;
 use ipam_data::role::Role;
 use ipam_data::text::{Description, Distinguisher, DnsText, Name, Slug, Text, Weight};
 use ipam_data::vrf::Vrf;
+use ipam_json::{
+    Links, read_addr_claim, read_block_claim, read_body, read_edit, refusal_bytes, reply_bytes,
+    write_reply,
+};
 use std::alloc::{AllocError, Global};
 use std::process::Abort;
 use std::test::Fail;

@@ -8,10 +8,10 @@ ghost use Rattle.register_shelves.specs.Held.{state_of};
 ghost use Rattle.register_shelves.specs.Planned.{IsPlanned};
 ghost use Rattle.register_plans.specs.Meets.{aggregate_meets};
 
-use aggregates::AggregateRules;
 use crate::calls::plan_replace;
 use crate::filters::{asks_family, asks_id};
 use crate::registered::Registered;
+use aggregates::AggregateRules;
 use ipam_data::aggregate::{Aggregate, MOST_AGGREGATES};
 use ipam_data::calls::{Edit, Filter};
 use ipam_data::kinds::Kind;

@@ -8,10 +8,10 @@ ghost use Rattle.register_shelves.specs.Held.{state_of};
 ghost use Rattle.register_shelves.specs.Planned.{IsPlanned};
 ghost use Rattle.register_plans.specs.Meets.{rir_meets};
 
-use aggregates::{AggregateRules, RirRules};
 use crate::calls::plan_replace;
 use crate::filters::asks_text;
 use crate::registered::Registered;
+use aggregates::{AggregateRules, RirRules};
 use ipam_data::calls::{Edit, Filter};
 use ipam_data::kinds::Kind;
 use ipam_data::replies::{Refusal, Rule, View};

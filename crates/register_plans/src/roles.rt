@@ -12,11 +12,11 @@ ghost use Rattle.register_shelves.specs.Held.{state_of};
 ghost use Rattle.register_shelves.specs.Planned.{IsPlanned};
 ghost use Rattle.register_plans.specs.Meets.{role_meets};
 
-use aggregates::RoleRules;
 use crate::calls::plan_replace;
 use crate::filters::asks_text;
 use crate::registered::Registered;
 use crate::same::names;
+use aggregates::RoleRules;
 use ipam_data::calls::{Edit, Filter};
 use ipam_data::kinds::Kind;
 use ipam_data::prefix::Prefix;

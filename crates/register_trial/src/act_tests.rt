@@ -1,6 +1,5 @@
 //! Calls over a keeper in memory: what they answer, what is noted, and what is found again where the tables are opened.
 
-use register_core::{Register, Settings, open};
 use inet_num::{Addr, Block, Family, read_block};
 use ipam_data::calls::{Call, Draft, Edit, Filter};
 use ipam_data::kinds::Kind;
@@ -9,6 +8,7 @@ use ipam_data::replies::{Refusal, Reply};
 use ipam_data::text::Description;
 use ipam_keeper::empty::empty_tables;
 use ipam_keeper::memory::MemoryKeeper;
+use register_core::{Register, Settings, open};
 use std::alloc::{AllocError, Global};
 use std::test::Fail;
 

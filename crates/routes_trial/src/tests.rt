@@ -1,9 +1,5 @@
 //! Requests and answers, a case to a line.
 
-use rest_routes::{
-    Routes, answer_of_fault, answer_of_refusal_by, answer_of_reply, answer_of_want, finish_links,
-    page_end, read_call, read_call_by,
-};
 use http_session::{Fault, Reply as Answer, put_answer};
 use ipam_data::calls::Call;
 use ipam_data::kinds::Kind;
@@ -11,6 +7,10 @@ use ipam_data::replies::{Refusal, Reply, Views};
 use ipam_data::text::Text;
 use ipam_edge::BytesSink;
 use ipam_json::Links;
+use rest_routes::{
+    Routes, answer_of_fault, answer_of_refusal_by, answer_of_reply, answer_of_want, finish_links,
+    page_end, read_call, read_call_by,
+};
 use std::alloc::{AllocError, Global};
 use std::process::Abort;
 use std::test::Fail;

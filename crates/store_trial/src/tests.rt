@@ -1,9 +1,9 @@
 //! Keepers over databases in memory.
 
-use ipam_store::SqliteKeeper;
 use ipam_data::kinds::Kind;
 use ipam_data::update::Ids;
 use ipam_keeper::keeper::{KeepFault, Keeper};
+use ipam_store::SqliteKeeper;
 use ipam_stored::tables::{Change, Row, Rows, Tables, Text, Texts};
 use sqlite::{Connection, MemStore};
 use std::alloc::{AllocError, Global};
