@@ -1,3 +1,4 @@
+mod Pieces
 pub mod Counted
 pub mod Claiming
 mod HostTests
