@@ -3,11 +3,11 @@
 #![tactic(auto)]
 
 mod books;
+mod dispatch;
 mod log;
 mod machine;
 mod opening;
 mod passes;
-mod planning;
 mod register;
 mod stop;
 
