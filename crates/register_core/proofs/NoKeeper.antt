@@ -1,5 +1,5 @@
 -- No plan answers that the keeper failed: that answer is the keeper's alone.
-use Rattle.std.proofs.Common.{◌≡◌, ◌≢◌, ℕ, ◌+◌, Bool, true, false, nat_le, nat_lt, List, [], ◌∷◌, ◌++◌, map, length, Option, Some, None, option_map, refl, ◌∙◌, if◌then◌else◌}
+use Rattle.std.proofs.Common.{◌≡◌, ◌≢◌, ℕ, ◌+◌, Bool, true, false, nat_le, nat_lt, List, [], ◌∷◌, ◌++◌, map, take, length, Option, Some, None, option_map, refl, ◌∙◌, if◌then◌else◌}
 use Rattle.ipam_data.specs.declared.kinds.Kind.{Kind}
 use Rattle.ipam_data.specs.declared.kinds.Kind.TheVariants.{Vrfs, Rirs, Roles, Aggregates, Prefixes, Ranges, Addresses}
 use Rattle.ipam_data.specs.declared.calls.Call.{Call}
@@ -23,12 +23,20 @@ use Rattle.ipam_data.specs.declared.prefix.Prefix.{Prefix}
 use Rattle.ipam_data.specs.declared.range.IpRange.{IpRange}
 use Rattle.inet_num.specs.declared.Family.{Family}
 use Rattle.std.specs.List.{flat_map}
-use Rattle.ipam_data.specs.Claims.{claim, served, most_items, no_space, told_of_block, told_of_address, claim_blocks_of, claim_addresses_of, usable_in, usable_of_range, prefix_figure, range_figure, aggregate_figure, figure_plan, utilization_plan, claim_blocks_plan, claim_prefix_addrs_plan, claim_range_addrs_plan}
+use Rattle.std.specs.Str.{str_to_ascii_lowercase}
+use Rattle.inet_num.specs.Free.{available_blocks_of}
+use Rattle.block_space.specs.Fit.{fits_of}
+use Rattle.block_space.specs.Usable.{addressed}
+use Rattle.ipam_data.specs.declared.replies.Rule.TheVariants.{SlaacFamily, DnsName}
+use Rattle.ipam_data.specs.Rows.{role_id, prefix_id, range_id}
+use Rattle.ipam_data.specs.HostNames.{is_dns_name}
+use Rattle.ipam_data.specs.Addresses.{is_slaac_of_v4}
+use Rattle.ipam_data.specs.Claims.{claimed_prefixes, claimed_addresses as claimed_of, child_blocks, lengths_of, wanted_length, claim, served, most_items, no_space, told_of_block, told_of_address, claim_blocks_of, claim_addresses_of, usable_in, usable_of_range, prefix_figure, range_figure, aggregate_figure, figure_plan, utilization_plan, claim_blocks_plan, claim_prefix_addrs_plan, claim_range_addrs_plan}
 use Rattle.ipam_data.specs.declared.replies.Reply.{Reply}
 use Rattle.ipam_data.specs.declared.replies.Reply.TheVariants.{Made, MadeMany, Changed, Gone, Imported, One, Page, Blocks, Addrs, Percent, Refused}
 use Rattle.ipam_data.specs.Shelf.{row_at}
-use Rattle.ipam_data.specs.Checks.{first, too_many, no_ids, no_log, breaks}
-use Rattle.ipam_data.specs.State.{State, Plan, verdict_of}
+use Rattle.ipam_data.specs.Checks.{first, too_many, no_ids, no_log, no_such, breaks}
+use Rattle.ipam_data.specs.State.{State, Plan, verdict_of, reading}
 use Rattle.ipam_data.specs.Plans.{KindRules, broken, no_seats, no_place, create, replace, change, take_out, delete, get, list, with_found, nothing_told}
 use Rattle.ipam_data.specs.Vrfs.{vrf_rules}
 use Rattle.ipam_data.specs.Rirs.{rir_rules}
@@ -92,6 +100,9 @@ never_outcome s plan p = go (verdict_of plan) refl
     go : (v : Option Refusal) → verdict_of plan ≡ v → (outcome s plan).1 ≢ Refused Keeper
     go (Some refusal) e = λ h. p.checks (e ∙ (let h : Refused refusal ≡ Refused Keeper = rw (e, outcome) at h in cc))
     go None e = λ h. answered_alike (updated s plan.update) plan.reply (p.reply e) (rw (e, outcome) at h)
+
+read_rules : (reply : Reply) → ((refusal : Refusal) → reply ≢ Refused refusal) → IsOfRules (reading reply)
+read_rules reply h = record { checks = λ e. cc; reply = λ v. h }
 
 never_short : (wanted got : ℕ) → no_space wanted got ≢ Some Keeper
 never_short wanted got = go (nat_lt got wanted) where
@@ -157,7 +168,7 @@ module _ {T : Type 0} (rules : KindRules T) (s : State) where
   }
 
   figure_rules : (figure : State → T → ℕ) (n : ℕ) → IsOfRules (figure_plan rules figure s n)
-  figure_rules figure n = found_rules n _ (row_at rules.id (rules.shelf s).rows n) (λ row. record { checks = λ e. cc; reply = λ v refusal e. cc })
+  figure_rules figure n = found_rules n (λ row. reading (Percent (figure s row))) (row_at rules.id (rules.shelf s).rows n) (λ row. read_rules (Percent (figure s row)) (λ refusal e. cc))
 
 view_of_rules : (s : State) (told : List (Option Rule)) (view : View) → IsOfRules (by_view view (λ T rules row. create rules s told row))
 view_of_rules s told (VrfView row) = create_rules vrf_rules s told row
@@ -218,10 +229,18 @@ list_all s (SomeRanges family vrf_id status role_id contains) limit offset = lis
 list_all s (SomeAddresses family vrf_id status role parent dns_name) limit offset = list_rules address_rules s _ limit offset
 
 claimed_blocks : (s : State) (form : Answered) (items : List BlockItem) (row : Prefix) → IsOfRules (claim_blocks_of s form items row)
-claimed_blocks s form items row = claim_rules prefix_rules s _ _ form _ (never_told (told_of_block s row) items (λ item. never_breaks (_ ∷ _ ∷ [])))
+claimed_blocks s form items row =
+    claim_rules prefix_rules s (flat_map (told_of_block s row) items) (length items) form
+    (claimed_prefixes row s.prefixes.next items (fits_of row.block (child_blocks s.prefixes.rows row) (lengths_of items)))
+    (never_told (told_of_block s row) items (λ item. never_breaks (wanted_length row item.len ∷ no_such Roles (row_at role_id s.roles.rows) item.role ∷ [])))
 
 claimed_addresses : (s : State) (form : Answered) (items : List AddrItem) (vrf : Option ℕ) (len : ℕ) (family : Family) (usable : List ℕ) → IsOfRules (claim_addresses_of s form items vrf len family usable)
-claimed_addresses s form items vrf len family usable = claim_rules address_rules s _ _ form _ (never_told (told_of_address family) items (λ item. never_breaks (_ ∷ _ ∷ [])))
+claimed_addresses s form items vrf len family usable =
+    claim_rules address_rules s (flat_map (told_of_address family) items) (length items) form (claimed_of vrf len s.addresses.next items (addressed family usable))
+    (never_told (told_of_address family) items (λ item. told_alone (if is_slaac_of_v4 item.status family then Some SlaacFamily else None) (if is_dns_name (str_to_ascii_lowercase item.dns_name) then None else Some DnsName)))
+  where
+    told_alone : (a b : Option Rule) → first (breaks a ∷ breaks b ∷ []) ≢ Some Keeper
+    told_alone a b = never_breaks (a ∷ b ∷ [])
 
 utilization_all : (s : State) (kind : Kind) (n : ℕ) → IsOfRules (utilization_plan s kind n)
 utilization_all s Vrfs n = record { checks = λ e. cc; reply = λ v refusal e. cc }
@@ -238,12 +257,14 @@ all_rules s (Get kind n) = get_all s kind n
 all_rules s (Create draft) = create_all s draft
 all_rules s (Change n edit) = change_all s n edit
 all_rules s (Delete kind n) = delete_all s kind n
-all_rules s (BlocksOf n limit) = found_rules prefix_rules s n _ _ (λ row. record { checks = λ e. cc; reply = λ v refusal e. cc })
-all_rules s (PrefixAddrs n limit) = found_rules prefix_rules s n _ _ (λ row. record { checks = λ e. cc; reply = λ v refusal e. cc })
-all_rules s (RangeAddrs n limit) = found_rules range_rules s n _ _ (λ row. record { checks = λ e. cc; reply = λ v refusal e. cc })
-all_rules s (ClaimBlocks n form items) = found_rules prefix_rules s n _ _ (λ row. claimed_blocks s form items row)
-all_rules s (ClaimPrefixAddrs n form items) = found_rules prefix_rules s n _ _ (λ row. claimed_addresses s form items row.vrf row.block.len row.block.family (usable_in s row))
-all_rules s (ClaimRangeAddrs n form items) = found_rules range_rules s n _ _ (λ row. claimed_addresses s form items row.vrf row.ends.len row.ends.start.family (usable_of_range s row))
+all_rules s (BlocksOf n limit) = found_rules prefix_rules s n (λ row. reading (Blocks row.vrf (take limit (available_blocks_of row.block (child_blocks s.prefixes.rows row))))) (row_at prefix_id s.prefixes.rows n) (λ row. read_rules _ (λ refusal e. cc))
+all_rules s (PrefixAddrs n limit) = found_rules prefix_rules s n (λ row. reading (Addrs row.vrf row.block.len (take limit (addressed row.block.family (usable_in s row))))) (row_at prefix_id s.prefixes.rows n) (λ row. read_rules _ (λ refusal e. cc))
+all_rules s (RangeAddrs n limit) = found_rules range_rules s n (λ row. reading (Addrs row.vrf row.ends.len (take limit (addressed row.ends.start.family (usable_of_range s row))))) (row_at range_id s.ranges.rows n) (λ row. read_rules _ (λ refusal e. cc))
+all_rules s (ClaimBlocks n form items) = found_rules prefix_rules s n (claim_blocks_of s form items) (row_at prefix_id s.prefixes.rows n) (claimed_blocks s form items)
+all_rules s (ClaimPrefixAddrs n form items) = found_rules prefix_rules s n (λ row. claim_addresses_of s form items row.vrf row.block.len row.block.family (usable_in s row)) (row_at prefix_id s.prefixes.rows n)
+    (λ row. claimed_addresses s form items row.vrf row.block.len row.block.family (usable_in s row))
+all_rules s (ClaimRangeAddrs n form items) = found_rules range_rules s n (λ row. claim_addresses_of s form items row.vrf row.ends.len row.ends.start.family (usable_of_range s row)) (row_at range_id s.ranges.rows n)
+    (λ row. claimed_addresses s form items row.vrf row.ends.len row.ends.start.family (usable_of_range s row))
 all_rules s (Utilization kind n) = utilization_all s kind n
 
 -- the plain step never answers that the keeper failed
