@@ -52,6 +52,21 @@ status, found, said = session([request("GET", PREFIXES + "1/")])
 check(status == 0 and found.startswith(b"HTTP/1.1 200 OK\r\n") and b"Ipam-Place: 0\r\n" in found and not said, f"GET: {status} {found} {said}")
 check(body_of(found) == body_of(made), f"another object: {found}")
 
+# a role that goes is gone from the rows that had it, also for the next process; a claim is kept with the rows that it made
+roles = os.path.join(folder, "roles.db")
+ROLES = "/api/ipam/roles/"
+status, out, said = session([
+    request("POST", ROLES, {"name": "customers", "slug": "customers"}),
+    request("POST", PREFIXES, {"prefix": "10.0.0.0/24", "role": 1}),
+    request("POST", PREFIXES + "1/available-ips/", [{}, {}]),
+    request("DELETE", ROLES + "1/"),
+], db=roles)
+check(status == 0 and out.count(b"HTTP/1.1 201 Created\r\n") == 3 and out.count(b"HTTP/1.1 204 No Content\r\n") == 1, f"a role: {status} {out}")
+status, out, said = session([request("GET", PREFIXES + "1/"), request("POST", PREFIXES + "1/available-ips/", {})], db=roles)
+answers = [json.loads(part.split(b"HTTP/1.1")[0]) for part in out.split(b"\r\n\r\n")[1:]]
+check(status == 0 and answers[0]["role"] is None, f"the role is still there: {out}")
+check(answers[1]["address"] == "10.0.0.3/24" and answers[1]["id"] == 3, f"a claim behind two others: {out}")
+
 # two processes on one file
 first = subprocess.Popen([program, "session", "--db", path], stdin=subprocess.PIPE, stdout=subprocess.PIPE, stderr=subprocess.PIPE)
 first.stdin.write(request("POST", PREFIXES, {"prefix": "10.0.1.0/24"}))
