@@ -137,6 +137,13 @@ impl<'a> Desk for OwnDesk<'a> {
     }
 }
 
+/// Puts the register back, in the place of the empty one.
+fn put_back(register: &mut OwnRegister, seat: OwnRegister)
+    ensures { register.new ≡ seat }
+{
+    *register = seat;
+}
+
 /// Serves one connection over a table of routes that is lent.
 fn serve_by<So: Source, Si: Sink>(
     alloc: Global,
@@ -163,7 +170,7 @@ fn serve_by<So: Source, Si: Sink>(
     );
     let seat = mem::replace(register, empty);
     let (seat, end) = serve(alloc, &OwnDesk { routes }, seat, source, sink);
-    *register = seat;
+    put_back(register, seat);
     end
 }
 
