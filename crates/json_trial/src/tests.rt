@@ -7,23 +7,18 @@ use ipam_data::host::{Ends, Host};
 use ipam_data::kinds::Kind;
 use ipam_data::prefix::{Prefix, PrefixStatus};
 use ipam_data::range::{IpRange, RangeStatus};
-use ipam_data::replies::{
-    Addrs, Blocks, FieldName, Part, Refusal, Reply, RowFault, Rule, View, Views, Which,
-};
+use ipam_data::replies::{FieldName, Part, Refusal, Reply, RowFault, Rule, View, Views, Which};
 use ipam_data::rir::Rir;
 use ipam_data::role::Role;
 use ipam_data::text::{Description, Distinguisher, DnsText, Name, Slug, Text, Weight};
 use ipam_data::vrf::Vrf;
-use ipam_json::{
-    Links, read_addr_claim, read_block_claim, read_body, read_edit, refusal_bytes, reply_bytes,
-    write_reply,
-};
+use ipam_json::{Links, read_body, read_edit, refusal_bytes, reply_bytes, write_reply};
 use std::alloc::{AllocError, Global};
 use std::process::Abort;
 use std::test::Fail;
 
 /// What bodies ask for, told by the draft or the refusal: a line `= TEXT`, and below it the bodies that are told this, each
-/// behind the letter of its kind, or of a claim: `b` of blocks, `h` of addresses.
+/// behind the letter of its kind.
 const BODIES: &[u8] = b"= Vrf { name: \"red\", rd: None, enforce_unique: true, description: \"\" }
 v{\"name\":\"red\"}
 v { \"name\" : \"red\" , \"x\" : [1.5, {}] } 
@@ -164,47 +159,7 @@ d{\"address\":\"10.0.0.1/24\",\"dns_name\":null}
 D{\"dns_name\":null}
 = IpAddress { host: None, vrf: Some(None), status: Some(Dhcp), role: Some(None), dns_name: Some(\"\"), description: None }
 D{\"vrf\":null,\"status\":\"dhcp\",\"role\":null,\"dns_name\":\"\"}
-D{\"vrf\":null,\"status\":\"dhcp\",\"role\":\"\",\"dns_name\":\"\"}
-= (AsOne, BlockItems { items: [BlockItem { len: 23, status: Active, role: None, is_pool: false, mark_utilized: false, description: \"\" }] })
-b{\"prefix_length\":23}
-b{\"prefix\":5,\"role\":null,\"prefix_length\":32,\"prefix_length\":23}
-= (AsList, BlockItems { items: [BlockItem { len: 255, status: Container, role: Some(4), is_pool: true, mark_utilized: true, description: \"lab\" }, BlockItem { len: 0, status: Active, role: None, is_pool: false, mark_utilized: false, description: \"\" }] })
-b[{\"prefix_length\":255,\"status\":\"container\",\"role\":4,\"is_pool\":true,\"mark_utilized\":true,\"description\":\"lab\"},{\"prefix_length\":0}]
-= (AsOne, AddrItems { items: [AddrItem { status: Active, role: None, dns_name: \"\", description: \"\" }] })
-h{}
-h{\"address\":\"x\",\"role\":\"\"}
-= (AsList, AddrItems { items: [AddrItem { status: Slaac, role: Some(Vip), dns_name: \"A.b\", description: \"lab\" }] })
-h[{\"status\":\"slaac\",\"role\":\"vip\",\"dns_name\":\"A.b\",\"description\":\"lab\"}]
-= {\"code\":\"bad_json\",\"detail\":\"the body is not the JSON that is asked for\"}
-b
-b5
-h{} x
-h[[]]
-b[{\"prefix_length\":24},5]
-b[{\"status\":5},null]
-= {\"code\":\"field\",\"detail\":\"body is missing or malformed\"}
-b[]
-h[]
-= {\"code\":\"field\",\"detail\":\"prefix_length is missing or malformed\"}
-b{}
-b{\"prefix_length\":256,\"status\":5}
-b{\"prefix_length\":1.0}
-b[{\"prefix_length\":1},{\"prefix_length\":\"24\"}]
-= {\"code\":\"field\",\"detail\":\"status is missing or malformed\"}
-b[{\"prefix_length\":1,\"status\":\"dhcp\",\"role\":0},{}]
-h[{},{\"status\":\"container\"},{\"role\":5}]
-= {\"code\":\"field\",\"detail\":\"role is missing or malformed\"}
-b{\"prefix_length\":1,\"role\":0,\"is_pool\":5}
-h{\"role\":5,\"dns_name\":5}
-= {\"code\":\"field\",\"detail\":\"is_pool is missing or malformed\"}
-b{\"prefix_length\":1,\"is_pool\":null,\"mark_utilized\":5}
-= {\"code\":\"field\",\"detail\":\"mark_utilized is missing or malformed\"}
-b{\"prefix_length\":1,\"mark_utilized\":5,\"description\":5}
-= {\"code\":\"field\",\"detail\":\"dns_name is missing or malformed\"}
-h{\"dns_name\":null,\"description\":5}
-= {\"code\":\"field\",\"detail\":\"description is missing or malformed\"}
-b{\"prefix_length\":1,\"description\":null}
-h{\"description\":5}";
+D{\"vrf\":null,\"status\":\"dhcp\",\"role\":\"\",\"dns_name\":\"\"}";
 
 /// What a body of a kind asks for, in words.
 fn told(alloc: Global, kind: Kind, body: &[u8]) -> Result<Vec<u8>, AllocError> {
@@ -222,22 +177,6 @@ fn edit_told(alloc: Global, kind: Kind, body: &[u8]) -> Result<Vec<u8>, AllocErr
     }
 }
 
-/// What the body of a claim of blocks asks for, in words.
-fn blocks_told(alloc: Global, body: &[u8]) -> Result<Vec<u8>, AllocError> {
-    match read_block_claim(alloc, body) {
-        Ok(claim) => Ok(format!(in alloc; "{claim:?}")?.into_bytes()),
-        Err(refusal) => refusal_bytes(alloc, &refusal),
-    }
-}
-
-/// What the body of a claim of addresses asks for, in words.
-fn addrs_told(alloc: Global, body: &[u8]) -> Result<Vec<u8>, AllocError> {
-    match read_addr_claim(alloc, body) {
-        Ok(claim) => Ok(format!(in alloc; "{claim:?}")?.into_bytes()),
-        Err(refusal) => refusal_bytes(alloc, &refusal),
-    }
-}
-
 /// The kind of a small letter.
 fn kind_of(letter: u8) -> Kind {
     match letter {
@@ -251,14 +190,12 @@ fn kind_of(letter: u8) -> Kind {
     }
 }
 
-/// What the body of a line asks for: a claim behind its letter, a draft behind another small letter, an edit behind a capital one.
+/// What the body of a line asks for: a draft behind a small letter, an edit behind a capital one.
 fn line_told(alloc: Global, line: &[u8]) -> Result<Vec<u8>, AllocError> {
     match line {
         [letter @ b'A'..=b'Z', body @ ..] => {
             edit_told(alloc, kind_of(letter.to_ascii_lowercase()), body)
         }
-        [b'b', body @ ..] => blocks_told(alloc, body),
-        [b'h', body @ ..] => addrs_told(alloc, body),
         [letter, body @ ..] => told(alloc, kind_of(*letter), body),
         [] => Ok(Vec::new(alloc)),
     }
@@ -416,38 +353,6 @@ fn is_next(rt: &impl Abort, alloc: Global, reply: &Reply, want: &str) -> Result<
     };
     let text = reply_bytes(alloc, reply, &links)?;
     assert_eq!(rt; text.as_slice(), want.as_bytes());
-    Ok(())
-}
-
-/// The first available block of a prefix in the global table.
-fn free_blocks(rt: &impl Abort, alloc: Global) -> Result<Reply, AllocError> {
-    let mut list = Vec::new(alloc);
-    list.push(read_block(b"10.0.2.0/23").ok().expect(rt, "a block"))?;
-    Ok(Reply::Blocks {
-        vrf: None,
-        list: Blocks::of(list),
-    })
-}
-
-/// The first available addresses of a prefix in a table of its own.
-fn free_addrs(rt: &impl Abort, alloc: Global) -> Result<Reply, AllocError> {
-    let mut list = Vec::new(alloc);
-    list.push(read_addr(b"2001:db8::1").ok().expect(rt, "an address"))?;
-    list.push(read_addr(b"2001:db8::2").ok().expect(rt, "an address"))?;
-    Ok(Reply::Addrs {
-        vrf: Some(2),
-        len: 126,
-        list: Addrs::of(list),
-    })
-}
-
-#[test]
-fn available(rt: HostRuntime) -> Result<(), Fail> {
-    let want = "[{\"family\":4,\"prefix\":\"10.0.2.0/23\",\"vrf\":null}]";
-    is_next(&rt, rt.alloc(), &free_blocks(&rt, rt.alloc())?, want)?;
-    let want =
-        "[{\"address\":\"2001:db8::1/126\",\"family\":6,\"vrf\":2},{\"address\":\"2001:db8::2/126\",\"family\":6,\"vrf\":2}]";
-    is_next(&rt, rt.alloc(), &free_addrs(&rt, rt.alloc())?, want)?;
     Ok(())
 }
 
