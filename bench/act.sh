@@ -380,7 +380,7 @@ fn list_in<K: Keeper>(register: &mut Register<K>, len: u8) -> u64 {
             parent: parent(n, len),
             dns_name: None,
         };
-        let call = Call::List { filter, limit: 50, offset: 0 };
+        let call = Call::List { kind: Kind::Addresses, filter, limit: 50, offset: 0 };
         if let Reply::Page { views, .. } = register.act(0, call) {
             rows = rows.wrapping_add(views.as_slice().len() as u64);
         }
