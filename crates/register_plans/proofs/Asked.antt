@@ -1,5 +1,5 @@
 -- The rows of the VRF and of the area that a filter asks for.
-use Rattle.std.proofs.Common.{◌≡◌, ℕ, ◌+◌, ◌-◌, ◌<◌, ◌≤◌, ◌^◌, ◌&&◌, ◌||◌, ◌==◌, nat_le, Bool, true, false, List, [], ◌∷◌, map, Option, Some, None, IsSome, refl, ap, sym, subst, ◌∙◌, arith, inl, inr, ◌⊎◌, bytes_eq, Contains, length}
+use Rattle.std.proofs.Common.{◌≡◌, ℕ, ◌+◌, ◌-◌, ◌^◌, ◌&&◌, ◌||◌, ◌==◌, nat_le, Bool, true, false, List, [], ◌∷◌, map, Option, Some, None, IsSome, refl, ap, sym, subst, ◌∙◌, arith, inl, inr, ◌⊎◌, bytes_eq, Contains}
 use Rattle.std.specs.List.{list_any}
 use Rattle.std.proofs.lemmas.Bool.Decides.{nat_tests}
 use Rattle.inet_num.specs.Net.{Address, Cidr, block_at, width_of, last_of}
@@ -74,16 +74,16 @@ looked_up id placed rows vrfs vrf area tables ids same there e lists = record {
   rises = lists.rises;
   few = (let few = lists.few in omega arith);
   all = λ row c t.
-    let h = both (asks vrf (λ n. same_name (placed row).vrf n)) (in_area area (placed row).block) t in
-    let table = table_has vrf (placed row).vrf vrfs h.0 (λ n k. there row n c k) in
-    let own : is_in_table (table_of (placed row).vrf) area (placed row) ≡ true = rw (same_table-refl (table_of (placed row).vrf), h.1) refl in
-    let any = any_has (λ u. is_in_table u area (placed row)) tables (table_of (placed row).vrf) (rw e table) own in
-    subst (λ (n : ℕ). Contains ids n) (same row) (lists.all (placed row) (map_has placed rows row c) any);
+      let h = both (asks vrf (λ n. same_name (placed row).vrf n)) (in_area area (placed row).block) t in
+      let table = table_has vrf (placed row).vrf vrfs h.0 (λ n k. there row n c k) in
+      let own : is_in_table (table_of (placed row).vrf) area (placed row) ≡ true = rw (same_table-refl (table_of (placed row).vrf), h.1) refl in
+      let any = any_has (λ u. is_in_table u area (placed row)) tables (table_of (placed row).vrf) (rw e table) own in
+      subst (λ (n : ℕ). Contains ids n) (same row) (lists.all (placed row) (map_has placed rows row c) any);
 }
 
 -- candidates of a test are those of a narrower one
 pub narrower : {T : Type 0} (id : T → ℕ) (test other : T → Bool) (rows : List T) (ids : List ℕ) → ((row : T) → other row ≡ true → test row ≡ true) → AreCandidates id test rows ids → AreCandidates id other rows ids
-narrower id test other rows ids less h = record { rises = h.rises; few = h.few; all = λ row c t. h.all row c (less row t); }
+narrower id test other rows ids less h = record { rises = h.rises; few = h.few; all = λ row c t. h.all row c (less row t) }
 
 -- what a filter of prefixes asks
 pub prefix_asked : (family : Option Family) (vrf : Option (Option ℕ)) (status : Option PrefixStatus) (role : Option (Option ℕ)) (prefix within include contains : Option Cidr) (area : Area)

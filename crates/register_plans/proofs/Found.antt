@@ -1,7 +1,6 @@
 -- Rows that are found under rising ids: where each row that passes is among them, those of them that pass are those of all that pass.
-use Rattle.std.proofs.Common.{◌≡◌, ℕ, zero, suc, ◌+◌, ◌<◌, ◌≤◌, ◌==◌, Bool, true, false, cond, List, [], ◌∷◌, ◌++◌, length, take, filter, filter_map, get_or, AllPairs, Option, Some, None, find, refl, ap, sym, subst, ◌∙◌, arith, inl, inr, Contains}
+use Rattle.std.proofs.Common.{◌≡◌, ℕ, suc, ◌<◌, ◌≤◌, Bool, true, false, cond, List, [], ◌∷◌, length, filter, get_or, AllPairs, Option, Some, None, refl, ap, sym, ◌∙◌, arith, inl, inr, Contains}
 use Rattle.std.specs.List.{count_by, cons_option}
-use Rattle.std.specs.List.Sorted.{IsStrictlyIncreasing}
 use Rattle.std.proofs.lemmas.Bool.{cases_lt}
 use Rattle.std.proofs.lemmas.List.Kept.{AllPairs-from_increasing}
 use Rattle.std.proofs.lemmas.List.Sums.{length-filter}
@@ -19,7 +18,7 @@ head_below : (n m : ℕ) (ns : List ℕ) → Rising (n ∷ ns) → Contains ns m
 head_below n m ns p c = let h = c.1 in let below = p 0 (suc c.0) m (omega arith) (omega arith) in let is : get_or ns c.0 m ≡ m = c.2 in omega arith
 
 head_least : (n m : ℕ) (ns : List ℕ) → Rising (n ∷ ns) → Contains (n ∷ ns) m → n ≤ m
-head_least n m ns p c = elim (contains_cases n m ns c) [ | inl e ↦ omega arith | inr d ↦ (let h = head_below n m ns p d in omega arith) ]
+head_least n m ns p c = elim (contains_cases n m ns c) [ inl e ↦ omega arith | inr d ↦ (let h = head_below n m ns p d in omega arith) ]
 
 none : {A : Type 0} (x : A) → Contains [] x → {P : Type 0} → P
 none x c = let h = c.1 in absurd (omega arith)
@@ -83,8 +82,8 @@ module _ {T : Type 0} (id : T → ℕ) where
 
         others : n < id x → (row : T) → Contains (x ∷ xs) row → Contains (n ∷ ns) (id row) → Contains ns (id row)
         others more row c d =
-            let least : id x ≤ id row = elim (contains_cases x row xs c) [ | inl e ↦ (let f = ap id e in omega arith) | inr k ↦ (let h = rises_above id (id x) xs row r.1 k in omega arith) ] in
-            elim (contains_cases n (id row) ns d) [ | inl e ↦ absurd (omega arith) | inr k ↦ k ]
+            let least : id x ≤ id row = elim (contains_cases x row xs c) [ inl e ↦ (let f = ap id e in omega arith) | inr k ↦ (let h = rises_above id (id x) xs row r.1 k in omega arith) ] in
+            elim (contains_cases n (id row) ns d) [ inl e ↦ absurd (omega arith) | inr k ↦ k ]
 
         here : id x ≡ n → filter test (rows_of id xs ns) ≡ filter test xs → filter test (rows_of id (x ∷ xs) (n ∷ ns)) ≡ filter test (x ∷ xs)
         here is ih =
@@ -96,7 +95,7 @@ module _ {T : Type 0} (id : T → ℕ) where
         later : id x ≡ n → (row : T) → Contains xs row → Contains (n ∷ ns) (id row) → Contains ns (id row)
         later is row c d =
             let more = rises_above id (id x) xs row r.1 c in
-            elim (contains_cases n (id row) ns d) [ | inl e ↦ absurd (omega arith) | inr k ↦ k ]
+            elim (contains_cases n (id row) ns d) [ inl e ↦ absurd (omega arith) | inr k ↦ k ]
 
     -- the rows of candidates that pass are all that pass
     pub all_found : (rows : List T) (ids : List ℕ) → Rises id 0 rows → AreCandidates id test rows ids → filter test (rows_of id rows ids) ≡ filter test rows

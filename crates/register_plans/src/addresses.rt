@@ -117,7 +117,8 @@ impl Registered for IpAddress {
             role: _,
             parent,
             dns_name: _,
-        } = filter else {
+        } = filter
+        else {
             return Ok(None);
         };
         ids_asked(shelves, shelves.addresses(), vrf_id, &area_of(parent))

@@ -116,7 +116,8 @@ impl Registered for Prefix {
             within,
             within_include,
             contains,
-        } = filter else {
+        } = filter
+        else {
             return Ok(None);
         };
         let area = area_asked(prefix, within, within_include, contains);

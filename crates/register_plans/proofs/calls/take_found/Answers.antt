@@ -14,14 +14,13 @@ take_by_id-requires g c =
     let rows = (rules.shelf (state_of c.args.shelves.now)).rows in
     let least = few_met rules.id rows (g.T.Registered.meets c.args.filter.now) c.args.ids.now c.found.id-index c.found.met c.found.invariant.0 in
     let few = c.requires.ids.few in
-    record { few = omega arith; }
+    record { few = omega arith }
 
 pub found-preserved : goal.found-preserved
 found-preserved g c =
     let rules = g.T.Registered.rules in
     let test = g.T.Registered.meets c.args.filter.now in
-    let rows = (rules.shelf (state_of c.args.shelves.now)).rows in
-    (
+    let rows = (rules.shelf (state_of c.args.shelves.now)).rows in (
       met_found rules.id rows test c.args.ids.now c.found.id-index 0 c.found.met _ c.found-test.true c.found.invariant.0 c.in_ok-met.ensures.met,
       views_found rules.id rows rules.view test c.args.limit c.args.offset c.args.ids.now c.found.id-index 0 c.found.met c.found.views.items _ c.found-test.true c.found.invariant.0 c.found.invariant.1 c.in_ok-met.ensures.views,
     )

@@ -1,11 +1,12 @@
-use Rattle.std.proofs.Common.{◌≡◌, sym, subst, Contains}
+use Rattle.std.proofs.Common.{Bool, subst, Contains}
 use Rattle.std.proofs.lemmas.Option.{IfSome_then}
 use Rattle.std.proofs.lemmas.Result.{IfOk-weaker}
 use Rattle.ipam_data.specs.declared.address.IpAddress.{IpAddress}
 use Rattle.ipam_data.specs.Rows.{address_id}
 use Rattle.placed_book.specs.Book.{TabledRows}
+use Rattle.placed_book.specs.Kinds.{placed_address}
 use Rattle.register_plans.specs.Meets.{address_meets}
-use Rattle.register_plans.specs.Candidates.{AreCandidates}
+use Rattle.register_plans.specs.Candidates.{AreCandidates, is_asked}
 use Rattle.register_plans.proofs.Asked.{narrower, address_met}
 use Rattle.register_plans.proofs.addresses.IpAddressRegistered.candidates.Goals as goal
 
@@ -14,9 +15,10 @@ ids_asked-requires-clause-there c = λ row n d e. c.requires.addresses.tables ro
 
 pub returns : goal.returns
 returns c =
+    let asked : IpAddress → Bool = λ row. is_asked c.in-Addresses.vrf_id c.area_of.result (placed_address row) in
     IfOk-weaker c.ids_asked.result _ _
     (λ found p. IfSome_then found p
-      (λ v h. narrower address_id _ (address_meets c.args.filter.now) c.args.shelves.now.addresses.rows v.items
-        (address_met c.args.filter.now _ _ _ _ _ _ c.area_of.result c.in-Addresses.is c.area_of.ensures)
-        (subst (λ (b : TabledRows IpAddress). AreCandidates address_id _ b.rows v.items) c.addresses.ensures.book h)))
+    (λ v h. narrower address_id asked (address_meets c.args.filter.now) c.args.shelves.now.addresses.rows v.items
+    (address_met c.args.filter.now _ _ _ _ _ _ c.area_of.result c.in-Addresses.is c.area_of.ensures)
+    (subst (λ (b : TabledRows IpAddress). AreCandidates address_id asked b.rows v.items) c.addresses.ensures.book h)))
     c.ids_asked.ensures
