@@ -1,7 +1,7 @@
 use Rattle.std.proofs.Common.{sym, ◌∙◌}
 use Rattle.register_shelves.specs.Held.{state_of}
 use Rattle.register_plans.proofs.Paging.{met_more, views_more}
-use Rattle.register_plans.proofs.calls.plan_list.Goals as goal
+use Rattle.register_plans.proofs.calls.take_all.Goals as goal
 
 pub rows-preserved : goal.rows-preserved
 rows-preserved g c = (
