@@ -1,0 +1,4 @@
+pub mod Runs
+pub mod Hosts
+pub mod Steps
+pub mod Figures
