@@ -2,3 +2,4 @@ pub mod Runs
 pub mod Hosts
 pub mod Steps
 pub mod Figures
+pub mod Histories

@@ -2,9 +2,16 @@
 #![tactic(auto)]
 
 ghost use Rattle.load_law.specs.Claims.{ClaimsInOrder};
+ghost use Rattle.load_law.specs.Histories.{ClaimsOfMany};
 
 /// A law: behind the creation of a prefix and any number of claims of one address of it, whoever made them, the next claim gets the next
 /// address, as long as one is left, and the figure of the prefix is the percentage of the claims.
 pub fn claims_in_order()
     ensures { ClaimsInOrder }
+{}
+
+/// A law: the same of the history of many callers. An accepted claim got the address of its place, whoever made it; the entries of all
+/// callers together are the history; and each accepted call takes the next of its caller's places, which stay where others call.
+pub fn claims_of_many()
+    ensures { ClaimsOfMany }
 {}
