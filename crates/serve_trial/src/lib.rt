@@ -5,3 +5,5 @@
 mod claims;
 #[cfg(test)]
 mod gates;
+#[cfg(test)]
+mod slow;
