@@ -18,9 +18,9 @@ use Rattle.ipam_data.specs.declared.calls.Answered.TheVariants.{AsOne}
 use Rattle.inet_num.specs.declared.Family.TheVariants.{V4}
 use Rattle.ipam_data.proofs.Shelves.{with_row_above}
 use Rattle.load_text.specs.Load.{load_first}
-use Rattle.load_law.specs.Claims.{block_of, prefix_row, address_row, address_rows, claimed_state, one_address, PrefixIsMade, NextClaimGetsNextAddress, ClaimsLeadToState, claim_entry}
-use Rattle.load_law.proofs.Runs.{first_passes}
-use Rattle.load_law.proofs.Hosts.{hosted, many, below}
+use Rattle.load_claims.specs.Claims.{block_of, prefix_row, address_row, address_rows, claimed_state, one_address, PrefixIsMade, NextClaimGetsNextAddress, ClaimsLeadToState, claim_entry}
+use Rattle.load_claims.proofs.Runs.{first_passes}
+use Rattle.load_claims.proofs.Hosts.{hosted, many, below}
 
 -- ---- the next address
 

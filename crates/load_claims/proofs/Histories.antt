@@ -12,9 +12,9 @@ use Rattle.ipam_data.specs.declared.replies.Reply.{Reply}
 use Rattle.ipam_data.specs.Rows.{most_addresses}
 use Rattle.ipam_data.specs.State.{State, empty_state}
 use Rattle.ipam_data.specs.Steps.{plain_step}
-use Rattle.load_law.specs.Claims.{creation_of, claim_of_one, claimed_state}
-use Rattle.load_law.specs.Histories.{AreClaims, HistoryLeadsToState, PlaceSaysAddress, own_places, SharesAddUp, CallHasNextPlace, PlacesStay}
-use Rattle.load_law.proofs.Steps.{made_first, claim_next}
+use Rattle.load_claims.specs.Claims.{creation_of, claim_of_one, claimed_state}
+use Rattle.load_claims.specs.Histories.{AreClaims, HistoryLeadsToState, PlaceSaysAddress, own_places, SharesAddUp, CallHasNextPlace, PlacesStay}
+use Rattle.load_claims.proofs.Steps.{made_first, claim_next}
 
 -- ---- the state
 

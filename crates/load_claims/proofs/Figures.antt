@@ -7,8 +7,8 @@ use Rattle.block_space.specs.Usable.{host_room}
 use Rattle.ipam_data.specs.declared.replies.Reply.TheVariants.{Percent}
 use Rattle.ipam_data.specs.Claims.{is_hosted, is_marked}
 use Rattle.load_text.specs.Load.{load_first}
-use Rattle.load_law.specs.Claims.{block_of, prefix_row, address_rows, claimed_state, FigureIsOfClaims}
-use Rattle.load_law.proofs.Hosts.{hosted}
+use Rattle.load_claims.specs.Claims.{block_of, prefix_row, address_rows, claimed_state, FigureIsOfClaims}
+use Rattle.load_claims.proofs.Hosts.{hosted}
 
 same_count : (p q : ℕ → Bool) (xs : List ℕ) → ((x : ℕ) → p x ≡ q x) → count_by p xs ≡ count_by q xs
 same_count p q [] same = refl

@@ -14,7 +14,7 @@ use Rattle.ipam_data.specs.declared.replies.View.TheVariants.{IpAddress as Addre
 use Rattle.ipam_data.specs.Rows.{most_addresses}
 use Rattle.ipam_data.specs.State.{State, empty_state}
 use Rattle.ipam_data.specs.Steps.{plain_step}
-use Rattle.load_law.specs.Claims.{creation_of, claim_of_one, claimed_state, address_row}
+use Rattle.load_claims.specs.Claims.{creation_of, claim_of_one, claimed_state, address_row}
 
 -- the call of each entry is a claim of one address
 abbrev pub AreClaims : List (ℕ × Call) → Type 0

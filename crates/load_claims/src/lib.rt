@@ -1,8 +1,12 @@
-//! What claims of one address, one after another, get of a prefix: the law behind the command `load`.
+//! What claims of one address, one after another, get of a prefix: the calls and the laws behind the command `load`.
 #![tactic(auto)]
 
-ghost use Rattle.load_law.specs.Claims.{ClaimsInOrder};
-ghost use Rattle.load_law.specs.Histories.{ClaimsOfMany};
+ghost use Rattle.load_claims.specs.Claims.{ClaimsInOrder};
+ghost use Rattle.load_claims.specs.Histories.{ClaimsOfMany};
+
+mod calls;
+
+pub use calls::{claim, claimed, creation, figure, is_made, percentage};
 
 /// A law: behind the creation of a prefix and any number of claims of one address of it, whoever made them, the next claim gets the next
 /// address, as long as one is left, and the figure of the prefix is the percentage of the claims.

@@ -8,7 +8,7 @@ use Rattle.ipam_data.specs.Claims.{is_child_address, is_hosted}
 use Rattle.ipam_data.specs.Rows.{address_id}
 use Rattle.ipam_data.specs.Shelf.{AllBelow}
 use Rattle.load_text.specs.Load.{load_first}
-use Rattle.load_law.specs.Claims.{prefix_row, address_row, address_rows}
+use Rattle.load_claims.specs.Claims.{prefix_row, address_row, address_rows}
 
 -- a claimed address lies in the block
 held : (len n : ℕ) → n < 2 ^ (32 - len) → is_child_address (prefix_row len) (address_row len n) ≡ true
