@@ -68,7 +68,7 @@ place_says unique len history who reply (suc m) h room some legal =
 -- ---- shares
 
 module _ {C : Type 0} where
-  own_more : (n : ℕ) (e : ℕ × C) (es : List (ℕ × C)) → length (own_entries n (e ∷ es)) ≡ cond (e.0 == n) 1 0 + length (own_entries n es)
+  pub own_more : (n : ℕ) (e : ℕ × C) (es : List (ℕ × C)) → length (own_entries n (e ∷ es)) ≡ cond (e.0 == n) 1 0 + length (own_entries n es)
   own_more n e es = go (e.0 == n) where
     go : (t : Bool) → length (cond t (e ∷ own_entries n es) (own_entries n es)) ≡ cond t 1 0 + length (own_entries n es)
     go true = omega arith

@@ -3,3 +3,4 @@ pub mod Hosts
 pub mod Steps
 pub mod Figures
 pub mod Histories
+pub mod Tallies

@@ -3,6 +3,7 @@
 
 ghost use Rattle.load_claims.specs.Claims.{ClaimsInOrder};
 ghost use Rattle.load_claims.specs.Histories.{ClaimsOfMany};
+ghost use Rattle.load_claims.specs.Tallies.{TalliesOfMany};
 
 mod calls;
 
@@ -18,4 +19,10 @@ pub fn claims_in_order()
 /// callers together are the history; and each accepted call takes the next of its caller's places, which stay where others call.
 pub fn claims_of_many()
     ensures { ClaimsOfMany }
+{}
+
+/// A law: of callers that note how many addresses they got, the least and the greatest, the notes of all together tell the number of claims of
+/// the history, its first address and its last one.
+pub fn tallies_of_many()
+    ensures { TalliesOfMany }
 {}
