@@ -4,3 +4,4 @@ pub mod Steps
 pub mod Figures
 pub mod Histories
 pub mod Tallies
+pub mod Notes

@@ -3,6 +3,7 @@
 
 ghost use Rattle.load_claims.specs.Claims.{ClaimsInOrder};
 ghost use Rattle.load_claims.specs.Histories.{ClaimsOfMany};
+ghost use Rattle.load_claims.specs.Notes.{NotesOfOne};
 ghost use Rattle.load_claims.specs.Tallies.{TalliesOfMany};
 
 mod calls;
@@ -25,4 +26,9 @@ pub fn claims_of_many()
 /// the history, its first address and its last one.
 pub fn tallies_of_many()
     ensures { TalliesOfMany }
+{}
+
+/// A law: what the caller of one seat notes, claim by claim, is its tally in the history that all share, once that is known.
+pub fn notes_of_one()
+    ensures { NotesOfOne }
 {}
