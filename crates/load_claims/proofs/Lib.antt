@@ -5,3 +5,4 @@ pub mod Figures
 pub mod Histories
 pub mod Tallies
 pub mod Notes
+pub mod Room

@@ -4,6 +4,7 @@
 ghost use Rattle.load_claims.specs.Claims.{ClaimsInOrder};
 ghost use Rattle.load_claims.specs.Histories.{ClaimsOfMany};
 ghost use Rattle.load_claims.specs.Notes.{NotesOfOne};
+ghost use Rattle.load_claims.specs.Room.{LoadHasRoom};
 ghost use Rattle.load_claims.specs.Tallies.{TalliesOfMany};
 
 mod calls;
@@ -31,4 +32,9 @@ pub fn tallies_of_many()
 /// A law: what the caller of one seat notes, claim by claim, is its tally in the history that all share, once that is known.
 pub fn notes_of_one()
     ensures { NotesOfOne }
+{}
+
+/// A law: the block for 1 to 100,000 claims has room for them.
+pub fn load_has_room()
+    ensures { LoadHasRoom }
 {}
