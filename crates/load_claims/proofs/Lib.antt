@@ -6,3 +6,4 @@ pub mod Histories
 pub mod Tallies
 pub mod Notes
 pub mod Room
+pub mod Others

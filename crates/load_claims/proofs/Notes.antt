@@ -46,6 +46,8 @@ one_noted unique most v w claimed least greatest value place reply noted c tells
     let same = c.seat_stays.1 in
     record {
       opening = c.seat_stays.4 ∙ noted.opening;
+      claims = subst (AllByRecursion (λ e. e.1 ≡ claim_of_one)) (sym (ap (λ (n : ℕ). own_entries n w.seen) same ∙ c.own_entries_grow))
+          (all-push (λ e. e.1 ≡ claim_of_one) (own_entries v.number v.seen) (v.number, claim_of_one) noted.claims refl);
       notes = noted.notes ++ (value, place) ∷ [];
       places =
           ap (λ (n : ℕ). own_places n 0 w.seen) same ∙ next_place v w claim_of_one reply place c ∙ ap (λ (l : List ℕ). l ++ place ∷ []) noted.places

@@ -75,7 +75,7 @@ not_own (e ∷ es) n zero d none h = go (e.0 == n) (let m = own_more n e es in o
 not_own (e ∷ es) n (suc p) d none h = not_own es n p d (let m = own_more n e es in omega arith) (omega arith)
 
 -- so each bears one of the other numbers
-shared_at : (entries : List (ℕ × Call)) (n : ℕ) (numbers : List ℕ) (p : ℕ) (d : ℕ × Call) → AreShared (n ∷ numbers) entries → length (own_entries n entries) ≡ 0 → p < length entries
+pub shared_at : (entries : List (ℕ × Call)) (n : ℕ) (numbers : List ℕ) (p : ℕ) (d : ℕ × Call) → AreShared (n ∷ numbers) entries → length (own_entries n entries) ≡ 0 → p < length entries
     → Contains numbers (get_or entries p d).0
 shared_at entries n numbers p d shared none h =
     let once : count_by (λ m. (get_or entries p d).0 == m) (n ∷ numbers) ≡ 1 = at entries p shared h in

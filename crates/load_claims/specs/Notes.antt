@@ -1,5 +1,5 @@
 -- What the caller of one seat notes while the others' calls are not known yet.
-use Rattle.std.specs.Prelude.{◌≡◌, ◌≢◌, ℕ, ◌+◌, ◌≤◌, Bool, List, [], ◌∷◌, Some, length, map, min, max}
+use Rattle.std.specs.Prelude.{◌≡◌, ◌≢◌, ℕ, ◌+◌, ◌≤◌, Bool, List, [], ◌∷◌, Some, length, map, Contains, min, max}
 use Rattle.std.specs.List.{AllByRecursion}
 use mathlib.Core.List.{IsPrefix}
 use Rattle.history_lock.specs.Replies.{accepted}
@@ -11,8 +11,8 @@ use Rattle.ipam_data.specs.declared.replies.Reply.{Reply}
 use Rattle.ipam_data.specs.State.{State, empty_state}
 use Rattle.ipam_data.specs.Steps.{plain_step}
 use Rattle.load_text.specs.Load.{load_address}
-use Rattle.load_claims.specs.Claims.{claim_of_one}
-use Rattle.load_claims.specs.Histories.{IsLoadHistory, HasRoomFor, own_places}
+use Rattle.load_claims.specs.Claims.{claim_of_one, creation_of}
+use Rattle.load_claims.specs.Histories.{AreClaims, AreShared, IsLoadHistory, HasRoomFor, own_places}
 use Rattle.load_claims.specs.Replies.{address_in}
 use Rattle.load_claims.specs.Tallies.{IsTallyOf}
 
@@ -34,6 +34,7 @@ greatest_among (note ∷ notes) = max note.0 (greatest_among notes)
 -- the caller of a seat made claims alone: how many were accepted, and the least and the greatest number of an address that they got
 pub record IsNoted (unique : Bool) (most : ℕ) (v : SeatView State Call) (claimed least greatest : ℕ) : Type 0 where
   pub opening : v.opening ≡ empty_state unique
+  pub claims : AreClaims (own_entries v.number v.seen)
   pub notes : List (ℕ × ℕ)
   pub places : own_places v.number 0 v.seen ≡ map (λ n. n.1) notes
   pub got : AllByRecursion (IsGot unique v.seen v.number) notes
@@ -52,6 +53,13 @@ NotesAreTally = (unique : Bool) (len most : ℕ) (history : List (ℕ × Call)) 
     → IsNoted unique most v claimed least greatest → IsPrefix v.seen history → own_entries v.number history ≡ own_entries v.number v.seen → h.maker ≢ v.number
     → (load_address (length history)).value ≤ most → IsTallyOf history (v.number ∷ []) claimed least greatest
 
+-- where the prefix was made first, and each other entry is of a caller that made claims alone, those are claims
+abbrev pub OthersMakeClaims : Type 0
+OthersMakeClaims = (len maker : ℕ) (claims : List (ℕ × Call)) (numbers : List ℕ) → length (own_entries maker ((maker, creation_of len) ∷ claims)) ≡ 1
+    → AreShared (maker ∷ numbers) ((maker, creation_of len) ∷ claims) → ((n : ℕ) → Contains numbers n → AreClaims (own_entries n ((maker, creation_of len) ∷ claims)))
+    → AreClaims claims
+
 pub record NotesOfOne : Type 0 where
   pub more : ClaimIsNoted
   pub tally : NotesAreTally
+  pub others : OthersMakeClaims
