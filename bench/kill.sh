@@ -1,0 +1,166 @@
+#!/usr/bin/env bash
+# `serve` over a real file, killed under load, by the built program (./ipamd builds it; IPAMD=PROGRAM takes another one). In each round four
+# clients claim addresses of one prefix over HTTP, one at a time, and the program is killed by a signal that it cannot catch. Then the file
+# is opened again: every claim that was answered is there as it was answered, no address was given twice, and there are at most as many more
+# as there were clients.   bench/kill.sh [ROUNDS [PORT]]
+set -euo pipefail
+top=$(cd "$(dirname "$0")/.." && pwd)
+program=${IPAMD:-$top/crates/ipamd/out/ipamd}
+[ -x "$program" ] || { echo "build the program first: ./ipamd free 10.0.0.0/8 </dev/null" >&2; exit 1; }
+exec python3 - "$program" "${1:-5}" "${2:-18090}" <<'E2'
+import http.client, json, os, random, shutil, socket, sqlite3, subprocess, sys, tempfile, threading, time
+
+program, rounds, port = sys.argv[1], int(sys.argv[2]), int(sys.argv[3])
+CLIENTS = 4
+# how many answers each client has before the program is killed, at least
+FEW = 20
+PAGE = 1000
+CLAIM = "/api/ipam/prefixes/1/available-ips/"
+folder = tempfile.mkdtemp()
+path = os.path.join(folder, "office.db")
+server = None
+
+
+def give_up(what):
+    if server is not None and server.poll() is None:
+        server.kill()
+    shutil.rmtree(folder, ignore_errors=True)
+    sys.exit(f"kill: {what}")
+
+
+def request(method, target, body=None):
+    text = b"" if body is None else json.dumps(body).encode()
+    head = f"{method} {target} HTTP/1.1\r\nHost: x\r\n" + (f"Content-Length: {len(text)}\r\n" if text else "") + "\r\n"
+    return head.encode() + text
+
+
+def session(requests):
+    done = subprocess.run([program, "session", "--db", path], input=b"".join(requests), capture_output=True)
+    if done.returncode != 0 or done.stderr:
+        give_up(f"a session ended {done.returncode}: {done.stderr}")
+    return done.stdout
+
+
+def bodies(output):
+    # the bodies of answers that lie one behind another
+    found = []
+    while output:
+        head, _, rest = output.partition(b"\r\n\r\n")
+        fields = dict(line.split(b": ", 1) for line in head.split(b"\r\n")[1:])
+        length = int(fields.get(b"Content-Length", b"0"))
+        found.append((int(head.split(b" ")[1]), json.loads(rest[:length]) if length else None))
+        output = rest[length:]
+    return found
+
+
+def stored():
+    # the addresses of the file, page by page, as objects by their ids
+    rows, offset = {}, 0
+    while True:
+        (status, page), = bodies(session([request("GET", f"/api/ipam/ip-addresses/?limit={PAGE}&offset={offset}")]))
+        if status != 200:
+            give_up(f"a list is answered {status}: {page}")
+        for row in page["results"]:
+            rows[row["id"]] = row
+        offset += PAGE
+        if page["next"] is None:
+            if len(rows) != page["count"]:
+                give_up(f"{len(rows)} ids of {page['count']} rows")
+            return rows
+
+
+def listens():
+    try:
+        with open("/proc/net/tcp") as table:
+            return any(f":{port:04X} 00000000:0000 0A" in line for line in table)
+    except OSError:
+        return True
+
+
+def start():
+    global server
+    server = subprocess.Popen([program, "serve", "--bind", f"127.0.0.1:{port}", "--workers", str(CLIENTS), "--db", path],
+                              stdin=subprocess.DEVNULL, stdout=subprocess.DEVNULL, stderr=subprocess.PIPE)
+    for _ in range(200):
+        if listens():
+            return
+        if server.poll() is not None:
+            give_up(f"the program ended {server.returncode}: {server.stderr.read()}")
+        time.sleep(0.05)
+    give_up(f"the port {port} does not listen")
+
+
+def client(answered, wrong):
+    # claims one address after another until the program is gone
+    connection = None
+    while True:
+        try:
+            if connection is None:
+                connection = http.client.HTTPConnection("127.0.0.1", port, timeout=30)
+                connection.connect()
+                connection.sock.setsockopt(socket.IPPROTO_TCP, socket.TCP_NODELAY, 1)
+            connection.request("POST", CLAIM, "{}")
+            answer = connection.getresponse()
+            body = answer.read()
+            if answer.status != 201:
+                wrong.append((answer.status, body))
+                return
+            answered.append(json.loads(body))
+            if answer.will_close:
+                connection.close()
+                connection = None
+        except (OSError, http.client.HTTPException):
+            # the answer did not come, or not whole
+            return
+
+
+(status, made), = bodies(session([request("POST", "/api/ipam/prefixes/", {"prefix": "10.0.0.0/12"})]))
+if status != 201 or made["id"] != 1:
+    give_up(f"the prefix: {status} {made}")
+
+known = {}
+for number in range(1, rounds + 1):
+    start()
+    answers, wrong = [[] for _ in range(CLIENTS)], []
+    threads = [threading.Thread(target=client, args=(answers[i], wrong)) for i in range(CLIENTS)]
+    for thread in threads:
+        thread.start()
+    patience = time.monotonic() + 30
+    while any(len(rows) < FEW for rows in answers) and not wrong and time.monotonic() < patience:
+        time.sleep(0.01)
+    time.sleep(random.uniform(0, 0.7))
+    server.kill()
+    server.wait()
+    for thread in threads:
+        thread.join()
+    if wrong:
+        give_up(f"round {number}: a claim is answered {wrong[0]}")
+    fresh = [row for rows in answers for row in rows]
+    if any(len(rows) < FEW for rows in answers):
+        give_up(f"round {number}: the clients had {[len(rows) for rows in answers]} answers in 30 seconds")
+    rows = stored()
+    for row in fresh:
+        if row["id"] in known:
+            give_up(f"round {number}: id {row['id']} was given before")
+        known[row["id"]] = row
+    for id, row in known.items():
+        if rows.get(id) != row:
+            give_up(f"round {number}: answered {row}, and the file has {rows.get(id)}")
+    given = [row["address"] for row in rows.values()]
+    if len(set(given)) != len(given):
+        give_up(f"round {number}: an address was given twice")
+    # what was made and not answered: at most one claim of each client, and later rounds do not get its place
+    more = [row for id, row in rows.items() if id not in known]
+    if len(more) > CLIENTS:
+        give_up(f"round {number}: {len(more)} rows that nobody was told of")
+    for row in more:
+        known[row["id"]] = row
+    print(f"round {number}: {len(fresh)} claims answered, {len(rows)} in the file, {len(more)} of them not answered")
+
+with sqlite3.connect(path) as file:
+    if file.execute("PRAGMA integrity_check").fetchall() != [("ok",)]:
+        give_up("the file is not whole")
+file.close()
+shutil.rmtree(folder)
+print("kill: all as it should be")
+E2
