@@ -58,6 +58,3 @@ pub fn ids_in<T: Located + Drop>(
     }
     Ok(Some(rising(ids)?))
 }
-
-#[cfg(test)]
-mod tests;
