@@ -1,0 +1,3 @@
+pub mod ImportLaws
+pub mod ImportAgain
+pub mod ImportCan
