@@ -308,7 +308,7 @@ seen_all old kind so (row ∷ rows) e =
 -- no rule is broken by the row's names, nor by its values
 pub record IsClean (s : State) (row : ImportRow) : Type 0 where
   pub names : first (map breaks (name_rules s row)) ≡ None
-  pub values : first (map breaks (value_rules (draft_of s row))) ≡ None
+  pub values : first (map breaks (value_rules row)) ≡ None
 
 first_past : {A : Type 0} (xs ys : List (Option A)) → first xs ≡ None → first (xs ++ ys) ≡ first ys
 first_past [] ys e = refl
@@ -326,7 +326,7 @@ clean old kind so n (row ∷ rows) e =
     let d = draft_of old row in
     let rest : List (Option Refusal) = row_verdicts old kind (after_row old kind so row) (n + 1) rows in
     let one = none_mapped (at_row n) (first (row_checks old kind so row)) (none_head (row_verdict old kind so n row) rest e) in
-    let values : List (Option Refusal) = map breaks (value_rules d) in
+    let values : List (Option Refusal) = map breaks (value_rules row) in
     let creates : List (Option Refusal) = create_checks (makes_one old kind so.seen d) so.state d in (
       record {
         names = none_left (map breaks (name_rules old row)) (values ++ creates) one;
@@ -342,7 +342,7 @@ still_clean kind s t (row ∷ rows) r q c =
     let same = reads kind s t row q.0 r in (
       record {
         names = ap (λ (xs : List (Option Rule)). first (map breaks xs)) same.names ∙ c.0.names;
-        values = ap (λ (d : Draft). first (map breaks (value_rules d))) same.draft ∙ c.0.values;
+        values = c.0.values;
       },
       still_clean kind s t rows r q.1 c.1,
     )
@@ -373,12 +373,12 @@ makes_nothing t kind so n (row ∷ rows) c h =
     go : (m : Bool) → m ≡ false → MakesNothing t kind (record { state = so.state; seen = texts_of (draft_of t row) ∷ so.seen; made = so.made }) (n + 1) rows
         → ((after_rows t kind (with_draft m so (draft_of t row)) rows).state ≡ so.state)
         × ((after_rows t kind (with_draft m so (draft_of t row)) rows).made ≡ so.made)
-        × (first (option_map (at_row n) (first (map breaks (name_rules t row) ++ (map breaks (value_rules (draft_of t row)) ++ create_checks m so.state (draft_of t row))))
+        × (first (option_map (at_row n) (first (map breaks (name_rules t row) ++ (map breaks (value_rules row) ++ create_checks m so.state (draft_of t row))))
         ∷ row_verdicts t kind (with_draft m so (draft_of t row)) (n + 1) rows) ≡ None)
     go true none rest = cc
     go false none rest =
-        let e : first (map breaks (name_rules t row) ++ (map breaks (value_rules (draft_of t row)) ++ [])) ≡ None =
-        first_past (map breaks (name_rules t row)) (map breaks (value_rules (draft_of t row)) ++ []) c.0.names ∙ first_past (map breaks (value_rules (draft_of t row))) [] c.0.values in
+        let e : first (map breaks (name_rules t row) ++ (map breaks (value_rules row) ++ [])) ≡ None =
+        first_past (map breaks (name_rules t row)) (map breaks (value_rules row) ++ []) c.0.names ∙ first_past (map breaks (value_rules row)) [] c.0.values in
         (rest.state, rest.made, rw e rest.verdicts)
 
 outcome_none : (s : State) (plan : Plan) → verdict_of plan ≡ None → outcome s plan ≡ (updated s plan.update, answered (updated s plan.update) plan.reply)

@@ -6,6 +6,7 @@ use Rattle.std.specs.List.{AllByRecursion}
 use Rattle.inet_num.specs.Net.{IsBlock}
 use Rattle.ipam_data.specs.declared.kinds.Kind.{Kind}
 use Rattle.ipam_data.specs.declared.kinds.Kind.TheVariants.{Vrfs, Rirs, Roles, Aggregates, Prefixes, Ranges, Addresses}
+use Rattle.ipam_data.specs.declared.address.AddressStatus.{AddressStatus}
 use Rattle.ipam_data.specs.declared.vrf.Vrf.{Vrf}
 use Rattle.ipam_data.specs.declared.rir.Rir.{Rir}
 use Rattle.ipam_data.specs.declared.role.Role.{Role}
@@ -23,7 +24,7 @@ use Rattle.ipam_data.specs.declared.replies.Reply.TheVariants.{Imported}
 use Rattle.ipam_data.specs.declared.replies.View.{View}
 use Rattle.ipam_data.specs.Texts.{IsDescription, IsDnsText}
 use Rattle.ipam_data.specs.HostNames.{is_dns_name}
-use Rattle.ipam_data.specs.Hosts.{IsMasked}
+use Rattle.ipam_data.specs.Hosts.{Masked, IsMasked}
 use Rattle.ipam_data.specs.Rows.{rir_id, role_id}
 use Rattle.ipam_data.specs.Shelf.{least}
 use Rattle.ipam_data.specs.Checks.{first, breaks, too_many, no_log}
@@ -131,20 +132,28 @@ draft_of s (AddressRow host vrf status role dns_name description) = AddressDraft
 abbrev pub zero_mask : ℕ → Option Rule
 zero_mask len = if len == 0 then Some ZeroMask else None
 
--- the rules that a draft breaks by itself
-abbrev pub value_rules : Draft → List (Option Rule)
-value_rules (VrfDraft name rd enforce_unique description) = []
-value_rules (RirDraft name slug is_private description) = []
-value_rules (RoleDraft name slug weight description) = []
-value_rules (AggregateDraft block rir description) = zero_mask block.len ∷ []
-value_rules (PrefixDraft block vrf status role is_pool mark_utilized description) = zero_mask block.len ∷ []
-value_rules (RangeDraft start end vrf status role mark_utilized description) =
+-- the rules that the ends of a range break by themselves
+abbrev pub ends_rules : Masked → Masked → List (Option Rule)
+ends_rules start end =
     range_family start.addr end.addr ∷ range_mask start end ∷ zero_mask start.len
     ∷ (if nat_lt start.addr.value end.addr.value then None else Some RangeOrder)
     ∷ (if nat_le (end.addr.value + 1 - start.addr.value) most_of_range then None else Some RangeSize) ∷ []
-value_rules (AddressDraft host vrf status role dns_name description) =
+
+-- those that an address breaks by itself
+abbrev pub host_rules : Masked → AddressStatus → List ℕ → List (Option Rule)
+host_rules host status dns_name =
     zero_mask host.len ∷ (if is_slaac_of_v4 status host.addr.family then Some SlaacFamily else None)
     ∷ (if is_dns_name dns_name then None else Some DnsName) ∷ []
+
+-- the rules that a row breaks by itself
+abbrev pub value_rules : ImportRow → List (Option Rule)
+value_rules (VrfRow name rd enforce_unique description) = []
+value_rules (RirRow name slug is_private description) = []
+value_rules (RoleRow name slug weight description) = []
+value_rules (AggregateRow block rir description) = zero_mask block.len ∷ []
+value_rules (PrefixRow block vrf status role is_pool mark_utilized description) = zero_mask block.len ∷ []
+value_rules (RangeRow start end vrf status role mark_utilized description) = ends_rules start end
+value_rules (AddressRow host vrf status role dns_name description) = host_rules host status dns_name
 
 -- ---- the import
 
@@ -195,7 +204,7 @@ create_checks false s d = []
 -- why a row is refused: its names, then its values, then what a creation beside the records so far checks
 abbrev pub row_checks : State → Kind → Progress → ImportRow → List (Option Refusal)
 row_checks old kind so row =
-    map breaks (name_rules old row) ++ (map breaks (value_rules (draft_of old row))
+    map breaks (name_rules old row) ++ (map breaks (value_rules row)
     ++ create_checks (makes_one old kind so.seen (draft_of old row)) so.state (draft_of old row))
 
 abbrev pub row_verdict : State → Kind → Progress → ℕ → ImportRow → Option Refusal
