@@ -19,12 +19,12 @@ use ipam_data::kinds::Kind;
 use ipam_words::field_name;
 use std::alloc::{AllocError, Global};
 
-/// The line of a record.
-fn line_of(alloc: Global, record: &StringRecord) -> Result<Vec<u8>, AllocError>
-    ensures { IfOk result (λ v. v.items ≡ row_text default_writer (fields_of record.now)) }
+/// The line of these fields.
+fn line_of(alloc: Global, fields: &StringRecord) -> Result<Vec<u8>, AllocError>
+    ensures { IfOk result (λ v. v.items ≡ row_text default_writer (fields_of fields.now)) }
 {
     let mut wtr = WriterBuilder::new().from_writer(Vec::new(alloc));
-    if wtr.write_byte_record(record.as_byte_record()).is_err() {
+    if wtr.write_byte_record(fields.as_byte_record()).is_err() {
         return Err(AllocError);
     }
     match wtr.into_inner() {
@@ -45,7 +45,7 @@ fn header_line(alloc: Global, kind: Kind) -> Result<Vec<u8>, AllocError>
 }
 
 /// The fields of a row, in the order of the columns.
-fn record_of(alloc: Global, row: &ImportRow) -> Result<StringRecord, AllocError>
+fn fields_in(alloc: Global, row: &ImportRow) -> Result<StringRecord, AllocError>
     ensures { IfOk result (λ r. fields_of r ≡ fields_of_row row.now) }
 {
     match row.kind() {
@@ -63,8 +63,8 @@ fn record_of(alloc: Global, row: &ImportRow) -> Result<StringRecord, AllocError>
 fn line_of_row(alloc: Global, row: &ImportRow) -> Result<Vec<u8>, AllocError>
     ensures { IfOk result (λ v. v.items ≡ row_line row.now) }
 {
-    let record = record_of(alloc, row)?;
-    line_of(alloc, &record)
+    let fields = fields_in(alloc, row)?;
+    line_of(alloc, &fields)
 }
 
 /// The whole text.
