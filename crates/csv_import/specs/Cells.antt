@@ -107,5 +107,5 @@ IsBlockReading text (Err fault) = (why : TextFault) × IsBlockFault text why × 
 
 -- a text is that of a host, whose mask is its width where it has none, or has a fault
 abbrev pub IsHostReading : FieldName → List ℕ → Result Masked RowFault → Type 0
-IsHostReading name text (Ok host) = IsHostText text host.addr host.len
-IsHostReading name text (Err fault) = ((why : TextFault) × IsHostFault text why) × (fault ≡ Field name)
+IsHostReading key text (Ok host) = IsHostText text host.addr host.len
+IsHostReading key text (Err fault) = ((why : TextFault) × IsHostFault text why) × (fault ≡ Field key)

@@ -6,7 +6,7 @@ ghost use Rattle.csv.specs.Records.{fields_of};
 ghost use Rattle.ipam_data.specs.declared.replies.FieldName.TheVariants.{Description as DescriptionField, DnsName as DnsNameField, Rd as RdField, Slug as SlugField};
 ghost use Rattle.ipam_data.specs.declared.replies.RowFault.TheVariants.{Field};
 ghost use Rattle.csv_import.specs.declared.stops.Stop.TheVariants.{Fault, Memory};
-ghost use Rattle.csv_import.specs.Cells.{cell, column, within, within_or_none, slugged, of_bytes, flag_of};
+ghost use Rattle.csv_import.specs.Cells.{cell, within, within_or_none, slugged, of_bytes, flag_of};
 ghost use Rattle.csv_import.specs.Rows.{OrMemory, read};
 
 use crate::stops::Stop;
@@ -70,17 +70,6 @@ fn owned(alloc: Global, text: &str) -> Result<String, Stop>
     }
 }
 
-/// The name that a text is.
-fn name_of(alloc: Global, text: &str, member: FieldName) -> Result<Name, Stop>
-    ensures { OrMemory (λ r. column member (within 1 100 text.now) ≡ r) result }
-{
-    let text = owned(alloc, text)?;
-    match Name::of(text) {
-        Some(name) => Ok(name),
-        None => Err(malformed(member)),
-    }
-}
-
 /// The name under a column.
 pub(crate) fn name(
     alloc: Global,
@@ -90,7 +79,11 @@ pub(crate) fn name(
 ) -> Result<Name, Stop>
     ensures { OrMemory (λ r. read member (within 1 100) (fields_of header.now) (fields_of line.now) ≡ r) result }
 {
-    name_of(alloc, cell(header, line, member), member)
+    let text = owned(alloc, cell(header, line, member))?;
+    match Name::of(text) {
+        Some(name) => Ok(name),
+        None => Err(malformed(member)),
+    }
 }
 
 /// The name under a column, or none where the cell is empty.
@@ -106,8 +99,11 @@ pub(crate) fn name_or_none(
     if text.is_empty() {
         return Ok(None);
     }
-    let name = name_of(alloc, text, member)?;
-    Ok(Some(name))
+    let text = owned(alloc, text)?;
+    match Name::of(text) {
+        Some(name) => Ok(Some(name)),
+        None => Err(malformed(member)),
+    }
 }
 
 /// The slug of a line.

@@ -37,8 +37,9 @@ fn line_of(alloc: Global, fields: &StringRecord) -> Result<Vec<u8>, AllocError>
 fn header_line(alloc: Global, kind: Kind) -> Result<Vec<u8>, AllocError>
     ensures { IfOk result (λ v. v.items ≡ row_text default_writer (header_of kind)) }
 {
+    let columns = kind_columns(kind);
     let mut names = StringRecord::new(alloc);
-    for column in kind_columns(kind) {
+    for column in columns {
         names.push_field(field_name(column.name))?;
     }
     line_of(alloc, &names)

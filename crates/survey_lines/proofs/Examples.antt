@@ -1,5 +1,6 @@
 -- Small examples of surveys, worked out by evaluation.
 use Rattle.std.proofs.Common.{◌≡◌, ℕ, List, [], ◌∷◌, Option, Some, None, true, false, refl}
+use Rattle.inet_num.specs.Count.{addresses_of, numbers_from}
 use Rattle.ipam_data.specs.declared.kinds.Table.{Table}
 use Rattle.ipam_data.specs.declared.kinds.Table.TheVariants.{Global, Of}
 use Rattle.ipam_data.specs.declared.prefix.PrefixStatus.TheVariants.{Active}
@@ -22,5 +23,5 @@ abbrev some : State
 some = after (empty_state true) (vrf true ∷ prefix 32 30 (Some 1) None ∷ prefix 20 30 None None ∷ prefix 16 30 None None ∷ prefix 16 28 None None ∷ [])
 
 in_order : survey_of some ≡ line Global 0 16 28 ∷ line Global 1 16 30 ∷ line Global 1 20 30 ∷ line (Of 1) 0 32 30 ∷ []
-unfolding vrf_fault prefix_fault depth_of
+unfolding vrf_fault prefix_fault depth_of addresses_of numbers_from
 in_order = refl

@@ -1,14 +1,15 @@
 -- The lines of a survey: the prefixes of the global table, then those of each VRF's by the VRF's id; in a table IPv4 before IPv6, then
 -- by the first address, by the length, and by the id.
-use Rattle.std.specs.Prelude.{ℕ, ◌+◌, ◌*◌, ◌^◌, List, [], Option, Some, None, map, fold}
+use Rattle.std.specs.Prelude.{ℕ, ◌+◌, ◌*◌, ◌^◌, List, [], Option, Some, None, map, fold, IsPermutation}
 use Rattle.inet_num.specs.declared.Family.{Family}
 use Rattle.inet_num.specs.declared.Family.TheVariants.{V4, V6}
 use Rattle.ipam_data.specs.declared.prefix.Prefix.{Prefix}
-use Rattle.ipam_data.specs.Shelf.{placed}
+use Rattle.ipam_data.specs.Shelf.{placed, Rises}
 use Rattle.ipam_data.specs.Tables.{table_of}
 use Rattle.ipam_data.specs.Prefixes.{depth_of}
 use Rattle.ipam_data.specs.Claims.{prefix_figure}
 use Rattle.ipam_data.specs.State.{State}
+use Rattle.ipam_data.specs.Lawful.{IsLawful}
 use Rattle.survey_lines.specs.declared.PrefixLine.{PrefixLine}
 
 -- the global table comes first, and then those of VRFs
@@ -41,3 +42,11 @@ line_of s row = record {
 
 abbrev pub survey_of : State → List PrefixLine
 survey_of s = map (line_of s) (surveyed s.prefixes.rows)
+
+-- in a survey of a lawful state each prefix stands once, and their places rise
+pub record IsSurveyed (rows : List Prefix) : Type 0 where
+  pub all : IsPermutation rows (surveyed rows)
+  pub ordered : Rises survey_place 0 (surveyed rows)
+
+abbrev pub SurveyIsWhole : Type 0
+SurveyIsWhole = (s : State) → IsLawful s → IsSurveyed s.prefixes.rows

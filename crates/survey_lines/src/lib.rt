@@ -1,6 +1,8 @@
 //! What a report tells of the prefixes of a register, and in specs/ the lines of all of them in their order.
 #![tactic(auto)]
 
+pub mod laws;
+
 use inet_num::Block;
 use ipam_data::kinds::Table;
 use ipam_data::prefix::PrefixStatus;
