@@ -1,5 +1,5 @@
 -- Small examples of surveys, worked out by evaluation.
-use Rattle.std.proofs.Common.{◌≡◌, ℕ, List, [], ◌∷◌, Option, Some, None, true, false, refl}
+use Rattle.std.proofs.Common.{◌≡◌, ℕ, [], ◌∷◌, Some, None, true, refl}
 use Rattle.inet_num.specs.Count.{addresses_of, numbers_from}
 use Rattle.ipam_data.specs.declared.kinds.Table.{Table}
 use Rattle.ipam_data.specs.declared.kinds.Table.TheVariants.{Global, Of}

@@ -1,9 +1,8 @@
 -- In a survey of a lawful state each prefix stands once, and their places rise.
-use Rattle.std.proofs.Common.{◌≡◌, ◌≢◌, ℕ, ◌+◌, ◌*◌, ◌<◌, ◌≤◌, List, [], ◌∷◌, ◌++◌, subst, arith, append-nil, IsPermutation}
+use Rattle.std.proofs.Common.{◌≢◌, ℕ, ◌+◌, ◌*◌, ◌<◌, ◌≤◌, List, [], ◌∷◌, subst, arith, append-nil, IsPermutation}
 use Rattle.ipam_data.specs.declared.prefix.Prefix.{Prefix}
 use Rattle.ipam_data.specs.Rows.{prefix_id}
 use Rattle.ipam_data.specs.Shelf.{Rises, AllBelow, last_next}
-use Rattle.ipam_data.specs.Lawful.{IsLawful}
 use Rattle.survey_lines.specs.Survey.{survey_place, surveyed, SurveyIsWhole}
 use Rattle.survey_lines.proofs.Insertion.{AllOther, AreApart, AllAbove, sorted_all, sorted_rises}
 
