@@ -3,3 +3,4 @@ pub mod Cells
 pub mod Rows
 pub mod Files
 pub mod Exports
+pub mod Laws

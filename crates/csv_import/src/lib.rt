@@ -10,6 +10,7 @@ mod exports;
 mod fields;
 pub mod files;
 mod header;
+pub mod laws;
 mod nets;
 mod prefix;
 mod range;
