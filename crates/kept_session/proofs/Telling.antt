@@ -1,5 +1,5 @@
 -- A session whose seat is seen with what its keeper tells is one of its standing, and the keeper goes on telling its tables, or telling none.
-use Rattle.std.proofs.Common.{◌≡◌, ◌↔◌, ℕ, Bool, true, false, List, Option, Some, None, IsSome, is_some, IfOk, OnErr, Result, Ok, Err, inl, inr, refl, sym, ◌∙◌, ap, subst}
+use Rattle.std.proofs.Common.{◌≡◌, ◌↔◌, ℕ, Bool, List, Option, Some, None, IsSome, is_some, IfOk, OnErr, Result, Ok, Err, inl, inr, refl, sym, ◌∙◌, ap}
 use Rattle.ipam_edge.specs.Reading.{Step}
 use Rattle.http_session.specs.declared.reply.Reply.{Reply}
 use Rattle.http_session.specs.Replies.{answer_of}
