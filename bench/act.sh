@@ -299,9 +299,7 @@ fn list<K: Keeper>(register: &mut Register<K>, order: Order, pages: u32, count: 
             limit: 1000,
             offset,
         };
-        if let Reply::Page { count: _, views } = register.act(0, call) {
-            done = done.wrapping_add(views.as_slice().len() as u64);
-        }
+        done = done.wrapping_add(rows_of(register.act(0, call)));
     }
     done
 }
@@ -368,6 +366,21 @@ fn parent(n: u32, len: u8) -> Option<Block> {
     Block::of(Addr::of(Family::V4, value & keep)?, len)
 }
 
+/// How many rows a page has.
+fn rows_of(reply: Reply) -> u64 {
+    match reply {
+        Reply::Page { count: _, views } => {
+            let rows = views.as_slice().len() as u64;
+            drop(views);
+            rows
+        }
+        other => {
+            drop(other);
+            0
+        }
+    }
+}
+
 /// How many rows 100 pages of 50 addresses in blocks of this length have.
 fn list_in<K: Keeper>(register: &mut Register<K>, len: u8) -> u64 {
     let mut rows = 0u64;
@@ -381,9 +394,7 @@ fn list_in<K: Keeper>(register: &mut Register<K>, len: u8) -> u64 {
             dns_name: None,
         };
         let call = Call::List { kind: Kind::Addresses, filter, limit: 50, offset: 0 };
-        if let Reply::Page { views, .. } = register.act(0, call) {
-            rows = rows.wrapping_add(views.as_slice().len() as u64);
-        }
+        rows = rows.wrapping_add(rows_of(register.act(0, call)));
     }
     rows
 }
