@@ -81,7 +81,7 @@ serve --bind 127.0.0.1:0 --workers 33
 import vrfs
 export vrfs
 report tree
-load 1";
+load 0";
 
 #[test]
 fn words_that_ask_for_nothing(rt: HostRuntime) -> Result<(), Fail> {
@@ -128,5 +128,18 @@ fn what_connects_is_served(rt: HostRuntime) -> Result<(), Fail> {
     let left = run_on(&rt, rt.alloc(), words, b"x", 4_096, [&[], &[], &[]])?;
     assert!(rt; left.status == 3 && left.errors.is_empty());
     assert!(rt; left.output.as_slice() == b"entries 0\n".as_slice());
+    Ok(())
+}
+
+#[test]
+fn claims_are_made(rt: HostRuntime) -> Result<(), Fail> {
+    let words = "load 1000 --workers 4";
+    let left = run_on(&rt, rt.alloc(), words, b"x", 4_096, [&[], &[], &[]])?;
+    assert!(rt; left.status == 0 && left.errors.is_empty());
+    assert!(rt;
+        left.output.ends_with(
+            b"claimed 1000\nfirst 10.0.0.1\nlast 10.0.3.232\npercent 24\nentries 1001\n"
+        )
+    );
     Ok(())
 }
