@@ -5,7 +5,8 @@
 # its pages are those of the 1,000. Each time is the best of three runs; memory is the peak of the process
 # less that of a run that opens a register and makes nothing, and so it has what the log keeps of each call.
 # Further runs say how long `open` takes for the tables of as many rising prefixes, how long 500,000 addresses in no order take to be made
-# and to be opened, and how long it takes to delete a role that as many prefixes have.
+# and to be opened, how long a range among 10,000 and a page of few addresses among 500,000 take, and how long it takes to delete a role
+# that as many prefixes have.
 # It also sees that every prefix that is made is found, and that the 200,001st is refused.
 # It writes a program into a scratch copy outside the repository, proves and builds it there, and runs it.
 # usage: bench/act.sh [prefixes]; with SCRATCH=DIR the program stays there
@@ -48,6 +49,7 @@ use ipam_data::calls::{Call, Draft, Filter};
 use ipam_data::host::Host;
 use ipam_data::kinds::Kind;
 use ipam_data::prefix::PrefixStatus;
+use ipam_data::range::RangeStatus;
 use ipam_data::replies::Reply;
 use ipam_data::text::{Description, DnsText, Name, Slug, Weight};
 use ipam_keeper::empty::empty_tables;
@@ -161,6 +163,48 @@ fn make_addresses<K: Keeper>(alloc: Global, register: &mut Register<K>, count: u
     let mut done = 0u64;
     for n in 0..count {
         done = done.wrapping_add(one(make_address(alloc, register, n)?));
+    }
+    Ok(done)
+}
+
+/// Whether the range was made: ten addresses of the /28 with a mixed number in 10.0.0.0/8, no two of which are one.
+fn make_range<K: Keeper>(alloc: Global, register: &mut Register<K>, n: u32) -> Result<bool, AllocError> {
+    let first = 0x0a000000 | ((u128::from(n).wrapping_mul(40503) & 0xfffff) << 4);
+    let start = match Addr::of(Family::V4, first) {
+        Some(addr) => Host::of(addr, 24),
+        None => None,
+    };
+    let end = match Addr::of(Family::V4, first | 9) {
+        Some(addr) => Host::of(addr, 24),
+        None => None,
+    };
+    let description = Description::of(String::from_str(alloc, "a pool")?);
+    match (start, end, description) {
+        (Some(start), Some(end), Some(description)) => {
+            let draft = Draft::IpRange {
+                start,
+                end,
+                vrf: None,
+                status: RangeStatus::Active,
+                role: None,
+                mark_utilized: false,
+                description,
+            };
+            Ok(matches!(register.act(0, Call::Create { draft }), Reply::Made(_)))
+        }
+        _ => Ok(false),
+    }
+}
+
+fn make_ranges<K: Keeper>(
+    alloc: Global,
+    register: &mut Register<K>,
+    from: u32,
+    to: u32,
+) -> Result<u64, AllocError> {
+    let mut done = 0u64;
+    for n in from..to {
+        done = done.wrapping_add(one(make_range(alloc, register, n)?));
     }
     Ok(done)
 }
@@ -306,6 +350,56 @@ fn time_addresses(rt: &HostRuntime, count: u32) -> anyhow::Result<(u128, u128, u
     Ok((for_making, for_opening, made))
 }
 
+/// The nanoseconds in which the last thousand of so many ranges are made, and how many were made.
+fn time_ranges<K: Keeper>(rt: &HostRuntime, register: &mut Register<K>, count: u32) -> anyhow::Result<(u128, u64)> {
+    let alloc = rt.alloc();
+    let before = count.saturating_sub(1000);
+    let first = make_ranges(alloc, register, 0, before)?;
+    let start = Instant::now(rt)?;
+    let last = make_ranges(alloc, register, before, count)?;
+    let took = start.elapsed(rt)?.as_nanos();
+    Ok((took, first.wrapping_add(last)))
+}
+
+/// The block of this length round the address of the mixed number.
+fn parent(n: u32, len: u8) -> Option<Block> {
+    let value = 0x0a000000 | u128::from(mixed(u64::from(n)) & 0xffffff);
+    let keep = !(0xffffffffu128 >> len);
+    Block::of(Addr::of(Family::V4, value & keep)?, len)
+}
+
+/// How many rows 100 pages of 50 addresses in blocks of this length have.
+fn list_in<K: Keeper>(register: &mut Register<K>, len: u8) -> u64 {
+    let mut rows = 0u64;
+    for n in 0..100 {
+        let filter = Filter::Addresses {
+            family: None,
+            vrf_id: None,
+            status: None,
+            role: None,
+            parent: parent(n, len),
+            dns_name: None,
+        };
+        let call = Call::List { kind: Kind::Addresses, filter, limit: 50, offset: 0 };
+        if let Reply::Page { views, .. } = register.act(0, call) {
+            rows = rows.wrapping_add(views.as_slice().len() as u64);
+        }
+    }
+    rows
+}
+
+/// The nanoseconds of 100 pages of 50 addresses in a /20 and in a /12 among so many, and how many rows they had.
+fn time_filters<K: Keeper>(rt: &HostRuntime, register: &mut Register<K>, count: u32) -> anyhow::Result<(u128, u128, u64)> {
+    let made = make_addresses(rt.alloc(), register, count)?;
+    let start = Instant::now(rt)?;
+    let few = list_in(register, 20);
+    let for_few = start.elapsed(rt)?.as_nanos();
+    let start = Instant::now(rt)?;
+    let many = list_in(register, 12);
+    let for_many = start.elapsed(rt)?.as_nanos();
+    Ok((for_few, for_many, few.wrapping_add(many).wrapping_add(made)))
+}
+
 /// The nanoseconds in which a role that so many prefixes have is deleted, and whether it was.
 fn time_role<K: Keeper>(rt: &HostRuntime, register: &mut Register<K>, count: u32) -> anyhow::Result<(u128, bool)> {
     let alloc = rt.alloc();
@@ -374,6 +468,22 @@ fn main(rt: HostRuntime) -> anyhow::Result<()> {
         println!(rt; "{making} {opening} {made}")?;
         return Ok(());
     }
+    if order.as_str() == "ranges" {
+        let mut register = begin(rt.alloc(), Unkept::new(rt.alloc()), settings());
+        let timed = time_ranges(&rt, &mut register, count);
+        drop(register);
+        let (took, made) = timed?;
+        println!(rt; "{took} {made}")?;
+        return Ok(());
+    }
+    if order.as_str() == "filters" {
+        let mut register = begin(rt.alloc(), Unkept::new(rt.alloc()), settings());
+        let timed = time_filters(&rt, &mut register, count);
+        drop(register);
+        let (few, many, rows) = timed?;
+        println!(rt; "{few} {many} {rows}")?;
+        return Ok(());
+    }
     if order.as_str() == "role" {
         let mut register = begin(rt.alloc(), Unkept::new(rt.alloc()), settings());
         let timed = time_role(&rt, &mut register, count);
@@ -418,6 +528,11 @@ echo
 awk -v c="$prefixes" '{ printf "`open` of the tables of %d rising prefixes: %.2f s\n", c, $1 / 1e9 }' <("$program" open "$prefixes")
 full=$(peak "$program" addresses 500000)
 awk -v k=$((full - base)) '{ printf "500,000 addresses, of which %d are made: %.2f s; `open` of their tables: %.2f s; at most %.2f GB\n", $3, $1 / 1e9, $2 / 1e9, k / 1e6 }' "$scratch/answer"
+"$program" ranges 10000 | awk '
+    $2 != 10000 { print "the ranges are not made" > "/dev/stderr"; exit 1 }
+    { printf "a range is made among 10,000 in %.1f microseconds\n", $1 / 1e6 }'
+"$program" filters 500000 | awk '{
+    printf "a page of 50 addresses of a /20 among 500,000: %.3f ms; of a /12: %.1f ms\n", $1 / 1e8, $2 / 1e8 }'
 full=$(peak "$program" role "$prefixes")
 awk -v c="$prefixes" -v k=$((full - base)) '
     $2 != "true" { print "the role is not deleted" > "/dev/stderr"; exit 1 }

@@ -12,6 +12,8 @@ PREFIX = "10.0.0.0/14"
 TAKEN = [250, 1_000, 10_000, 100_000]
 FIRST = int(ipaddress.ip_address("10.0.0.0"))
 CLAIMS = "/api/ipam/prefixes/1/available-ips/"
+# A full register has 500,000 addresses; a connection ends with its thousandth answer.
+WHOLE, FULL = "10.0.0.0/8", 500_000
 
 
 class Session:
@@ -20,9 +22,11 @@ class Session:
     def __init__(self, program, *options):
         self.process = subprocess.Popen([program, "session", *options], stdin=subprocess.PIPE, stdout=subprocess.PIPE)
 
-    def ask(self, target, body):
-        text = json.dumps(body, separators=(",", ":")).encode()
-        self.process.stdin.write(f"POST {target} HTTP/1.1\r\nHost: x\r\nContent-Length: {len(text)}\r\n\r\n".encode() + text)
+    def ask(self, target, body=None):
+        text = b"" if body is None else json.dumps(body, separators=(",", ":")).encode()
+        method, wanted = ("GET", b"200") if body is None else ("POST", b"201")
+        head = f"{method} {target} HTTP/1.1\r\nHost: x\r\n" + (f"Content-Length: {len(text)}\r\n" if text else "") + "\r\n"
+        self.process.stdin.write(head.encode() + text)
         self.process.stdin.flush()
         length = 0
         status = self.process.stdout.readline()
@@ -31,7 +35,7 @@ class Session:
             if name == b"Content-Length":
                 length = int(value)
         answer = json.loads(self.process.stdout.read(length))
-        if not status.startswith(b"HTTP/1.1 201 "):
+        if status.split(b" ")[1] != wanted:
             sys.exit(f"claims: {status} {answer}")
         return answer
 
@@ -54,6 +58,29 @@ def ours(program, taken, claims, *options):
     took = time.perf_counter() - start
     session.end()
     return claims / took, first
+
+
+def full(program):
+    """Milliseconds of a figure, of a list of 1,000 free addresses and of a claim in a /8 that has all addresses of a full register."""
+    session = Session(program)
+    session.ask("/api/ipam/prefixes/", {"prefix": WHOLE})
+    for _ in range(FULL // 1_000 - 1):
+        session.ask(CLAIMS, [{}] * 1_000)
+    session.ask(CLAIMS, [{}] * 900)
+
+    def best(target, body=None):
+        times = []
+        for _ in range(20):
+            start = time.perf_counter()
+            session.ask(target, body)
+            times.append(time.perf_counter() - start)
+        return min(times) * 1_000
+
+    figure = best("/api/ipam/prefixes/1/utilization/")
+    listed = best(CLAIMS + "?limit=1000")
+    claim = best(CLAIMS, {})
+    session.end()
+    return figure, listed, claim
 
 
 class Postgres:
@@ -121,6 +148,10 @@ def main(program):
         if not first == second == third:
             sys.exit(f"claims: {first}, {second} and {third} are claimed first")
         print(f"| {taken:,} | {memory:,.0f} | {stored:,.0f} | {theirs:,.1f} | {memory / theirs:,.0f} | {stored / theirs:,.0f} |", flush=True)
+
+
+    figure, listed, claim = full(program)
+    print(f"In {WHOLE} with {FULL:,} addresses: its figure {figure:.2f} ms, a list of 1,000 free addresses {listed:.2f} ms, a claim {claim:.3f} ms (best of 20)")
 
 
 if __name__ == "__main__":

@@ -222,4 +222,11 @@ BODIES = Group("paths and bodies of claims", [
     post("20 addresses", "prefixes/@office/available-ips/", "[" + ",".join(["{}"] * 20) + "]", 201, [f"10.0.0.{n}/16" for n in range(1, 21)]),
 ])
 
-CLAIM_GROUPS = [BLOCKS, SIX, CONTAINER, HOSTS, RANGES, FIGURES, BODIES]
+NESTED = Group("128 prefixes, each around the next", [made("prefixes", prefix=f"::/{length}", keep=f"n{length}") for length in range(1, 129)] + [
+    get("the first has all others inside", "prefixes/@n1/", 200, {"depth": 0, "children": 127}),
+    get("the last is inside all others", "prefixes/@n128/", 200, {"depth": 127, "children": 0}),
+    post("the lowest address that no other has", "prefixes/@n1/available-prefixes/", '{"prefix_length":128}', 201, {"prefix": "4000::/128"}),
+    post("the one beside the last", "prefixes/@n127/available-prefixes/", '{"prefix_length":128}', 201, {"prefix": "::1/128"}),
+])
+
+CLAIM_GROUPS = [BLOCKS, SIX, CONTAINER, HOSTS, RANGES, FIGURES, BODIES, NESTED]

@@ -42,3 +42,11 @@ acted old new call links said (Ok a) end place replied ends stands is =
     (said, replied, subst (λ (n : ℕ). answer_of a ≡ reply_answer said (finished_links said (end_of call) links) n) stands there)
 acted old new call links said (Err e) end place replied ends stands is =
     inr (reply_answer said (finished_links said (end_of call) links) (length old.seen.log), (said, replied, refl))
+
+-- the answer to a request that was read, where there is one
+pub kept_answer : {E : Type 0} (old new : Standing) (request : Framed) (method target body : List ℕ) (call : Call) (links : Links) (answer : Result Reply E)
+    → method ≡ request.method → target ≡ request.target → body ≡ request.body → IsRead method target body (Ok (call, links))
+    → IsActed old call links answer new → IfOk answer (λ a. answers_kept.answers old request (answer_of a) new)
+kept_answer old new request method target body call links (Ok a) m t b read acted =
+    (Ok (call, links), own request method target body (Ok (call, links)) m t b read, acted)
+kept_answer old new request method target body call links (Err e) m t b read acted = tt

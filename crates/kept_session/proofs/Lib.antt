@@ -1,2 +1,3 @@
 pub mod Plainly
 pub mod Asked
+pub mod Telling

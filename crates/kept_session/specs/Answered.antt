@@ -1,6 +1,6 @@
 -- The answers of a register over a keeper that one connection has for itself: those of the plain register, one after another; but where
 -- the keeper fails a call that no check refuses is answered so, and all stays.
-use Rattle.std.specs.Prelude.{◌≡◌, ◌⊎◌, ℕ, List, [], length, None, Result, Ok, Err}
+use Rattle.std.specs.Prelude.{◌≡◌, ◌⊎◌, ℕ, Bool, List, [], length, Option, None, is_some, Result, Ok, Err}
 use Rattle.ipam_data.specs.declared.calls.Call.{Call}
 use Rattle.ipam_data.specs.declared.replies.Reply.{Reply}
 use Rattle.ipam_data.specs.declared.replies.Reply.TheVariants.{Refused}
@@ -66,3 +66,19 @@ IsActed old call links (Err e) new = (new ≡ old) ⊎ ((answer : Answer) × IsT
 -- a register that was opened with this state, before its first request
 abbrev pub fresh : State → Standing
 fresh state = standing (record { state = state; log = [] }) 0
+
+-- what is seen of a seat: its standing, and whether its keeper tells its tables
+pub record Attended : Type 0 where
+  pub standing : Standing
+  pub tells : Bool
+
+abbrev pub attended : {A : Type 0} → Standing → Option A → Attended
+attended standing told = record { standing = standing; tells = is_some told }
+
+-- a request is answered so, and a keeper that tells its tables goes on telling them; one that tells none goes on so
+abbrev pub answers_telling : May Attended
+answers_telling =
+    record {
+      answers = λ old request answer new. answers_kept.answers old.standing request answer new.standing × (new.tells ≡ old.tells);
+      refuses = IsFramingAnswer;
+    }

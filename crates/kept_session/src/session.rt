@@ -1,13 +1,13 @@
 //! One connection that has a register over a keeper for itself.
 
-ghost use Rattle.std.specs.Prelude.{◌≡◌, ◌≢◌, ◌≤◌, ℕ, List, [], length, IfOk, OnErr, MatchBool};
+ghost use Rattle.std.specs.Prelude.{◌≡◌, ◌≢◌, ◌≤◌, ◌↔◌, ℕ, List, [], length, IfOk, OnErr, IsSome, MatchBool};
 ghost use Rattle.ipam_edge.specs.Faults.{Rose};
 ghost use Rattle.http_session.specs.Steps.{framed};
 ghost use Rattle.http_session.specs.Ends.{IsLeft, IsSession};
 ghost use Rattle.http_session.specs.Replies.{answer_of};
 ghost use Rattle.rest_routes.specs.Answers.{IsRefusedAnswer, reply_answer, finished_links};
 ghost use Rattle.rest_ipam.specs.Answered.{seen_of};
-ghost use Rattle.kept_session.specs.Answered.{Standing, standing, IsReplied, IsActed, answers_kept};
+ghost use Rattle.kept_session.specs.Answered.{Standing, standing, Attended, attended, IsReplied, IsActed, answers_kept, answers_telling};
 
 use http_session::{Desk, Fault, HttpRequest, Reply as Answer, SessionEnd, serve};
 use ipam_data::calls::Call;
@@ -64,6 +64,7 @@ fn is_failed(reply: &Reply) -> bool
 fn ask<K: Keeper>(register: &mut Register<K>, failed: &mut u64, call: Call) -> Reply
     requires few { failed.old ≤ K.faults register.old.keeper }
     ensures few { failed.new ≤ K.faults register.new.keeper }
+    ensures telling { IsSome (K.told register.old.keeper) ↔ IsSome (K.told register.new.keeper) }
     ensures memory { result ≡ Reply.Refused Refusal.Memory → standing (seen_of register.new) failed.new ≡ standing (seen_of register.old) failed.old }
     ensures replied { result ≢ Reply.Refused Refusal.Memory
         → IsReplied (standing (seen_of register.old) failed.old) call result (standing (seen_of register.new) failed.new) }
@@ -110,6 +111,7 @@ fn act<K: Keeper>(
 ) -> Result<Answer, AllocError>
     requires few { failed.old ≤ K.faults register.old.keeper }
     ensures few { failed.new ≤ K.faults register.new.keeper }
+    ensures telling { IsSome (K.told register.old.keeper) ↔ IsSome (K.told register.new.keeper) }
     ensures acted { IsActed (standing (seen_of register.old) failed.old) call links result (standing (seen_of register.new) failed.new) }
 {
     let place = place_of(register);
@@ -156,11 +158,11 @@ pub struct KeptDesk<'a, K: Keeper> {
 impl<'a, K: Keeper> Desk for KeptDesk<'a, K> {
     type Seat = Sitting<K>;
 
-    ghost View = { Standing };
+    ghost View = { Attended };
 
-    ghost view = { λ s. standing (seen_of s.register) s.failed };
+    ghost view = { λ s. attended (standing (seen_of s.register) s.failed) (K.told s.register.keeper) };
 
-    ghost may = { answers_kept };
+    ghost may = { answers_telling };
 
     fn answer(
         &self,
@@ -199,7 +201,7 @@ impl<'a, K: Keeper> Desk for KeptDesk<'a, K> {
 /// table of routes is lent. `SourceFault` comes where a read failed, with all requests that lay whole in the bytes read answered;
 /// `SinkFault` where a write failed, with a shorter front of the last answer written; `Memory` where memory was wanting, before a call
 /// reached the register or after its reply was made. As many answers as `failed` says tell that the keeper failed, and the keeper
-/// failed at least as often.
+/// failed at least as often. A keeper that tells its tables tells them at the end, and one that tells none goes on so.
 pub fn serve_kept<K: Keeper, So: Source, Si: Sink>(
     alloc: Global,
     routes: &Routes,
@@ -209,6 +211,7 @@ pub fn serve_kept<K: Keeper, So: Source, Si: Sink>(
 ) -> (Register<K>, SessionEnd)
     ensures session { (failed : ℕ) × (failed ≤ K.faults result.0.keeper)
         × IsSession answers_kept So.reads (standing (seen_of register) 0) (standing (seen_of result.0) failed) source.old source.new (So.left source.old) (So.left source.new) (Si.written sink.old) (Si.written sink.new) result.1 }
+    ensures telling { IsSome (K.told register.keeper) ↔ IsSome (K.told result.0.keeper) }
     ensures source_later { So.faults source.old ≤ So.faults source.new }
     ensures source { result.1 ≡ SessionEnd.SourceFault → Rose (So.faults source.old) (So.faults source.new) }
     ensures sink_later { Si.faults sink.old ≤ Si.faults sink.new }

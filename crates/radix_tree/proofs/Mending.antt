@@ -13,7 +13,7 @@ use Rattle.radix_tree.specs.declared.links.Linked.{Linked}
 use Rattle.radix_tree.specs.Shape.{half, child, HasRoom, LeadsTo, HasLink, IsLink, IsTree, IsSet}
 use Rattle.radix_tree.specs.Edits.{IsPut, IsCut}
 use Rattle.radix_tree.specs.Listed.{copies_at, blocks_of, link_count, child_count_at, Recounts}
-use Rattle.radix_tree.specs.Frees.{lesser, free_beside, side_free, if_uncounted, free_of, total_said, side_total, wrapped, total_of, figures_of, HasFrees, HasFreesBut, HasFreesIn, IsAlike, Refrees, RefreesOne}
+use Rattle.radix_tree.specs.Frees.{lesser, free_beside, side_free, if_uncounted, free_of, total_said, side_total, wrapped, total_of, covered_said, side_covered, wrapped_wide, own_size, by_count, covered_in, figures_of, HasFrees, HasFreesBut, HasFreesIn, IsAlike, Refrees, RefreesOne}
 use Rattle.radix_tree.specs.Sound.{IsSound}
 use Rattle.radix_tree.proofs.Sides.{has_first, half_in, not_in_half, sides_apart, same_side, side_of, longer}
 use Rattle.radix_tree.proofs.Order.{some_same, not_both, one_node}
@@ -73,10 +73,27 @@ total_same old new m q count links says =
     side : (s : Bool) → side_total new (child s q) ≡ side_total old (child s m)
     side s = ap (side_total new) (links s) ∙ total_side_same old new (child s m) (says s)
 
+covered_side_same : (old new : Pooled Node) (x : Option ℕ) → ((c : ℕ) → x ≡ Some c → SaysSame old new c) → side_covered new x ≡ side_covered old x
+covered_side_same old new None h = refl
+covered_side_same old new (Some c) h =
+    let r = h c refl in
+    ap covered_said r.3 ∙ ap (λ (f : Figures). f.covered) r.5 ∙ sym (ap covered_said r.2)
+
+covered_same : (old new : Pooled Node) (m q : Node) → q.block ≡ m.block → q.count ≡ m.count → ((s : Bool) → child s q ≡ child s m) → ((s : Bool) (c : ℕ) → child s m ≡ Some c → SaysSame old new c) → covered_in new q ≡ covered_in old m
+covered_same old new m q block count links says =
+    ap (λ (c : ℕ). by_count c (own_size q.block.len q.block) (wrapped_wide (side_covered new q.low) (side_covered new q.high))) count
+    ∙ ap (λ (b : Cidr). by_count m.count (own_size b.len b) (wrapped_wide (side_covered new q.low) (side_covered new q.high))) block
+    ∙ ap (λ (x : ℕ). by_count m.count (own_size m.block.len m.block) (wrapped_wide x (side_covered new q.high))) (side false)
+    ∙ ap (λ (x : ℕ). by_count m.count (own_size m.block.len m.block) (wrapped_wide (side_covered old m.low) x)) (side true)
+  where
+    side : (s : Bool) → side_covered new (child s q) ≡ side_covered old (child s m)
+    side s = ap (side_covered new) (links s) ∙ covered_side_same old new (child s m) (says s)
+
 figures_same : (old new : Pooled Node) (m q : Node) → q.block ≡ m.block → q.count ≡ m.count → ((s : Bool) → child s q ≡ child s m) → ((s : Bool) (c : ℕ) → child s m ≡ Some c → SaysSame old new c) → figures_of new q ≡ figures_of old m
 figures_same old new m q block count links says =
-    ap (λ (f : Option ℕ). let x : Figures = record { free = f; total = total_of new q } in x) (free_same old new m q block count links says)
-    ∙ ap (λ (n : ℕ). let x : Figures = record { free = free_of old m; total = n } in x) (total_same old new m q count links says)
+    ap (λ (f : Option ℕ). let x : Figures = record { free = f; total = total_of new q; covered = covered_in new q } in x) (free_same old new m q block count links says)
+    ∙ ap (λ (n : ℕ). let x : Figures = record { free = free_of old m; total = n; covered = covered_in new q } in x) (total_same old new m q count links says)
+    ∙ ap (λ (n : ℕ). let x : Figures = record { free = free_of old m; total = total_of old m; covered = n } in x) (covered_same old new m q block count links says)
 
 -- ---- a node was put around the block
 
@@ -170,11 +187,11 @@ refreed_one old new id n says here h = record {
   root = h.root;
   spare = h.spare;
   kept = λ j m e. elim (cases_eq j id) [
-    | inl same ↦ (record n { free = says.free; total = says.total }, ap (node_at new.pool) same ∙ h.node n here, subst (λ (x : Node). IsAlike x (record n { free = says.free; total = says.total })) (one_node old.pool id j n m (sym same) here e) (record { block = refl; count = refl; low = refl; high = refl }))
+    | inl same ↦ (record n { free = says.free; total = says.total; covered = says.covered }, ap (node_at new.pool) same ∙ h.node n here, subst (λ (x : Node). IsAlike x (record n { free = says.free; total = says.total; covered = says.covered })) (one_node old.pool id j n m (sym same) here e) (record { block = refl; count = refl; low = refl; high = refl }))
     | inr other ↦ (m, h.others j other ∙ e, alike_self m)
   ];
   was = λ j q e. elim (cases_eq j id) [
-    | inl same ↦ (n, ap (node_at old.pool) same ∙ here, subst (IsAlike n) (one_node new.pool id j (record n { free = says.free; total = says.total }) q (sym same) (h.node n here) e) (record { block = refl; count = refl; low = refl; high = refl }))
+    | inl same ↦ (n, ap (node_at old.pool) same ∙ here, subst (IsAlike n) (one_node new.pool id j (record n { free = says.free; total = says.total; covered = says.covered }) q (sym same) (h.node n here) e) (record { block = refl; count = refl; low = refl; high = refl }))
     | inr other ↦ (q, sym (h.others j other) ∙ e, alike_self q)
   ];
 }
@@ -256,7 +273,7 @@ module _ (old new : Linked) (h : Refrees old new) where
 
 module _ (t new : Linked) (w : IsTree t) (id : ℕ) (n : Node) (here : node_at t.pool id ≡ Some n) (h : RefreesOne t new id (figures_of t.pool n)) (block : Cidr) (in_n : IsInside block n.block) (but : HasFreesBut t.pool block)
     (below : (j : ℕ) (m : Node) → node_at t.pool j ≡ Some m → j ≢ id → IsInside m.block n.block → figures m ≡ figures_of t.pool m) where
-  now : node_at new.pool id ≡ Some (record n { free = free_of t.pool n; total = total_of t.pool n })
+  now : node_at new.pool id ≡ Some (record n { free = free_of t.pool n; total = total_of t.pool n; covered = covered_in t.pool n })
   now = h.node n here
 
   -- a node whose children are others says the same
@@ -268,10 +285,10 @@ module _ (t new : Linked) (w : IsTree t) (id : ℕ) (n : Node) (here : node_at t
 
   own_right : (q : Node) → node_at new.pool id ≡ Some q → figures q ≡ figures_of new.pool q
   own_right q e =
-      let is : record n { free = free_of t.pool n; total = total_of t.pool n } ≡ q = one_node new.pool id id (record n { free = free_of t.pool n; total = total_of t.pool n }) q refl now e in
-      subst (λ (x : Node). figures x ≡ figures_of new.pool x) is (sym (same_of id n (record n { free = free_of t.pool n; total = total_of t.pool n }) here refl refl links (λ s k room i same. not_in_half s n.block room (subst (λ (x : Node). IsInside x.block (half s n.block)) same i))))
+      let is : record n { free = free_of t.pool n; total = total_of t.pool n; covered = covered_in t.pool n } ≡ q = one_node new.pool id id (record n { free = free_of t.pool n; total = total_of t.pool n; covered = covered_in t.pool n }) q refl now e in
+      subst (λ (x : Node). figures x ≡ figures_of new.pool x) is (sym (same_of id n (record n { free = free_of t.pool n; total = total_of t.pool n; covered = covered_in t.pool n }) here refl refl links (λ s k room i same. not_in_half s n.block room (subst (λ (x : Node). IsInside x.block (half s n.block)) same i))))
     where
-      links : (s : Bool) → child s (record n { free = free_of t.pool n; total = total_of t.pool n }) ≡ child s n
+      links : (s : Bool) → child s (record n { free = free_of t.pool n; total = total_of t.pool n; covered = covered_in t.pool n }) ≡ child s n
       links false = refl
       links true = refl
 

@@ -1,7 +1,7 @@
--- The least length of a free block inside a node's block, and how many blocks lie there: how they follow from the node's children,
--- and what the first of them means.
+-- The least length of a free block inside a node's block, how many blocks lie there, and how many addresses they have: how they follow
+-- from the node's children, and what the first of them means.
 use Rattle.std.specs.Prelude.{◌≡◌, ◌≢◌, ℕ, zero, suc, ◌+◌, ◌%◌, ◌^◌, ◌≤◌, false, min, cond, nat_lt, List, Option, Some, None, MatchOption}
-use Rattle.inet_num.specs.Net.{Cidr, IsBlock, IsInside}
+use Rattle.inet_num.specs.Net.{Cidr, size_of, IsBlock, IsInside}
 use Rattle.inet_num.specs.Free.{IsFree}
 use Rattle.block_space.specs.Listed.{counting_of}
 use Rattle.node_pool.specs.Pooled.{Pooled, node_at}
@@ -52,8 +52,35 @@ wrapped a b = (a + b) % 2 ^ 32
 abbrev pub total_of : Pooled Node → Node → ℕ
 total_of pool n = wrapped (wrapped n.count (side_total pool n.low)) (side_total pool n.high)
 
+-- of a side what its topmost node says of the addresses of its blocks, if there is one
+abbrev pub covered_said : Option Node → ℕ
+covered_said None = 0
+covered_said (Some m) = m.covered
+
+abbrev pub side_covered : Pooled Node → Option ℕ → ℕ
+side_covered pool None = 0
+side_covered pool (Some id) = covered_said (node_at pool id)
+
+-- a sum as a u128 that wraps has it
+abbrev pub wrapped_wide : ℕ → ℕ → ℕ
+wrapped_wide a b = (a + b) % 2 ^ 128
+
+-- how many addresses a block of this length has; none where the length is 0, since no integer counts all of IPv6
+abbrev pub own_size : ℕ → Cidr → ℕ
+own_size zero b = 0
+own_size (suc len) b = size_of b
+
+-- a node with a count has all addresses of its block, another one those of its sides
+abbrev pub by_count : ℕ → ℕ → ℕ → ℕ
+by_count zero own sides = sides
+by_count (suc count) own sides = own
+
+-- what follows for a node
+abbrev pub covered_in : Pooled Node → Node → ℕ
+covered_in pool n = by_count n.count (own_size n.block.len n.block) (wrapped_wide (side_covered pool n.low) (side_covered pool n.high))
+
 abbrev pub figures_of : Pooled Node → Node → Figures
-figures_of pool n = record { free = free_of pool n; total = total_of pool n }
+figures_of pool n = record { free = free_of pool n; total = total_of pool n; covered = covered_in pool n }
 
 -- each node says what follows for it
 abbrev pub HasFrees : Pooled Node → Type 0
@@ -87,7 +114,7 @@ pub record RefreesOne (old new : Linked) (id : ℕ) (says : Figures) : Type 0 wh
   pub family : new.family ≡ old.family
   pub root : new.root ≡ old.root
   pub spare : new.pool.spare ≡ old.pool.spare
-  pub node : (n : Node) → node_at old.pool id ≡ Some n → node_at new.pool id ≡ Some (record n { free = says.free; total = says.total })
+  pub node : (n : Node) → node_at old.pool id ≡ Some n → node_at new.pool id ≡ Some (record n { free = says.free; total = says.total; covered = says.covered })
   pub others : (other : ℕ) → other ≢ id → node_at new.pool other ≡ node_at old.pool other
 
 -- the least length of a free block inside the land, or that there is none

@@ -25,7 +25,7 @@ pub record IsKept (t : Linked) : Type 0 where
 
 -- a node with the block once, and without children
 abbrev pub leaf : Cidr → Node
-leaf block = record { block = block; count = 1; low = None; high = None; free = None; total = 0 }
+leaf block = record { block = block; count = 1; low = None; high = None; free = None; total = 0; covered = 0 }
 
 -- the node has this block and count, and one child, on this side
 pub record IsOver (n : Node) (block : Cidr) (count : ℕ) (high : Bool) (id : ℕ) : Type 0 where

@@ -50,6 +50,9 @@ pub struct Node {
     pub free: Option<u8>,
     // How many blocks of the tree lie inside this one, each as often as the tree has it; it wraps, though no tree has so many.
     pub(crate) total: u32,
+    // How many addresses of this node's block the blocks of the tree inside it have, each once. One of length 0 with a count says none,
+    // since no integer counts all addresses of IPv6, and one without wraps.
+    pub(crate) covered: u128,
 }
 
 impl Node {

@@ -35,6 +35,7 @@ fn over(block: Block, count: u32, high: bool, id: NodeId) -> Node
             high: Some(id),
             free: None,
             total: 0,
+            covered: 0,
         }
     } else {
         Node {
@@ -44,6 +45,7 @@ fn over(block: Block, count: u32, high: bool, id: NodeId) -> Node
             high: None,
             free: None,
             total: 0,
+            covered: 0,
         }
     }
 }
@@ -59,6 +61,7 @@ fn leaf_of(block: Block) -> Node
         high: None,
         free: None,
         total: 0,
+        covered: 0,
     }
 }
 
@@ -327,10 +330,10 @@ impl Linked {
         Ok(out)
     }
 
-    /// How many addresses the blocks of the nodes below a link have, each once. A node with a count has all those of the nodes
-    /// below it; of another one the two halves share nothing.
+    /// How many addresses the blocks of the nodes below a link have, each once: what the topmost of them says.
     fn covered_below<L: Ledger>(&self, at: Option<NodeId>, steps: &mut Steps<L>) -> u128
         requires sound { IsSound self.now }
+        requires frees { HasFrees self.now.pool }
         requires place { (place : Place) × (land : Cidr) × HasLink self.now place at land }
         requires long { (id : ℕ) (node : Node) → at ≡ Some id → node_at self.now.pool id ≡ Some node → 1 ≤ node.block.len }
         ensures { (place : Place) (land within : Cidr) → HasLink self.now place at land → ((id : ℕ) (node : Node) → at ≡ Some id → node_at self.now.pool id ≡ Some node → IsInside node.block within) → result ≡ covered_of (counting_of (blocks_of self.now.pool) land false) within }
@@ -339,17 +342,13 @@ impl Linked {
             return 0;
         };
         let node = self.pool.visit(id, steps);
-        if node.count > 0 {
-            return node.block.size();
-        }
-        let low = self.covered_below(node.low, steps);
-        let high = self.covered_below(node.high, steps);
-        low + high
+        node.covered
     }
 
     /// How many addresses of a block the blocks that count for it have, each once.
     fn covered<L: Ledger>(&self, within: &Block, strict: bool, steps: &mut Steps<L>) -> u128
         requires sound { IsSound self.now }
+        requires frees { HasFrees self.now.pool }
         requires lawful { IsBlock within.now }
         requires family { within.now.family ≡ self.now.family }
         requires long { 1 ≤ within.now.len }
@@ -477,6 +476,7 @@ pub fn covered_counted<L: Ledger>(
     requires parts { blank.parts ≡ L.parts }
     requires some { 0 < blank.parts }
     requires sound { IsSound linked.now }
+    requires frees { HasFrees linked.now.pool }
     requires lawful { IsBlock within.now }
     requires family { within.now.family ≡ linked.now.family }
     requires long { 1 ≤ within.now.len }

@@ -6,7 +6,7 @@ ghost use Rattle.inet_num.specs.Net.{Cidr, IsBlock, IsInside};
 ghost use Rattle.node_pool.specs.Pooled.{node_at, IsLive};
 ghost use Rattle.radix_tree.specs.Shape.{HasLink};
 ghost use Rattle.radix_tree.specs.Sound.{IsSound};
-ghost use Rattle.radix_tree.specs.Frees.{lesser, side_free, free_of, side_total, total_of, figures_of, HasFreesBut, HasFreesIn, Refrees, RefreesOne};
+ghost use Rattle.radix_tree.specs.Frees.{lesser, side_free, free_of, side_total, total_of, side_covered, own_size, covered_in, figures_of, HasFreesBut, HasFreesIn, Refrees, RefreesOne};
 ghost use Rattle.radix_tree.specs.declared.links.Place.{Place};
 
 use crate::halves::half_of;
@@ -27,6 +27,16 @@ fn lesser_of(a: Option<u8>, b: Option<u8>) -> Option<u8>
         Some(b) => Some(a.min(b)),
         None => Some(a),
     }
+}
+
+/// How many addresses a block has; none where its length is 0.
+fn own_size(block: &Block) -> u128
+    ensures { result ≡ own_size block.now.len block.now }
+{
+    if block.len() == 0 {
+        return 0;
+    }
+    block.size()
 }
 
 impl Linked {
@@ -86,6 +96,32 @@ impl Linked {
         node.count.wrapping_add(low).wrapping_add(high)
     }
 
+    /// How many addresses the blocks in a half have, by the topmost node in it.
+    fn side_covered<L: Ledger>(&self, at: Option<NodeId>, steps: &mut Steps<L>) -> u128
+        requires live { (id : ℕ) → at ≡ Some id → IsLive self.now.pool id }
+        ensures { result ≡ side_covered self.now.pool at }
+    {
+        match at {
+            Some(id) => self.pool.visit(id, steps).covered,
+            None => 0,
+        }
+    }
+
+    /// How many addresses the blocks inside a node's have, by its count and its children.
+    fn node_covered<L: Ledger>(&self, id: NodeId, steps: &mut Steps<L>) -> u128
+        requires sound { IsSound self.now }
+        requires live { IsLive self.now.pool id }
+        ensures { (n : _) → node_at self.now.pool id ≡ Some n → result ≡ covered_in self.now.pool n }
+    {
+        let node = self.pool.visit(id, steps);
+        if node.count > 0 {
+            return own_size(&node.block);
+        }
+        let low = self.side_covered(node.low, steps);
+        let high = self.side_covered(node.high, steps);
+        low.wrapping_add(high)
+    }
+
     /// Sets what a node says to what follows from its children, and nothing else.
     fn refree<L: Ledger>(&mut self, id: NodeId, steps: &mut Steps<L>)
         requires sound { IsSound self.old }
@@ -94,9 +130,11 @@ impl Linked {
     {
         let free = self.node_free(id, steps);
         let total = self.node_total(id, steps);
+        let covered = self.node_covered(id, steps);
         let node = self.pool.change(id);
         node.free = free;
         node.total = total;
+        node.covered = covered;
     }
 
     /// Mends what the nodes around a block say, from a link on down: the deepest first.

@@ -64,7 +64,7 @@ fn fits(shelves: &mut Shelves, row: &Prefix, wanted: &[u8]) -> Result<Vec<Block>
     ensures ok { IfOk result (λ v. (v.items ≡ fits_of row.now.block (child_blocks shelves.old.prefixes.rows row.now) wanted.now) × (length v.items ≡ length wanted.now)) }
     ensures err { IfErr result (IsShort (length wanted.now) (length (fits_of row.now.block (child_blocks shelves.old.prefixes.rows row.now) wanted.now))) }
 {
-    let _order = shelves.prefixes();
+    shelves.prefixes().in_order();
     if sees_all(row) {
         return shelves.fits_in_all(row.block, wanted);
     }

@@ -82,7 +82,7 @@ pub fn claimed_of_prefix(
     ensures count { IfOk result (λ v. length v.items ≡ n) }
     ensures mask { IfOk result (λ v. AllByRecursion (λ a. row.now.block.len ≤ width_of a.family) v.items) }
 {
-    let _lawful = row.block.len();
+    row.block.bounds();
     let alloc = shelves.allocator();
     let empty = Tree::new(alloc, row.block.family());
     let hosts = hosts_of_prefix(shelves.addresses(), row, &empty);

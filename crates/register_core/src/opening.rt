@@ -37,14 +37,26 @@ fn check(
     if let Some(kind) = first_overfull(rows) {
         return Ok(Err(OpenFault::Limit(Which::Kind(kind), most_of(kind) as u64)));
     }
+    // The shelves are given away on every way out, so that no path has to take them apart.
     let mut shelves = bare(alloc, nexts, global_unique);
-    if let Some(breach) = fill(&mut shelves, views)? {
-        return Ok(Err(OpenFault::BadTables(breach.kind, breach.id, breach.rule)));
+    match fill(&mut shelves, views) {
+        Ok(None) => {}
+        Ok(Some(breach)) => {
+            drop(shelves);
+            return Ok(Err(OpenFault::BadTables(breach.kind, breach.id, breach.rule)));
+        }
+        Err(AllocError) => {
+            drop(shelves);
+            return Err(AllocError);
+        }
     }
-    if let Some(kind) = first_bad_next(nexts, rows) {
-        return Ok(Err(OpenFault::BadNext(kind)));
+    match first_bad_next(nexts, rows) {
+        Some(kind) => {
+            drop(shelves);
+            Ok(Err(OpenFault::BadNext(kind)))
+        }
+        None => Ok(Ok(shelves)),
     }
-    Ok(Ok(shelves))
 }
 
 /// A register over a keeper, of the state for which its tables stand. The tables are loaded once and checked in passes, each over

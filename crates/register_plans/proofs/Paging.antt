@@ -1,15 +1,16 @@
 -- A page, built row by row.
-use Rattle.std.proofs.Common.{◌≡◌, ℕ, zero, suc, ◌+◌, ◌-◌, ◌<◌, ◌&&◌, Bool, true, false, nat_le, nat_lt, List, [], ◌∷◌, ◌++◌, length, map, take, drop, filter, Some, slice_get, get_or, if◌then◌else◌, refl, ap, sym, ◌∙◌, arith}
-use Rattle.std.specs.List.{count_by}
-use Rattle.std.proofs.lemmas.List.{append-nil, map-append}
-use Rattle.std.proofs.lemmas.List.Elements.{filter-append}
-use Rattle.std.proofs.lemmas.List.Sums.{sum_by-append, length-filter}
+use Rattle.std.proofs.Common.{◌≡◌, ℕ, zero, suc, ◌+◌, ◌-◌, ◌<◌, ◌≤◌, ◌&&◌, Bool, true, false, nat_le, nat_lt, List, [], ◌∷◌, ◌++◌, length, map, take, drop, filter, Option, Some, None, slice_get, get_or, if◌then◌else◌, refl, ap, sym, ◌∙◌, arith}
+use Rattle.std.specs.List.{count_by, cons_option}
+use Rattle.std.proofs.lemmas.List.{append-nil, map-append, length-take, take_more as taken}
+use Rattle.std.proofs.lemmas.List.Sums.{sum_by-append, sum_by-cons, length-filter}
 use Rattle.std.proofs.lemmas.Option.{slice_get_within, get_or_from_slice_get}
 use Rattle.std.proofs.Math.Seq.{take-suc}
 use Rattle.std.proofs.lemmas.Bool.Decides.{nat_tests}
+use Rattle.std.proofs.lemmas.List.Elements.{filter-append, filter_map-append}
 use Rattle.ipam_data.specs.Shelf.{page, row_at, Rises}
 use Rattle.ipam_data.proofs.Shelves.{eq_true, eq_false}
-use Rattle.register_plans.specs.Pages.{is_paged, one_if, only_if}
+use Rattle.register_plans.specs.Pages.{is_paged, one_if, only_if, one_of, only_of, page_of}
+use Rattle.register_plans.specs.Candidates.{rows_of}
 
 lt_zero : (n : ℕ) → nat_lt n 0 ≡ false
 lt_zero n = grind (arith, nat_tests)
@@ -80,30 +81,83 @@ module _ {T : Type 0} where
   page_more limit (suc offset) [] x = rw (paged_none limit offset) (none_taken limit offset ∙ sym (append-nil (take limit []) ∙ none_taken limit zero))
   page_more limit (suc offset) (y ∷ ys) x = rw (paged_suc (length ys) limit offset) (page_more limit offset ys x)
 
-  -- the count and the page of the rows up to an index, with that of the index
-  pub met_more : (test : T → Bool) (xs : List T) (k met : ℕ) (x : T) → slice_get xs k ≡ Some x → met ≡ count_by test (take k xs)
-      → met + one_if (test x) ≡ count_by test (take (k + 1) xs)
-  met_more test xs k met x e m = rw (take_more xs k x e, count_more test (take k xs) x, m) refl
+  -- ---- a row more
 
-  pub views_more : {U : Type 0} (view : T → U) (test : T → Bool) (limit offset : ℕ) (xs : List T) (k met : ℕ) (x : T) (views : List U) → slice_get xs k ≡ Some x → met ≡ count_by test (take k xs)
-      → views ≡ map view (page limit offset (filter test (take k xs)))
-      → views ++ only_if (test x && is_paged met limit offset) (view x) ≡ map view (page limit offset (filter test (take (k + 1) xs)))
-  views_more {U} view test limit offset xs k met x views e m v =
-      go (test x) (ap (λ (ys : List T). map view (page limit offset (filter test ys))) (take_more xs k x e) ∙ ap (λ (ys : List T). map view (page limit offset ys)) (filter-append test (take k xs) (x ∷ [])))
+  met_next : (test : T → Bool) (seen : List T) (met : ℕ) (x : T) → met ≡ count_by test seen → met + one_if (test x) ≡ count_by test (seen ++ x ∷ [])
+  met_next test seen met x m = rw (count_more test seen x, m) refl
+
+  views_next : {U : Type 0} (view : T → U) (test : T → Bool) (limit offset : ℕ) (seen : List T) (met : ℕ) (x : T) (views : List U) → met ≡ count_by test seen
+      → views ≡ page_of view test limit offset seen → views ++ only_if (test x && is_paged met limit offset) (view x) ≡ page_of view test limit offset (seen ++ x ∷ [])
+  views_next {U} view test limit offset seen met x views m v = go (test x) (ap (λ (ys : List T). map view (page limit offset ys)) (filter-append test seen (x ∷ [])))
     where
-      n : length (filter test (take k xs)) ≡ met
-      n = length-filter test (take k xs) ∙ sym m
+      n : length (filter test seen) ≡ met
+      n = length-filter test seen ∙ sym m
 
-      go : (t : Bool) → map view (page limit offset (filter test (take (k + 1) xs))) ≡ map view (page limit offset (filter test (take k xs) ++ only_if t x))
-          → views ++ only_if (t && is_paged met limit offset) (view x) ≡ map view (page limit offset (filter test (take (k + 1) xs)))
-      go false w = append-nil views ∙ v ∙ sym (w ∙ ap (λ (ys : List T). map view (page limit offset ys)) (append-nil (filter test (take k xs))))
+      go : (t : Bool) → page_of view test limit offset (seen ++ x ∷ []) ≡ map view (page limit offset (filter test seen ++ only_if t x))
+          → views ++ only_if (t && is_paged met limit offset) (view x) ≡ page_of view test limit offset (seen ++ x ∷ [])
+      go false w = append-nil views ∙ v ∙ sym (w ∙ ap (λ (ys : List T). map view (page limit offset ys)) (append-nil (filter test seen)))
       go true w =
-          let old : List T = page limit offset (filter test (take k xs)) in
-          sym (w ∙ ap (λ (ys : List T). map view ys) (page_more limit offset (filter test (take k xs)) x)
-          ∙ map-append view old (only_if (is_paged (length (filter test (take k xs))) limit offset) x)
+          let old : List T = page limit offset (filter test seen) in
+          sym (w ∙ ap (λ (ys : List T). map view ys) (page_more limit offset (filter test seen) x)
+          ∙ map-append view old (only_if (is_paged (length (filter test seen)) limit offset) x)
           ∙ ap (λ (b : ℕ). map view old ++ map view (only_if (is_paged b limit offset) x)) n
           ∙ ap (λ (zs : List U). map view old ++ zs) (only_map view (is_paged met limit offset) x)
           ∙ ap (λ (ys : List U). ys ++ only_if (is_paged met limit offset) (view x)) (sym v))
+
+  -- the count and the page of the rows up to an index, with that of the index
+  pub met_more : (test : T → Bool) (xs : List T) (k met : ℕ) (x : T) → slice_get xs k ≡ Some x → met ≡ count_by test (take k xs)
+      → met + one_if (test x) ≡ count_by test (take (k + 1) xs)
+  met_more test xs k met x e m = met_next test (take k xs) met x m ∙ ap (λ (ys : List T). count_by test ys) (sym (take_more xs k x e))
+
+  pub views_more : {U : Type 0} (view : T → U) (test : T → Bool) (limit offset : ℕ) (xs : List T) (k met : ℕ) (x : T) (views : List U) → slice_get xs k ≡ Some x → met ≡ count_by test (take k xs)
+      → views ≡ page_of view test limit offset (take k xs)
+      → views ++ only_if (test x && is_paged met limit offset) (view x) ≡ page_of view test limit offset (take (k + 1) xs)
+  views_more view test limit offset xs k met x views e m v =
+      views_next view test limit offset (take k xs) met x views m v ∙ ap (λ (ys : List T). page_of view test limit offset ys) (sym (take_more xs k x e))
+
+  -- those of the rows of the ids up to an index, with that of the index, if there is one
+  module _ (id : T → ℕ) (rows : List T) where
+    ids_more : (ids : List ℕ) (k d : ℕ) → k < length ids → rows_of id rows (take (k + 1) ids) ≡ rows_of id rows (take k ids) ++ rows_of id rows (get_or ids k d ∷ [])
+    ids_more ids k d l = ap (λ (ns : List ℕ). rows_of id rows ns) (taken ids k d l) ∙ filter_map-append (row_at id rows) (take k ids) (get_or ids k d ∷ [])
+
+    pub met_found : (test : T → Bool) (ids : List ℕ) (k d met new : ℕ) → k < length ids → met ≡ count_by test (rows_of id rows (take k ids)) → new ≡ met + one_of test (row_at id rows (get_or ids k d))
+        → new ≡ count_by test (rows_of id rows (take (k + 1) ids))
+    met_found test ids k d met new l m e = e ∙ go (row_at id rows (get_or ids k d)) ∙ ap (λ (ys : List T). count_by test ys) (sym (ids_more ids k d l))
+      where
+        seen : List T
+        seen = rows_of id rows (take k ids)
+
+        go : (o : Option T) → met + one_of test o ≡ count_by test (seen ++ cons_option o [])
+        go None = (let none : met + 0 ≡ met = omega arith in none ∙ m ∙ ap (λ (ys : List T). count_by test ys) (sym (append-nil seen)))
+        go (Some x) = met_next test seen met x m
+
+    pub views_found : {U : Type 0} (view : T → U) (test : T → Bool) (limit offset : ℕ) (ids : List ℕ) (k d met : ℕ) (views new : List U) → k < length ids
+        → met ≡ count_by test (rows_of id rows (take k ids)) → views ≡ page_of view test limit offset (rows_of id rows (take k ids)) → new ≡ views ++ only_of view test met limit offset (row_at id rows (get_or ids k d))
+        → new ≡ page_of view test limit offset (rows_of id rows (take (k + 1) ids))
+    views_found view test limit offset ids k d met views new l m v e = e ∙ go (row_at id rows (get_or ids k d)) ∙ ap (λ (ys : List T). page_of view test limit offset ys) (sym (ids_more ids k d l))
+      where
+        seen : List T
+        seen = rows_of id rows (take k ids)
+
+        go : (o : Option T) → views ++ only_of view test met limit offset o ≡ page_of view test limit offset (seen ++ cons_option o [])
+        go None = append-nil views ∙ v ∙ ap (λ (ys : List T). page_of view test limit offset ys) (sym (append-nil seen))
+        go (Some x) = views_next view test limit offset seen met x views m v
+
+    -- no more of them meet a test than there are ids
+    few_found : (test : T → Bool) (ids : List ℕ) → count_by test (rows_of id rows ids) ≤ length ids
+    few_found test [] = omega arith
+    few_found test (n ∷ ns) = go (row_at id rows n) (few_found test ns)
+      where
+        one : (t : Bool) → one_if t ≤ 1
+        one true = omega arith
+        one false = omega arith
+
+        go : (o : Option T) → count_by test (rows_of id rows ns) ≤ length ns → count_by test (cons_option o (rows_of id rows ns)) ≤ length (n ∷ ns)
+        go None h = omega arith
+        go (Some x) h = (let more = sum_by-cons (λ (y : T). if test y then 1 else 0) x (rows_of id rows ns) in let least = one (test x) in omega arith)
+
+    pub few_met : (test : T → Bool) (ids : List ℕ) (k met : ℕ) → met ≡ count_by test (rows_of id rows (take k ids)) → met ≤ length ids
+    few_met test ids k met m = (let few = few_found test (take k ids) in let less = length-take k ids in omega arith)
 
   -- where ids rise, the row at an index is found under its id
   above : (id : T → ℕ) (low k : ℕ) (rows : List T) (row : T) → Rises id low rows → slice_get rows k ≡ Some row → low < id row

@@ -1,3 +1,4 @@
 pub mod Pages
 pub mod Meets
 pub mod Broken
+pub mod Candidates

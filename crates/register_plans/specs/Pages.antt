@@ -1,5 +1,6 @@
 -- A page of the rows that meet a filter, built row by row.
-use Rattle.std.specs.Prelude.{ℕ, ◌-◌, ◌&&◌, nat_le, nat_lt, Bool, List, [], ◌∷◌, if◌then◌else◌}
+use Rattle.std.specs.Prelude.{ℕ, ◌-◌, ◌&&◌, nat_le, nat_lt, Bool, List, [], ◌∷◌, Option, Some, None, map, filter, if◌then◌else◌}
+use Rattle.ipam_data.specs.Shelf.{page}
 
 -- the row before which so many meet a filter stands on the page of this limit and offset
 abbrev pub is_paged : ℕ → ℕ → ℕ → Bool
@@ -12,3 +13,16 @@ one_if t = if t then 1 else 0
 -- the one, where it holds
 abbrev pub only_if : {A : Type 0} → Bool → A → List A
 only_if t x = if t then x ∷ [] else []
+
+-- the page of the rows that meet a test, as they are answered
+abbrev pub page_of : {T U : Type 0} → (T → U) → (T → Bool) → ℕ → ℕ → List T → List U
+page_of view test limit offset rows = map view (page limit offset (filter test rows))
+
+-- a row that may be there: whether one more meets the test, and what it adds to a page
+abbrev pub one_of : {T : Type 0} → (T → Bool) → Option T → ℕ
+one_of test None = 0
+one_of test (Some row) = one_if (test row)
+
+abbrev pub only_of : {T U : Type 0} → (T → U) → (T → Bool) → ℕ → ℕ → ℕ → Option T → List U
+only_of view test before limit offset None = []
+only_of view test before limit offset (Some row) = only_if (test row && is_paged before limit offset) (view row)

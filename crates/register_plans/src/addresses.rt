@@ -12,6 +12,7 @@ ghost use Rattle.register_shelves.specs.Planned.{IsPlanned};
 ghost use Rattle.register_plans.specs.Meets.{address_meets};
 
 use crate::calls::plan_replace;
+use crate::candidates::{area_of, ids_asked};
 use crate::filters::{asks_family, asks_name, asks_parent, asks_text};
 use crate::registered::Registered;
 use address_rules::AddressRules;
@@ -106,6 +107,21 @@ impl Registered for IpAddress {
 
     fn nth<'a>(shelves: &'a Shelves, index: u32) -> Option<&'a IpAddress> {
         shelves.addresses().at(index)
+    }
+
+    fn candidates(shelves: &Shelves, filter: &Filter) -> Result<Option<Vec<u32>>, AllocError> {
+        let Filter::Addresses {
+            family: _,
+            vrf_id,
+            status: _,
+            role: _,
+            parent,
+            dns_name: _,
+        } = filter
+        else {
+            return Ok(None);
+        };
+        ids_asked(shelves, shelves.addresses(), vrf_id, &area_of(parent))
     }
 
     fn next(shelves: &Shelves) -> u32 {

@@ -1,13 +1,16 @@
 //! The calls, planned once for all kinds.
 
-ghost use Rattle.std.specs.Prelude.{◌≡◌, ℕ, ◌<◌, ◌+◌, ◌^◌, ◌++◌, ◌∷◌, ◌&&◌, [], None, Some, IsSome, IfOk, OnOk, length, slice_get};
+ghost use Rattle.std.specs.Prelude.{◌≡◌, ℕ, ◌<◌, ◌+◌, ◌^◌, ◌++◌, ◌∷◌, ◌&&◌, [], None, Some, IsSome, IfOk, OnOk, count_by, length, slice_get};
 ghost use Rattle.ipam_data.specs.declared.replies.Reply.TheVariants.{Made as MadeReply, Changed as ChangedReply, Gone as GoneReply};
 ghost use Rattle.ipam_data.specs.Checks.{first, no_room, no_log};
+ghost use Rattle.ipam_data.specs.Lawful.{IsLawful};
+ghost use Rattle.ipam_data.specs.Shelf.{row_at};
 ghost use Rattle.ipam_data.specs.State.{verdict_of};
 ghost use Rattle.ipam_data.specs.Plans.{create, replace, delete, get, list};
 ghost use Rattle.register_shelves.specs.Held.{state_of};
 ghost use Rattle.register_shelves.specs.Planned.{IsPlanned};
-ghost use Rattle.register_plans.specs.Pages.{is_paged, one_if, only_if};
+ghost use Rattle.register_plans.specs.Pages.{is_paged, one_if, only_if, one_of, only_of, page_of};
+ghost use Rattle.register_plans.specs.Candidates.{AreCandidates};
 ghost use Rattle.register_plans.specs.Broken.{first_broken, own_row};
 
 use crate::registered::Registered;
@@ -249,6 +252,69 @@ fn take_in<T: Registered>(
     Ok(met + 1)
 }
 
+/// Adds the row of an id, if there is one, as `take_in` does.
+fn take_by_id<T: Registered>(
+    shelves: &Shelves,
+    id: u32,
+    filter: &Filter,
+    met: u32,
+    limit: u32,
+    offset: u32,
+    views: &mut Vec<View>,
+) -> Result<u32, AllocError>
+    requires few { met < 2 ^ 30 }
+    ensures met { IfOk result (λ n. n ≡ met + one_of (T.meets filter.now) (row_at T.rules.id (T.rules.shelf (state_of shelves.now)).rows id)) }
+    ensures views { OnOk result (views.new.items ≡ views.old.items ++ only_of T.rules.view (T.meets filter.now) met limit offset (row_at T.rules.id (T.rules.shelf (state_of shelves.now)).rows id)) }
+{
+    match T::found(shelves, id) {
+        Some(row) => take_in(row, filter, met, limit, offset, views),
+        None => Ok(met),
+    }
+}
+
+/// Adds the rows of a page, where all rows are looked at, and gives how many meet the filter. `Err` is want of memory.
+fn take_all<T: Registered>(
+    shelves: &Shelves,
+    filter: &Filter,
+    limit: u32,
+    offset: u32,
+    views: &mut Vec<View>,
+) -> Result<u32, AllocError>
+    requires { views.old.items ≡ [] }
+    ensures met { IfOk result (λ n. n ≡ count_by (T.meets filter.now) (T.rules.shelf (state_of shelves.now)).rows) }
+    ensures views { OnOk result (views.new.items ≡ page_of T.rules.view (T.meets filter.now) limit offset (T.rules.shelf (state_of shelves.now)).rows) }
+{
+    let mut met: u32 = 0;
+    let count = T::count(shelves);
+    'rows: for index in 0..count {
+        let row: &T = row_at_index(shelves, index);
+        met = take_in(row, filter, met, limit, offset, views)?;
+    }
+    Ok(met)
+}
+
+/// The same where the rows of some ids are looked at, among which each is that meets the filter.
+fn take_found<T: Registered>(
+    shelves: &Shelves,
+    ids: &[u32],
+    filter: &Filter,
+    limit: u32,
+    offset: u32,
+    views: &mut Vec<View>,
+) -> Result<u32, AllocError>
+    requires none { views.old.items ≡ [] }
+    requires ids { AreCandidates T.rules.id (T.meets filter.now) (T.rules.shelf (state_of shelves.now)).rows ids.now }
+    ensures met { IfOk result (λ n. n ≡ count_by (T.meets filter.now) (T.rules.shelf (state_of shelves.now)).rows) }
+    ensures views { OnOk result (views.new.items ≡ page_of T.rules.view (T.meets filter.now) limit offset (T.rules.shelf (state_of shelves.now)).rows) }
+{
+    let mut met: u32 = 0;
+    let _count = T::count(shelves);
+    'found: for id in ids {
+        met = take_by_id::<T>(shelves, *id, filter, met, limit, offset, views)?;
+    }
+    Ok(met)
+}
+
 /// Reads the rows that meet the filter, past the first `offset`, at most `limit`, and how many meet it. `Err` is want of memory.
 pub fn plan_list<T: Registered>(
     shelves: &Shelves,
@@ -256,15 +322,14 @@ pub fn plan_list<T: Registered>(
     limit: u32,
     offset: u32,
 ) -> Result<Planned, AllocError>
+    requires { IsLawful (state_of shelves.now) }
     ensures { IfOk result (λ p. IsPlanned (list T.rules (state_of shelves.now) (T.meets filter.now) limit offset) p) }
 {
     let mut views = Vec::new(shelves.allocator());
-    let mut met: u32 = 0;
-    let count = T::count(shelves);
-    'rows: for index in 0..count {
-        let row: &T = row_at_index(shelves, index);
-        met = take_in(row, filter, met, limit, offset, &mut views)?;
-    }
+    let met = match T::candidates(shelves, filter)? {
+        Some(ids) => take_found::<T>(shelves, ids.as_slice(), filter, limit, offset, &mut views)?,
+        None => take_all::<T>(shelves, filter, limit, offset, &mut views)?,
+    };
     Ok(Planned::Read(Reply::Page {
         count: met,
         views: Views::of(views),

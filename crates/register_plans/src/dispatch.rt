@@ -1,6 +1,7 @@
 //! What each call comes to, by its kind: a line a kind in each dispatch.
 
 ghost use Rattle.std.specs.Prelude.{◌≡◌, IfOk};
+ghost use Rattle.ipam_data.specs.Lawful.{IsLawful};
 ghost use Rattle.ipam_data.specs.Steps.{create_plan, change_plan, delete_plan, get_plan, list_plan};
 ghost use Rattle.register_shelves.specs.Held.{state_of};
 ghost use Rattle.register_shelves.specs.Planned.{IsPlanned};
@@ -119,6 +120,7 @@ pub fn plan_page(
     limit: u32,
     offset: u32,
 ) -> Result<Planned, AllocError>
+    requires { IsLawful (state_of shelves.now) }
     ensures { IfOk result (λ p. IsPlanned (list_plan (state_of shelves.now) filter.now limit offset) p) }
 {
     match filter {

@@ -5,6 +5,7 @@
 mod addresses;
 mod aggregate;
 mod calls;
+mod candidates;
 mod dispatch;
 mod filters;
 mod prefixes;

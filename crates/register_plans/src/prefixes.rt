@@ -12,6 +12,7 @@ ghost use Rattle.register_shelves.specs.Planned.{IsPlanned};
 ghost use Rattle.register_plans.specs.Meets.{prefix_meets};
 
 use crate::calls::plan_replace;
+use crate::candidates::{area_asked, ids_asked};
 use crate::filters::{asks_block, asks_contains, asks_family, asks_inside, asks_name, asks_within};
 use crate::registered::Registered;
 use ipam_data::calls::{Edit, Filter};
@@ -103,6 +104,24 @@ impl Registered for Prefix {
 
     fn nth<'a>(shelves: &'a Shelves, index: u32) -> Option<&'a Prefix> {
         shelves.prefixes().at(index)
+    }
+
+    fn candidates(shelves: &Shelves, filter: &Filter) -> Result<Option<Vec<u32>>, AllocError> {
+        let Filter::Prefixes {
+            family: _,
+            vrf_id,
+            status: _,
+            role_id: _,
+            prefix,
+            within,
+            within_include,
+            contains,
+        } = filter
+        else {
+            return Ok(None);
+        };
+        let area = area_asked(prefix, within, within_include, contains);
+        ids_asked(shelves, shelves.prefixes(), vrf_id, &area)
     }
 
     fn next(shelves: &Shelves) -> u32 {

@@ -1,13 +1,15 @@
 //! What the calls need of a kind of row.
 
-ghost use Rattle.std.specs.Prelude.{◌≡◌, ℕ, ◌<◌, ◌^◌, Bool, None, IfOk, option_copied, length, slice_get};
+ghost use Rattle.std.specs.Prelude.{◌≡◌, ℕ, ◌<◌, ◌^◌, Bool, None, IfOk, IfSome, option_copied, length, slice_get};
 ghost use Rattle.ipam_data.specs.declared.calls.Filter.{Filter};
 ghost use Rattle.ipam_data.specs.Checks.{first};
 ghost use Rattle.ipam_data.specs.Shelf.{Shelf, row_at, Rises};
 ghost use Rattle.ipam_data.specs.State.{State};
 ghost use Rattle.ipam_data.specs.Plans.{KindRules};
+ghost use Rattle.ipam_data.specs.Lawful.{IsLawful};
 ghost use Rattle.register_shelves.specs.Held.{state_of};
 ghost use Rattle.register_plans.specs.Broken.{own_row};
+ghost use Rattle.register_plans.specs.Candidates.{AreCandidates};
 
 use ipam_data::calls::Filter;
 use ipam_data::kinds::{HasId, Kind};
@@ -48,11 +50,21 @@ pub trait Registered: HasId {
     /// How many rows there are.
     fn count(shelves: &Shelves) -> u32
         ensures count { result ≡ length (rules.shelf (state_of shelves.now)).rows }
-        ensures few { length (rules.shelf (state_of shelves.now)).rows < 2 ^ 30 };
+        ensures few { length (rules.shelf (state_of shelves.now)).rows < 2 ^ 30 }
+        ensures ordered { Rises rules.id 0 (rules.shelf (state_of shelves.now)).rows };
 
     /// The row at an index, in the order of the ids.
     fn nth<'a>(shelves: &'a Shelves, index: u32) -> Option<&'a Self>
         ensures { option_copied result ≡ slice_get (rules.shelf (state_of shelves.now)).rows index };
+
+    /// The ids of some rows, rising, among which each is that meets a filter; `None` where all rows are to be looked at. `Err` is
+    /// want of memory.
+    fn candidates(_shelves: &Shelves, _filter: &Filter) -> Result<Option<Vec<u32>>, AllocError>
+        requires { IsLawful (state_of _shelves.now) }
+        ensures { IfOk result (λ found. IfSome found (λ v. AreCandidates rules.id (meets _filter.now) (rules.shelf (state_of _shelves.now)).rows v.items)) }
+    {
+        Ok(None)
+    }
 
     /// The next id.
     fn next(shelves: &Shelves) -> u32

@@ -61,7 +61,7 @@ fn plan_in_table<S: Space + Drop>(
     ensures ok { IfOk result (λ v. (v.items ≡ fits_of within (counting_of (blocks_in_table book.old.rows table within.family) within true) wanted.now) × (length v.items ≡ length wanted.now)) }
     ensures err { IfErr result (IsShort (length wanted.now) (length (fits_of within (counting_of (blocks_in_table book.old.rows table within.family) within true) wanted.now))) }
 {
-    let _few = book.len();
+    book.in_order();
     let family = within.family();
     let mut kids = book.swap(table, family, S::new(alloc, family));
     let planned = plan_counted::<S, Brand>(alloc, &mut kids, within, wanted, Blank::new(1));
@@ -84,7 +84,7 @@ fn plan_in_all<S: Space + Drop>(
     ensures ok { IfOk result (λ v. (v.items ≡ fits_of within (counting_of (blocks_in_all book.old.rows within.family) within true) wanted.now) × (length v.items ≡ length wanted.now)) }
     ensures err { IfErr result (IsShort (length wanted.now) (length (fits_of within (counting_of (blocks_in_all book.old.rows within.family) within true) wanted.now))) }
 {
-    let _few = book.len();
+    book.in_order();
     let mut kids = book.swap_all(S::new(alloc, within.family()));
     let planned = plan_counted::<S, Brand>(alloc, &mut kids, within, wanted, Blank::new(1));
     let _empty = book.swap_all(kids);

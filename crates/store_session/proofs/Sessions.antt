@@ -1,5 +1,5 @@
 -- What a session over a store leaves, as the command's record has it.
-use Rattle.std.proofs.Common.{◌≡◌, ℕ, ◌+◌, ◌≤◌, ◌⊎◌, List, [], ◌++◌, inl, inr, Option, Some, None, IfSome, zero, suc, refl, subst, sym, ◌∙◌, ap, arith}
+use Rattle.std.proofs.Common.{◌≡◌, ℕ, ◌+◌, ◌≤◌, ◌⊎◌, List, [], ◌++◌, inl, inr, Option, Some, None, IfSome, zero, suc, IsSome, ◌↔◌, refl, subst, sym, ◌∙◌, ap, arith}
 use Rattle.ipam_edge.specs.Reading.{Step}
 use Rattle.std.specs.Io.KnownBytes.{Appends}
 use Rattle.ipam_data.specs.State.{State}
@@ -19,7 +19,7 @@ use Rattle.kept_session.proofs.Plainly.{end_plainly}
 use Rattle.command_words.specs.declared.asked.Store.{Store}
 use Rattle.command_streams.specs.Streams.{Failed}
 use Rattle.store_session.specs.Outside.{Outside, NoCountFalls}
-use Rattle.store_session.specs.Session.{IsLoaded, Serves, IsSession, end_status}
+use Rattle.store_session.specs.Session.{found_tables, IsLoaded, Serves, IsSession, end_status}
 
 -- where the session closed, the output has the answers to all requests of the whole input
 prints : {S : Type 0} (may : May S) (first register : S) (left_old left_new written_old written_new : Option (List ℕ)) (n : ℕ) (bytes : List ℕ)
@@ -55,9 +55,10 @@ pub serves : {R : Type 0} (step : Step R) (from to : R) (store : Store) (old new
     → IsTalkSession answers_kept step (standing first 0) (standing seen failed) from to old.streams.input.bytes new.streams.input.bytes
     old.streams.output.bytes new.streams.output.bytes how
     → failed ≤ count → old.stores.faults ≤ mid → IsRaised mid count new.stores.faults
+    → (IsSome (found_tables store old) → IsSome told)
     → Tells told seen.state → IsReturned (Some store.db) told old.stores.stored new.stores.stored
     → new.streams.errors ≡ old.streams.errors → Serves store old new how
-serves step from to store old new how state first seen failed count mid told loaded begins talk few later raised tells returned silent =
+serves step from to store old new how state first seen failed count mid told loaded begins talk few later raised telling tells returned silent =
     let ends = subst (λ (k : Seen). IsEnd answers_kept (standing k 0) (standing seen failed) old.streams.output.bytes new.streams.output.bytes talk.bytes new.streams.input.bytes how) begins talk.ends in
     record {
       state = state;
@@ -70,7 +71,7 @@ serves step from to store old new how state first seen failed count mid told loa
       plain = λ well. end_plainly (fresh state) (standing seen failed) old.streams.output.bytes new.streams.output.bytes talk.bytes new.streams.input.bytes how ends
           (none_failed old.stores.faults mid count new.stores.faults failed few later raised well);
       needed = talk.needed;
-      holds = (told, tells, returned);
+      holds = (told, telling, tells, returned);
       silent = silent;
     }
 
@@ -127,17 +128,19 @@ of_ended store old new how status is s source sink later = subst (λ (n : ℕ). 
 
 -- a session that was served, by what is known of the opener that lent its keeper
 pub serves_back : {R : Type 0} {K : Type 0} (step : Step R) (from to : R) (store : Store) (old new : Outside) (how : SessionEnd) (state : State) (first seen : Seen)
-    (told_by : K → Option Tables) (faults_by : K → ℕ) (kept keeper : K) (mid : ℕ) (lent : Option (Option (List ℕ))) (mid_stored : Option (List (List ℕ × Tables)))
+    (told_by : K → Option Tables) (faults_by : K → ℕ) (lent_out kept keeper : K) (mid : ℕ) (lent : Option (Option (List ℕ))) (mid_stored : Option (List (List ℕ × Tables)))
     → IsLoaded store old state → first ≡ (fresh state).seen
     → (failed : ℕ) × (failed ≤ faults_by keeper)
     × IsTalkSession answers_kept step (standing first 0) (standing seen failed) from to old.streams.input.bytes new.streams.input.bytes
     old.streams.output.bytes new.streams.output.bytes how
+    → told_by lent_out ≡ found_tables store old → IsSome (told_by lent_out) ↔ IsSome (told_by keeper)
     → kept ≡ keeper → old.stores.faults ≤ mid → IsRaised mid (faults_by kept) new.stores.faults → Tells (told_by keeper) seen.state
     → lent ≡ Some store.db → old.stores.stored ≡ mid_stored → IsReturned lent (told_by kept) mid_stored new.stores.stored
     → new.streams.errors ≡ old.streams.errors → Serves store old new how
-serves_back {R} {K} step from to store old new how state first seen told_by faults_by kept keeper mid lent mid_stored loaded begins talk same later raised tells out stays returned silent =
+serves_back {R} {K} step from to store old new how state first seen told_by faults_by lent_out kept keeper mid lent mid_stored loaded begins talk starts telling same later raised tells out stays returned silent =
     let raised' = subst (λ (k : K). IsRaised mid (faults_by k) new.stores.faults) same raised in
     let back = subst (λ (k : K). IsReturned lent (told_by k) mid_stored new.stores.stored) same returned in
     let here = subst (λ (l : Option (Option (List ℕ))). IsReturned l (told_by keeper) mid_stored new.stores.stored) out back in
     let there = subst (λ (s : Option (List (List ℕ × Tables))). IsReturned (Some store.db) (told_by keeper) s new.stores.stored) (sym stays) here in
-    serves step from to store old new how state first seen talk.0 (faults_by keeper) mid (told_by keeper) loaded begins talk.2 talk.1 later raised' tells there silent
+    let goes_on = subst (λ (t : Option Tables). IsSome t → IsSome (told_by keeper)) starts telling.0 in
+    serves step from to store old new how state first seen talk.0 (faults_by keeper) mid (told_by keeper) loaded begins talk.2 talk.1 later raised' goes_on tells there silent

@@ -1,6 +1,6 @@
 -- What a run of the command `session` promises of each status: one connection over the input and the output, with a register of
 -- its own, over the store that the words name, or else in memory.
-use Rattle.std.specs.Prelude.{◌≡◌, ℕ, ◌+◌, ◌≤◌, ◌⊎◌, List, [], IfSome, Option, Some}
+use Rattle.std.specs.Prelude.{◌≡◌, ℕ, ◌+◌, ◌≤◌, ◌⊎◌, List, [], IfSome, IsSome, Option, Some}
 use Rattle.ipam_data.specs.State.{State}
 use Rattle.ipam_stored.specs.declared.opening.OpenFault.{OpenFault}
 use Rattle.ipam_stored.specs.declared.opening.OpenFault.TheVariants.{Keeper}
@@ -34,6 +34,11 @@ IsLoaded store old state = IsOpened (found_tables store old) store.global_unique
 abbrev pub Holds : Store → Outside → Outside → State → Type 0
 Holds store old new state = (told : Option Tables) × Tells told state × IsReturned (Some store.db) told old.stores.stored new.stores.stored
 
+-- the same, and they are told at the end where the tables of the store were told at the start
+abbrev pub HoldsTold : Store → Outside → Outside → State → Type 0
+HoldsTold store old new state = (told : Option Tables) × (IsSome (found_tables store old) → IsSome told)
+    × Tells told state × IsReturned (Some store.db) told old.stores.stored new.stores.stored
+
 -- what was read is what a session of the loaded register served, and the output gained what this end says
 pub record Serves (store : Store) (old new : Outside) (end : SessionEnd) : Type 0 where
   pub state : State
@@ -49,8 +54,8 @@ pub record Serves (store : Store) (old new : Outside) (end : SessionEnd) : Type 
   pub plain : (¬ StoreFailed old new)
       → IsEnd answers_plainly (fresh state).seen last.seen old.streams.output.bytes new.streams.output.bytes bytes new.streams.input.bytes end
   pub needed : IsReadAsNeeded bytes
-  -- the store has what was accepted
-  pub holds : Holds store old new last.seen.state
+  -- the store has what was accepted, and tells it where its tables were told
+  pub holds : HoldsTold store old new last.seen.state
   -- nothing is said
   pub silent : new.streams.errors ≡ old.streams.errors
 

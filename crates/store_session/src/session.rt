@@ -70,6 +70,7 @@ fn open_store<O: KeeperOpener>(
 ) -> Result<Register<O::Kept>, OpenFault>
     ensures state { IfOk result (λ r. IsOpened (started (O.stored opener.old) store.now.db) store.now.global_unique r.state) }
     ensures log { IfOk result (λ r. r.log ≡ []) }
+    ensures told { IfOk result (λ r. O.Kept.told r.keeper ≡ started (O.stored opener.old) store.now.db) }
     ensures lent { IfOk result (λ r. O.lent opener.new ≡ Some store.now.db) }
     ensures stays { IfOk result (λ r. O.stored opener.new ≡ O.stored opener.old) }
     ensures later { O.faults opener.old ≤ O.faults opener.new }
@@ -133,6 +134,7 @@ fn serve_opened<So: Source, Si: Sink, O: KeeperOpener>(
     requires log { register.log ≡ [] }
     ensures serves { (store : AskedStore) (first : Stores) (errors : Told) → O.lent opener.old ≡ Some store.db → first.stored ≡ O.stored opener.old → first.faults ≤ O.faults opener.old
         → IsOpened (started first.stored store.db) store.global_unique register.state
+        → O.Kept.told register.keeper ≡ started first.stored store.db
         → Serves store (outside (streams (told So.left So.faults input.old) (told Si.written Si.faults output.old) errors) first)
         (outside (streams (told So.left So.faults input.new) (told Si.written Si.faults output.new) errors) (stores O.stored O.faults opener.new)) result }
     ensures source_later { So.faults input.old ≤ So.faults input.new }

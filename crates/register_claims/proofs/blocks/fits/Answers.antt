@@ -12,7 +12,7 @@ use Rattle.register_claims.proofs.blocks.fits.Goals as goal
 pub fits_in_table-requires-clause-there : goal.fits_in_table-requires-clause-there
 fits_in_table-requires-clause-there c =
     ap (λ (t : Table). is_there c.args.shelves.now.prefixes.tables t) c.of.ensures
-    ∙ table_there c.args.shelves.now.prefixes.rows c.args.shelves.now.prefixes.tables c.args.row.now c.prefixes-order.ensures.order.tables c.requires.there
+    ∙ table_there c.args.shelves.now.prefixes.rows c.args.shelves.now.prefixes.tables c.args.row.now c.prefixes.ensures.order.tables c.requires.there
 
 pub returns-then-sees_all-clause-ok : goal.returns-then-sees_all-clause-ok
 returns-then-sees_all-clause-ok c =

@@ -24,4 +24,4 @@ pub returns-clause-count : goal.returns-clause-count
 returns-clause-count c = served_count c.args.row.now.block.len c.args.n c.args.row.now.block.family _ c.plan_addrs.result c.plan_addrs.ensures.ok
 
 pub returns-clause-mask : goal.returns-clause-mask
-returns-clause-mask c = served_mask c.args.row.now.block.len c.args.n c.args.row.now.block.family _ c.plan_addrs.result c.len-lawful.ensures.lawful.short c.plan_addrs.ensures.ok
+returns-clause-mask c = served_mask c.args.row.now.block.len c.args.n c.args.row.now.block.family _ c.plan_addrs.result c.bounds.ensures.short c.plan_addrs.ensures.ok

@@ -11,7 +11,7 @@ returns-in-Ok g c =
     let after = c.serve_opened.ensures.later in
     of_ended c.args.store.now _ _ _ c.status_of.result c.status_of.ensures
     (c.serve_opened.ensures.serves c.args.store.now (stores g.O.KeeperOpener.stored g.O.KeeperOpener.faults c.args.opener.now)
-    (told g.Se.Sink.written g.Se.Sink.faults c.args.errors.now) c.in-Ok.ensures.lent (sym c.in-Ok.ensures.stays) before c.in-Ok.ensures.state)
+    (told g.Se.Sink.written g.Se.Sink.faults c.args.errors.now) c.in-Ok.ensures.lent (sym c.in-Ok.ensures.stays) before c.in-Ok.ensures.state c.in-Ok.ensures.told)
     c.serve_opened.ensures.source c.serve_opened.ensures.sink
     (record { streams = record { input = c.serve_opened.ensures.source_later; output = c.serve_opened.ensures.sink_later; errors = omega arith }; stores = omega arith })
 

@@ -40,6 +40,9 @@ returns-then-contains g c =
     inserted_over c.args.self.now c.put_at-then-contains.new.self c.args.block c.find-found.result c.requires.sound c.requires.lawful c.requires.family c.find-found.ensures.found c.in-Some.id m c.over.result (not c.contains-high.result)
     c.in-Some.is c.visit-node.ensures.node other room below c.over.ensures c.put_at-then-contains.result c.put_at-then-contains.ensures.put c.put_at-then-contains.ensures.listed c.put_at-then-contains.ensures.tally c.put_at-then-contains.ensures.spare
 
+pub put_at-requires-then-contains-clause-place : goal.put_at-requires-then-contains-clause-place
+put_at-requires-then-contains-clause-place g c = (c.find-found.result.at, c.find-found.result.land, c.find-found.ensures.found.here)
+
 pub put_at-above-requires-clause-place : goal.put_at-above-requires-clause-place
 put_at-above-requires-clause-place g c = (c.find-found.result.at, c.find-found.result.land, c.find-found.ensures.found.here)
 

@@ -1,0 +1,61 @@
+#!/usr/bin/env bash
+# Every stop of a store: ten creations and a deletion are stored in a SQLite file in memory until a call of the log's or the database's
+# file fails, at each call in turn; the files, with all that was written, with what was synced alone, or torn, are opened again, and must
+# have the tables of before or after the change that was being made. It writes a program over the crate stop_trial into a scratch copy,
+# proves and builds it there, runs it, and says how many stops were tried.   bench/stops.sh [changes]
+set -euo pipefail
+top=$(cd "$(dirname "$0")/.." && pwd)
+changes=${1:-11}
+scratch=$(mktemp -d)
+trap 'rm -rf "$scratch"' EXIT
+mkdir -p "$scratch/crates/all_stops/src"
+cp "$top/HANDLES" "$scratch/"
+for crate in inet_num block_space ipam_data row_book ipam_stored ipam_keeper ipam_store stop_trial; do
+    cp -r "$top/crates/$crate" "$scratch/crates/"
+    grep "^$crate:" "$top/crates.txt" >> "$scratch/crates.txt"
+done
+echo "all_stops: stop_trial anyhow" >> "$scratch/crates.txt"
+cat > "$scratch/crates/all_stops/src/main.rt" <<E2
+//! Every stop of a store.
+#![tactic(auto)]
+
+use anyhow::Result;
+use std::alloc::{AllocError, Global};
+use stop_trial::{Ending, Found, Side, Stop, ending_of};
+
+/// How many changes are stored.
+const CHANGES: u32 = $changes;
+
+/// How many stops were tried of a file, and how many of them left other tables.
+#[derive(Clone, Copy)]
+struct Tally {
+    stops: u32,
+    broken: u32,
+}
+
+/// Tries the stops of a file at all its calls, found so.
+fn tried(alloc: Global, side: Side, found: Found) -> Result<Tally, AllocError> {
+    let mut tally = Tally { stops: 0, broken: 0 };
+    for calls in 0..100_000u64 {
+        match ending_of(alloc, CHANGES, Stop { side, calls, found })? {
+            Ending::Beyond => return Ok(tally),
+            Ending::Broken => tally.broken = tally.broken.saturating_add(1),
+            Ending::Whole => {}
+        }
+        tally.stops = tally.stops.saturating_add(1);
+    }
+    Ok(tally)
+}
+
+fn main(rt: HostRuntime) -> Result<()> {
+    for side in [Side::Log, Side::Database] {
+        for found in [Found::Written, Found::Lost, Found::Torn] {
+            let tally = tried(rt.alloc(), side, found)?;
+            println!(rt; "{side:?} {found:?}: {} stops, {} of them left other tables", tally.stops, tally.broken)?;
+        }
+    }
+    Ok(())
+}
+E2
+cd "$scratch/crates/all_stops"
+rt run </dev/null 2> "$scratch/log" || { tail -n 20 "$scratch/log" >&2; exit 1; }

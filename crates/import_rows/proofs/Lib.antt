@@ -1,0 +1,4 @@
+pub mod ImportLaws
+pub mod ImportAgain
+pub mod ImportCan
+pub mod Examples

@@ -1,0 +1,127 @@
+//! Files in memory that stop at a call, and how they are found then.
+
+ghost use Rattle.std.specs.Prelude.{IfOk, IsTrue};
+ghost use Rattle.sqlite_disk.specs.Memory.{memory_is_usable};
+
+use sqlite::Files;
+use sqlite_disk::{Crash, Disk, Fuse, Memory};
+use std::alloc::{AllocError, Global};
+
+/// The bytes of a sector.
+const SECTOR: usize = 512;
+
+/// Which of the two files of a database stops.
+#[derive(Clone, Copy, Debug)]
+pub enum Side {
+    Log,
+    Database,
+}
+
+/// How files are found after a stop: with all that was written; with what was synced alone, so that the rest is lost; or torn, with
+/// every second sector as it was written and the others as they were synced.
+#[derive(Clone, Copy, Debug)]
+pub enum Found {
+    Written,
+    Lost,
+    Torn,
+}
+
+/// A stop: this file fails at the call behind so many, and at each one after it.
+#[derive(Clone, Copy, Debug)]
+pub struct Stop {
+    pub side: Side,
+    pub calls: u64,
+    pub found: Found,
+}
+
+/// A file without bytes that fails behind so many calls.
+fn fuse(alloc: Global, calls: u64) -> Fuse<Memory>
+    ensures { IsTrue (⟦<Fuse<Memory> as Disk>⟧.is_usable result) }
+{
+    Fuse::new(Memory::new(alloc), calls)
+}
+
+/// Files without bytes, one of which stops.
+pub(crate) fn stopping_files(alloc: Global, stop: Stop) -> Files<Fuse<Memory>>
+    ensures log { IsTrue (⟦<Fuse<Memory> as Disk>⟧.is_usable result.log) }
+    ensures db { IsTrue (⟦<Fuse<Memory> as Disk>⟧.is_usable result.db) }
+{
+    match stop.side {
+        Side::Log => Files {
+            log: fuse(alloc, stop.calls),
+            db: fuse(alloc, u64::MAX),
+        },
+        Side::Database => Files {
+            log: fuse(alloc, u64::MAX),
+            db: fuse(alloc, stop.calls),
+        },
+    }
+}
+
+/// A file of these bytes. `Err` is want of memory.
+fn file_of(alloc: Global, bytes: &[u8]) -> Result<Memory, AllocError>
+    ensures { IfOk result (λ file. IsTrue (memory_is_usable file)) }
+{
+    let mut file = Memory::new(alloc);
+    if file.write_at(0, bytes).is_err() {
+        return Err(AllocError);
+    }
+    if file.sync().is_err() {
+        return Err(AllocError);
+    }
+    Ok(file)
+}
+
+/// Puts so many bytes at the end, as they stand at this place of what was synced; behind that they are 0.
+fn push_synced(bytes: &mut Vec<u8>, synced: &[u8], count: usize) -> Result<(), AllocError> {
+    let from = bytes.len();
+    let end = from.saturating_add(count);
+    if let Some(old) = synced.get(from..end.min(synced.len())) {
+        bytes.extend_from_slice(old)?;
+    }
+    bytes.resize(end, 0)
+}
+
+/// Every second sector as it was written, and the others as they were synced.
+fn torn(alloc: Global, written: &[u8], synced: &[u8]) -> Result<Vec<u8>, AllocError> {
+    let mut bytes = Vec::new(alloc);
+    let mut is_new = false;
+    for sector in written.chunks(SECTOR) {
+        if is_new {
+            bytes.extend_from_slice(sector)?;
+        } else {
+            push_synced(&mut bytes, synced, sector.len())?;
+        }
+        is_new = !is_new;
+    }
+    Ok(bytes)
+}
+
+/// A file as it is found after its last call. `Err` is want of memory.
+fn found_file(alloc: Global, mut file: Fuse<Memory>, found: Found) -> Result<Memory, AllocError>
+    ensures { IfOk result (λ file. IsTrue (memory_is_usable file)) }
+{
+    let written = Vec::from_slice(alloc, file.inner().bytes())?;
+    file.crash();
+    let synced = file.inner().bytes();
+    match found {
+        Found::Written => file_of(alloc, written.as_slice()),
+        Found::Lost => file_of(alloc, synced),
+        Found::Torn => file_of(alloc, torn(alloc, written.as_slice(), synced)?.as_slice()),
+    }
+}
+
+/// Both files as they are found. `Err` is want of memory.
+pub(crate) fn found_files(
+    alloc: Global,
+    files: Files<Fuse<Memory>>,
+    found: Found,
+) -> Result<Files<Memory>, AllocError>
+    ensures log { IfOk result (λ files. IsTrue (memory_is_usable files.log)) }
+    ensures db { IfOk result (λ files. IsTrue (memory_is_usable files.db)) }
+{
+    let Files { log, db } = files;
+    let log = found_file(alloc, log, found)?;
+    let db = found_file(alloc, db, found)?;
+    Ok(Files { log, db })
+}

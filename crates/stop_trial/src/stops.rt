@@ -1,0 +1,103 @@
+//! A keeper over files that stop, and what is found when they are opened again.
+
+ghost use Rattle.std.specs.Prelude.{IsTrue};
+ghost use Rattle.sqlite_disk.specs.Memory.{memory_is_usable};
+
+use crate::changes::{loaded, store};
+use crate::files::{Stop, found_files, stopping_files};
+use ipam_keeper::empty::empty_tables;
+use ipam_keeper::memory::MemoryKeeper;
+use ipam_store::SqliteKeeper;
+use sqlite::{Alter, Connection, Files, Options};
+use sqlite_disk::{Fuse, Memory};
+use std::alloc::{AllocError, Global};
+
+/// What came of a stop.
+#[derive(Clone, Copy, Debug, PartialEq, Eq)]
+pub enum Ending {
+    /// The tables are those before the change that was being made, or after it.
+    Whole,
+    /// The tables are others, or can't be loaded.
+    Broken,
+    /// All changes were stored before the file stopped, and the tables are those after them.
+    Beyond,
+}
+
+/// Stores changes over a connection, and gives its store back, with how many were stored. `Err` is want of memory.
+fn stored_over<S: Alter + Drop>(
+    alloc: Global,
+    conn: Connection<S>,
+    changes: u32,
+) -> (Result<u32, AllocError>, S) {
+    let mut keeper = SqliteKeeper::adopt(alloc, conn);
+    let stored = store(alloc, &mut keeper, changes);
+    (stored, keeper.into_connection().into_store())
+}
+
+/// The tables that a connection has, in words. `Err` is want of memory.
+fn tables_over<S: Alter + Drop>(alloc: Global, conn: Connection<S>) -> Result<String, AllocError> {
+    let mut keeper = SqliteKeeper::adopt(alloc, conn);
+    loaded(alloc, &mut keeper)
+}
+
+/// How many changes were stored before a file stopped, and both files then.
+fn stopped(
+    alloc: Global,
+    changes: u32,
+    stop: Stop,
+) -> (Result<u32, AllocError>, Files<Fuse<Memory>>) {
+    let files = stopping_files(alloc, stop);
+    match Connection::open_files(alloc, files, Options::new(1)) {
+        Ok(conn) => {
+            let (stored, files) = stored_over(alloc, conn, changes);
+            (stored, files.close())
+        }
+        Err((_, left)) => (Ok(0), left.into_files()),
+    }
+}
+
+/// The tables of files, in words. `Err` is want of memory.
+fn tables_of(alloc: Global, files: Files<Memory>) -> Result<String, AllocError>
+    requires log { IsTrue (memory_is_usable files.log) }
+    requires db { IsTrue (memory_is_usable files.db) }
+{
+    match Connection::open_files(alloc, files, Options::new(2)) {
+        Ok(conn) => tables_over(alloc, conn),
+        Err(_) => String::from_str(alloc, "refused"),
+    }
+}
+
+/// The tables after so many changes, in words, as a keeper in memory has them.
+fn tables_after(alloc: Global, changes: u32) -> Result<String, AllocError> {
+    let mut keeper = MemoryKeeper::new(empty_tables(alloc)?, Vec::new(alloc));
+    store(alloc, &mut keeper, changes)?;
+    loaded(alloc, &mut keeper)
+}
+
+/// Whether these are the tables after so many changes.
+fn are_after(alloc: Global, tables: &str, changes: u32) -> Result<bool, AllocError> {
+    let after = tables_after(alloc, changes)?;
+    Ok(after.as_str() == tables)
+}
+
+/// What comes of a stop while so many changes are stored. `Err` is want of memory.
+pub fn ending_of(alloc: Global, changes: u32, stop: Stop) -> Result<Ending, AllocError> {
+    let (stored, files) = stopped(alloc, changes, stop);
+    let stored = stored?;
+    let files = found_files(alloc, files, stop.found)?;
+    let tables = tables_of(alloc, files)?;
+    let is_before = are_after(alloc, tables.as_str(), stored)?;
+    if stored == changes {
+        return Ok(if is_before {
+            Ending::Beyond
+        } else {
+            Ending::Broken
+        });
+    }
+    let is_whole = is_before || are_after(alloc, tables.as_str(), stored.saturating_add(1))?;
+    Ok(if is_whole {
+        Ending::Whole
+    } else {
+        Ending::Broken
+    })
+}
