@@ -1,7 +1,8 @@
 //! The command.
 
-ghost use Rattle.std.specs.Prelude.{◌≡◌, ◌≤◌, [], IfSome, vec_capacity};
+ghost use Rattle.std.specs.Prelude.{◌≡◌, ◌≤◌, [], IfSome, true, vec_capacity};
 ghost use Rattle.command_streams.specs.Streams.{told};
+ghost use Rattle.ipam_data.specs.State.{empty_state};
 ghost use Rattle.load_text.specs.Load.{load_figures};
 ghost use Rattle.register_load.specs.Load.{IsLoad};
 
@@ -51,21 +52,22 @@ fn claim_all<R: Threads + Wait + Sync>(
     seat: Seat<Register<MemoryKeeper>>,
     count: u32,
     workers: u32,
-    claimers: Vec<Claimer>,
+    claimers: Vec<Claimer<MemoryKeeper>>,
 ) -> (Seat<Register<MemoryKeeper>>, Option<Came>)
     requires seat { (seat.lock ≡ shared.now) × (seat.weight ≡ 65536) × (seat.spare ≡ 65536) }
+    requires first { (seat.number ≡ 0) × (seat.ended ≡ []) × (seat.opening ≡ empty_state true) }
     requires none_yet { claimers.items ≡ [] }
-    requires few { workers ≤ 32 }
+    requires few { (1 ≤ workers) × (workers ≤ 32) × (count ≤ 100000) }
     requires room { workers ≤ vec_capacity claimers }
     ensures seat { (result.0.lock ≡ shared.now) × (result.0.weight ≡ 65536) }
 {
     let mut claimers = claimers;
     let seat = hire(shared, seat, count, workers, &mut claimers);
     each_claims(rt, alloc, shared, claimers.as_mut_slice());
-    let (seat, tally) = dismiss(shared, seat, claimers);
+    let (seat, tally, whole) = dismiss(shared, seat, claimers);
     let (seat, percent) = ask_figure(rt, shared, seat);
-    match (tally, percent) {
-        (Some(tally), Some(percent)) => (seat, Some(Came { tally, percent })),
+    match percent {
+        Some(percent) if whole => (seat, Some(Came { tally, percent })),
         _ => (seat, None),
     }
 }
@@ -89,11 +91,12 @@ fn load_shared<R: Threads + Wait + Sync>(
     seat: Seat<Register<MemoryKeeper>>,
     count: u32,
     workers: u32,
-    claimers: Vec<Claimer>,
+    claimers: Vec<Claimer<MemoryKeeper>>,
 ) -> Option<Figures>
     requires seat { (seat.lock ≡ shared) × (seat.weight ≡ 65536) × (seat.spare ≡ 65536) }
+    requires first { (seat.number ≡ 0) × (seat.ended ≡ []) × (seat.seen ≡ []) × (seat.opening ≡ empty_state true) }
     requires none_yet { claimers.items ≡ [] }
-    requires few { workers ≤ 32 }
+    requires few { (1 ≤ workers) × (workers ≤ 32) × (1 ≤ count) × (count ≤ 100000) }
     requires room { workers ≤ vec_capacity claimers }
 {
     let (seat, made) = create(rt, alloc, &shared, seat, count);

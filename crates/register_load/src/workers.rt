@@ -1,35 +1,39 @@
 //! Workers that claim at once, each by a seat of its own.
 
-ghost use Rattle.std.specs.Prelude.{◌≡◌, ◌≤◌, ◌+◌, All, length, vec_len, vec_capacity, []};
-ghost use Rattle.register_load.specs.Hired.{IsHired};
+ghost use mathlib.Core.List.{IsPrefix};
+ghost use Rattle.std.specs.Prelude.{◌≡◌, ◌≤◌, ◌+◌, ◌-◌, All, length, vec_len, vec_capacity, [], true, sum_by};
+ghost use Rattle.history_lock.specs.Replay.{own_entries};
+ghost use Rattle.ipam_data.specs.State.{empty_state};
+ghost use Rattle.register_load.specs.Dismissed.{HasDismissed};
+ghost use Rattle.register_load.specs.Hired.{AllHaveClaimed, AreNumberedDown, HasClaimed, IsDone, IsHired, top_number};
 
 use crate::claims::claim_share;
 use crate::tally::Tally;
 use history_lock::{Seat, Shared};
-use ipam_keeper::memory::MemoryKeeper;
+use ipam_keeper::keeper::Keeper;
 use register_core::Register;
 use std::alloc::Global;
-use std::marker::Sync;
+use std::marker::{Send, Sync};
 use std::sync::Wait;
 use std::thread::{Threads, for_each_mut};
 
 /// What claims its share of the addresses through one seat.
 #[derive(Drop)]
-pub struct Claimer {
-    pub seat: Option<Seat<Register<MemoryKeeper>>>,
+pub struct Claimer<K: Keeper> {
+    pub seat: Option<Seat<Register<K>>>,
     pub share: u32,
     pub tally: Tally,
 }
 
 /// One worker's claims.
-fn work<R: Wait>(
+fn work<R: Wait, K: Keeper>(
     rt: &R,
     alloc: Global,
-    shared: &Shared<Register<MemoryKeeper>>,
-    claimer: &mut Claimer,
+    shared: &Shared<Register<K>>,
+    claimer: &mut Claimer<K>,
 )
     requires { IsHired shared.now claimer.old }
-    ensures { IsHired shared.now claimer.new }
+    ensures { HasClaimed claimer.old claimer.new }
 {
     let Some(seat) = claimer.seat.take() else {
         unreachable!()
@@ -40,14 +44,14 @@ fn work<R: Wait>(
 }
 
 /// All workers at once, each in a thread of its own; where no thread can be had they run one after another.
-pub fn each_claims<R: Threads + Wait + Sync>(
+pub fn each_claims<R: Threads + Wait + Sync, K: Keeper + Send>(
     rt: &R,
     alloc: Global,
-    shared: &Shared<Register<MemoryKeeper>>,
-    claimers: &mut [Claimer],
+    shared: &Shared<Register<K>>,
+    claimers: &mut [Claimer<K>],
 )
     requires { All (IsHired shared.now) claimers.old }
-    ensures hired { All (IsHired shared.now) claimers.new }
+    ensures claimed { AllHaveClaimed claimers.old claimers.new }
     ensures all { length claimers.new ≡ length claimers.old }
 {
     let threads = claimers.len();
@@ -56,60 +60,73 @@ pub fn each_claims<R: Threads + Wait + Sync>(
             rt,
             claimers,
             threads,
-            &|_, claimer: &mut Claimer|
+            &|_, claimer: &mut Claimer<K>|
                 requires { IsHired shared.now claimer.now }
-                ensures { IsHired shared.entry.now claimer.exit.now }
+                ensures { HasClaimed claimer.entry.now claimer.exit.now }
             { work(rt, alloc, shared, claimer) },
         );
     }
 }
 
-/// How many of so many claims worker `nth` of `workers` makes: those of the numbers `nth`, `nth + workers` and so on.
-fn share_of(count: u32, nth: u32, workers: u32) -> u32 {
-    if workers == 0 {
-        return 0;
-    }
-    let more = if nth < count % workers { 1 } else { 0 };
-    count / workers + more
-}
-
-/// Splits a seat off for each worker, and makes a worker of it with its share.
-pub fn hire(
-    shared: &Shared<Register<MemoryKeeper>>,
-    seat: Seat<Register<MemoryKeeper>>,
+/// Splits a seat off for each worker, and makes a worker of it with its share of so many claims.
+pub fn hire<K: Keeper>(
+    shared: &Shared<Register<K>>,
+    seat: Seat<Register<K>>,
     count: u32,
     workers: u32,
-    claimers: &mut Vec<Claimer>,
-) -> Seat<Register<MemoryKeeper>>
+    claimers: &mut Vec<Claimer<K>>,
+) -> Seat<Register<K>>
     requires seat { (seat.lock ≡ shared.now) × (seat.weight ≡ 65536) × (seat.spare ≡ 65536) }
+    requires first { (seat.number ≡ 0) × (seat.ended ≡ []) × (seat.opening ≡ empty_state true) }
     requires none_yet { claimers.old.items ≡ [] }
-    requires few { workers ≤ 32 }
+    requires few { (1 ≤ workers) × (workers ≤ 32) }
     requires room { workers ≤ vec_capacity claimers.old }
     ensures seat { (result.lock ≡ shared.now) × (result.weight + vec_len claimers.new ≡ 65536) }
+    ensures first { (result.number ≡ 0) × (result.ended ≡ []) × (result.opening ≡ empty_state true) × (result.seen ≡ seat.seen) }
     ensures hired { All (IsHired shared.now) claimers.new.items }
+    ensures numbers { AreNumberedDown top_number claimers.new.items }
+    ensures shares { sum_by (λ w. w.share) claimers.new.items ≡ count }
+    ensures few { vec_len claimers.new ≤ 32 }
 {
     let mut seat = seat;
+    let mut left = count;
     for nth in 0..workers {
         let (rest, new) = shared.split(seat, 1);
         seat = rest;
+        let share = left / (workers - nth);
+        left = left - share;
         claimers.push_reserved(Claimer {
             seat: Some(new),
-            share: share_of(count, nth, workers),
+            share,
             tally: Tally::none(),
         });
     }
     seat
 }
 
-/// Joins the workers' seats to the first one, and sums up what they claimed. None where one of them did not get its share.
-pub fn dismiss(
-    shared: &Shared<Register<MemoryKeeper>>,
-    seat: Seat<Register<MemoryKeeper>>,
-    claimers: Vec<Claimer>,
-) -> (Seat<Register<MemoryKeeper>>, Option<Tally>)
+/// Whether a worker got its share, as all before it did.
+fn is_whole(whole: bool, claimed: u32, share: u32) -> bool
+    ensures { result ≡ true → (whole ≡ true) × (claimed ≡ share) }
+{
+    whole && claimed == share
+}
+
+/// Joins the workers' seats to the first one, and sums up what they claimed. Says whether each of them got its share.
+pub fn dismiss<K: Keeper>(
+    shared: &Shared<Register<K>>,
+    seat: Seat<Register<K>>,
+    claimers: Vec<Claimer<K>>,
+) -> (Seat<Register<K>>, Tally, bool)
     requires seat { (seat.lock ≡ shared.now) × (seat.weight + vec_len claimers ≡ 65536) }
-    requires hired { All (IsHired shared.now) claimers.items }
-    ensures seat { (result.0.lock ≡ shared.now) × (result.0.weight ≡ 65536) }
+    requires first { seat.ended ≡ [] }
+    requires done { All (IsDone shared.now) claimers.items }
+    requires numbers { AreNumberedDown top_number claimers.items }
+    requires few { sum_by (λ w. w.share) claimers.items ≤ 100000 }
+    ensures seat { (result.0.lock ≡ shared.now) × (result.0.weight ≡ 65536) × (result.0.number ≡ seat.number) × (result.0.opening ≡ seat.opening) }
+    ensures own { own_entries seat.number result.0.seen ≡ own_entries seat.number seat.seen }
+    ensures seen { IsPrefix seat.seen result.0.seen }
+    ensures dismissed { HasDismissed result.2 (top_number + 1 - vec_len claimers) (vec_len claimers) result.0 result.1 }
+    ensures whole { result.2 ≡ true → result.1.claimed ≡ sum_by (λ w. w.share) claimers.items }
 {
     let mut seat = seat;
     let mut all = Tally::none();
@@ -124,7 +141,8 @@ pub fn dismiss(
         let Some(other) = other else { unreachable!() };
         seat = shared.join(seat, other);
         all = all.and(tally);
-        whole = whole && tally.claimed == share;
+        whole = is_whole(whole, tally.claimed, share);
     }
-    (seat, if whole { Some(all) } else { None })
+    left.destroy_empty();
+    (seat, all, whole)
 }

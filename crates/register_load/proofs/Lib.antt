@@ -1,0 +1,5 @@
+pub mod Called
+pub mod Hired
+pub mod Sent
+pub mod Dismissed
+pub mod Figure
