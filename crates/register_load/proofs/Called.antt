@@ -57,7 +57,7 @@ claim_got : (v w : Caller) (reply : Reply) (place value : ℕ) → IsCall plain_
     → (claimed least greatest : ℕ) → Notes v claimed least greatest → Notes w (claimed + 1) (min least value) (max greatest value)
 claim_got v w reply place value c is le claimed least greatest k =
     one_noted true last_of_v4 v w claimed least greatest value place reply k
-        (subst (λ (x : ReplyKind). IsCall plain_step v w claim_of_one reply x place) (address_kind reply value is) c) is le
+    (subst (λ (x : ReplyKind). IsCall plain_step v w claim_of_one reply x place) (address_kind reply value is) c) is le
 
 pub claim_noted : (v w : Caller) (call : Call) (reply : Reply) (place : ℕ) (got o : Option ℕ) → IsCall plain_step v w call reply (kind_of reply) place → call ≡ claim_of_one → got ≡ address_in reply
     → IfSome o (λ value. (got ≡ Some value) × (value ≤ last_of_v4))

@@ -1,5 +1,5 @@
 -- What is known of workers that were dismissed, from one to the next.
-use Rattle.std.proofs.Common.{◌≡◌, ◌+◌, ◌-◌, ◌≤◌, ◌∧◌, ℕ, Bool, true, false, List, [], ◌∷◌, ◌++◌, length, length-append, Option, Some, None, IfSome, All, refl, sym, ap, ◌∙◌, subst, append-nil, append_assoc, arith}
+use Rattle.std.proofs.Common.{◌≡◌, ◌+◌, ◌-◌, ◌≤◌, ℕ, Bool, true, false, List, [], ◌∷◌, ◌++◌, length, length-append, Option, Some, None, IfSome, All, refl, sym, ap, ◌∙◌, subst, append-nil, append_assoc, arith}
 use Rattle.std.specs.Prelude.{map, min, max, sum_by}
 use Rattle.std.specs.List.{AllByRecursion}
 use Rattle.std.specs.Option.{option_to_list}
@@ -108,8 +108,8 @@ worker_dismissed z whole now first many v other r w all sum k h is number j came
       tally = λ history q.
           let s = parts_of (λ (p : Part). IsTally history (number_of p ∷ []) p.tally) k.parts one q in
           retold history (map number_of k.parts ++ other.number ∷ []) (map number_of (k.parts ++ one ∷ [])) _ _ _ sum.claimed sum.least sum.greatest
-              (map-append number_of k.parts (one ∷ [])) came.0 came.1 came.2
-              (both history (map number_of k.parts) (other.number ∷ []) all.claimed w.tally.claimed all.least w.tally.least all.greatest w.tally.greatest (k.tally history s.0) s.1);
+          (map-append number_of k.parts (one ∷ [])) came.0 came.1 came.2
+          (both history (map number_of k.parts) (other.number ∷ []) all.claimed w.tally.claimed all.least w.tally.least all.greatest w.tally.greatest (k.tally history s.0) s.1);
     }
 
 -- what a worker's seat has

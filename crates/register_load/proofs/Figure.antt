@@ -35,8 +35,7 @@ percent_is (Refused refusal) p is = absurd (cc is)
 asked : (v w : Caller) (place p : ℕ) → IsCall plain_step v w figure_call (Percent p) plain place → v.weight ≡ 65536
     → (w.seen ≡ v.seen) × ((plain_step (replay plain_step v.opening v.seen) figure_call).1 ≡ Percent p)
 asked v w place p c whole =
-    let all : take place w.seen ≡ v.seen = ap (λ (n : ℕ). take n w.seen) (c.alone_misses_nothing whole) ∙ take_prefix v.seen w.seen c.seen_only_grows in
-    (
+    let all : take place w.seen ≡ v.seen = ap (λ (n : ℕ). take n w.seen) (c.alone_misses_nothing whole) ∙ take_prefix v.seen w.seen c.seen_only_grows in (
       c.seen_ends_at_place ∙ all,
       sym (subst (λ (h : List (ℕ × Call)). Percent p ≡ (plain_step (replay plain_step v.opening h) figure_call).1) all c.reply_is_legal.right),
     )
@@ -48,4 +47,4 @@ figure_asked v w call reply place None c is told whole = tt
 figure_asked v w call reply place (Some p) c is told whole =
     let e : reply ≡ Percent p = percent_is reply p (sym told) in
     asked v w place p
-        (subst (λ (r : Reply). IsCall plain_step v w figure_call r (kind_of r) place) e (subst (λ (x : Call). IsCall plain_step v w x reply (kind_of reply) place) is c)) whole
+    (subst (λ (r : Reply). IsCall plain_step v w figure_call r (kind_of r) place) e (subst (λ (x : Call). IsCall plain_step v w x reply (kind_of reply) place) is c)) whole

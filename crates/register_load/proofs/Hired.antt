@@ -2,7 +2,7 @@
 use Rattle.std.proofs.Common.{◌≡◌, ◌+◌, ◌-◌, ◌≤◌, ◌<◌, ℕ, suc, List, [], ◌∷◌, ◌++◌, All, length, get_or, true, Option, Some, None, IfSome, refl, sym, ap, ◌∙◌, subst, arith}
 use Rattle.std.specs.Prelude.{sum_by}
 use Rattle.std.proofs.lemmas.List.Elements.{All-push}
-use mathlib.Core.List.{IsPrefix}
+use Rattle.std.proofs.lemmas.List.Sums.{sum_by-cons}
 use Rattle.atomic_table.specs.Seated.{TableId}
 use Rattle.history_lock.specs.Replay.{own_entries}
 use Rattle.history_lock.specs.Seats.{IsSplit}
@@ -77,7 +77,9 @@ shares_kept (x ∷ xs) [] same worked = absurd (omega arith)
 shares_kept (x ∷ xs) (y ∷ ys) same worked =
     let one = (worked 0 x (omega arith)).share in
     let rest = shares_kept xs ys (omega arith) (λ i w lt. worked (suc i) w (omega arith)) in
-    cc (one, rest)
+    let left = sum_by-cons (λ w. w.share) y ys in
+    let right = sum_by-cons (λ w. w.share) x xs in
+    omega arith
 
 -- ---- claims
 

@@ -44,13 +44,7 @@ fn of_v4(number: Option<u128>) -> Option<u128>
     ensures { IfSome result (λ value. (number ≡ Some value) × (value ≤ last_of_v4)) }
 {
     match number {
-        Some(value) => {
-            if value <= LAST {
-                Some(value)
-            } else {
-                None
-            }
-        }
+        Some(value) => { if value <= LAST { Some(value) } else { None } }
         None => None,
     }
 }

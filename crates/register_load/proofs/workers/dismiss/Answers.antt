@@ -1,4 +1,4 @@
-use Rattle.std.proofs.Common.{◌≡◌, ◌+◌, ◌-◌, [], ◌∷◌, ◌++◌, length, length-append, append-nil, ap, sym, subst, ◌∙◌, refl, arith}
+use Rattle.std.proofs.Common.{rules, ◌≡◌, ◌+◌, ◌-◌, [], ◌∷◌, ◌++◌, length, length-append, append-nil, ap, sym, subst, ◌∙◌, refl, arith}
 use Rattle.std.specs.Option.{option_to_list}
 use Rattle.history_lock.specs.Replay.{own_entries}
 use Rattle.register_load.specs.Dismissed.{HasDismissed}
@@ -37,7 +37,7 @@ loop-claimer-init g c =
     let zero = none.0 in
     record {
       lock = r.seat.0;
-      weight = r.seat.1;
+      weight = search rules;
       same = (refl, refl);
       own = refl;
       seen = ([], append-nil c.args.seat.seen);
@@ -61,7 +61,7 @@ loop-claimer-preserved g c =
     let shares = shares_popped c.loop-claimer.left.items c.pop.new.self.items c.pop.result c.in-Some.claimer c.pop.ensures.items c.in-Some.is in
     let less : length c.loop-claimer.left.items ≡ length c.pop.new.self.items + 1 = ap length (c.pop.ensures.items ∙ ap (λ o. c.pop.new.self.items ++ option_to_list o) c.in-Some.is) ∙ length-append c.pop.new.self.items (c.in-Some.claimer ∷ []) in
     let mine = seat_number c.in-Some.claimer c.in-Some-other.other _ c.in-Some-other.is n.1 in
-    let all = c.requires.seat.1 in
+    let all : c.args.seat.weight + length c.args.claimers.items ≡ 65536 = search rules in
     let bound = i.less in
     let number : c.in-Some-other.other.number ≡ (top_number + 1 - length c.args.claimers.items) + (length c.args.claimers.items - length c.loop-claimer.left.items) = omega arith in
     let many : (length c.args.claimers.items - length c.loop-claimer.left.items) + 1 ≡ length c.args.claimers.items - length c.pop.new.self.items = omega arith in
