@@ -3,3 +3,4 @@ pub mod Hired
 pub mod Sent
 pub mod Dismissed
 pub mod Figure
+pub mod Loaded
