@@ -4,7 +4,7 @@ ghost use Rattle.ipam_doors.specs.ListLanes.{lane_told};
 ghost use Rattle.ipam_doors.specs.ListListeners.{listener_returned, listener_lanes};
 
 use ipam_command::run;
-use ipam_doors::{ListLane, ListListener, Listener};
+use ipam_doors::{ListLane, ListListener};
 use ipam_edge::{BytesSink, BytesSource};
 use ipam_keeper::opener::MemoryOpener;
 use std::alloc::{AllocError, Global};
@@ -30,15 +30,15 @@ struct Left {
 }
 
 /// Runs words, with one space between two of them.
-fn run_words<R: Threads + Wait + Sync, L: Listener>(
+fn run_words<R: Threads + Wait + Sync>(
     rt: &R,
     alloc: Global,
     words: &str,
     input: &[u8],
-    listener: &mut L,
+    listener: &mut ListListener,
     opener: &mut MemoryOpener,
 ) -> Result<Left, AllocError>
-    requires { length (L.returned listener.old) ≤ L.lanes listener.old }
+    requires { length (listener_returned listener.old) ≤ listener_lanes listener.old }
 {
     let mut list = Vec::new(alloc);
     for word in words.split(' ') {
@@ -64,15 +64,20 @@ fn run_words<R: Threads + Wait + Sync, L: Listener>(
     })
 }
 
-/// A lane with one connection, which makes ten claims.
-fn lane_of(alloc: Global) -> Result<ListLane, AllocError>
-    ensures { IfOk result (λ l. lane_told l ≡ []) }
-{
+/// What a client asks that makes ten claims.
+fn asked(alloc: Global) -> Result<Vec<u8>, AllocError> {
     let mut asked = Vec::new(alloc);
     for _ in 0..10 {
         asked.extend_from_slice(CLAIM)?;
     }
-    let source = BytesSource::new(asked, Vec::new(alloc), 1000);
+    Ok(asked)
+}
+
+/// A lane with one such connection.
+fn lane_of(alloc: Global) -> Result<ListLane, AllocError>
+    ensures { IfOk result (λ l. lane_told l ≡ []) }
+{
+    let source = BytesSource::new(asked(alloc)?, Vec::new(alloc), 1000);
     let sink = BytesSink::new(alloc, Vec::new(alloc), 1000, 65_536)?;
     let mut pairs = Vec::new(alloc);
     pairs.push((source, sink))?;
@@ -89,14 +94,20 @@ fn listener_of(alloc: Global) -> Result<ListListener, AllocError>
     ListListener::new(alloc, lanes)
 }
 
-/// Puts what was written to the connections of the lanes that came back at the end of a text.
+/// Puts what was written to the connections of a lane at the end of a text.
+fn tell_lane(lane: &ListLane, told: &mut String) -> Result<(), AllocError> {
+    for handed in lane.handed() {
+        if let Some(pair) = handed.finished() {
+            told.push_str(str::from_utf8(pair.1.bytes()).unwrap_or(""))?;
+        }
+    }
+    Ok(())
+}
+
+/// The same for all lanes that came back.
 fn tell(listener: &ListListener, told: &mut String) -> Result<(), AllocError> {
     for lane in listener.returned() {
-        for handed in lane.handed() {
-            if let Some(pair) = handed.finished() {
-                told.push_str(str::from_utf8(pair.1.bytes()).unwrap_or(""))?;
-            }
-        }
+        tell_lane(lane, told)?;
     }
     Ok(())
 }
@@ -106,39 +117,40 @@ fn times<'a>(text: &'a str, part: &'a str) -> usize {
     text.split(part).count().saturating_sub(1)
 }
 
-/// An opener with a store under the path `a` that holds the prefix.
-fn opener_of<R: Threads + Wait + Sync>(rt: &R, alloc: Global) -> Result<MemoryOpener, AllocError> {
-    let mut opener = MemoryOpener::new(Vec::new(alloc), Vec::new(alloc));
+/// How many of the first twenty addresses of the prefix a text has just once.
+fn told_once(alloc: Global, told: &str) -> Result<u32, AllocError> {
+    let mut once: u32 = 0;
+    for last in 1..=20 {
+        let named = format!(in alloc; "\"address\":\"10.0.0.{last}/24\"")?;
+        if times(told, named.as_str()) == 1 {
+            once = once.saturating_add(1);
+        }
+    }
+    Ok(once)
+}
+
+/// Puts the prefix into the store under the path `a`.
+fn put_prefix<R: Threads + Wait + Sync>(
+    rt: &R,
+    alloc: Global,
+    opener: &mut MemoryOpener,
+) -> Result<Left, AllocError> {
     let mut nobody = ListListener::new(alloc, Vec::new(alloc))?;
-    let left = run_words(
-        rt,
-        alloc,
-        "session --db a",
-        PREFIX,
-        &mut nobody,
-        &mut opener,
-    )?;
-    drop(left);
-    Ok(opener)
+    run_words(rt, alloc, "session --db a", PREFIX, &mut nobody, opener)
 }
 
 #[test]
 fn two_workers_claim_twenty_addresses(rt: HostRuntime) -> Result<(), Fail> {
-    let mut opener = opener_of(&rt, rt.alloc())?;
+    let mut opener = MemoryOpener::new(Vec::new(rt.alloc()), Vec::new(rt.alloc()));
+    let made = put_prefix(&rt, rt.alloc(), &mut opener)?;
+    assert_eq!(rt; made.status, 0);
     let mut listener = listener_of(rt.alloc())?;
     let words = "serve --bind x --workers 2 --connections 1 --db a";
     let left = run_words(&rt, rt.alloc(), words, b"", &mut listener, &mut opener)?;
     assert!(rt; left.status == 0 && left.output.ends_with(b"entries 20\n"));
     let mut told = String::new(rt.alloc());
     tell(&listener, &mut told)?;
-    assert_eq!(rt;
-        times(told.as_str(), "HTTP/1.1 201 Created\r\n"),
-        20,
-        "{told}"
-    );
-    for last in 1..=20 {
-        let named = format!(in rt.alloc(); "\"address\":\"10.0.0.{last}/24\"")?;
-        assert_eq!(rt; times(told.as_str(), named.as_str()), 1, "{told}");
-    }
+    assert_eq!(rt; times(told.as_str(), "HTTP/1.1 201 Created\r\n"), 20, "{told}");
+    assert_eq!(rt; told_once(rt.alloc(), told.as_str())?, 20, "{told}");
     Ok(())
 }

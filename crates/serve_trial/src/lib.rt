@@ -1,9 +1,5 @@
-//! `serve`, tried whole: workers over one store, sessions that run at once, and clients of a real port that are slow.
+//! `serve`, tried whole: two workers of the command over one store.
 #![tactic(auto)]
 
 #[cfg(test)]
 mod claims;
-#[cfg(test)]
-mod gates;
-#[cfg(test)]
-mod slow;
