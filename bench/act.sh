@@ -381,7 +381,7 @@ fn rows_of(reply: Reply) -> u64 {
     }
 }
 
-/// How many rows 100 pages of 50 addresses in blocks of this length have.
+/// The number of rows of a hundred pages of fifty addresses each, in blocks of this length.
 fn list_in<K: Keeper>(register: &mut Register<K>, len: u8) -> u64 {
     let mut rows = 0u64;
     for n in 0..100 {
