@@ -1,108 +1,21 @@
 -- No plan answers that the keeper failed: that answer is the keeper's alone.
-use Rattle.std.proofs.Common.{◌≡◌, ◌≢◌, ℕ, ◌+◌, Bool, true, false, nat_le, nat_lt, List, [], ◌∷◌, ◌++◌, map, take, length, Option, Some, None, option_map, refl, ◌∙◌, if◌then◌else◌}
-use Rattle.ipam_data.specs.declared.kinds.Kind.{Kind}
-use Rattle.ipam_data.specs.declared.kinds.Kind.TheVariants.{Vrfs, Rirs, Roles, Aggregates, Prefixes, Ranges, Addresses}
+use Rattle.std.proofs.Common.{◌≢◌, ℕ, Bool, true, false, nat_lt, length, Some, None, refl, if◌then◌else◌}
 use Rattle.ipam_data.specs.declared.calls.Call.{Call}
-use Rattle.ipam_data.specs.declared.calls.Call.TheVariants.{List as ListOf, Get, Create, Change, Delete, Blocks as BlocksOf, PrefixAddrs, RangeAddrs, ClaimBlocks, ClaimPrefixAddrs, ClaimRangeAddrs, Utilization}
-use Rattle.ipam_data.specs.declared.calls.Answered.{Answered}
-use Rattle.ipam_data.specs.declared.calls.Answered.TheVariants.{AsOne, AsList}
-use Rattle.ipam_data.specs.declared.calls.BlockItem.{BlockItem}
-use Rattle.ipam_data.specs.declared.calls.AddrItem.{AddrItem}
-use Rattle.ipam_data.specs.declared.calls.Filter.{Filter}
-use Rattle.ipam_data.specs.declared.calls.Filter.TheVariants.{Vrfs as SomeVrfs, Rirs as SomeRirs, Roles as SomeRoles, Aggregates as SomeAggregates, Prefixes as SomePrefixes, Ranges as SomeRanges, Addresses as SomeAddresses}
-use Rattle.ipam_data.specs.declared.calls.Draft.{Draft}
-use Rattle.ipam_data.specs.declared.calls.Edit.{Edit}
-use Rattle.ipam_data.specs.declared.replies.Rule.{Rule}
-use Rattle.ipam_data.specs.declared.replies.View.{View}
-use Rattle.ipam_data.specs.declared.replies.View.TheVariants.{Vrf as VrfView, Rir as RirView, Role as RoleView, Aggregate as AggregateView, Prefix as PrefixView, IpRange as RangeView, IpAddress as AddressView}
-use Rattle.ipam_data.specs.declared.replies.Which.{Which}
-use Rattle.ipam_data.specs.declared.replies.Refusal.{Refusal}
-use Rattle.ipam_data.specs.declared.replies.Refusal.TheVariants.{Keeper, Limit, InUse, NoSpace}
-use Rattle.ipam_data.specs.declared.replies.Which.TheVariants.{Claims}
-use Rattle.ipam_data.specs.declared.prefix.Prefix.{Prefix}
-use Rattle.ipam_data.specs.declared.range.IpRange.{IpRange}
-use Rattle.inet_num.specs.declared.Family.{Family}
-use Rattle.std.specs.List.{flat_map}
-use Rattle.std.specs.Str.{str_to_ascii_lowercase}
-use Rattle.inet_num.specs.Free.{available_blocks_of}
-use Rattle.block_space.specs.Fit.{fits_of}
-use Rattle.block_space.specs.Usable.{addressed}
-use Rattle.ipam_data.specs.declared.replies.Rule.TheVariants.{SlaacFamily, DnsName}
-use Rattle.ipam_data.specs.Rows.{role_id, prefix_id, range_id}
-use Rattle.ipam_data.specs.HostNames.{is_dns_name}
-use Rattle.ipam_data.specs.Addresses.{is_slaac_of_v4}
-use Rattle.ipam_data.specs.Claims.{claimed_prefixes, claimed_addresses as claimed_of, child_blocks, lengths_of, wanted_length, claim, served, most_items, no_space, told_of_block, told_of_address, claim_blocks_of, claim_addresses_of, usable_in, usable_of_range, prefix_figure, range_figure, aggregate_figure, figure_plan, utilization_plan, claim_blocks_plan, claim_prefix_addrs_plan, claim_range_addrs_plan}
-use Rattle.ipam_data.specs.declared.replies.Reply.{Reply}
-use Rattle.ipam_data.specs.declared.replies.Reply.TheVariants.{Made, MadeMany, Changed, Gone, Imported, One, Page, Blocks, Addrs, Percent, Refused}
+use Rattle.ipam_data.specs.declared.calls.Call.TheVariants.{List as ListOf, Get, Create, Change, Delete, Blocks, PrefixAddrs, RangeAddrs, ClaimBlocks, ClaimPrefixAddrs, ClaimRangeAddrs, Utilization}
+use Rattle.ipam_data.specs.declared.replies.Refusal.TheVariants.{Keeper, NoSpace}
+use Rattle.ipam_data.specs.declared.replies.Reply.TheVariants.{Refused}
+use Rattle.ipam_data.specs.Rows.{prefix_id, range_id}
 use Rattle.ipam_data.specs.Shelf.{row_at}
-use Rattle.ipam_data.specs.Checks.{first, too_many, no_ids, no_log, no_such, breaks}
-use Rattle.ipam_data.specs.State.{State, Plan, verdict_of, reading}
-use Rattle.ipam_data.specs.Plans.{KindRules, broken, no_seats, no_place, create, replace, change, take_out, delete, get, list, with_found, nothing_told}
-use Rattle.ipam_data.specs.Vrfs.{vrf_rules}
-use Rattle.ipam_data.specs.Rirs.{rir_rules}
-use Rattle.ipam_data.specs.Roles.{role_rules}
-use Rattle.ipam_data.specs.Aggregates.{aggregate_rules}
+use Rattle.ipam_data.specs.State.{State}
 use Rattle.ipam_data.specs.Prefixes.{prefix_rules}
 use Rattle.ipam_data.specs.Ranges.{range_rules}
 use Rattle.ipam_data.specs.Addresses.{address_rules}
-use Rattle.ipam_data.specs.Updates.{updated, answered, outcome}
-use Rattle.ipam_data.specs.ByKind.{by_view}
-use Rattle.ipam_data.specs.Fields.{drafted, told_of_draft, kind_of_edit, edited_vrf, edited_rir, edited_role, edited_aggregate, edited_prefix, edited_range, edited_address, told_of_change}
-use Rattle.ipam_data.specs.Steps.{next_for, create_plan, change_of_kind, change_plan, delete_plan, get_plan, list_plan, plan_of, plain_step}
+use Rattle.ipam_data.specs.Claims.{no_space, usable_in, usable_of_range, claim_blocks_of, claim_addresses_of}
+use Rattle.ipam_data.specs.Steps.{plan_of, plain_step}
+use Rattle.register_core.proofs.Never.{IsApart, found_rules, claim_rules, told_blocks, told_addresses, never_outcome, never_answered}
 
--- of two lists of checks neither of which refuses so, none does together
-never_append : (xs ys : List (Option Refusal)) → first xs ≢ Some Keeper → first ys ≢ Some Keeper → first (xs ++ ys) ≢ Some Keeper
-never_append [] ys a b = b
-never_append (None ∷ xs) ys a b = never_append xs ys a b
-never_append (Some x ∷ xs) ys a b = a
-
-never_one : (x : Option Refusal) → x ≢ Some Keeper → first (x ∷ []) ≢ Some Keeper
-never_one None a = λ e. cc
-never_one (Some x) a = a
-
-never_breaks : (rules : List (Option Rule)) → first (map breaks rules) ≢ Some Keeper
-never_breaks [] = λ e. cc
-never_breaks (None ∷ rules) = never_breaks rules
-never_breaks (Some rule ∷ rules) = λ e. cc
-
-limited : (t : Bool) (which : Which) (most : ℕ) → (if t then None else Some (Limit which most)) ≢ Some Keeper
-limited true which most = λ e. cc
-limited false which most = λ e. cc
-
-never_many : (which : Which) (most count : ℕ) → too_many which most count ≢ Some Keeper
-never_many which most count = limited (nat_le count most) which most
-
-never_used : (kind : Kind) (found : Option ℕ) → option_map (InUse kind) found ≢ Some Keeper
-never_used kind None = λ e. cc
-never_used kind (Some n) = λ e. cc
-
--- no check of the plan refuses so, and where none refuses the answer is no refusal
-record IsOfRules (plan : Plan) : Type 0 where
-  checks : first plan.checks ≢ Some Keeper
-  reply : verdict_of plan ≡ None → (refusal : Refusal) → plan.reply ≢ Refused refusal
-
-answered_alike : (s : State) (reply : Reply) → ((refusal : Refusal) → reply ≢ Refused refusal) → answered s reply ≢ Refused Keeper
-answered_alike s (Made view) h = λ e. cc
-answered_alike s (MadeMany views) h = λ e. cc
-answered_alike s (Changed view) h = λ e. cc
-answered_alike s Gone h = λ e. cc
-answered_alike s (Imported created present) h = λ e. cc
-answered_alike s (One view) h = λ e. cc
-answered_alike s (Page count views) h = λ e. cc
-answered_alike s (Blocks vrf list) h = λ e. cc
-answered_alike s (Addrs vrf len list) h = λ e. cc
-answered_alike s (Percent figure) h = λ e. cc
-answered_alike s (Refused refusal) h = λ e. h refusal refl
-
-never_outcome : (s : State) (plan : Plan) → IsOfRules plan → (outcome s plan).1 ≢ Refused Keeper
-never_outcome s plan p = go (verdict_of plan) refl
-  where
-    go : (v : Option Refusal) → verdict_of plan ≡ v → (outcome s plan).1 ≢ Refused Keeper
-    go (Some refusal) e = λ h. p.checks (e ∙ (let h : Refused refusal ≡ Refused Keeper = rw (e, outcome) at h in cc))
-    go None e = λ h. answered_alike (updated s plan.update) plan.reply (p.reply e) (rw (e, outcome) at h)
-
-read_rules : (reply : Reply) → ((refusal : Refusal) → reply ≢ Refused refusal) → IsOfRules (reading reply)
-read_rules reply h = record { checks = λ e. cc; reply = λ v. h }
+keeper_apart : IsApart Keeper
+keeper_apart = record { rule = λ broken e. cc; limit = λ which most e. cc; used = λ kind n e. cc; absent = λ kind n e. cc }
 
 never_short : (wanted got : ℕ) → no_space wanted got ≢ Some Keeper
 never_short wanted got = go (nat_lt got wanted) where
@@ -110,163 +23,25 @@ never_short wanted got = go (nat_lt got wanted) where
   go true = λ e. cc
   go false = λ e. cc
 
-never_served : (form : Answered) (views : List View) (refusal : Refusal) → served form views ≢ Refused refusal
-never_served AsOne (view ∷ views) refusal = λ e. cc
-never_served AsOne [] refusal = λ e. cc
-never_served AsList views refusal = λ e. cc
-
-never_told : {A : Type 0} (told : A → List (Option Refusal)) (items : List A) → ((item : A) → first (told item) ≢ Some Keeper) → first (flat_map told items) ≢ Some Keeper
-never_told told [] h = λ e. cc
-never_told told (item ∷ items) h = never_append (told item) (flat_map told items) (h item) (never_told told items h)
-
-module _ {T : Type 0} (rules : KindRules T) (s : State) where
-  never_log : (more : ℕ) → first (no_log s.spent more ∷ []) ≢ Some Keeper
-  never_log more = never_one (no_log s.spent more) (never_many _ _ _)
-
-  never_seats : (more : ℕ) → first (no_seats rules s more) ≢ Some Keeper
-  never_seats more =
-      never_append (too_many _ rules.most (length (rules.shelf s).rows + more) ∷ []) (no_ids (rules.shelf s).next more ∷ []) (never_one (too_many _ rules.most (length (rules.shelf s).rows + more)) (never_many _ _ _))
-      (never_one (no_ids (rules.shelf s).next more) (limited (nat_le _ _) _ _))
-
-  create_rules : (told : List (Option Rule)) (row : T) → IsOfRules (create rules s told row)
-  create_rules told row = record {
-    checks = never_append (broken rules s None told row ++ no_seats rules s 1) (no_log s.spent 1 ∷ []) (never_append (broken rules s None told row) (no_seats rules s 1) (never_breaks (rules.references s row ++ told ++ rules.faults s None row)) (never_seats 1)) (never_log 1);
-    reply = λ v refusal e. cc;
-  }
-
-  replace_rules : (old : T) (told : List (Option Rule)) (row : T) → IsOfRules (replace rules s old told row)
-  replace_rules old told row = record {
-    checks = never_append (broken rules s (Some old) told row) (no_log s.spent 1 ∷ []) (never_breaks (rules.references s row ++ told ++ rules.faults s (Some old) row)) (never_log 1);
-    reply = λ v refusal e. cc;
-  }
-
-  found_rules : (n : ℕ) (plan : T → Plan) (found : Option T) → ((row : T) → IsOfRules (plan row)) → IsOfRules (with_found rules n plan found)
-  found_rules n plan None h = record { checks = λ e. cc; reply = λ v refusal e. cc }
-  found_rules n plan (Some row) h = h row
-
-  change_rules : (n : ℕ) (told : T → List (Option Rule)) (edit : T → T) → IsOfRules (change rules s n told edit)
-  change_rules n told edit = found_rules n (λ old. replace rules s old (told old) (edit old)) (row_at rules.id (rules.shelf s).rows n) (λ old. replace_rules old (told old) (edit old))
-
-  delete_rules : (n : ℕ) → first (rules.users s n) ≢ Some Keeper → IsOfRules (delete rules s n)
-  delete_rules n u = found_rules n (λ old. take_out rules s n) (row_at rules.id (rules.shelf s).rows n) (λ old. record {
-    checks = never_append (rules.users s n) (no_log s.spent 1 ∷ []) u (never_log 1);
-    reply = λ v refusal e. cc;
-  })
-
-  get_rules : (n : ℕ) → IsOfRules (get rules s n)
-  get_rules n = found_rules n _ (row_at rules.id (rules.shelf s).rows n) (λ row. record { checks = λ e. cc; reply = λ v refusal e. cc })
-
-  list_rules : (meets : T → Bool) (limit offset : ℕ) → IsOfRules (list rules s meets limit offset)
-  list_rules meets limit offset = record { checks = λ e. cc; reply = λ v refusal e. cc }
-
-  claim_rules : (told : List (Option Refusal)) (wanted : ℕ) (form : Answered) (rows : List T) → first told ≢ Some Keeper → IsOfRules (claim rules s told wanted form rows)
-  claim_rules told wanted form rows t = record {
-    checks = never_append (too_many Claims most_items wanted ∷ told) (no_space wanted (length rows) ∷ no_place rules s wanted)
-        (never_append (too_many Claims most_items wanted ∷ []) told (never_one _ (never_many _ _ _)) t)
-        (never_append (no_space wanted (length rows) ∷ []) (no_place rules s wanted) (never_one _ (never_short wanted (length rows))) (never_append (no_seats rules s wanted) (no_log s.spent wanted ∷ []) (never_seats wanted) (never_log wanted)));
-    reply = λ v refusal. never_served form (map rules.view rows) refusal;
-  }
-
-  figure_rules : (figure : State → T → ℕ) (n : ℕ) → IsOfRules (figure_plan rules figure s n)
-  figure_rules figure n = found_rules n (λ row. reading (Percent (figure s row))) (row_at rules.id (rules.shelf s).rows n) (λ row. read_rules (Percent (figure s row)) (λ refusal e. cc))
-
-view_of_rules : (s : State) (told : List (Option Rule)) (view : View) → IsOfRules (by_view view (λ T rules row. create rules s told row))
-view_of_rules s told (VrfView row) = create_rules vrf_rules s told row
-view_of_rules s told (RirView row) = create_rules rir_rules s told row
-view_of_rules s told (RoleView row) = create_rules role_rules s told row
-view_of_rules s told (AggregateView row) = create_rules aggregate_rules s told row
-view_of_rules s told (PrefixView row depth children) = create_rules prefix_rules s told row
-view_of_rules s told (RangeView row) = create_rules range_rules s told row
-view_of_rules s told (AddressView row) = create_rules address_rules s told row
-
-create_all : (s : State) (draft : Draft) → IsOfRules (create_plan s draft)
-create_all s draft = view_of_rules s (told_of_draft draft) (drafted (next_for s draft) draft)
-
-kind_of_rules : (s : State) (n : ℕ) (edit : Edit) (kind : Kind) → IsOfRules (change_of_kind s n edit kind)
-kind_of_rules s n edit Vrfs = change_rules vrf_rules s n nothing_told (edited_vrf edit)
-kind_of_rules s n edit Rirs = change_rules rir_rules s n nothing_told (edited_rir edit)
-kind_of_rules s n edit Roles = change_rules role_rules s n nothing_told (edited_role edit)
-kind_of_rules s n edit Aggregates = change_rules aggregate_rules s n nothing_told (edited_aggregate edit)
-kind_of_rules s n edit Prefixes = change_rules prefix_rules s n nothing_told (edited_prefix edit)
-kind_of_rules s n edit Ranges = change_rules range_rules s n (told_of_change edit) (edited_range edit)
-kind_of_rules s n edit Addresses = change_rules address_rules s n nothing_told (edited_address edit)
-
-change_all : (s : State) (n : ℕ) (edit : Edit) → IsOfRules (change_plan s n edit)
-change_all s n edit = kind_of_rules s n edit (kind_of_edit edit)
-
-vrf_users : (s : State) (n : ℕ) → first (vrf_rules.users s n) ≢ Some Keeper
-vrf_users s n = never_append (used Prefixes _ ∷ []) (used Ranges _ ∷ used Addresses _ ∷ []) (never_one _ (never_used Prefixes _))
-    (never_append (used Ranges _ ∷ []) (used Addresses _ ∷ []) (never_one _ (never_used Ranges _)) (never_one _ (never_used Addresses _)))
-  where
-    used : Kind → Option ℕ → Option Refusal
-    used kind found = option_map (InUse kind) found
-
-delete_all : (s : State) (kind : Kind) (n : ℕ) → IsOfRules (delete_plan s kind n)
-delete_all s Vrfs n = delete_rules vrf_rules s n (vrf_users s n)
-delete_all s Rirs n = delete_rules rir_rules s n (never_one _ (never_used Aggregates _))
-delete_all s Roles n = delete_rules role_rules s n (λ e. cc)
-delete_all s Aggregates n = delete_rules aggregate_rules s n (λ e. cc)
-delete_all s Prefixes n = delete_rules prefix_rules s n (λ e. cc)
-delete_all s Ranges n = delete_rules range_rules s n (λ e. cc)
-delete_all s Addresses n = delete_rules address_rules s n (λ e. cc)
-
-get_all : (s : State) (kind : Kind) (n : ℕ) → IsOfRules (get_plan s kind n)
-get_all s Vrfs n = get_rules vrf_rules s n
-get_all s Rirs n = get_rules rir_rules s n
-get_all s Roles n = get_rules role_rules s n
-get_all s Aggregates n = get_rules aggregate_rules s n
-get_all s Prefixes n = get_rules prefix_rules s n
-get_all s Ranges n = get_rules range_rules s n
-get_all s Addresses n = get_rules address_rules s n
-
-list_all : (s : State) (filter : Filter) (limit offset : ℕ) → IsOfRules (list_plan s filter limit offset)
-list_all s (SomeVrfs name rd) limit offset = list_rules vrf_rules s _ limit offset
-list_all s (SomeRirs name slug) limit offset = list_rules rir_rules s _ limit offset
-list_all s (SomeRoles name slug) limit offset = list_rules role_rules s _ limit offset
-list_all s (SomeAggregates family rir_id) limit offset = list_rules aggregate_rules s _ limit offset
-list_all s (SomePrefixes family vrf_id status role_id prefix within within_include contains) limit offset = list_rules prefix_rules s _ limit offset
-list_all s (SomeRanges family vrf_id status role_id contains) limit offset = list_rules range_rules s _ limit offset
-list_all s (SomeAddresses family vrf_id status role parent dns_name) limit offset = list_rules address_rules s _ limit offset
-
-claimed_blocks : (s : State) (form : Answered) (items : List BlockItem) (row : Prefix) → IsOfRules (claim_blocks_of s form items row)
-claimed_blocks s form items row =
-    claim_rules prefix_rules s (flat_map (told_of_block s row) items) (length items) form
-    (claimed_prefixes row s.prefixes.next items (fits_of row.block (child_blocks s.prefixes.rows row) (lengths_of items)))
-    (never_told (told_of_block s row) items (λ item. never_breaks (wanted_length row item.len ∷ no_such Roles (row_at role_id s.roles.rows) item.role ∷ [])))
-
-claimed_addresses : (s : State) (form : Answered) (items : List AddrItem) (vrf : Option ℕ) (len : ℕ) (family : Family) (usable : List ℕ) → IsOfRules (claim_addresses_of s form items vrf len family usable)
-claimed_addresses s form items vrf len family usable =
-    claim_rules address_rules s (flat_map (told_of_address family) items) (length items) form (claimed_of vrf len s.addresses.next items (addressed family usable))
-    (never_told (told_of_address family) items (λ item. told_alone (if is_slaac_of_v4 item.status family then Some SlaacFamily else None) (if is_dns_name (str_to_ascii_lowercase item.dns_name) then None else Some DnsName)))
-  where
-    told_alone : (a b : Option Rule) → first (breaks a ∷ breaks b ∷ []) ≢ Some Keeper
-    told_alone a b = never_breaks (a ∷ b ∷ [])
-
-utilization_all : (s : State) (kind : Kind) (n : ℕ) → IsOfRules (utilization_plan s kind n)
-utilization_all s Vrfs n = record { checks = λ e. cc; reply = λ v refusal e. cc }
-utilization_all s Rirs n = record { checks = λ e. cc; reply = λ v refusal e. cc }
-utilization_all s Roles n = record { checks = λ e. cc; reply = λ v refusal e. cc }
-utilization_all s Aggregates n = figure_rules aggregate_rules s aggregate_figure n
-utilization_all s Prefixes n = figure_rules prefix_rules s prefix_figure n
-utilization_all s Ranges n = figure_rules range_rules s range_figure n
-utilization_all s Addresses n = record { checks = λ e. cc; reply = λ v refusal e. cc }
-
-all_rules : (s : State) (call : Call) → IsOfRules (plan_of s call)
-all_rules s (ListOf kind filter limit offset) = list_all s filter limit offset
-all_rules s (Get kind n) = get_all s kind n
-all_rules s (Create draft) = create_all s draft
-all_rules s (Change n edit) = change_all s n edit
-all_rules s (Delete kind n) = delete_all s kind n
-all_rules s (BlocksOf n limit) = found_rules prefix_rules s n (λ row. reading (Blocks row.vrf (take limit (available_blocks_of row.block (child_blocks s.prefixes.rows row))))) (row_at prefix_id s.prefixes.rows n) (λ row. read_rules _ (λ refusal e. cc))
-all_rules s (PrefixAddrs n limit) = found_rules prefix_rules s n (λ row. reading (Addrs row.vrf row.block.len (take limit (addressed row.block.family (usable_in s row))))) (row_at prefix_id s.prefixes.rows n) (λ row. read_rules _ (λ refusal e. cc))
-all_rules s (RangeAddrs n limit) = found_rules range_rules s n (λ row. reading (Addrs row.vrf row.ends.len (take limit (addressed row.ends.start.family (usable_of_range s row))))) (row_at range_id s.ranges.rows n) (λ row. read_rules _ (λ refusal e. cc))
-all_rules s (ClaimBlocks n form items) = found_rules prefix_rules s n (claim_blocks_of s form items) (row_at prefix_id s.prefixes.rows n) (claimed_blocks s form items)
-all_rules s (ClaimPrefixAddrs n form items) = found_rules prefix_rules s n (λ row. claim_addresses_of s form items row.vrf row.block.len row.block.family (usable_in s row)) (row_at prefix_id s.prefixes.rows n)
-    (λ row. claimed_addresses s form items row.vrf row.block.len row.block.family (usable_in s row))
-all_rules s (ClaimRangeAddrs n form items) = found_rules range_rules s n (λ row. claim_addresses_of s form items row.vrf row.ends.len row.ends.start.family (usable_of_range s row)) (row_at range_id s.ranges.rows n)
-    (λ row. claimed_addresses s form items row.vrf row.ends.len row.ends.start.family (usable_of_range s row))
-all_rules s (Utilization kind n) = utilization_all s kind n
-
 -- the plain step never answers that the keeper failed
 pub no_keeper : (s : State) (call : Call) → (plain_step s call).1 ≢ Refused Keeper
-no_keeper s call = never_outcome s (plan_of s call) (all_rules s call)
+no_keeper s (ListOf kind filter limit offset) = never_answered Keeper keeper_apart s (ListOf kind filter limit offset) refl
+no_keeper s (Get kind n) = never_answered Keeper keeper_apart s (Get kind n) refl
+no_keeper s (Create draft) = never_answered Keeper keeper_apart s (Create draft) refl
+no_keeper s (Change n edit) = never_answered Keeper keeper_apart s (Change n edit) refl
+no_keeper s (Delete kind n) = never_answered Keeper keeper_apart s (Delete kind n) refl
+no_keeper s (Blocks n limit) = never_answered Keeper keeper_apart s (Blocks n limit) refl
+no_keeper s (PrefixAddrs n limit) = never_answered Keeper keeper_apart s (PrefixAddrs n limit) refl
+no_keeper s (RangeAddrs n limit) = never_answered Keeper keeper_apart s (RangeAddrs n limit) refl
+no_keeper s (Utilization kind n) = never_answered Keeper keeper_apart s (Utilization kind n) refl
+no_keeper s (ClaimBlocks n form items) =
+    never_outcome Keeper keeper_apart s (plan_of s (ClaimBlocks n form items)) (found_rules Keeper keeper_apart prefix_rules s n (claim_blocks_of s form items) (row_at prefix_id s.prefixes.rows n)
+    (λ row. claim_rules Keeper keeper_apart prefix_rules s _ (length items) form _ (told_blocks Keeper keeper_apart s items row) (never_short (length items) _)))
+no_keeper s (ClaimPrefixAddrs n form items) =
+    never_outcome Keeper keeper_apart s (plan_of s (ClaimPrefixAddrs n form items)) (found_rules Keeper keeper_apart prefix_rules s n
+    (λ row. claim_addresses_of s form items row.vrf row.block.len row.block.family (usable_in s row)) (row_at prefix_id s.prefixes.rows n)
+    (λ row. claim_rules Keeper keeper_apart address_rules s _ (length items) form _ (told_addresses Keeper keeper_apart row.block.family items) (never_short (length items) _)))
+no_keeper s (ClaimRangeAddrs n form items) =
+    never_outcome Keeper keeper_apart s (plan_of s (ClaimRangeAddrs n form items)) (found_rules Keeper keeper_apart range_rules s n
+    (λ row. claim_addresses_of s form items row.vrf row.ends.len row.ends.start.family (usable_of_range s row)) (row_at range_id s.ranges.rows n)
+    (λ row. claim_rules Keeper keeper_apart address_rules s _ (length items) form _ (told_addresses Keeper keeper_apart row.ends.start.family items) (never_short (length items) _)))

@@ -1,9 +1,12 @@
 //! A register of stored tables.
 
 ghost use Rattle.std.specs.Prelude.{◌≡◌, ℕ, ◌≤◌, [], None, IfOk, IfErr};
+ghost use Rattle.ipam_data.specs.Lawful.{IsLawful};
 ghost use Rattle.ipam_stored.specs.Order.{AreTables};
+ghost use Rattle.ipam_stored.specs.Stored.{Tells};
 ghost use Rattle.ipam_stored.specs.Opening.{IsOfTables};
 ghost use Rattle.ipam_keeper.specs.Keeping.{Rose};
+ghost use Rattle.register_shelves.specs.Held.{state_of};
 ghost use Rattle.register_core.specs.Opened.{IsChecked, IsOpened, IsUnopened};
 
 use crate::books::Books;
@@ -59,23 +62,24 @@ fn check(
     }
 }
 
-/// A register over a keeper, of the state for which its tables stand. The tables are loaded once and checked in passes, each over
-/// all rows by kind and id before the next begins. The register has an empty log and no last change, and the keeper keeps what it
-/// tells, as does the keeper that a refusal hands back.
+/// The shelves of the state for which the tables of a keeper stand, and the keeper again. The tables are loaded once and checked in
+/// passes, each over all rows by kind and id before the next begins. The keeper keeps what it tells, as does the keeper that a refusal
+/// hands back.
 ///
 /// `Err` is `Version` exactly where the version is not 1; `BadRow` exactly where a row has id 0 or can't be read, the first such;
 /// `Limit` exactly where a kind has more rows than it may, the first such; `BadTables` exactly where a row breaks a rule beside the
 /// rows before it, the first such with its first rule, references first; `BadNext` exactly where a next id is absent, 0 or not above
 /// all ids of its kind, the first such kind; `Keeper` only where the keeper failed in this call; `Memory` for want of memory.
-pub fn open<K: Keeper + Drop>(
+pub fn open_shelves<K: Keeper + Drop>(
     alloc: Global,
     keeper: K,
     settings: Settings,
-) -> Result<Register<K>, (K, OpenFault)>
-    ensures state { IfOk result (λ r. IsOpened (K.told keeper) settings.global_unique r.state) }
-    ensures fresh { IfOk result (λ r. r ≡ record { opening = r.state; state = r.state; log = []; last = None; keeper = r.keeper }) }
-    ensures told { IfOk result (λ r. K.told r.keeper ≡ K.told keeper) }
-    ensures later { IfOk result (λ r. K.faults keeper ≤ K.faults r.keeper) }
+) -> Result<(Shelves, K), (K, OpenFault)>
+    ensures state { IfOk result (λ r. IsOpened (K.told keeper) settings.global_unique (state_of r.0)) }
+    ensures lawful { IfOk result (λ r. IsLawful (state_of r.0)) }
+    ensures told { IfOk result (λ r. K.told r.1 ≡ K.told keeper) }
+    ensures tells { IfOk result (λ r. Tells (K.told r.1) (state_of r.0)) }
+    ensures later { IfOk result (λ r. K.faults keeper ≤ K.faults r.1) }
     ensures fault { IfErr result (λ e. IsOfTables e.1 → IsUnopened (K.told keeper) settings.global_unique e.1) }
     ensures cause { IfErr result (λ e. e.1 ≡ OpenFault.Keeper → Rose (K.faults keeper) (K.faults e.0)) }
     ensures err_told { IfErr result (λ e. K.told e.0 ≡ K.told keeper) }
@@ -92,7 +96,29 @@ pub fn open<K: Keeper + Drop>(
         Err(AllocError) => return Err((keeper, OpenFault::Memory)),
     };
     match checked {
-        Ok(shelves) => Ok(Register::over(alloc, Books::of(shelves), keeper)),
+        Ok(shelves) => Ok((shelves, keeper)),
         Err(fault) => Err((keeper, fault)),
+    }
+}
+
+/// A register over a keeper, of the state for which its tables stand, as `open_shelves` finds it. The register has an empty log and no
+/// last change, and the keeper keeps what it tells, as does the keeper that a refusal hands back. `Err` is what `open_shelves` answers.
+pub fn open<K: Keeper + Drop>(
+    alloc: Global,
+    keeper: K,
+    settings: Settings,
+) -> Result<Register<K>, (K, OpenFault)>
+    ensures state { IfOk result (λ r. IsOpened (K.told keeper) settings.global_unique r.state) }
+    ensures fresh { IfOk result (λ r. r ≡ record { opening = r.state; state = r.state; log = []; last = None; keeper = r.keeper }) }
+    ensures told { IfOk result (λ r. K.told r.keeper ≡ K.told keeper) }
+    ensures later { IfOk result (λ r. K.faults keeper ≤ K.faults r.keeper) }
+    ensures fault { IfErr result (λ e. IsOfTables e.1 → IsUnopened (K.told keeper) settings.global_unique e.1) }
+    ensures cause { IfErr result (λ e. e.1 ≡ OpenFault.Keeper → Rose (K.faults keeper) (K.faults e.0)) }
+    ensures err_told { IfErr result (λ e. K.told e.0 ≡ K.told keeper) }
+    ensures err_later { IfErr result (λ e. K.faults keeper ≤ K.faults e.0) }
+{
+    match open_shelves(alloc, keeper, settings) {
+        Ok((shelves, keeper)) => Ok(Register::over(alloc, Books::of(shelves), keeper)),
+        Err(refused) => Err(refused),
     }
 }
