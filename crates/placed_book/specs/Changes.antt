@@ -36,8 +36,8 @@ pub record IsSwapped (family : Family) (blocks : List Cidr) (old new : TableBloc
   pub others : (other : Family) → same_family family other ≡ false → blocks_of_family new other ≡ blocks_of_family old other
 
 -- a space of this family with just these blocks
-pub record IsSpaceOf {S : Type 0} (family_of : S → Family) (held_by : S → List Cidr) (family : Family) (blocks : List Cidr) (space : S) : Type 0 where
-  pub family : family_of space ≡ family
+pub record IsSpaceOf {S : Type 0} (family_of : S → Family) (held_by : S → List Cidr) (own : Family) (blocks : List Cidr) (space : S) : Type 0 where
+  pub family : family_of space ≡ own
   pub held : held_by space ≡ blocks
 
 -- one table is as the relation says of it, and every other one is as it was

@@ -39,10 +39,10 @@ abbrev pub HasFirsts : {S : Type 0} → List Placed → HashMap Spot ℕ S → T
 HasFirsts rows m = (table : Table) (block : Cidr) → get same_spot m (spot_of table block) ≡ first_at rows table block
 
 -- the tables, the blocks of all and the least ids are those of just these rows
-pub record ArePlaces {S : Type 0} (rows : List Placed) (tables : List TableBlocks) (all : TableBlocks) (firsts : HashMap Spot ℕ S) : Type 0 where
-  pub tables : AreInOrder rows tables
-  pub all : AreAll rows all
-  pub firsts : HasFirsts rows firsts
+pub record ArePlaces {S : Type 0} (rows : List Placed) (spaces : List TableBlocks) (spaces_of_all : TableBlocks) (ids : HashMap Spot ℕ S) : Type 0 where
+  pub tables : AreInOrder rows spaces
+  pub all : AreAll rows spaces_of_all
+  pub firsts : HasFirsts rows ids
 
 -- the map has this at one key, and at every other one what it had
 abbrev pub IsSetAt : {S : Type 0} → Spot → Option ℕ → HashMap Spot ℕ S → HashMap Spot ℕ S → Type 0

@@ -7,13 +7,13 @@
 //! book in order, and leaves it so; only the two swaps do neither. Only `reserve` and `reserve_table` take memory.
 #![tactic(auto)]
 
-ghost use Rattle.std.specs.Prelude.{◌≡◌, ◌↔◌, ℕ, ◌+◌, ◌^◌, ◌<◌, ◌≤◌, true, false, None, IfSome, IsSome, IfOk, OnOk, OnErr, MatchBool, IsPermutation, length, map, option_copied, option_map, slice_get};
+ghost use Rattle.std.specs.Prelude.{◌≡◌, ◌↔◌, ℕ, ◌+◌, ◌^◌, ◌<◌, ◌≤◌, true, false, None, IfSome, IsSome, IfOk, OnOk, OnErr, MatchBool, IsPermutation, length, map, option_copied, slice_get};
 ghost use Rattle.inet_num.specs.declared.Family.{Family};
 ghost use Rattle.ipam_data.specs.declared.kinds.Table.{Table};
 ghost use Rattle.ipam_data.specs.Shelf.{row_at, row_after, with_row, without, least, least_pair, Rises};
 ghost use Rattle.ipam_data.specs.Tables.{table_of, same_table};
 ghost use Rattle.row_book.specs.Book.{IsFitting};
-ghost use Rattle.placed_book.specs.Book.{Placed, TabledRows, empty_book, table_at, is_there, spare_of, blocks_at, blocks_of_family, blocks_of_rows, blocks_of_all, AreAll, AreInOrder, IsInOrder};
+ghost use Rattle.placed_book.specs.Book.{Placed, TabledRows, empty_book, table_at, is_there, spare_of, blocks_at, blocks_of_family, blocks_of_rows, blocks_of_all, IsInOrder};
 ghost use Rattle.placed_book.specs.Changes.{IsSwapped, IsChangedAt};
 ghost use Rattle.placed_book.specs.Rivals.{coincide_in, is_rival, stays_among};
 ghost use Rattle.placed_book.specs.Figures.{around, inside};

@@ -18,8 +18,8 @@ remove-requires g c =
     held g.T.HasId.id_of g.T.Located.placed g.met.T.Located.same c.args.rows.now.rows c.args.id c.in-Some.row.now c.args.tables.now c.of-table.result c.block-block.result
     c.in_order.ensures.ordered (sym c.in-Some.ensures) (c.of-table.ensures ∙ ap table_of c.vrf.ensures) c.block-block.ensures c.requires.tables
 
-pub remove-requires-2 : goal.remove-requires-2
-remove-requires-2 g c =
+pub remove-requires-in-Some : goal.remove-requires-in-Some
+remove-requires-in-Some g c =
     held_all g.T.HasId.id_of g.T.Located.placed g.met.T.Located.same c.args.rows.now.rows c.args.id c.in-Some.row.now c.args.all.now c.block-block.result
     c.in_order.ensures.ordered (sym c.in-Some.ensures) c.block-block.ensures c.requires.all
 
@@ -27,8 +27,8 @@ pub returns-in-Some-clause-places : goal.returns-in-Some-clause-places
 returns-in-Some-clause-places g c = record {
   tables = cut_places g.T.HasId.id_of g.T.Located.placed g.met.T.Located.same c.args.rows.now.rows c.args.id c.in-Some.row.now c.args.tables.now c.remove.new.self c.of-table.result c.block-block.result
       c.in_order.ensures.ordered (sym c.in-Some.ensures) (c.of-table.ensures ∙ ap table_of c.vrf.ensures) c.block-block.ensures c.requires.tables c.remove.ensures;
-  all = cut_all_places g.T.HasId.id_of g.T.Located.placed g.met.T.Located.same c.args.rows.now.rows c.args.id c.in-Some.row.now c.args.all.now c.remove-2.new.self c.block-block.result
-      c.in_order.ensures.ordered (sym c.in-Some.ensures) c.block-block.ensures c.requires.all c.remove-2.ensures;
+  all = cut_all_places g.T.HasId.id_of g.T.Located.placed g.met.T.Located.same c.args.rows.now.rows c.args.id c.in-Some.row.now c.args.all.now c.remove-in-Some.new.self c.block-block.result
+      c.in_order.ensures.ordered (sym c.in-Some.ensures) c.block-block.ensures c.requires.all c.remove-in-Some.ensures;
   firsts = cut_row_firsts g.T.HasId.id_of g.T.Located.placed g.met.T.Located.same c.args.rows.now.rows c.args.id c.in-Some.row.now c.args.firsts.now c.settle_first.new.firsts c.spot_at.result c.first_rival-next.result
       c.in_order.ensures.ordered (sym c.in-Some.ensures) (row_id g.T.HasId.id_of g.T.Located.placed g.met.T.Located.same c.args.rows.now.rows c.args.id c.in-Some.row.now (sym c.in-Some.ensures)) c.requires.firsts
       (c.spot_at.ensures ∙ ap (λ (t : Table). spot_of t c.block-block.result) (c.of-table.ensures ∙ ap table_of c.vrf.ensures) ∙ ap (λ (b : Cidr). spot_of (table_of (g.T.Located.placed c.in-Some.row.now).vrf) b) c.block-block.ensures)

@@ -38,27 +38,27 @@ returns-clause-order g c =
     let less = subst (λ (n : ℕ). AreInOrder (map g.T.Located.placed (without g.T.HasId.id_of c.self.inside.rows.rows n)) c.forget.new.tables) c.id-id.ensures c.forget.ensures.places.tables in
     let less_all = subst (λ (n : ℕ). AreAll (map g.T.Located.placed (without g.T.HasId.id_of c.self.inside.rows.rows n)) c.forget.new.all) c.id-id.ensures c.forget.ensures.places.all in
     record {
-      tables = put_places g.T.HasId.id_of g.T.Located.placed g.met.T.Located.same c.self.inside.rows.rows c.put.new.self.rows c.args.row c.forget.new.tables c.insert.new.self c.of-table.result c.block-block.result
-          c.in_order.ensures.ordered c.put.ensures.rows (c.of-table.ensures ∙ ap table_of c.vrf.ensures) c.block-block.ensures less
+      tables = put_places g.T.HasId.id_of g.T.Located.placed g.met.T.Located.same c.self.inside.rows.rows c.put-2.new.self.rows c.args.row c.forget.new.tables c.insert.new.self c.of-table.result c.block-block.result
+          c.in_order.ensures.ordered c.put-2.ensures.rows (c.of-table.ensures ∙ ap table_of c.vrf.ensures) c.block-block.ensures less
           (λ other d. c.forget.ensures.there (table_of other.vrf) ∙ order.tables.named other d)
           (c.forget.ensures.there (table_of (g.T.Located.placed c.args.row).vrf) ∙ room_there c.self.inside.tables (table_of (g.T.Located.placed c.args.row).vrf) room)
           c.insert.ensures;
-      all = put_all_places g.T.HasId.id_of g.T.Located.placed g.met.T.Located.same c.self.inside.rows.rows c.put.new.self.rows c.args.row c.forget.new.all c.insert-2.new.self c.block-block.result
-          c.in_order.ensures.ordered c.put.ensures.rows c.block-block.ensures less_all c.insert-2.ensures;
+      all = put_all_places g.T.HasId.id_of g.T.Located.placed g.met.T.Located.same c.self.inside.rows.rows c.put-2.new.self.rows c.args.row c.forget.new.all c.insert-2.new.self c.block-block.result
+          c.in_order.ensures.ordered c.put-2.ensures.rows c.block-block.ensures less_all c.insert-2.ensures;
     }
 
-pub invariant_of-self : goal.invariant_of-self
-invariant_of-self g c =
+pub invariant_of-self-2 : goal.invariant_of-self-2
+invariant_of-self-2 g c =
     let fits = subst (λ (b : TabledRows g.row.T.Denot). IsFitting g.T.HasId.id_of b.rows c.args.row) (sym c.self.view_is) c.requires.fits in
     let kept : spare c.self.inside.firsts ≤ spare c.forget.new.firsts = c.forget.ensures.room in
     let noted : spare c.forget.new.firsts ≤ spare c.note_first.new.firsts + 1 = c.note_first.ensures.spare in
     let was : c.self.inside.spare ≤ spare c.self.inside.firsts = c.self.invariant.2 in
     let room : c.self.inside.spare - 1 ≤ spare c.note_first.new.firsts = omega (arith, kept, noted, was) in (
-      omega (arith, c.put.ensures.spare, c.self.invariant.0),
+      omega (arith, c.put-2.ensures.spare, c.self.invariant.0),
       omega (arith, c.forget.ensures.spare, c.insert-2.ensures.spare, c.self.invariant.1),
       room,
-      put_row_firsts g.T.HasId.id_of g.T.Located.placed g.met.T.Located.same c.self.inside.rows.rows c.put.new.self.rows c.args.row c.forget.new.firsts c.note_first.new.firsts c.spot_at.result c.id-id.result
-          c.in_order.ensures.ordered c.put.ensures.rows c.id-id.ensures fits c.forget.ensures.places.firsts
+      put_row_firsts g.T.HasId.id_of g.T.Located.placed g.met.T.Located.same c.self.inside.rows.rows c.put-2.new.self.rows c.args.row c.forget.new.firsts c.note_first.new.firsts c.spot_at.result c.id-id.result
+          c.in_order.ensures.ordered c.put-2.ensures.rows c.id-id.ensures fits c.forget.ensures.places.firsts
           (c.spot_at.ensures ∙ ap (λ (t : Table). spot_of t c.block-block.result) (c.of-table.ensures ∙ ap table_of c.vrf.ensures) ∙ ap (λ (b : Cidr). spot_of (table_of (g.T.Located.placed c.args.row).vrf) b) c.block-block.ensures)
           c.note_first.ensures.set,
     )
@@ -67,17 +67,17 @@ pub returns-then-is_in_place-clause-order : goal.returns-then-is_in_place-clause
 returns-then-is_in_place-clause-order g c =
     let order = subst (λ (b : TabledRows g.row.T.Denot). IsInOrder g.T.Located.placed b) (sym c.self.view_is) c.requires.order in
     let stays = sym c.is_in_place.ensures ∙ c.if-is_in_place.true in
-    let is = stays_places g.T.HasId.id_of g.T.Located.placed g.met.T.Located.same c.self.inside.rows.rows c.put-then-is_in_place.new.self.rows c.args.row c.put-then-is_in_place.ensures.rows stays in
+    let is = stays_places g.T.HasId.id_of g.T.Located.placed g.met.T.Located.same c.self.inside.rows.rows c.put.new.self.rows c.args.row c.put.ensures.rows stays in
     record {
       tables = subst (λ (ps : List Placed). AreInOrder ps c.self.inside.tables) (sym is) order.tables;
       all = subst (λ (ps : List Placed). AreAll ps c.self.inside.all) (sym is) order.all;
     }
 
-pub invariant_of-self-then-is_in_place : goal.invariant_of-self-then-is_in_place
-invariant_of-self-then-is_in_place g c =
+pub invariant_of-self : goal.invariant_of-self
+invariant_of-self g c =
     let stays = sym c.is_in_place.ensures ∙ c.if-is_in_place.true in
-    let is = stays_places g.T.HasId.id_of g.T.Located.placed g.met.T.Located.same c.self.inside.rows.rows c.put-then-is_in_place.new.self.rows c.args.row c.put-then-is_in_place.ensures.rows stays in (
-      omega (arith, c.put-then-is_in_place.ensures.spare, c.self.invariant.0),
+    let is = stays_places g.T.HasId.id_of g.T.Located.placed g.met.T.Located.same c.self.inside.rows.rows c.put.new.self.rows c.args.row c.put.ensures.rows stays in (
+      omega (arith, c.put.ensures.spare, c.self.invariant.0),
       omega (arith, c.self.invariant.1),
       omega (arith, c.self.invariant.2),
       subst (λ (ps : List Placed). HasFirsts ps c.self.inside.firsts) (sym is) c.self.invariant.3,
