@@ -272,7 +272,9 @@ impl<T: Located + Drop, S: Space + Drop> PlacedBook<T, S> {
         ensures { MatchBool result (least T.id_of (is_rival T.id_of T.placed row.now) self.now.rows ≡ None) (IsSome (least T.id_of (is_rival T.id_of T.placed row.now) self.now.rows)) }
     {
         in_order(&self.rows);
-        if self.tables.times(Table::of(row.vrf()), row.block()) <= is_in_place(&self.rows, row) as u32 {
+        if self.tables.times(Table::of(row.vrf()), row.block())
+            <= is_in_place(&self.rows, row) as u32
+        {
             return true;
         }
         false

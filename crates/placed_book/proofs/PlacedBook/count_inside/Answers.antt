@@ -20,7 +20,7 @@ returns-in-Some g c =
     let is = counted_inside (map g.T.Located.placed c.self.inside.rows.rows) c.self.inside.tables (g.T.Located.placed c.args.row.now) c.of.result c.block-block.result c.counting.result
     order.tables (c.of.ensures ∙ ap table_of c.vrf.ensures) c.block-block.ensures
     (λ blocks p. c.counting.ensures ∙ inside_any_order (g.S.Space.family_of c.space-space.result.now) c.block-block.result (g.S.Space.held c.space-space.result.now) blocks c.bounds.ensures
-        (sym c.family.ensures.family ∙ sym c.space-space.ensures.family) c.lawful.ensures (subst (λ (bs : List Cidr). IsPermutation blocks bs) held p)) in
+    (sym c.family.ensures.family ∙ sym c.space-space.ensures.family) c.lawful.ensures (subst (λ (bs : List Cidr). IsPermutation blocks bs) held p)) in
     subst (λ (b : TabledRows g.row.T.Denot). c.counting.result ≡ inside (map g.T.Located.placed b.rows) (g.T.Located.placed c.args.row.now)) c.self.view_is is
 
 pub returns-in-None : goal.returns-in-None
