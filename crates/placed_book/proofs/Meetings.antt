@@ -1,5 +1,5 @@
 -- Rows that coincide: what the blocks of their table say of them.
-use Rattle.std.proofs.Common.{◌≡◌, ℕ, ◌+◌, ◌<◌, ◌≤◌, ◌==◌, ◌&&◌, Bool, true, false, not, cond, List, [], ◌∷◌, map, length, drop, drop_of_length-le, Option, Some, None, IsSome, find, slice_get, refl, ap, sym, subst, ◌∙◌, arith, option_map}
+use Rattle.std.proofs.Common.{◌≡◌, ℕ, ◌+◌, ◌<◌, ◌≤◌, ◌==◌, ◌&&◌, Bool, true, false, not, cond, List, [], ◌∷◌, map, length, drop, drop_of_length-le, Option, Some, None, IsSome, find, slice_get, refl, ap, sym, subst, ◌∙◌, arith, option_map, if◌then◌else◌}
 use Rattle.std.specs.List.{count_by}
 use Rattle.std.proofs.lemmas.Bool.Decides.{nat_tests}
 use Rattle.std.specs.Option.{option_or}
@@ -16,6 +16,7 @@ use Rattle.placed_book.proofs.Lookups.{one_table}
 use Rattle.placed_book.proofs.Orders.{count_yes, count_no, count_alike, count_map}
 use Rattle.placed_book.proofs.Figures.{through_count}
 use Rattle.placed_book.proofs.Searches.{none_counted, counted_found, none_drop, never_found, rises_from, some_within, pair_step}
+use mir.Val.{bool_byte}
 
 -- as many rows are where the row is as the table has its block
 block_test : (a b : Cidr) → (a.first == b.first && a.len == b.len) ≡ is_same b a
@@ -183,3 +184,10 @@ module _ {T : Type 0} (id : T → ℕ) (placed : T → Placed) where
 
 abbrev pub some_of : ℕ × ℕ → Option (ℕ × ℕ)
 some_of p = Some p
+
+-- a test as a number is how often
+pub own_number : (here stays : Bool) → here ≡ stays → bool_byte here ≡ (if stays then 1 else 0)
+own_number true true e = refl
+own_number false false e = refl
+own_number true false e = cc
+own_number false true e = cc

@@ -35,6 +35,11 @@ pub record IsSwapped (family : Family) (blocks : List Cidr) (old new : TableBloc
   pub here : blocks_of_family new family ≡ blocks
   pub others : (other : Family) → same_family family other ≡ false → blocks_of_family new other ≡ blocks_of_family old other
 
+-- a space of this family with just these blocks
+pub record IsSpaceOf {S : Type 0} (family_of : S → Family) (held_by : S → List Cidr) (own : Family) (blocks : List Cidr) (space : S) : Type 0 where
+  pub family : family_of space ≡ own
+  pub held : held_by space ≡ blocks
+
 -- one table is as the relation says of it, and every other one is as it was
 pub record IsChangedAt (table : Table) (Changes : TableBlocks → TableBlocks → Type 0) (old new : List TableBlocks) : Type 0 where
   pub here : (t : TableBlocks) → table_at old table ≡ Some t → (u : TableBlocks) × (table_at new table ≡ Some u) × Changes t u

@@ -7,7 +7,7 @@ use Rattle.ipam_data.specs.Tables.{table_of, same_table}
 use Rattle.inet_num.specs.Blocks.{same_block}
 use Rattle.ipam_data.specs.Shelf.{least}
 use Rattle.placed_book.specs.declared.firsts.Spot.{Spot}
-use Rattle.placed_book.specs.Book.{Placed, placed_id}
+use Rattle.placed_book.specs.Book.{Placed, placed_id, TableBlocks, AreInOrder, AreAll}
 use Rattle.placed_book.specs.Keys.{number_of}
 
 -- the row is in the table, and has the block
@@ -37,6 +37,12 @@ same_spot a b = a.first == b.first && (a.table == b.table && (a.width == b.width
 -- the map has the least id of the rows at each place, and nothing where there is no row
 abbrev pub HasFirsts : {S : Type 0} → List Placed → HashMap Spot ℕ S → Type 0
 HasFirsts rows m = (table : Table) (block : Cidr) → get same_spot m (spot_of table block) ≡ first_at rows table block
+
+-- the tables, the blocks of all and the least ids are those of just these rows
+pub record ArePlaces {S : Type 0} (rows : List Placed) (spaces : List TableBlocks) (spaces_of_all : TableBlocks) (ids : HashMap Spot ℕ S) : Type 0 where
+  pub tables : AreInOrder rows spaces
+  pub all : AreAll rows spaces_of_all
+  pub firsts : HasFirsts rows ids
 
 -- the map has this at one key, and at every other one what it had
 abbrev pub IsSetAt : {S : Type 0} → Spot → Option ℕ → HashMap Spot ℕ S → HashMap Spot ℕ S → Type 0

@@ -1,6 +1,6 @@
 //! The least id of the rows at each place: in a table, with a block.
 
-ghost use Rattle.std.specs.Prelude.{◌≡◌, ℕ, ◌+◌, ◌≤◌, Some, None, IsSome, option_copied};
+ghost use Rattle.std.specs.Prelude.{◌≡◌, ℕ, ◌+◌, ◌≤◌, Some, IsSome};
 ghost use Rattle.std.specs.HashMap.{get, spare};
 ghost use Rattle.placed_book.specs.Firsts.{same_spot, spot_of, lesser, IsSetAt};
 
@@ -33,23 +33,22 @@ pub fn spot_at(table: Table, block: &Block) -> Spot
     }
 }
 
-/// Puts another id in the place of that of a key which is there. It leaves the room.
-pub fn change_first(firsts: &mut Firsts, spot: Spot, id: u32)
+/// Puts another id in the place of that of a key which is there, or takes the key out. It leaves the room.
+pub fn settle_first(firsts: &mut Firsts, spot: Spot, id: Option<u32>)
     requires { IsSome (get same_spot firsts.old spot) }
-    ensures set { IsSetAt spot (Some id) firsts.old firsts.new }
+    ensures set { IsSetAt spot id firsts.old firsts.new }
     ensures spare { spare firsts.old ≤ spare firsts.new }
 {
-    if let Some(first) = firsts.get_mut(&spot) {
-        *first = id;
+    match id {
+        Some(id) => {
+            if let Some(first) = firsts.get_mut(&spot) {
+                *first = id;
+            }
+        }
+        None => {
+            let _first = firsts.remove(&spot);
+        }
     }
-}
-
-/// Takes a key out. It leaves the room.
-pub fn drop_first(firsts: &mut Firsts, spot: Spot)
-    ensures set { IsSetAt spot None firsts.old firsts.new }
-    ensures spare { spare firsts.old ≤ spare firsts.new }
-{
-    let _first = firsts.remove(&spot);
 }
 
 /// Notes the id of one more row: it is the first one where it is less than the one that was. It takes no memory.

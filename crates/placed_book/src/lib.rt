@@ -7,17 +7,17 @@
 //! book in order, and leaves it so; only the two swaps do neither. Only `reserve` and `reserve_table` take memory.
 #![tactic(auto)]
 
-ghost use Rattle.std.specs.Prelude.{◌≡◌, ◌↔◌, ℕ, ◌+◌, ◌^◌, ◌<◌, ◌≤◌, true, false, None, IfSome, IsSome, IfOk, OnOk, OnErr, MatchBool, IsPermutation, length, map, option_copied, option_map, slice_get};
+ghost use Rattle.std.specs.Prelude.{◌≡◌, ◌↔◌, ℕ, ◌+◌, ◌^◌, ◌<◌, ◌≤◌, true, false, None, IfSome, IsSome, IfOk, OnOk, OnErr, MatchBool, IsPermutation, length, map, option_copied, slice_get};
 ghost use Rattle.inet_num.specs.declared.Family.{Family};
 ghost use Rattle.ipam_data.specs.declared.kinds.Table.{Table};
 ghost use Rattle.ipam_data.specs.Shelf.{row_at, row_after, with_row, without, least, least_pair, Rises};
 ghost use Rattle.ipam_data.specs.Tables.{table_of, same_table};
 ghost use Rattle.row_book.specs.Book.{IsFitting};
-ghost use Rattle.placed_book.specs.Book.{Placed, TabledRows, empty_book, table_at, is_there, spare_of, blocks_at, blocks_of_family, blocks_of_rows, blocks_of_all, AreAll, AreInOrder, IsInOrder};
+ghost use Rattle.placed_book.specs.Book.{Placed, TabledRows, empty_book, table_at, is_there, spare_of, blocks_at, blocks_of_family, blocks_of_rows, blocks_of_all, IsInOrder};
 ghost use Rattle.placed_book.specs.Changes.{IsSwapped, IsChangedAt};
 ghost use Rattle.placed_book.specs.Rivals.{coincide_in, is_rival, stays_among};
 ghost use Rattle.placed_book.specs.Figures.{around, inside};
-ghost use Rattle.placed_book.specs.Firsts.{HasFirsts, ids_at, room_of};
+ghost use Rattle.placed_book.specs.Firsts.{ArePlaces, ids_at, room_of};
 
 mod firsts;
 mod kinds;
@@ -25,13 +25,13 @@ mod rivals;
 mod spaces;
 mod tables;
 
-use block_space::Space;
-use firsts::{Firsts, change_first, drop_first, note_first, spot_at};
+use block_space::{Space, lawful};
+use firsts::{Firsts, note_first, settle_first, spot_at};
 use indexed_book::IndexedBook;
 use inet_num::{Block, Family};
-use ipam_data::kinds::{HasId, Table};
+use ipam_data::kinds::{HasId, Table, is_one_table};
 pub use kinds::host_block;
-use rivals::{first_rival, ids_among, is_in_place, pair_at, times_itself};
+use rivals::{first_rival, ids_among, is_in_place, least_rival};
 use row_book::{Book, in_order};
 use spaces::TableSpaces;
 use std::alloc::{AllocError, Global};
@@ -56,60 +56,30 @@ pub trait Located: HasId {
     ghost same: { (x : Self) → (placed x).id ≡ Self.id_of x };
 }
 
-/// Takes the block of the row of an id out of its table; where there is no such row, nothing.
+/// Takes the row of an id out of all that is told by the places of rows: its block out of its table and out of the blocks of all
+/// tables, and its id out of the first ids. Where there is no such row, nothing.
 fn forget<T: Located + Drop, S: Space + Drop>(
     rows: &IndexedBook<T>,
     tables: &mut Tables<S>,
-    id: u32,
-)
-    requires { AreInOrder (map T.placed rows.now.rows) tables.old }
-    ensures order { AreInOrder (map T.placed (without T.id_of rows.now.rows id)) tables.new }
-    ensures there { (t : Table) → is_there tables.new t ≡ is_there tables.old t }
-    ensures spares { (t : Table) → spare_of tables.old t ≤ spare_of tables.new t }
-{
-    in_order(rows);
-    match rows.get(id) {
-        Some(row) => tables.remove(Table::of(row.vrf()), row.block()),
-        None => {}
-    }
-}
-
-/// Takes the block of the row of an id out of the blocks of all tables; where there is no such row, nothing.
-fn forget_in_all<T: Located + Drop, S: Space + Drop>(
-    rows: &IndexedBook<T>,
     all: &mut TableSpaces<S>,
-    id: u32,
-)
-    requires { AreAll (map T.placed rows.now.rows) all.old }
-    ensures order { AreAll (map T.placed (without T.id_of rows.now.rows id)) all.new }
-    ensures spare { all.old.spare ≤ all.new.spare }
-{
-    in_order(rows);
-    match rows.get(id) {
-        Some(row) => all.remove(row.block()),
-        None => {}
-    }
-}
-
-/// Takes the row of an id out of the first ids of the places; where there is no such row, nothing.
-fn forget_first<T: Located + Drop, S: Space + Drop>(
-    rows: &IndexedBook<T>,
-    tables: &Tables<S>,
     firsts: &mut Firsts,
     id: u32,
 )
-    requires order { AreInOrder (map T.placed rows.now.rows) tables.now }
-    requires firsts { HasFirsts (map T.placed rows.now.rows) firsts.old }
-    ensures firsts { HasFirsts (map T.placed (without T.id_of rows.now.rows id)) firsts.new }
+    requires { ArePlaces (map T.placed rows.now.rows) tables.old all.old firsts.old }
+    ensures places { ArePlaces (map T.placed (without T.id_of rows.now.rows id)) tables.new all.new firsts.new }
+    ensures there { (t : Table) → is_there tables.new t ≡ is_there tables.old t }
+    ensures spares { (t : Table) → spare_of tables.old t ≤ spare_of tables.new t }
+    ensures spare { all.old.spare ≤ all.new.spare }
     ensures room { room_of firsts.old ≤ room_of firsts.new }
 {
     in_order(rows);
     if let Some(row) = rows.get(id) {
-        let spot = spot_at(Table::of(row.vrf()), &row.block());
-        match first_rival(rows, tables, firsts, row) {
-            Some(other) => change_first(firsts, spot, other),
-            None => drop_first(firsts, spot),
-        }
+        let table = Table::of(row.vrf());
+        let block = row.block();
+        let next = first_rival(rows, tables, firsts, row);
+        settle_first(firsts, spot_at(table, &block), next);
+        tables.remove(table, block);
+        all.remove(block);
     }
 }
 
@@ -235,51 +205,6 @@ impl<T: Located + Drop, S: Space + Drop> PlacedBook<T, S> {
         self.tables.reserve(table, n)
     }
 
-    /// Puts a row, and takes its block out of where it was.
-    fn put_anew(&mut self, row: T)
-        requires order { IsInOrder T.placed self.old }
-        requires room { 1 ≤ self.old.spare }
-        requires table_room { 1 ≤ spare_of self.old.tables (table_of (T.placed row).vrf) }
-        requires id { 1 ≤ T.id_of row }
-        requires fits { IsFitting T.id_of self.old.rows row }
-        ensures order { IsInOrder T.placed self.new }
-        ensures rows { self.new.rows ≡ with_row T.id_of self.old.rows row }
-        ensures spare { self.old.spare ≤ self.new.spare + 1 }
-        ensures there { (t : Table) → is_there self.new.tables t ≡ is_there self.old.tables t }
-        ensures table_spare { spare_of self.old.tables (table_of (T.placed row).vrf) ≤ spare_of self.new.tables (table_of (T.placed row).vrf) + 1 }
-        ensures other_spares { (t : Table) → same_table t (table_of (T.placed row).vrf) ≡ false → spare_of self.old.tables t ≤ spare_of self.new.tables t }
-    {
-        in_order(&self.rows);
-        let id = row.id();
-        let table = Table::of(row.vrf());
-        let block = row.block();
-        forget_first(&self.rows, &self.tables, &mut self.firsts, id);
-        forget(&self.rows, &mut self.tables, id);
-        forget_in_all(&self.rows, &mut self.all, id);
-        self.tables.insert(table, block);
-        self.all.insert(block);
-        note_first(&mut self.firsts, spot_at(table, &block), id);
-        self.rows.put(row);
-        self.spare -= 1;
-    }
-
-    /// Puts a row where its block stays in its table.
-    fn put_in_place(&mut self, row: T)
-        requires order { IsInOrder T.placed self.old }
-        requires room { 1 ≤ self.old.spare }
-        requires id { 1 ≤ T.id_of row }
-        requires fits { IsFitting T.id_of self.old.rows row }
-        requires stays { stays_among T.id_of T.placed self.old.rows row ≡ true }
-        ensures order { IsInOrder T.placed self.new }
-        ensures rows { self.new.rows ≡ with_row T.id_of self.old.rows row }
-        ensures spare { self.old.spare ≤ self.new.spare + 1 }
-        ensures tables { self.new.tables ≡ self.old.tables }
-        ensures all { self.new.all ≡ self.old.all }
-    {
-        self.rows.put(row);
-        self.spare -= 1;
-    }
-
     /// Puts the row in the place of the one of its id, or else behind all: its id is then above all others. It takes no
     /// memory, and uses up at most one row's room of the book and of the row's table. Where the row of its id is of its table
     /// and has its block, the spaces stay as they are, and the table needs no room.
@@ -298,11 +223,26 @@ impl<T: Located + Drop, S: Space + Drop> PlacedBook<T, S> {
         ensures tables { stays_among T.id_of T.placed self.old.rows row ≡ true → self.new.tables ≡ self.old.tables }
         ensures all { stays_among T.id_of T.placed self.old.rows row ≡ true → self.new.all ≡ self.old.all }
     {
+        in_order(&self.rows);
+        self.spare -= 1;
         if is_in_place(&self.rows, &row) {
-            self.put_in_place(row);
-        } else {
-            self.put_anew(row);
+            self.rows.put(row);
+            return;
         }
+        let id = row.id();
+        let table = Table::of(row.vrf());
+        let block = row.block();
+        forget(
+            &self.rows,
+            &mut self.tables,
+            &mut self.all,
+            &mut self.firsts,
+            id,
+        );
+        self.tables.insert(table, block);
+        self.all.insert(block);
+        note_first(&mut self.firsts, spot_at(table, &block), id);
+        self.rows.put(row);
     }
 
     /// Takes the row of this id out, and hands it out; `None` where there is none. It leaves all room.
@@ -315,9 +255,13 @@ impl<T: Located + Drop, S: Space + Drop> PlacedBook<T, S> {
         ensures there { (t : Table) → is_there self.new.tables t ≡ is_there self.old.tables t }
         ensures spares { (t : Table) → spare_of self.old.tables t ≤ spare_of self.new.tables t }
     {
-        forget_first(&self.rows, &self.tables, &mut self.firsts, id);
-        forget(&self.rows, &mut self.tables, id);
-        forget_in_all(&self.rows, &mut self.all, id);
+        forget(
+            &self.rows,
+            &mut self.tables,
+            &mut self.all,
+            &mut self.firsts,
+            id,
+        );
         self.rows.cut(id)
     }
 
@@ -328,7 +272,9 @@ impl<T: Located + Drop, S: Space + Drop> PlacedBook<T, S> {
         ensures { MatchBool result (least T.id_of (is_rival T.id_of T.placed row.now) self.now.rows ≡ None) (IsSome (least T.id_of (is_rival T.id_of T.placed row.now) self.now.rows)) }
     {
         in_order(&self.rows);
-        if self.tables.times(Table::of(row.vrf()), row.block()) <= times_itself(&self.rows, row) {
+        if self.tables.times(Table::of(row.vrf()), row.block())
+            <= is_in_place(&self.rows, row) as u32
+        {
             return true;
         }
         false
@@ -366,10 +312,15 @@ impl<T: Located + Drop, S: Space + Drop> PlacedBook<T, S> {
         requires { IsInOrder T.placed self.now }
         ensures { result ≡ least_pair T.id_of (coincide_in T.placed table) self.now.rows }
     {
+        in_order(&self.rows);
         let count = self.rows.len();
         'rows: for index in 0..count {
-            if let Some(pair) = pair_at(&self.rows, &self.tables, index, table) {
-                return Some(pair);
+            if let Some(row) = self.rows.at(index) {
+                if is_one_table(Table::of(row.vrf()), table) {
+                    if let Some(other) = least_rival(&self.rows, &self.tables, index + 1, row) {
+                        return Some((row.id(), other));
+                    }
+                }
             }
         }
         None
@@ -381,7 +332,16 @@ impl<T: Located + Drop, S: Space + Drop> PlacedBook<T, S> {
         requires { IsInOrder T.placed self.now }
         ensures { result ≡ around (map T.placed self.now.rows) (T.placed row.now) }
     {
-        self.tables.count_around(Table::of(row.vrf()), row.block())
+        let block = row.block();
+        block.bounds();
+        match self.tables.at(Table::of(row.vrf())) {
+            Some(spaces) => {
+                let space = spaces.space(block.family());
+                lawful(space);
+                space.around(block)
+            }
+            None => 0,
+        }
     }
 
     /// How many rows of a row's table lie strictly inside its block, whether or not the row is there.
@@ -389,7 +349,16 @@ impl<T: Located + Drop, S: Space + Drop> PlacedBook<T, S> {
         requires { IsInOrder T.placed self.now }
         ensures { result ≡ inside (map T.placed self.now.rows) (T.placed row.now) }
     {
-        self.tables.count_inside(Table::of(row.vrf()), row.block())
+        let block = row.block();
+        block.bounds();
+        match self.tables.at(Table::of(row.vrf())) {
+            Some(spaces) => {
+                let space = spaces.space(block.family());
+                lawful(space);
+                space.counting(block, true)
+            }
+            None => 0,
+        }
     }
 
     /// The space of a table's blocks of one family, or `None` exactly where the table is not there: it is not the global one,

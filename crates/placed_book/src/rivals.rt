@@ -1,10 +1,10 @@
 //! Which rows are where another is: in its table, with its block.
 
-ghost use Rattle.std.specs.Prelude.{◌≡◌, ◌++◌, IfOk, OnOk, ℕ, ◌+◌, ◌<◌, ◌≤◌, Some, drop, find, map, length, slice_get, option_map, not, ◌&&◌, ◌==◌};
-ghost use Rattle.ipam_data.specs.Shelf.{row_at, least};
+ghost use Rattle.std.specs.Prelude.{◌≡◌, ◌++◌, IfOk, OnOk, drop, map};
+ghost use Rattle.ipam_data.specs.Shelf.{least};
 ghost use Rattle.placed_book.specs.Book.{AreInOrder};
 ghost use Rattle.placed_book.specs.Firsts.{HasFirsts, is_at, ids_at, one_if};
-ghost use Rattle.placed_book.specs.Rivals.{is_where, own_times, coincide_in, is_rival, stays_among};
+ghost use Rattle.placed_book.specs.Rivals.{is_rival, stays_among};
 
 use crate::Located;
 use crate::firsts::{Firsts, spot_at};
@@ -16,26 +16,18 @@ use ipam_data::kinds::{Table, is_one_table};
 use row_book::{Book, in_order};
 use std::alloc::{AllocError, Global};
 
-/// Whether the other row is of the row's table and has its block.
-fn is_there<T: Located>(row: &T, other: &T) -> bool
-    ensures { result ≡ is_where (T.placed row.now) (T.placed other.now) }
-{
-    is_one_table(Table::of(other.vrf()), Table::of(row.vrf()))
-        && is_one_block(&other.block(), &row.block())
-}
-
-/// Whether the other row is so, and has another id.
-fn is_another<T: Located>(row: &T, other: &T) -> bool
-    ensures { result ≡ is_rival T.id_of T.placed row.now other.now }
-{
-    other.id() != row.id() && is_there(row, other)
-}
-
 /// Whether the row is in the table and has the block.
 fn is_here<T: Located>(row: &T, table: Table, block: &Block) -> bool
     ensures { result ≡ is_at table block.now (T.placed row.now) }
 {
     is_one_table(Table::of(row.vrf()), table) && is_one_block(&row.block(), block)
+}
+
+/// Whether the other row is of the row's table with its block, and has another id.
+fn is_another<T: Located>(row: &T, other: &T) -> bool
+    ensures { result ≡ is_rival T.id_of T.placed row.now other.now }
+{
+    other.id() != row.id() && is_here(other, Table::of(row.vrf()), &row.block())
 }
 
 /// Appends the id, where it is one of those that are looked for.
@@ -72,23 +64,26 @@ pub fn is_in_place<T: Located + Drop>(rows: &IndexedBook<T>, row: &T) -> bool
     ensures { result ≡ stays_among T.id_of T.placed rows.now.rows row.now }
 {
     match rows.get(row.id()) {
-        Some(kept) => is_there(row, kept),
+        Some(kept) => is_here(kept, Table::of(row.vrf()), &row.block()),
         None => false,
     }
 }
 
-/// How often a row meets itself: once, where the row that is kept under its id is where it is.
-pub fn times_itself<T: Located + Drop>(rows: &IndexedBook<T>, row: &T) -> u32
-    ensures { result ≡ own_times (T.placed row.now) (option_map T.placed (row_at T.id_of rows.now.rows (T.id_of row.now))) }
-{
-    if is_in_place(rows, row) { 1 } else { 0 }
-}
-
-/// The id of the first rival from an index on, looked for row by row.
-fn rival_from<T: Located + Drop>(rows: &IndexedBook<T>, from: u32, row: &T) -> Option<u32>
-    requires { from ≤ length rows.now.rows }
+/// The id of the first rival from an index on. It looks at the rows only where the table's space says that there may be one: it has
+/// the block more often than the row meets itself.
+pub fn least_rival<T: Located + Drop, S: Space + Drop>(
+    rows: &IndexedBook<T>,
+    tables: &Tables<S>,
+    from: u32,
+    row: &T,
+) -> Option<u32>
+    requires { AreInOrder (map T.placed rows.now.rows) tables.now }
     ensures { result ≡ least T.id_of (is_rival T.id_of T.placed row.now) (drop from rows.now.rows) }
 {
+    in_order(rows);
+    if tables.times(Table::of(row.vrf()), row.block()) <= is_in_place(rows, row) as u32 {
+        return None;
+    }
     let count = rows.len();
     'rows: for index in from..count {
         if let Some(other) = rows.at(index) {
@@ -98,24 +93,6 @@ fn rival_from<T: Located + Drop>(rows: &IndexedBook<T>, from: u32, row: &T) -> O
         }
     }
     None
-}
-
-/// The same, where the table's space says that there may be one: it has the block more often than the row meets itself.
-pub fn least_rival<T: Located + Drop, S: Space + Drop>(
-    rows: &IndexedBook<T>,
-    tables: &Tables<S>,
-    from: u32,
-    row: &T,
-) -> Option<u32>
-    requires order { AreInOrder (map T.placed rows.now.rows) tables.now }
-    requires within { from ≤ length rows.now.rows }
-    ensures { result ≡ least T.id_of (is_rival T.id_of T.placed row.now) (drop from rows.now.rows) }
-{
-    in_order(rows);
-    if tables.times(Table::of(row.vrf()), row.block()) <= times_itself(rows, row) {
-        return None;
-    }
-    rival_from(rows, from, row)
 }
 
 /// The least id of a rival: the first one at the row's place, or, where that is the row's own, what a look at the rows finds.
@@ -135,30 +112,4 @@ pub fn first_rival<T: Located + Drop, S: Space + Drop>(
         }
     }
     least_rival(rows, tables, 0, row)
-}
-
-/// The id of the row at an index and that of the first later row with its block, where both are of the table.
-pub fn pair_at<T: Located + Drop, S: Space + Drop>(
-    rows: &IndexedBook<T>,
-    tables: &Tables<S>,
-    index: u32,
-    table: Table,
-) -> Option<(u32, u32)>
-    requires order { AreInOrder (map T.placed rows.now.rows) tables.now }
-    requires within { index < length rows.now.rows }
-    ensures { (x : T) → slice_get rows.now.rows index ≡ Some x → result ≡ option_map (λ y. (T.id_of x, T.id_of y)) (find (coincide_in T.placed table x) (drop (index + 1) rows.now.rows)) }
-{
-    in_order(rows);
-    match rows.at(index) {
-        Some(row) => {
-            if !is_one_table(Table::of(row.vrf()), table) {
-                return None;
-            }
-            match least_rival(rows, tables, index + 1, row) {
-                Some(other) => Some((row.id(), other)),
-                None => None,
-            }
-        }
-        None => None,
-    }
 }

@@ -4,7 +4,7 @@ ghost use Rattle.std.specs.Prelude.{◌≡◌, ℕ, ◌+◌, ◌^◌, ◌<◌, �
 ghost use Rattle.inet_num.specs.declared.Family.{Family};
 ghost use Rattle.block_space.specs.Listed.{times_of};
 ghost use Rattle.placed_book.specs.Book.{TableBlocks, empty_table, blocks_of_family};
-ghost use Rattle.placed_book.specs.Changes.{IsOneMore, IsOneLess, IsRoomier, IsSwapped};
+ghost use Rattle.placed_book.specs.Changes.{IsOneMore, IsOneLess, IsRoomier, IsSwapped, IsSpaceOf};
 
 use block_space::Space;
 use inet_num::{Block, Family};
@@ -56,8 +56,7 @@ impl<S: Space> TableSpaces<S> {
 
     /// The space of its blocks of a family.
     pub fn space(&self, family: Family) -> &S
-        ensures held { S.held result.now ≡ blocks_of_family self.now family }
-        ensures family { S.family_of result.now ≡ family }
+        ensures { IsSpaceOf S.family_of S.held family (blocks_of_family self.now family) result.now }
     {
         match family {
             Family::V4 => &self.v4,
@@ -70,8 +69,7 @@ impl<S: Space> TableSpaces<S> {
     pub fn swap(&mut self, family: Family, other: S) -> S
         requires { S.family_of other ≡ family }
         ensures swapped { IsSwapped family (S.held other) self.old self.new }
-        ensures held { S.held result ≡ blocks_of_family self.old family }
-        ensures family { S.family_of result ≡ family }
+        ensures out { IsSpaceOf S.family_of S.held family (blocks_of_family self.old family) result }
     {
         self.spare = 0;
         match family {
@@ -82,9 +80,7 @@ impl<S: Space> TableSpaces<S> {
 
     /// Makes its room at least `n` blocks of either family. `Err` is want of memory, and leaves the table as it was.
     pub fn reserve(&mut self, n: u32) -> Result<(), AllocError>
-        requires few_v4 { length self.old.v4 + n < 2 ^ 30 }
-        requires few_v6 { length self.old.v6 + n < 2 ^ 30 }
-        ensures table { self.new.table ≡ self.old.table }
+        requires { (family : Family) → length (blocks_of_family self.old family) + n < 2 ^ 30 }
         ensures ok { OnOk result (IsRoomier n self.old self.new) }
         ensures err { OnErr result (self.new ≡ self.old) }
     {

@@ -1,19 +1,17 @@
 //! The tables of blocks that are there: the global one and those of VRFs, each with a space of each family.
 
-ghost use Rattle.std.specs.Prelude.{◌≡◌, ℕ, ◌+◌, ◌^◌, ◌<◌, ◌≤◌, ◌∷◌, [], true, List, None, IsPermutation, filter, count_by, IfSome, IfNone, OnOk, OnErr, length, option_copied};
+ghost use Rattle.std.specs.Prelude.{◌≡◌, ℕ, ◌+◌, ◌^◌, ◌<◌, ◌≤◌, ◌∷◌, [], true, IfOk, IfErr, OnOk, OnErr, length, option_copied};
 ghost use Rattle.inet_num.specs.declared.Family.{Family};
 ghost use Rattle.ipam_data.specs.declared.kinds.Table.TheVariants.{Global as GlobalTable};
-ghost use Rattle.ipam_data.specs.Shelf.{row_at, Rises};
-ghost use Rattle.inet_num.specs.Net.{Cidr};
-ghost use Rattle.inet_num.specs.Blocks.{distinct, is_strictly_inside};
+ghost use Rattle.ipam_data.specs.Shelf.{Rises};
 ghost use Rattle.block_space.specs.Listed.{times_of};
-ghost use Rattle.row_book.specs.Book.{place, IsAt};
+ghost use Rattle.row_book.specs.Book.{IsAt};
 ghost use Rattle.placed_book.specs.Book.{TableBlocks, empty_table, table_at, is_there, spare_of, blocks_at};
-ghost use Rattle.placed_book.specs.Changes.{IsOneMore, IsOneLess, IsRoomier, IsSwapped, IsChangedAt, IsReserved};
-ghost use Rattle.placed_book.specs.Keys.{number_of, key_of};
+ghost use Rattle.placed_book.specs.Changes.{IsOneMore, IsOneLess, IsSwapped, IsChangedAt, IsReserved, IsSpaceOf};
+ghost use Rattle.placed_book.specs.Keys.{number_of, key_of, IsGapFor};
 
 use crate::spaces::TableSpaces;
-use block_space::{Space, lawful};
+use block_space::Space;
 use inet_num::{Block, Family};
 use ipam_data::kinds::Table;
 use std::alloc::{AllocError, Global};
@@ -29,59 +27,30 @@ pub fn number(table: Table) -> u64
     }
 }
 
-/// How many tables at the front have lesser numbers, by halving.
-fn seek<S: Space>(of_vrfs: &[TableSpaces<S>], at: u64) -> usize
+/// The index of a table, by halving. `Err` is the place where it would stand.
+fn search<S: Space>(of_vrfs: &[TableSpaces<S>], table: Table) -> Result<usize, usize>
     requires { Rises key_of 0 of_vrfs.now }
-    ensures { result ≡ place key_of at of_vrfs.now }
+    ensures at { IfOk result (λ k. IsAt key_of of_vrfs.now (number_of table) k) }
+    ensures none { IfErr result (λ k. IsGapFor (number_of table) of_vrfs.now k) }
 {
+    let wanted = number(table);
     let mut low = 0;
     let mut high = of_vrfs.len();
     while low < high {
         let middle = low + (high - low) / 2;
-        if number(of_vrfs[middle].table()) < at {
+        if number(of_vrfs[middle].table()) < wanted {
             low = middle + 1;
         } else {
             high = middle;
         }
     }
-    low
-}
-
-/// The index of a table.
-fn found<S: Space>(of_vrfs: &[TableSpaces<S>], table: Table) -> Option<usize>
-    requires { Rises key_of 0 of_vrfs.now }
-    ensures at { IfSome result (λ k. IsAt key_of of_vrfs.now (number_of table) k) }
-    ensures none { IfNone result (row_at key_of of_vrfs.now (number_of table) ≡ None) }
-{
-    let wanted = number(table);
-    let at = seek(of_vrfs, wanted);
-    if at == of_vrfs.len() {
-        return None;
+    if low == of_vrfs.len() {
+        return Err(low);
     }
-    if number(of_vrfs[at].table()) == wanted {
-        return Some(at);
+    if number(of_vrfs[low].table()) == wanted {
+        return Ok(low);
     }
-    None
-}
-
-/// How many blocks of a space lie strictly inside a block, each as often as it is there.
-fn count_strictly_inside<S: Space>(space: &S, block: Block) -> u32
-    requires { block.family ≡ S.family_of space.now }
-    ensures { (blocks : List Cidr) → IsPermutation blocks (S.held space.now) → result ≡ count_by (λ b. is_strictly_inside b block) blocks }
-{
-    lawful(space);
-    block.bounds();
-    space.counting(block, true)
-}
-
-/// How many different blocks of a space contain a block strictly.
-fn count_different_around<S: Space>(space: &S, block: Block) -> u32
-    requires { block.family ≡ S.family_of space.now }
-    ensures { (blocks : List Cidr) → IsPermutation blocks (S.held space.now) → result ≡ distinct (filter (λ b. is_strictly_inside block b) blocks) }
-{
-    lawful(space);
-    block.bounds();
-    space.around(block)
+    Err(low)
 }
 
 /// The tables that are there: the global one, and those of VRFs in the order of the VRFs' ids.
@@ -124,9 +93,9 @@ impl<S: Space + Drop> Tables<S> {
     {
         match table {
             Table::Global => Some(&self.global),
-            Table::Of(_) => match found(self.of_vrfs.as_slice(), table) {
-                Some(at) => Some(&self.of_vrfs[at]),
-                None => None,
+            Table::Of(_) => match search(self.of_vrfs.as_slice(), table) {
+                Ok(at) => Some(&self.of_vrfs[at]),
+                Err(_) => None,
             },
         }
     }
@@ -141,38 +110,17 @@ impl<S: Space + Drop> Tables<S> {
         }
     }
 
-    /// How many blocks of a table lie strictly inside a block, each as often as it is there.
-    pub fn count_inside(&self, table: Table, block: Block) -> u32
-        ensures { (blocks : List Cidr) → IsPermutation blocks (blocks_at self.now table block.family) → result ≡ count_by (λ b. is_strictly_inside b block) blocks }
-    {
-        match self.at(table) {
-            Some(spaces) => count_strictly_inside(spaces.space(block.family()), block),
-            None => 0,
-        }
-    }
-
-    /// How many different blocks of a table contain a block strictly.
-    pub fn count_around(&self, table: Table, block: Block) -> u32
-        ensures { (blocks : List Cidr) → IsPermutation blocks (blocks_at self.now table block.family) → result ≡ distinct (filter (λ b. is_strictly_inside block b) blocks) }
-    {
-        match self.at(table) {
-            Some(spaces) => count_different_around(spaces.space(block.family()), block),
-            None => 0,
-        }
-    }
-
     /// One more block of a table that is there and has room. It takes no memory.
     pub fn insert(&mut self, table: Table, block: Block)
-        requires there { is_there self.old table ≡ true }
         requires room { 1 ≤ spare_of self.old table }
         requires few { length (blocks_at self.old table block.family) < 2 ^ 30 }
         ensures { IsChangedAt table (IsOneMore block) self.old self.new }
     {
         match table {
             Table::Global => self.global.insert(block),
-            Table::Of(_) => match found(self.of_vrfs.as_slice(), table) {
-                Some(at) => self.of_vrfs[at].insert(block),
-                None => {}
+            Table::Of(_) => match search(self.of_vrfs.as_slice(), table) {
+                Ok(at) => self.of_vrfs[at].insert(block),
+                Err(_) => {}
             },
         }
     }
@@ -184,9 +132,9 @@ impl<S: Space + Drop> Tables<S> {
     {
         match table {
             Table::Global => self.global.remove(block),
-            Table::Of(_) => match found(self.of_vrfs.as_slice(), table) {
-                Some(at) => self.of_vrfs[at].remove(block),
-                None => {}
+            Table::Of(_) => match search(self.of_vrfs.as_slice(), table) {
+                Ok(at) => self.of_vrfs[at].remove(block),
+                Err(_) => {}
             },
         }
     }
@@ -197,30 +145,15 @@ impl<S: Space + Drop> Tables<S> {
         requires there { is_there self.old table ≡ true }
         requires family { S.family_of other ≡ family }
         ensures swapped { IsChangedAt table (IsSwapped family (S.held other)) self.old self.new }
-        ensures held { S.held result ≡ blocks_at self.old table family }
-        ensures family { S.family_of result ≡ family }
+        ensures out { IsSpaceOf S.family_of S.held family (blocks_at self.old table family) result }
     {
         match table {
             Table::Global => self.global.swap(family, other),
-            Table::Of(_) => match found(self.of_vrfs.as_slice(), table) {
-                Some(at) => self.of_vrfs[at].swap(family, other),
-                None => other,
+            Table::Of(_) => match search(self.of_vrfs.as_slice(), table) {
+                Ok(at) => self.of_vrfs[at].swap(family, other),
+                Err(_) => other,
             },
         }
-    }
-
-    /// Makes the table, which is not there, with room for `n` blocks of either family.
-    fn add(&mut self, table: Table, n: u32) -> Result<(), AllocError>
-        requires none { table_at self.old table ≡ None }
-        requires few { n < 2 ^ 30 }
-        ensures ok { OnOk result (IsReserved table n self.old self.new) }
-        ensures err { OnErr result (self.new ≡ self.old) }
-    {
-        let mut spaces = TableSpaces::new(self.alloc, table);
-        spaces.reserve(n)?;
-        let at = seek(self.of_vrfs.as_slice(), number(table));
-        self.of_vrfs.insert(at, spaces)?;
-        Ok(())
     }
 
     /// Makes the table where it is not there, and makes its room at least `n` blocks of either family. `Err` is want of
@@ -232,9 +165,14 @@ impl<S: Space + Drop> Tables<S> {
     {
         match table {
             Table::Global => self.global.reserve(n),
-            Table::Of(_) => match found(self.of_vrfs.as_slice(), table) {
-                Some(at) => self.of_vrfs[at].reserve(n),
-                None => self.add(table, n),
+            Table::Of(_) => match search(self.of_vrfs.as_slice(), table) {
+                Ok(at) => self.of_vrfs[at].reserve(n),
+                Err(at) => {
+                    let mut spaces = TableSpaces::new(self.alloc, table);
+                    spaces.reserve(n)?;
+                    self.of_vrfs.insert(at, spaces)?;
+                    Ok(())
+                }
             },
         }
     }

@@ -1,23 +1,15 @@
 use Rattle.std.proofs.Common.{rules, ◌+◌, ◌^◌, ◌<◌, sym, subst, arith, length, map, List}
-use Rattle.inet_num.specs.declared.Family.TheVariants.{V4, V6}
 use Rattle.placed_book.specs.Book.{TabledRows, IsInOrder}
 use Rattle.placed_book.specs.Firsts.{HasFirsts}
 use Rattle.placed_book.proofs.Leasts.{same_firsts}
 use Rattle.placed_book.proofs.Moves.{few_all_of}
 use Rattle.placed_book.proofs.PlacedBook.reserve.Goals as goal
 
-pub reserve-requires-3-clause-few_v4 : goal.reserve-requires-3-clause-few_v4
-reserve-requires-3-clause-few_v4 g c =
+pub reserve-requires-3 : goal.reserve-requires-3
+reserve-requires-3 g c = λ family.
     let order = subst (λ (b : TabledRows g.row.T.Denot). IsInOrder g.T.Located.placed b) (sym c.self.view_is) c.requires.order in
     let bound = subst (λ (b : TabledRows g.row.T.Denot). length b.rows + c.args.n < 2 ^ 30) (sym c.self.view_is) c.requires.few in
-    let few = few_all_of g.T.HasId.id_of g.T.Located.placed g.met.T.Located.same c.self.inside.rows.rows c.self.inside.all V4 order.all in
-    omega arith
-
-pub reserve-requires-3-clause-few_v6 : goal.reserve-requires-3-clause-few_v6
-reserve-requires-3-clause-few_v6 g c =
-    let order = subst (λ (b : TabledRows g.row.T.Denot). IsInOrder g.T.Located.placed b) (sym c.self.view_is) c.requires.order in
-    let bound = subst (λ (b : TabledRows g.row.T.Denot). length b.rows + c.args.n < 2 ^ 30) (sym c.self.view_is) c.requires.few in
-    let few = few_all_of g.T.HasId.id_of g.T.Located.placed g.met.T.Located.same c.self.inside.rows.rows c.self.inside.all V6 order.all in
+    let few = few_all_of g.T.HasId.id_of g.T.Located.placed g.met.T.Located.same c.self.inside.rows.rows c.self.inside.all family order.all in
     omega arith
 
 pub invariant_of-self-then-self-n : goal.invariant_of-self-then-self-n
