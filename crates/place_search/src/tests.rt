@@ -141,12 +141,30 @@ fn check_v4(rt: &impl Abort, alloc: Global, book: &Prefixes, block: Block) -> Re
 {
     let one = [Table::Global];
     let two = [Table::Global, Table::Of(7)];
-    assert!(rt; ids(book, alloc, one.as_slice(), Area::At(block))? == Some(2), "at");
-    assert!(rt; ids(book, alloc, two.as_slice(), Area::At(block))? == Some(24), "at, of two");
-    assert!(rt; ids(book, alloc, one.as_slice(), Area::Inside(block))? == Some(236), "inside");
-    assert!(rt; ids(book, alloc, two.as_slice(), Area::Inside(block))? == Some(23456), "inside, of two");
-    assert!(rt; ids(book, alloc, one.as_slice(), Area::Around(block))? == Some(12), "around");
-    assert!(rt; ids(book, alloc, two.as_slice(), Area::Around(block))? == Some(124), "around, of two");
+    assert!(rt;
+        ids(book, alloc, one.as_slice(), Area::At(block))? == Some(2),
+        "at"
+    );
+    assert!(rt;
+        ids(book, alloc, two.as_slice(), Area::At(block))? == Some(24),
+        "at, of two"
+    );
+    assert!(rt;
+        ids(book, alloc, one.as_slice(), Area::Inside(block))? == Some(236),
+        "inside"
+    );
+    assert!(rt;
+        ids(book, alloc, two.as_slice(), Area::Inside(block))? == Some(23456),
+        "inside, of two"
+    );
+    assert!(rt;
+        ids(book, alloc, one.as_slice(), Area::Around(block))? == Some(12),
+        "around"
+    );
+    assert!(rt;
+        ids(book, alloc, two.as_slice(), Area::Around(block))? == Some(124),
+        "around, of two"
+    );
     Ok(())
 }
 
@@ -157,12 +175,30 @@ fn check_others(rt: &impl Abort, alloc: Global, book: &Prefixes, block: Block) -
     let one = [Table::Of(7)];
     let two = [Table::Global, Table::Of(7)];
     let none = [Table::Of(8)];
-    assert!(rt; ids(book, alloc, two.as_slice(), Area::Inside(block))? == Some(789), "inside");
-    assert!(rt; ids(book, alloc, two.as_slice(), Area::Around(block))? == Some(7), "around");
-    assert!(rt; ids(book, alloc, one.as_slice(), Area::At(block))? == Some(0), "at");
-    assert!(rt; ids(book, alloc, one.as_slice(), Area::Anywhere)? == Some(459), "any, of one");
-    assert!(rt; ids(book, alloc, two.as_slice(), Area::Anywhere)? == Some(123456789), "any, of two");
-    assert!(rt; ids(book, alloc, none.as_slice(), Area::Anywhere)? == Some(0), "not there");
+    assert!(rt;
+        ids(book, alloc, two.as_slice(), Area::Inside(block))? == Some(789),
+        "inside"
+    );
+    assert!(rt;
+        ids(book, alloc, two.as_slice(), Area::Around(block))? == Some(7),
+        "around"
+    );
+    assert!(rt;
+        ids(book, alloc, one.as_slice(), Area::At(block))? == Some(0),
+        "at"
+    );
+    assert!(rt;
+        ids(book, alloc, one.as_slice(), Area::Anywhere)? == Some(459),
+        "any, of one"
+    );
+    assert!(rt;
+        ids(book, alloc, two.as_slice(), Area::Anywhere)? == Some(123456789),
+        "any, of two"
+    );
+    assert!(rt;
+        ids(book, alloc, none.as_slice(), Area::Anywhere)? == Some(0),
+        "not there"
+    );
     Ok(())
 }
 
@@ -172,11 +208,26 @@ fn check_twice(rt: &impl Abort, alloc: Global, book: &Prefixes, block: Block) ->
 {
     let one = [Table::Of(7)];
     let two = [Table::Global, Table::Of(7)];
-    assert!(rt; ids(book, alloc, two.as_slice(), Area::At(block))?.is_none(), "at");
-    assert!(rt; ids(book, alloc, two.as_slice(), Area::Inside(block))?.is_none(), "inside");
-    assert!(rt; ids(book, alloc, two.as_slice(), Area::Around(block))?.is_none(), "around");
-    assert!(rt; ids(book, alloc, two.as_slice(), Area::Anywhere)?.is_none(), "any");
-    assert!(rt; ids(book, alloc, one.as_slice(), Area::Inside(block))? == Some(45), "of another table");
+    assert!(rt;
+        ids(book, alloc, two.as_slice(), Area::At(block))?.is_none(),
+        "at"
+    );
+    assert!(rt;
+        ids(book, alloc, two.as_slice(), Area::Inside(block))?.is_none(),
+        "inside"
+    );
+    assert!(rt;
+        ids(book, alloc, two.as_slice(), Area::Around(block))?.is_none(),
+        "around"
+    );
+    assert!(rt;
+        ids(book, alloc, two.as_slice(), Area::Anywhere)?.is_none(),
+        "any"
+    );
+    assert!(rt;
+        ids(book, alloc, one.as_slice(), Area::Inside(block))? == Some(45),
+        "of another table"
+    );
     Ok(())
 }
 
