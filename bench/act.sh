@@ -359,7 +359,7 @@ fn time_ranges<K: Keeper>(rt: &HostRuntime, register: &mut Register<K>, count: u
 /// The block of this length round the address of the mixed number.
 fn parent(n: u32, len: u8) -> Option<Block> {
     let value = 0x0a000000 | u128::from(mixed(u64::from(n)) & 0xffffff);
-    let keep = !(0xffffffffu128 >> len);
+    let keep = !(0xffffffffu128 >> (len & 31));
     Block::of(Addr::of(Family::V4, value & keep)?, len)
 }
 
