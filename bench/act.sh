@@ -134,10 +134,14 @@ fn make_role<K: Keeper>(alloc: Global, register: &mut Register<K>) -> Result<boo
     }
 }
 
-/// Whether the address was made: that of the mixed number in 10.0.0.0/8.
+/// The n-th address of 10.0.0.0/8 in no order: an odd factor, so that no two of the first 2^24 are one.
+fn host_number(n: u32) -> u128 {
+    0x0a000000 | (u128::from(n).wrapping_mul(0x9e3779b1) & 0xffffff)
+}
+
+/// Whether the n-th address was made.
 fn make_address<K: Keeper>(alloc: Global, register: &mut Register<K>, n: u32) -> Result<bool, AllocError> {
-    let value = 0x0a000000 | u128::from(mixed(u64::from(n)) & 0xffffff);
-    let host = match Addr::of(Family::V4, value) {
+    let host = match Addr::of(Family::V4, host_number(n)) {
         Some(addr) => Host::of(addr, 24),
         None => None,
     };
