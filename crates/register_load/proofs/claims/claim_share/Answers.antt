@@ -23,6 +23,6 @@ loop-preserved g c =
       same = same_on c.args.seat c.loop.seat c.claim_one-rest.result.0 i.same one.same;
       count = omega arith;
       noted = λ k. renoted c.claim_one-rest.result.0 _ _ _ _ _ _ t.0 t.1 t.2
-          (subst (λ (o : Option ℕ). IfSome o (λ value. Notes c.claim_one-rest.result.0 (c.loop.tally.claimed + 1) (min c.loop.tally.least value) (max c.loop.tally.greatest value))) c.in-Some-value.is
+          (subst (λ (o : Option ℕ). IfSome o (λ value. Notes c.claim_one-rest.result.0 (c.loop.tally.claimed + 1) (min c.loop.tally.least value) (max c.loop.tally.greatest value))) c.in-Some.is
           (one.noted c.loop.tally.claimed c.loop.tally.least c.loop.tally.greatest (i.noted k)));
     }
