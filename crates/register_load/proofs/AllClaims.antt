@@ -129,3 +129,16 @@ loaded_figures count came entries (Some f) k is =
       percent = k.percent i;
       entries = k.many i;
     })
+
+-- as the lock's closing and the figures tell it
+pub figures_told : (count : ℕ) (o : Option Came) (came : Came) (many entries : ℕ) (f : Option Figures) → IfSome o (λ c. IsLoaded count c many) → o ≡ Some came → entries ≡ many
+    → IfSome f (λ f. f ≡ record {
+      claimed = came.tally.claimed;
+      first = record { family = V4; value = came.tally.least };
+      last = record { family = V4; value = came.tally.greatest };
+      percent = came.percent;
+      entries = entries;
+    })
+    → IfSome f (λ f. f ≡ load_figures count)
+figures_told count o came many entries f told is same figures =
+    loaded_figures count came entries f (subst (IsLoaded count came) (sym same) (subst (λ (x : Option Came). IfSome x (λ c. IsLoaded count c many)) is told)) figures

@@ -1,5 +1,5 @@
 -- What the closed history of a load is, once all workers were dismissed.
-use Rattle.std.proofs.Common.{◌≡◌, ◌≢◌, ◌⊎◌, inl, inr, ◌+◌, ◌-◌, ◌<◌, ◌≤◌, ◌==◌, ℕ, Bool, true, cond, List, [], ◌∷◌, ◌++◌, length, Contains, refl, sym, ap, ◌∙◌, subst, arith}
+use Rattle.std.proofs.Common.{◌≡◌, ◌≢◌, ◌⊎◌, inl, inr, ◌+◌, ◌-◌, ◌<◌, ◌≤◌, ◌==◌, ℕ, Bool, true, false, cond, List, [], ◌∷◌, ◌++◌, length, Contains, refl, sym, ap, ◌∙◌, subst, arith}
 use Rattle.std.specs.Prelude.{map, sum_by}
 use Rattle.std.specs.List.{AllByRecursion, count_by}
 use Rattle.std.proofs.lemmas.Bool.Decides.{nat_tests}
@@ -21,7 +21,7 @@ use Rattle.register_load.specs.Dismissed.{AreNumberedFrom, HasDismissed, IsNoted
 
 -- numbers that follow one another are at least the first
 numbers_from : (first e : ℕ) (ps : List Part) → AreNumberedFrom first ps → Contains (map number_of ps) e → first ≤ e
-numbers_from first e [] k c = absurd (omega (c.1))
+numbers_from first e [] k c = absurd (omega (arith, c.1))
 numbers_from first e (p ∷ ps) k c = elim (contains_cases (number_of p) e (map number_of ps) c)
     [ inl is ↦ (let one = k.0 in omega arith) | inr rest ↦ (let later = numbers_from (first + 1) e ps k.1 rest in omega arith) ]
 
@@ -31,24 +31,27 @@ none_before first e [] k lt = refl
 none_before first e (p ∷ ps) k lt =
     let one = k.0 in
     let parts = sum_by-cons (λ m. cond (e == m) 1 0) (number_of p) (map number_of ps) in
-    let other : cond {A = ℕ} (e == number_of p) 1 0 ≡ 0 = ap (λ (t : Bool). cond {A = ℕ} t 1 0) (grind (arith, nat_tests)) in
+    let other_test : (e == number_of p) ≡ false = grind (arith, nat_tests) in
+    let other : cond {A = ℕ} (e == number_of p) 1 0 ≡ 0 = ap (λ (t : Bool). cond {A = ℕ} t 1 0) other_test in
     let rest = none_before (first + 1) e ps k.1 (omega arith) in
     omega arith
 
 -- one of them stands among them once
 one_once : (first e : ℕ) (ps : List Part) → AreNumberedFrom first ps → Contains (map number_of ps) e → count_by (λ n. e == n) (map number_of ps) ≡ 1
-one_once first e [] k c = absurd (omega (c.1))
+one_once first e [] k c = absurd (omega (arith, c.1))
 one_once first e (p ∷ ps) k c =
     let parts = sum_by-cons (λ m. cond (e == m) 1 0) (number_of p) (map number_of ps) in
     let one = k.0 in
     elim (contains_cases (number_of p) e (map number_of ps) c) [
       | inl is ↦
-          (let mine : cond {A = ℕ} (e == number_of p) 1 0 ≡ 1 = ap (λ (t : Bool). cond {A = ℕ} t 1 0) (grind (arith, nat_tests)) in
+          (let mine_test : (e == number_of p) ≡ true = grind (arith, nat_tests) in
+          let mine : cond {A = ℕ} (e == number_of p) 1 0 ≡ 1 = ap (λ (t : Bool). cond {A = ℕ} t 1 0) mine_test in
           let rest = none_before (first + 1) e ps k.1 (omega arith) in
           omega arith)
       | inr rest ↦
           (let later = numbers_from (first + 1) e ps k.1 rest in
-          let other : cond {A = ℕ} (e == number_of p) 1 0 ≡ 0 = ap (λ (t : Bool). cond {A = ℕ} t 1 0) (grind (arith, nat_tests)) in
+          let other_test : (e == number_of p) ≡ false = grind (arith, nat_tests) in
+          let other : cond {A = ℕ} (e == number_of p) 1 0 ≡ 0 = ap (λ (t : Bool). cond {A = ℕ} t 1 0) other_test in
           let again = one_once (first + 1) e ps k.1 rest in
           omega arith)
     ]
@@ -61,12 +64,14 @@ all_shared first ps (e ∷ es) low k has =
     let parts = sum_by-cons (λ m. cond (e.0 == m) 1 0) 0 (map number_of ps) in (
       elim (has e (contains_head e es)) [
         | inl zero_ ↦
-            (let mine : cond {A = ℕ} (e.0 == 0) 1 0 ≡ 1 = ap (λ (t : Bool). cond {A = ℕ} t 1 0) (grind (arith, nat_tests)) in
+            (let mine_test : (e.0 == 0) ≡ true = grind (arith, nat_tests) in
+            let mine : cond {A = ℕ} (e.0 == 0) 1 0 ≡ 1 = ap (λ (t : Bool). cond {A = ℕ} t 1 0) mine_test in
             let rest = none_before first e.0 ps k (omega arith) in
             omega arith)
         | inr there ↦
             (let high = numbers_from first e.0 ps k there in
-            let other : cond {A = ℕ} (e.0 == 0) 1 0 ≡ 0 = ap (λ (t : Bool). cond {A = ℕ} t 1 0) (grind (arith, nat_tests)) in
+            let other_test : (e.0 == 0) ≡ false = grind (arith, nat_tests) in
+            let other : cond {A = ℕ} (e.0 == 0) 1 0 ≡ 0 = ap (λ (t : Bool). cond {A = ℕ} t 1 0) other_test in
             let one = one_once first e.0 ps k there in
             omega arith)
       ],
@@ -75,7 +80,7 @@ all_shared first ps (e ∷ es) low k has =
 
 -- what is kept of a part has its number
 ended_number : (ps : List Part) (n : ℕ) (es : List (ℕ × Call)) → Contains (map ended_of ps) (n, es) → Contains (map number_of ps) n
-ended_number [] n es c = absurd (omega (c.1))
+ended_number [] n es c = absurd (omega (arith, c.1))
 ended_number (p ∷ ps) n es c = elim (contains_cases (ended_of p) (n, es) (map ended_of ps) c) [
   | inl is ↦ subst (λ (m : ℕ). Contains (map number_of (p ∷ ps)) m) (ap (λ (x : ℕ × List (ℕ × Call)). x.0) is) (contains_head (number_of p) (map number_of ps))
   | inr rest ↦ contains_rest (number_of p) n (map number_of ps) (ended_number ps n es rest)
@@ -104,7 +109,7 @@ lengths_are history (p ∷ ps) kept noted =
 -- which are claims
 all_claims : (history : List (ℕ × Call)) (ps : List Part) → AllByRecursion (IsKept history) ps → AllByRecursion IsNotedPart ps
     → (n : ℕ) → Contains (map number_of ps) n → AreClaims (own_entries n history)
-all_claims history [] kept noted n c = absurd (omega (c.1))
+all_claims history [] kept noted n c = absurd (omega (arith, c.1))
 all_claims history (p ∷ ps) kept noted n c = elim (contains_cases (number_of p) n (map number_of ps) c) [
   | inl is ↦ subst (λ (m : ℕ). AreClaims (own_entries m history)) is (subst AreClaims (sym kept.0) noted.0.claims)
   | inr rest ↦ all_claims history ps kept.1 noted.1 n rest

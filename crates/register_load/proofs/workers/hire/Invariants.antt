@@ -4,8 +4,8 @@ use Rattle.ipam_data.specs.State.{empty_state}
 use Rattle.register_load.specs.Hired.{AreNumberedDown, IsHired, top_number}
 use Rattle.register_load.proofs.workers.hire.Given as goal
 
-abbrev pub invariant-loop : goal.invariant-loop
-invariant-loop g l =
+abbrev pub invariant-loop-nth : goal.invariant-loop-nth
+invariant-loop-nth g l =
     record {
       lock : l.seat.lock ≡ l.shared;
       weight : l.seat.weight + length l.claimers.items ≡ 65536;
@@ -14,7 +14,7 @@ invariant-loop g l =
       hired : All (IsHired l.shared) l.claimers.items;
       numbers : AreNumberedDown top_number l.claimers.items;
       shares : sum_by (λ w. w.share) l.claimers.items + l.left ≡ l.count;
-      last : l.counter ≡ l.workers → l.left ≡ 0;
-      count : length l.claimers.items ≡ l.counter;
+      last : l.nth ≡ l.workers → l.left ≡ 0;
+      count : length l.claimers.items ≡ l.nth;
       room : l.workers ≤ vec_capacity l.claimers;
     }
