@@ -12,5 +12,5 @@ returns-in-Ok g c =
     let lines : c.as_slice.result.now ≡ figures_text f = c.as_slice.ensures.value ∙ (c.in-Ok.ensures ∙ ap (λ (l : List ℕ). l ++ figures_text f) c.new-text.ensures.items) in
     printed c.args.count c.args.workers _ _ _ f c.as_slice.result.now c.in-Some.ensures lines c.end_with.ensures.ends c.end_with.ensures.later
 
-pub returns-in-Err : goal.returns-in-Err
-returns-in-Err g c = unprinted c.args.count c.args.workers _ _ 5 refl refl
+pub returns : goal.returns
+returns g c = unprinted c.args.count c.args.workers _ _ 5 refl refl
