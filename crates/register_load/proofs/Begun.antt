@@ -1,5 +1,5 @@
 -- A register without rows over tables without rows.
-use Rattle.std.proofs.Common.{◌≡◌, ◌∙◌, true, ap, refl}
+use Rattle.std.proofs.Common.{◌≡◌, ◌∙◌, true, refl}
 use Rattle.ipam_data.specs.State.{empty_state}
 use Rattle.ipam_keeper.specs.Memory.{Held}
 use Rattle.ipam_stored.specs.declared.tables.Tables.{Tables}

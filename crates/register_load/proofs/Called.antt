@@ -1,5 +1,5 @@
 -- What the reply to a call of a seat says of what the seat has seen.
-use Rattle.std.proofs.Common.{◌≡◌, ◌+◌, ◌≤◌, ℕ, List, [], ◌∷◌, ◌++◌, length, Bool, true, false, Option, Some, None, IfSome, min, max, refl, sym, ap, ◌∙◌, subst}
+use Rattle.std.proofs.Common.{◌≡◌, ◌+◌, ◌≤◌, ℕ, [], ◌∷◌, ◌++◌, length, true, Option, Some, None, IfSome, min, max, refl, sym, ap, ◌∙◌, subst}
 use Rattle.std.specs.Prelude.{take}
 use Rattle.history_lock.specs.Replies.{ReplyKind, accepted}
 use Rattle.history_lock.specs.Seats.{IsCall, IsSameSeat}

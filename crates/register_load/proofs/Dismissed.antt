@@ -1,5 +1,5 @@
 -- What is known of workers that were dismissed, from one to the next.
-use Rattle.std.proofs.Common.{◌≡◌, ◌+◌, ◌-◌, ◌≤◌, ℕ, Bool, true, false, List, [], ◌∷◌, ◌++◌, length, length-append, Option, Some, None, IfSome, All, refl, sym, ap, ◌∙◌, subst, append-nil, append_assoc, arith}
+use Rattle.std.proofs.Common.{◌≡◌, ◌+◌, ◌-◌, ℕ, Bool, true, List, [], ◌∷◌, ◌++◌, length, length-append, Option, Some, None, All, refl, sym, ap, ◌∙◌, subst, append-nil, append_assoc, arith}
 use Rattle.std.specs.Prelude.{map, min, max, sum_by}
 use Rattle.std.specs.List.{AllByRecursion}
 use Rattle.std.specs.Option.{option_to_list}
@@ -7,7 +7,6 @@ use Rattle.std.proofs.lemmas.List.Elements.{All-from_recursion, recursion_from_A
 use Rattle.std.proofs.lemmas.List.Sums.{sum_by_push}
 use mathlib.Core.List.{IsPrefix, map-append}
 use Rattle.atomic_table.specs.Seated.{TableId}
-use Rattle.history_lock.specs.Replay.{own_entries}
 use Rattle.history_lock.specs.Seats.{IsJoined}
 use Rattle.ipam_data.specs.declared.calls.Call.{Call}
 use Rattle.load_claims.specs.Tallies.{IsTallyOf}
@@ -16,7 +15,7 @@ use Rattle.register_load.specs.declared.tally.Tally.{Tally}
 use Rattle.register_load.specs.declared.workers.Claimer.{Claimer}
 use Rattle.register_load.specs.Hired.{AreNumberedDown, Caller, IsDone, Notes, last_of_v4}
 use Rattle.register_load.specs.Dismissed.{AreNumberedFrom, HasDismissed, IsNotedPart, IsTally, Part, ended_of, number_of}
-use Rattle.register_load.proofs.Hired.{HasNumber, seat_number, some_same}
+use Rattle.register_load.proofs.Hired.{HasNumber, some_same}
 
 -- ---- lists whose last element leaves, and lists with one more
 

@@ -1,5 +1,5 @@
 -- What is left of a run of the command.
-use Rattle.std.proofs.Common.{◌≡◌, ◌≤◌, ◌⊎◌, inl, inr, ℕ, List, refl, sym, ap, ◌∙◌, subst, arith}
+use Rattle.std.proofs.Common.{◌≡◌, ◌≤◌, inl, inr, ℕ, List, refl, sym, ap, ◌∙◌, subst, arith}
 use Rattle.command_streams.specs.Streams.{Told, EndsWith}
 use Rattle.load_text.specs.declared.figures.Figures.{Figures}
 use Rattle.load_text.specs.Load.{figures_text, load_figures, load_text}

@@ -2,7 +2,7 @@
 use Rattle.std.proofs.Common.{◌≡◌, ℕ, List, [], ◌∷◌, length, Option, Some, None, IfSome, refl, sym, ap, ◌∙◌, subst}
 use Rattle.std.specs.Prelude.{take}
 use mathlib.Core.List.{IsPrefix}
-use Rattle.history_lock.specs.Replies.{AnswersAs, plain}
+use Rattle.history_lock.specs.Replies.{plain}
 use Rattle.history_lock.specs.Replay.{replay}
 use Rattle.history_lock.specs.Seats.{IsCall}
 use Rattle.ipam_data.specs.declared.calls.Call.{Call}

@@ -1,5 +1,5 @@
 -- Workers that are newly hired, and workers that made their claims.
-use Rattle.std.proofs.Common.{◌≡◌, ◌+◌, ◌-◌, ◌≤◌, ◌<◌, ℕ, suc, List, [], ◌∷◌, ◌++◌, All, length, get_or, true, Option, Some, None, IfSome, refl, sym, ap, ◌∙◌, subst, arith}
+use Rattle.std.proofs.Common.{◌≡◌, ◌-◌, ◌<◌, ℕ, suc, List, [], ◌∷◌, ◌++◌, All, length, get_or, true, Option, Some, None, IfSome, refl, sym, ap, ◌∙◌, subst, arith}
 use Rattle.std.specs.Prelude.{sum_by, take}
 use Rattle.std.proofs.Math.Seq.{take-append_seam}
 use Rattle.std.proofs.lemmas.List.Elements.{All-push}
@@ -7,9 +7,8 @@ use Rattle.std.proofs.lemmas.List.Sums.{sum_by-cons}
 use Rattle.atomic_table.specs.Seated.{TableId}
 use Rattle.history_lock.specs.Replay.{own_entries}
 use Rattle.history_lock.specs.Seats.{IsSplit}
-use Rattle.ipam_data.specs.declared.calls.Call.{Call}
-use Rattle.ipam_data.specs.State.{State, empty_state}
-use Rattle.load_claims.specs.Histories.{AreClaims, own_places}
+use Rattle.ipam_data.specs.State.{empty_state}
+use Rattle.load_claims.specs.Histories.{AreClaims}
 use Rattle.load_claims.proofs.Histories.{places_stay}
 use Rattle.register_load.specs.declared.workers.Claimer.{Claimer}
 use Rattle.register_load.specs.Hired.{AllHaveClaimed, AreNumberedDown, Caller, HasClaimed, IsDone, IsHired, Notes, last_of_v4}

@@ -5,7 +5,6 @@ use Rattle.history_lock.specs.Seats.{SeatView, IsSameSeat}
 use Rattle.ipam_data.specs.declared.calls.Call.{Call}
 use Rattle.ipam_data.specs.State.{State}
 use Rattle.load_claims.specs.Notes.{IsNoted}
-use Rattle.register_load.specs.declared.tally.Tally.{Tally}
 use Rattle.register_load.specs.declared.workers.Claimer.{Claimer}
 
 -- a seat as contracts see it

@@ -1,4 +1,4 @@
-use Rattle.std.proofs.Common.{◌≡◌, ◌≤◌, ◌+◌, ℕ, Option, Some, IfSome, min, max, refl, ap, sym, subst, ◌∙◌, arith}
+use Rattle.std.proofs.Common.{◌+◌, ℕ, Option, IfSome, min, max, refl, subst, arith}
 use Rattle.register_load.specs.Hired.{Notes, last_of_v4}
 use Rattle.register_load.proofs.Called.{renoted, same_on}
 use Rattle.register_load.proofs.claims.claim_share.Goals as goal

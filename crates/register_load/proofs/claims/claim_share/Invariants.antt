@@ -1,4 +1,4 @@
-use Rattle.std.proofs.Common.{◌≡◌, ◌≤◌}
+use Rattle.std.proofs.Common.{◌≡◌}
 use Rattle.history_lock.specs.Seats.{IsSameSeat}
 use Rattle.register_load.specs.Hired.{Notes, last_of_v4}
 use Rattle.register_load.proofs.claims.claim_share.Given as goal

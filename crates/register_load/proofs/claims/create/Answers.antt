@@ -1,4 +1,4 @@
-use Rattle.std.proofs.Common.{◌≡◌, [], ◌∷◌, sym, ap, ◌∙◌}
+use Rattle.std.proofs.Common.{[], ◌∷◌, sym, ap, ◌∙◌}
 use Rattle.ipam_data.specs.declared.calls.Call.{Call}
 use Rattle.register_load.proofs.Called.{made_first}
 use Rattle.register_load.proofs.claims.create.Goals as goal

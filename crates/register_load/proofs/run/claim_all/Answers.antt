@@ -1,6 +1,5 @@
-use Rattle.std.proofs.Common.{rules, ◌≡◌, ◌+◌, ◌≤◌, ℕ, List, All, length, ap, sym, subst, ◌∙◌, arith}
+use Rattle.std.proofs.Common.{rules, ◌≡◌, ◌+◌, ◌≤◌, ℕ, All, length, ap, sym, subst, ◌∙◌}
 use Rattle.std.specs.Prelude.{sum_by}
-use Rattle.register_load.specs.declared.workers.Claimer.{Claimer}
 use Rattle.register_load.specs.Hired.{AreNumberedDown, IsDone, IsHired, top_number}
 use Rattle.register_load.proofs.AllClaims.{all_claimed}
 use Rattle.register_load.proofs.Hired.{all_done, numbers_kept, over, shares_kept}
