@@ -99,6 +99,22 @@ enum Order {
     RightFirst,
 }
 
+/// Serves a lane, and then another one.
+fn serve_in_turn<R: Threads + Wait + Sync>(
+    rt: &R,
+    alloc: Global,
+    shared: &Shared<Register<MemoryKeeper>>,
+    first: (Seat<Register<MemoryKeeper>>, ListLane),
+    second: (Seat<Register<MemoryKeeper>>, ListLane),
+    gate: &Meets,
+) -> Result<(), AllocError>
+    requires lock { (first.0.lock ≡ shared.now) × (second.0.lock ≡ shared.now) }
+    requires none_told { (lane_told first.1 ≡ []) × (lane_told second.1 ≡ []) }
+{
+    serve_alone(rt, alloc, shared, first.0, first.1, gate)?;
+    serve_alone(rt, alloc, shared, second.0, second.1, gate)
+}
+
 /// Serves two lanes in an order. Tells what was written where they are served at once.
 fn serve_in_order<R: Threads + Wait + Sync>(
     rt: &R,
@@ -113,18 +129,22 @@ fn serve_in_order<R: Threads + Wait + Sync>(
     requires lock { (seats.0.lock ≡ shared.now) × (seats.1.lock ≡ shared.now) }
     requires none_told { (lane_told lanes.0 ≡ []) × (lane_told lanes.1 ≡ []) }
 {
+    let left = (seats.0, lanes.0);
+    let right = (seats.1, lanes.1);
     match order {
-        Order::AtOnce => serve_at_once(rt, alloc, shared, seats, lanes, gate, told),
-        Order::LeftFirst => {
-            serve_alone(rt, alloc, shared, seats.0, lanes.0, gate);
-            serve_alone(rt, alloc, shared, seats.1, lanes.1, gate);
-            Ok(())
+        Order::AtOnce => {
+            serve_at_once(
+                rt,
+                alloc,
+                shared,
+                (left.0, right.0),
+                (left.1, right.1),
+                gate,
+                told,
+            )
         }
-        Order::RightFirst => {
-            serve_alone(rt, alloc, shared, seats.1, lanes.1, gate);
-            serve_alone(rt, alloc, shared, seats.0, lanes.0, gate);
-            Ok(())
-        }
+        Order::LeftFirst => serve_in_turn(rt, alloc, shared, left, right, gate),
+        Order::RightFirst => serve_in_turn(rt, alloc, shared, right, left, gate),
     }
 }
 

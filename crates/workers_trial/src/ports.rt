@@ -4,7 +4,7 @@ ghost use Rattle.std.specs.Prelude.{◌≡◌, [], IfSome};
 use crate::registers::locked;
 use crate::serving::serve_alone;
 use ipam_doors::{Lane, Listener, OpenGate, TcpDoor, TcpDoors};
-use std::alloc::Global;
+use std::alloc::{AllocError, Global};
 use std::io::{Read, Write};
 use std::marker::{Send, Sync};
 use std::net::{Net, Shutdown, TcpListener, TcpStream};
@@ -31,14 +31,17 @@ const PAUSE: u64 = 50;
 const MOST: u32 = 60;
 
 /// Serves a lane over a register of its own.
-fn serve_new<R: Threads + Wait + Sync, A: Lane + Send + Drop>(rt: &R, alloc: Global, lane: A)
+fn serve_new<R: Threads + Wait + Sync, A: Lane + Send + Drop>(
+    rt: &R,
+    alloc: Global,
+    lane: A,
+) -> Result<(), AllocError>
     requires { IfSome (A.told lane) (λ connections. connections ≡ []) }
 {
-    let Ok((shared, seat)) = locked(alloc) else {
-        return;
-    };
-    serve_alone(rt, alloc, &shared, seat, lane, &OpenGate);
+    let (shared, seat) = locked(alloc)?;
+    let served = serve_alone(rt, alloc, &shared, seat, lane, &OpenGate);
     drop(shared);
+    served
 }
 
 /// A port, and a lane of it for so many connections.
@@ -90,7 +93,7 @@ fn answer_over<R: Threads + Wait + Net<Listener = TcpListener, Stream = TcpStrea
 ) -> Option<String> {
     let (port, lane) = port_of(rt, alloc, 1)?;
     let client = asking(rt, port)?;
-    serve_new(rt, alloc, lane);
+    serve_new(rt, alloc, lane).ok()?;
     answer_to(alloc, client)
 }
 
@@ -128,13 +131,15 @@ fn serve_slow<R: Threads + Wait + Sync, A: Lane + Send + Drop>(
     alloc: Global,
     lane: A,
     client: &TcpStream,
-) -> u32
+) -> Option<u32>
     requires { IfSome (A.told lane) (λ connections. connections ≡ []) }
 {
     let worker = move ||
         requires { IfSome (A.told lane) (λ connections. connections ≡ []) }
     { serve_new(rt, alloc, lane) };
-    join(rt, worker, || bytes_in_time(client)).1
+    let (served, bytes) = join(rt, worker, || bytes_in_time(client));
+    served.ok()?;
+    Some(bytes)
 }
 
 /// What came of two slow clients and the next one.
@@ -153,7 +158,7 @@ fn slow_clients<R: Threads + Wait + Net<Listener = TcpListener, Stream = TcpStre
     let silent = client_of(rt, port, &ASKED[..20])?;
     let slow = client_of(rt, port, b"x")?;
     let next = asking(rt, port)?;
-    let bytes = serve_slow(rt, alloc, lane, &slow);
+    let bytes = serve_slow(rt, alloc, lane, &slow)?;
     drop(silent);
     let answer = answer_to(alloc, next)?;
     Some(Came { bytes, answer })

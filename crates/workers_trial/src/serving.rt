@@ -53,7 +53,7 @@ pub fn serve_at_once<R: Threads + Wait + Sync, G: Gate + Sync>(
     Ok(())
 }
 
-/// Serves a lane by a worker of its own.
+/// Serves a lane by a worker of its own. The worker stands in a `Vec`, since nothing is known of the size of any lane.
 pub fn serve_alone<R: Threads + Wait + Sync, A: Lane + Send + Drop, G: Gate + Sync>(
     rt: &R,
     alloc: Global,
@@ -61,13 +61,15 @@ pub fn serve_alone<R: Threads + Wait + Sync, A: Lane + Send + Drop, G: Gate + Sy
     seat: Seat<Register<MemoryKeeper>>,
     lane: A,
     gate: &G,
-)
+) -> Result<(), AllocError>
     requires lock { seat.lock ≡ shared.now }
     requires none_told { IfSome (A.told lane) (λ connections. connections ≡ []) }
 {
-    let mut workers = [Worker {
+    let mut workers = Vec::new(alloc);
+    workers.push(Worker {
         seat: Some(seat),
         lane,
-    }];
-    serve_workers(rt, alloc, shared, &mut workers, gate);
+    })?;
+    serve_workers(rt, alloc, shared, workers.as_mut_slice(), gate);
+    Ok(())
 }
