@@ -31,12 +31,7 @@ fn check_row<T: Registered>(shelves: &Shelves, row: &T) -> Option<Refusal>
     if let Some(rule) = broken(shelves, row) {
         return Some(Refusal::Rule(rule));
     }
-    no_room_for_one(
-        T::kind(),
-        T::most(),
-        T::count(shelves),
-        T::next(shelves),
-    )
+    no_room_for_one(T::kind(), T::most(), T::count(shelves), T::next(shelves))
 }
 
 /// The same of a row of any kind.

@@ -129,11 +129,7 @@ fn finish(
 /// counts of its answer, so that the same change can be stored. It is refused exactly where the plan is, and so.
 ///
 /// After an `Err` the shelves are those of an import that stopped in the midst of its rows: give them away.
-pub fn make_rows(
-    shelves: &mut Shelves,
-    kind: Kind,
-    rows: &[ImportRow],
-) -> Result<Imported, Halt>
+pub fn make_rows(shelves: &mut Shelves, kind: Kind, rows: &[ImportRow]) -> Result<Imported, Halt>
     requires lawful { IsLawful (state_of shelves.old) }
     requires kind { AreOfKind kind rows.now }
     ensures ok { IfOk result (λ done. IsImported (import_plan (state_of shelves.old) kind rows.now) done) }
@@ -142,10 +138,7 @@ pub fn make_rows(
     ensures err { IfErr result (λ halt. IsHaltBy (verdict_of (import_plan (state_of shelves.old) kind rows.now)) halt) }
 {
     if rows.len() > MOST_ROWS as usize {
-        return Err(Halt::Refused(Refusal::Limit(
-            Which::Rows,
-            u64::from(MOST_ROWS),
-        )));
+        return Err(Halt::Refused(Refusal::Limit(Which::Rows, u64::from(MOST_ROWS))));
     }
     let records = make_all(shelves, kind, rows)?;
     finish(shelves, kind, rows.len() as u32, records)

@@ -13,8 +13,8 @@ ghost use Rattle.plan_import.specs.Ready.{IsEnd, IsTaken};
 
 use crate::halt::Halt;
 use crate::keys::leftovers;
-use crate::ready::{Ready, ready_all};
 use crate::one::make;
+use crate::ready::{Ready, ready_all};
 use import_rows::rows::ImportRow;
 use ipam_data::kinds::Kind;
 use ipam_data::replies::{Refusal, RowFault, View};

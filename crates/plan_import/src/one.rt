@@ -50,12 +50,7 @@ fn next_id(shelves: &Shelves, draft: &Draft) -> u32
 }
 
 /// Puts a record, and sets the next id of its kind.
-fn put_record(
-    shelves: &mut Shelves,
-    view: View,
-    kind: Kind,
-    next: u32,
-) -> Result<(), AllocError>
+fn put_record(shelves: &mut Shelves, view: View, kind: Kind, next: u32) -> Result<(), AllocError>
     requires { IsFit (state_of shelves.old) view }
     ensures { OnOk result (state_of shelves.new ≡ with_next (with_view (state_of shelves.old) view) (kind, next)) }
 {

@@ -63,7 +63,12 @@ fn prefix(alloc: Global, block: &str, vrf: &str) -> Result<ImportRow, AllocError
 }
 
 /// What an import comes to: its counts, or why it stops. The shelves are given away.
-fn told(alloc: Global, mut shelves: Shelves, kind: Kind, rows: &[ImportRow]) -> Result<String, AllocError>
+fn told(
+    alloc: Global,
+    mut shelves: Shelves,
+    kind: Kind,
+    rows: &[ImportRow],
+) -> Result<String, AllocError>
     requires lawful { IsLawful (state_of shelves) }
     requires kind { AreOfKind kind rows.now }
 {
