@@ -1,2 +1,3 @@
 pub mod Members
 pub mod Gathered
+pub mod Counted

@@ -10,6 +10,8 @@ ghost use Rattle.place_search.specs.Ids.{ListsIds};
 
 mod search;
 mod stop;
+#[cfg(test)]
+mod tests;
 
 use inet_num::Block;
 use ipam_data::kinds::Table;
