@@ -27,6 +27,8 @@ BENCHES = [
     Bench("agree", ["agree.sh", "--streams", "60"], ["agree.sh", "--streams", "5", "--requests", "100"], 900),
     Bench("files", ["files.sh"], ["files.sh"], 300),
     Bench("serve_smoke", ["serve_smoke.sh"], ["serve_smoke.sh"], 120, ["curl"]),
+    Bench("clients", ["clients.sh"], ["clients.sh"], 300, ["curl"]),
+    Bench("proxy", ["proxy.sh"], ["proxy.sh"], 400, ["curl", "nginx", "openssl"]),
     Bench("kill", ["kill.sh", "3"], ["kill.sh", "1"], 600),
     Bench("fuzz", ["fuzz.py", "--session", "2000", "--serve", "20000"], ["fuzz.py", "--session", "200", "--serve", "2000"], 1800),
     Bench("limits", ["limits.sh"], ["limits.sh"], 900, ["/usr/bin/time"]),
