@@ -28,6 +28,7 @@ BENCHES = [
     Bench("files", ["files.sh"], ["files.sh"], 300),
     Bench("serve_smoke", ["serve_smoke.sh"], ["serve_smoke.sh"], 120, ["curl"]),
     Bench("clients", ["clients.sh"], ["clients.sh"], 300, ["curl"]),
+    Bench("operating", ["operating.sh"], ["operating.sh"], 300, ["curl", "sqlite3"]),
     Bench("proxy", ["proxy.sh"], ["proxy.sh"], 400, ["curl", "nginx", "openssl"]),
     Bench("kill", ["kill.sh", "3"], ["kill.sh", "1"], 600),
     Bench("fuzz", ["fuzz.py", "--session", "2000", "--serve", "20000"], ["fuzz.py", "--session", "200", "--serve", "2000"], 1800),
