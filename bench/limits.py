@@ -4,6 +4,7 @@ import re
 import resource
 import subprocess
 import sys
+import time
 
 from full import Connection, Server, request
 from hostile import BAD_JSON, GET, PAGE, nested, post, tower
@@ -49,7 +50,7 @@ def serve_works(program, kilobytes, sent, end, port):
     except (OSError, subprocess.SubprocessError):
         return False
     while child.poll() is None and f":{port:04X} 00000000:0000 0A" not in open("/proc/net/tcp").read():
-        pass
+        time.sleep(0.002)
     talk = None
     if child.poll() is None:
         talk = subprocess.run([sys.executable, "-c", "import socket, sys\ns = socket.create_connection(('127.0.0.1', %d), timeout=30)\ns.sendall(sys.stdin.buffer.read())\n"

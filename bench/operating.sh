@@ -93,10 +93,10 @@ seen "sqlite3 over a file that is in use: $(cat "$folder/told")"
 [ -e "$db-wal" ] || fail "no log beside the file"
 stop -KILL
 ends 0 "" "$program" session --db "$db"
-[ ! -s "$db-wal" ] || fail "a log is left behind a session"
+[ "$(stat -c %s "$db-wal")" -lt 4096 ] || fail "changes are left in the log behind a session"
 cp "$db" "$folder/copy.db"
 [ "$(rows "$folder/copy.db")" = 20 ] || fail "the copy has $(rows "$folder/copy.db") prefixes"
-seen "killed, opened and ended by a session, copied: 20 prefixes, and no log"
+seen "killed, opened and ended by a session, copied: 20 prefixes, and a log of $(stat -c %s "$db-wal") bytes, with no change in it"
 start --db "$db"
 want 201 '"id":21' -d '{"prefix":"10.0.21.0/24"}' "$base/prefixes/"
 stop -TERM
