@@ -91,14 +91,17 @@ def of_store(told):
 
 
 def of_serve(told):
-    rows, lines = [], dict(re.findall(r"^(\S[^\n]{0,27}?) +(\d+ +\d+ +\d+)$", told, re.M))
+    """A row for each kind of request, with the figures of 1, 4 and 16 connections; the peer serves what a GET answers."""
+    lines = dict(re.findall(r"^(\S[^\n]{0,27}?) +(\d+ +\d+ +\d+)$", told, re.M))
     peer = next((name for name in lines if name.startswith("nginx") or "file server" in name), None)
+    rows, theirs = [], [int(one) for one in lines[peer].split()] if peer else []
     for name, figures in lines.items():
-        for count, ours, theirs in zip((1, 4, 16), figures.split(), lines[peer].split() if peer else ("0",) * 3):
-            if name != peer and name.startswith("GET"):
-                rows.append((f"{name}, {count} connections, a second", f"{int(ours):,}", peer or "none", f"{int(theirs):,}", int(ours) / int(theirs) if peer else None))
-            elif name != peer:
-                rows.append((f"{name}, {count} connections, a second", f"{int(ours):,}", "none", "", None))
+        ours = [int(one) for one in figures.split()]
+        told, ratios = " / ".join(f"{one:,}" for one in ours), " / ".join(f"{one / other:.2f}" for one, other in zip(ours, theirs))
+        if name.startswith("GET"):
+            rows.append((f"{name}, a second by 1 / 4 / 16 connections", told, peer or "none", " / ".join(f"{one:,}" for one in theirs), ratios))
+        elif name != peer:
+            rows.append((f"{name}, a second by 1 / 4 / 16 connections", told, "none", "", None))
     return rows
 
 
@@ -161,7 +164,7 @@ def main():
     print("\n| What | ipamd | Peer | Its figure | Times better |\n|---|---|---|---|---|")
     for what, ours, peer, theirs, ratio in rows:
         name = peer.split(",")[0]
-        print(f"| {what} | {ours} | {peer + (' ' + peers[name] if name in peers else '') if peer != 'none' else ''} | {theirs} | {'' if ratio is None else f'{ratio:,.2f}'} |")
+        print(f"| {what} | {ours} | {peer + (' ' + peers[name] if name in peers else '') if peer != 'none' else ''} | {theirs} | {'' if ratio is None else ratio if isinstance(ratio, str) else f'{ratio:,.2f}'} |")
     print("| an import | no command imports yet | | | |")
     for title, lines in (("not run", not_run), ("failed", failed)):
         print(f"{title}: " + ("; ".join(lines) if lines else "none"))
