@@ -134,10 +134,14 @@ fn make_role<K: Keeper>(alloc: Global, register: &mut Register<K>) -> Result<boo
     }
 }
 
-/// Whether the address was made: that of the mixed number in 10.0.0.0/8.
+/// The n-th address of 10.0.0.0/8 in no order: an odd factor, so that no two of the first 2^24 are one.
+fn host_number(n: u32) -> u128 {
+    0x0a000000 | (u128::from(n).wrapping_mul(0x9e3779b1) & 0xffffff)
+}
+
+/// Whether the n-th address was made.
 fn make_address<K: Keeper>(alloc: Global, register: &mut Register<K>, n: u32) -> Result<bool, AllocError> {
-    let value = 0x0a000000 | u128::from(mixed(u64::from(n)) & 0xffffff);
-    let host = match Addr::of(Family::V4, value) {
+    let host = match Addr::of(Family::V4, host_number(n)) {
         Some(addr) => Host::of(addr, 24),
         None => None,
     };
@@ -304,65 +308,62 @@ fn list<K: Keeper>(register: &mut Register<K>, order: Order, pages: u32, count: 
     done
 }
 
-/// The register that is opened over a keeper.
-fn over(alloc: Global, keeper: MemoryKeeper) -> Result<Register<MemoryKeeper>, AllocError> {
-    match open(alloc, keeper, settings()) {
-        Ok(register) => Ok(register),
-        Err((keeper, _fault)) => {
-            drop(keeper);
-            Err(AllocError)
-        }
+/// The nanoseconds in which the tables of a register are opened again.
+fn time_opening(rt: &HostRuntime, register: Register<MemoryKeeper>) -> anyhow::Result<u128> {
+    let tables = register.into_keeper().into_tables();
+    let keeper = MemoryKeeper::new(tables, Vec::new(rt.alloc()));
+    let start = Instant::now(rt)?;
+    let opened = open(rt.alloc(), keeper, settings());
+    let took = start.elapsed(rt);
+    let is_open = opened.is_ok();
+    drop(opened);
+    if !is_open {
+        return Err(AllocError.into());
     }
+    Ok(took?.as_nanos())
 }
 
-/// The nanoseconds in which the tables of as many rising prefixes are opened.
-fn time_open(rt: &HostRuntime, count: u32) -> anyhow::Result<u128> {
-    let alloc = rt.alloc();
-    let empty = empty_tables(alloc)?;
-    let mut register = over(alloc, MemoryKeeper::new(empty, Vec::new(alloc)))?;
-    let made = make_prefixes(alloc, &mut register, Order::Rising, count);
-    let tables = register.into_keeper().into_tables();
-    let _made = made?;
-    let keeper = MemoryKeeper::new(tables, Vec::new(alloc));
+/// Makes rows of a kind, and gives how many were made and the nanoseconds that it took.
+fn time_making<K: Keeper>(rt: &HostRuntime, register: &mut Register<K>, are_hosts: bool, count: u32) -> anyhow::Result<(u64, u128)> {
     let start = Instant::now(rt)?;
-    let register = over(alloc, keeper)?;
-    drop(register);
-    Ok(start.elapsed(rt)?.as_nanos())
+    let made = if are_hosts {
+        make_addresses(rt.alloc(), register, count)?
+    } else {
+        make_prefixes(rt.alloc(), register, Order::Rising, count)?
+    };
+    Ok((made, start.elapsed(rt)?.as_nanos()))
 }
 
-/// The nanoseconds in which so many addresses are made, those in which their tables are opened, and how many were made.
-fn time_addresses(rt: &HostRuntime, count: u32) -> anyhow::Result<(u128, u128, u64)> {
+/// The nanoseconds in which so many addresses, or rising prefixes, are made, those in which their tables are opened, and how many were made.
+fn time_tables(rt: &HostRuntime, are_hosts: bool, count: u32) -> anyhow::Result<()> {
     let alloc = rt.alloc();
     let empty = empty_tables(alloc)?;
-    let mut register = over(alloc, MemoryKeeper::new(empty, Vec::new(alloc)))?;
-    let start = Instant::now(rt)?;
-    let made = make_addresses(alloc, &mut register, count);
-    let for_making = start.elapsed(rt)?.as_nanos();
-    let tables = register.into_keeper().into_tables();
-    let made = made?;
-    let keeper = MemoryKeeper::new(tables, Vec::new(alloc));
-    let start = Instant::now(rt)?;
-    let register = over(alloc, keeper)?;
-    let for_opening = start.elapsed(rt)?.as_nanos();
-    drop(register);
-    Ok((for_making, for_opening, made))
+    let mut register = begin(alloc, MemoryKeeper::new(empty, Vec::new(alloc)), settings());
+    let timed = time_making(rt, &mut register, are_hosts, count);
+    let opening = time_opening(rt, register);
+    let (made, making) = timed?;
+    let opening = opening?;
+    println!(rt; "{making} {opening} {made}")?;
+    Ok(())
 }
 
 /// The nanoseconds in which the last thousand of so many ranges are made, and how many were made.
-fn time_ranges<K: Keeper>(rt: &HostRuntime, register: &mut Register<K>, count: u32) -> anyhow::Result<(u128, u64)> {
+fn time_ranges<K: Keeper>(rt: &HostRuntime, register: &mut Register<K>, count: u32) -> anyhow::Result<()> {
     let alloc = rt.alloc();
     let before = count.saturating_sub(1000);
     let first = make_ranges(alloc, register, 0, before)?;
     let start = Instant::now(rt)?;
     let last = make_ranges(alloc, register, before, count)?;
     let took = start.elapsed(rt)?.as_nanos();
-    Ok((took, first.wrapping_add(last)))
+    let made = first.wrapping_add(last);
+    println!(rt; "{took} {made}")?;
+    Ok(())
 }
 
 /// The block of this length round the address of the mixed number.
 fn parent(n: u32, len: u8) -> Option<Block> {
     let value = 0x0a000000 | u128::from(mixed(u64::from(n)) & 0xffffff);
-    let keep = !(0xffffffffu128 >> len);
+    let keep = !(0xffffffffu128 >> (len & 31));
     Block::of(Addr::of(Family::V4, value & keep)?, len)
 }
 
@@ -400,7 +401,7 @@ fn list_in<K: Keeper>(register: &mut Register<K>, len: u8) -> u64 {
 }
 
 /// The nanoseconds of 100 pages of 50 addresses in a /20 and in a /12 among so many, and how many rows they had.
-fn time_filters<K: Keeper>(rt: &HostRuntime, register: &mut Register<K>, count: u32) -> anyhow::Result<(u128, u128, u64)> {
+fn time_filters<K: Keeper>(rt: &HostRuntime, register: &mut Register<K>, count: u32) -> anyhow::Result<()> {
     let made = make_addresses(rt.alloc(), register, count)?;
     let start = Instant::now(rt)?;
     let few = list_in(register, 20);
@@ -408,20 +409,22 @@ fn time_filters<K: Keeper>(rt: &HostRuntime, register: &mut Register<K>, count: 
     let start = Instant::now(rt)?;
     let many = list_in(register, 12);
     let for_many = start.elapsed(rt)?.as_nanos();
-    Ok((for_few, for_many, few.wrapping_add(many).wrapping_add(made)))
+    println!(rt; "{for_few} {for_many} {few} {many} {made}")?;
+    Ok(())
 }
 
 /// The nanoseconds in which a role that so many prefixes have is deleted, and whether it was.
-fn time_role<K: Keeper>(rt: &HostRuntime, register: &mut Register<K>, count: u32) -> anyhow::Result<(u128, bool)> {
+fn time_role<K: Keeper>(rt: &HostRuntime, register: &mut Register<K>, count: u32) -> anyhow::Result<()> {
     let alloc = rt.alloc();
     let role = make_role(alloc, register)?;
     let made = make_prefixes(alloc, register, Order::Roled, count)?;
     let start = Instant::now(rt)?;
     let reply = register.act(0, Call::Delete { kind: Kind::Roles, id: 1 });
     let for_deletion = start.elapsed(rt)?.as_nanos();
-    let gone = matches!(reply, Reply::Gone);
+    let gone = matches!(reply, Reply::Gone) && role && made == u64::from(count);
     drop(reply);
-    Ok((for_deletion, role && gone && made == u64::from(count)))
+    println!(rt; "{for_deletion} {gone}")?;
+    Ok(())
 }
 
 fn settings() -> Settings {
@@ -464,51 +467,40 @@ fn order_named(word: &str) -> Order {
     }
 }
 
+/// What is timed over one register that keeps nothing.
+fn time_named<K: Keeper>(rt: &HostRuntime, register: &mut Register<K>, word: &str, count: u32) -> anyhow::Result<()> {
+    if word == "ranges" {
+        return time_ranges(rt, register, count);
+    }
+    if word == "filters" {
+        return time_filters(rt, register, count);
+    }
+    if word == "role" {
+        return time_role(rt, register, count);
+    }
+    let order = order_named(word);
+    let (vrfs, count) = if matches!(order, Order::Nothing) { (0, 0) } else { (1000, count) };
+    time_calls(rt, register, order, vrfs, count)
+}
+
+/// Times the job of this name over a register of its own.
+fn run(rt: &HostRuntime, word: &str, count: u32) -> anyhow::Result<()> {
+    let mut register = begin(rt.alloc(), Unkept::new(rt.alloc()), settings());
+    let timed = time_named(rt, &mut register, word, count);
+    drop(register);
+    timed
+}
+
 fn main(rt: HostRuntime) -> anyhow::Result<()> {
     let mut words = env::args(&rt)?;
     let _ = words.next();
-    let order = words.next().expect(&rt, "rising, random, spread, nested, open or none");
-    let count: u32 = words.next().expect(&rt, "prefixes").parse()?;
-    if order.as_str() == "open" {
-        let opened = time_open(&rt, count)?;
-        println!(rt; "{opened}")?;
-        return Ok(());
+    let word = words.next().expect(&rt, "rising, random, spread, nested, open, addresses, ranges, filters, role or none");
+    let count: u32 = words.next().expect(&rt, "how many").parse()?;
+    match word.as_str() {
+        "open" => time_tables(&rt, false, count),
+        "addresses" => time_tables(&rt, true, count),
+        other => run(&rt, other, count),
     }
-    if order.as_str() == "addresses" {
-        let (making, opening, made) = time_addresses(&rt, count)?;
-        println!(rt; "{making} {opening} {made}")?;
-        return Ok(());
-    }
-    if order.as_str() == "ranges" {
-        let mut register = begin(rt.alloc(), Unkept::new(rt.alloc()), settings());
-        let timed = time_ranges(&rt, &mut register, count);
-        drop(register);
-        let (took, made) = timed?;
-        println!(rt; "{took} {made}")?;
-        return Ok(());
-    }
-    if order.as_str() == "filters" {
-        let mut register = begin(rt.alloc(), Unkept::new(rt.alloc()), settings());
-        let timed = time_filters(&rt, &mut register, count);
-        drop(register);
-        let (few, many, rows) = timed?;
-        println!(rt; "{few} {many} {rows}")?;
-        return Ok(());
-    }
-    if order.as_str() == "role" {
-        let mut register = begin(rt.alloc(), Unkept::new(rt.alloc()), settings());
-        let timed = time_role(&rt, &mut register, count);
-        drop(register);
-        let (deletion, gone) = timed?;
-        println!(rt; "{deletion} {gone}")?;
-        return Ok(());
-    }
-    let order = order_named(order.as_str());
-    let (vrfs, count) = if matches!(order, Order::Nothing) { (0, 0) } else { (1000, count) };
-    let mut register = begin(rt.alloc(), Unkept::new(rt.alloc()), settings());
-    let timed = time_calls(&rt, &mut register, order, vrfs, count);
-    drop(register);
-    timed
 }
 E
 (cd "$bench" && rt fmt > /dev/null && rt run -- none 0 > "$scratch/log" 2>&1) || { grep -E 'error|no proof|not proved' "$scratch/log" >&2; exit 1; }
@@ -536,7 +528,7 @@ for order in rising random spread nested; do
                 vrfs * 1e9 / best[1], made * 1e9 / best[2], c * 1e9 / best[3], rows * 1e9 / best[4], m / made }' "$scratch/answers"
 done
 echo
-awk -v c="$prefixes" '{ printf "`open` of the tables of %d rising prefixes: %.2f s\n", c, $1 / 1e9 }' <("$program" open "$prefixes")
+awk -v c="$prefixes" '{ printf "`open` of the tables of %d rising prefixes: %.2f s\n", c, $2 / 1e9 }' <("$program" open "$prefixes")
 full=$(peak "$program" addresses 500000)
 awk -v k=$((full - base)) '{ printf "500,000 addresses, of which %d are made: %.2f s; `open` of their tables: %.2f s; at most %.2f GB\n", $3, $1 / 1e9, $2 / 1e9, k / 1e6 }' "$scratch/answer"
 "$program" ranges 10000 | awk '

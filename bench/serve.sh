@@ -11,6 +11,7 @@ program=${IPAMD:-$top/crates/ipamd/out/ipamd}
 seconds=${1:-3}
 port=${2:-18070}
 folder=$(mktemp -d)
+chmod 755 "$folder" # a worker of nginx is another user
 server=
 trap '[ -z "$server" ] || kill "$server" 2>/dev/null || true; rm -rf "$folder"' EXIT
 compiler=$(command -v cc || command -v clang) || { echo "serve: a C compiler is wanted" >&2; exit 1; }

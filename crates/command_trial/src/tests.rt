@@ -81,7 +81,7 @@ serve --bind 127.0.0.1:0 --workers 33
 import vrfs
 export vrfs
 report tree
-load 1";
+load 0";
 
 #[test]
 fn words_that_ask_for_nothing(rt: HostRuntime) -> Result<(), Fail> {
@@ -128,5 +128,25 @@ fn what_connects_is_served(rt: HostRuntime) -> Result<(), Fail> {
     let left = run_on(&rt, rt.alloc(), words, b"x", 4_096, [&[], &[], &[]])?;
     assert!(rt; left.status == 3 && left.errors.is_empty());
     assert!(rt; left.output.as_slice() == b"entries 0\n".as_slice());
+    Ok(())
+}
+
+/// Whether these words are done, and print just this text.
+fn prints<R: Threads + Wait + Sync>(
+    rt: &R,
+    alloc: Global,
+    words: &str,
+    text: &[u8],
+) -> Result<bool, AllocError> {
+    let left = run_on(rt, alloc, words, b"x", 4_096, [&[], &[], &[]])?;
+    Ok(left.status == 0 && left.errors.is_empty() && left.output.as_slice() == text)
+}
+
+#[test]
+fn claims_are_made(rt: HostRuntime) -> Result<(), Fail> {
+    let one = b"claimed 1\nfirst 10.0.0.1\nlast 10.0.0.1\npercent 50\nentries 2\n";
+    assert!(rt; prints(&rt, rt.alloc(), "load 1", one)?);
+    let many = b"claimed 1000\nfirst 10.0.0.1\nlast 10.0.3.232\npercent 24\nentries 1001\n";
+    assert!(rt; prints(&rt, rt.alloc(), "load 1000 --workers 4", many)?);
     Ok(())
 }

@@ -1,12 +1,12 @@
 -- What the parts of a run give: words that were read, and a command that was run or does not stand.
-use Rattle.std.proofs.Common.{◌≡◌, ℕ, ◌≤◌, inl, inr, refl, subst, List, Option, Some, None, MatchOption}
+use Rattle.std.proofs.Common.{◌≡◌, ℕ, ◌≤◌, inl, inr, refl, sym, subst, arith, List, Option, Some, None, MatchOption}
 use Rattle.inet_num.specs.Net.{Cidr}
 use Rattle.command_words.specs.declared.asked.Store.{Store}
 use Rattle.command_words.specs.declared.asked.Serving.{Serving}
 use Rattle.command_words.specs.declared.asked.Command.{Command}
 use Rattle.command_words.specs.declared.asked.Command.TheVariants.{Free, Session, Serve, Import, Export, Report, Load}
 use Rattle.command_words.specs.Asked.{Asks, IsNoCommand}
-use Rattle.command_words.specs.Values.{IsNumberValue, most_workers}
+use Rattle.command_words.specs.Values.{IsNumberOr, IsNumberValue, most_claims, most_workers}
 use Rattle.command_words.proofs.Unique.{words_ask_for_one}
 use Rattle.store_session.specs.Outside.{Outside}
 use Rattle.store_server.specs.Serve.{Doors}
@@ -41,13 +41,27 @@ few most (Some digits) n value = (value.1, value.2)
 pub few_workers : (words : List (List ℕ)) (serving : Serving) → Asks words (Serve serving) → (1 ≤ serving.workers) × (serving.workers ≤ 32)
 few_workers words serving asks = few most_workers _ serving.workers asks.values.workers
 
+-- such a number, or the usual one
+few_or : (usual most : ℕ) (text : Option (List ℕ)) (n : ℕ) → (1 ≤ usual) × (usual ≤ most) → IsNumberOr usual most text n → (1 ≤ n) × (n ≤ most)
+few_or usual most None n lies value = subst (λ (m : ℕ). (1 ≤ m) × (m ≤ most)) (sym value) lies
+few_or usual most (Some digits) n lies value = few most (Some digits) n value
+
+-- the numbers of claims and of workers that were asked for
+pub few_claims : (words : List (List ℕ)) (command : Command) (count workers : ℕ) → Asks words command → command ≡ Load count workers
+    → (1 ≤ count) × (count ≤ 100000) × (1 ≤ workers) × (workers ≤ 32)
+few_claims words command count workers asks is =
+    let a : Asks words (Load count workers) = subst (Asks words) is asks in
+    let claims = few most_claims _ count a.values.0 in
+    let hands = few_or 1 most_workers _ workers (omega arith, omega arith) a.values.1 in
+    (claims.0, claims.1, hands.0, hands.1)
+
 -- another command does not stand
 pub others_not_yet : (command : Command) → ((block : Cidr) → ¬ command ≡ Free block) → ((store : Store) → ¬ command ≡ Session store)
-    → ((serving : Serving) → ¬ command ≡ Serve serving) → ¬ Stands command
-others_not_yet (Free block) f s v stands = f block refl
-others_not_yet (Session store) f s v stands = s store refl
-others_not_yet (Serve serving) f s v stands = v serving refl
-others_not_yet (Import kind store) f s v stands = stands
-others_not_yet (Export kind store) f s v stands = stands
-others_not_yet (Report report store) f s v stands = stands
-others_not_yet (Load count workers) f s v stands = stands
+    → ((serving : Serving) → ¬ command ≡ Serve serving) → ((count workers : ℕ) → ¬ command ≡ Load count workers) → ¬ Stands command
+others_not_yet (Free block) f s v l stands = f block refl
+others_not_yet (Session store) f s v l stands = s store refl
+others_not_yet (Serve serving) f s v l stands = v serving refl
+others_not_yet (Import kind store) f s v l stands = stands
+others_not_yet (Export kind store) f s v l stands = stands
+others_not_yet (Report report store) f s v l stands = stands
+others_not_yet (Load count workers) f s v l stands = l count workers refl

@@ -8,7 +8,7 @@ use Rattle.command_words.specs.declared.asked.Command.{Command}
 use Rattle.command_words.specs.declared.asked.Command.TheVariants.{Free, Session, Serve, Import, Export, Report, Load}
 use Rattle.command_words.specs.Asked.{Asks}
 use Rattle.command_words.proofs.Unique.{words_ask_for_one}
-use Rattle.command_streams.specs.Streams.{Streams, Gains, Failed}
+use Rattle.command_streams.specs.Streams.{Streams, Told, Gains, Failed}
 use Rattle.free_lines.specs.declared.free.LineFault.{LineFault}
 use Rattle.free_lines.specs.Free.{IsFreeText, IsRefusedLine, refusal_text_of}
 use Rattle.free_lines.specs.Run.{IsFree}
@@ -20,6 +20,8 @@ use Rattle.kept_session.specs.Answered.{fresh}
 use Rattle.store_session.specs.Outside.{Stores, Outside, StoreFailed, AnyFailed, NoCountFalls}
 use Rattle.store_session.specs.Session.{Prints, Serves, IsSession}
 use Rattle.store_server.specs.Serve.{Doors, DoorsFailed, IsServe}
+use Rattle.register_load.specs.Load.{IsLoad}
+use Rattle.register_load.proofs.Ended.{unprinted}
 use Rattle.ipam_command.specs.Runs.{AsksNothing, SaysUsage}
 use Rattle.ipam_command.specs.Clauses.{ListenerFailed, IsExact, HasClauses, RunsHaveClauses}
 use Rattle.ipam_command.proofs.Empty.{empty_opened}
@@ -38,8 +40,26 @@ serve_not_free words serving within v f = let e = words_ask_for_one words (Serve
 serve_not_session : (words : List (List ℕ)) (serving : Serving) (store : Store) → Asks words (Serve serving) → Asks words (Session store) → ⊥
 serve_not_session words serving store v s = let e = words_ask_for_one words (Serve serving) (Session store) v s in cc
 
+-- nor are those of `load`
+load_not_free : (words : List (List ℕ)) (count workers : ℕ) (within : Cidr) → Asks words (Load count workers) → Asks words (Free within) → ⊥
+load_not_free words count workers within l f = let e = words_ask_for_one words (Load count workers) (Free within) l f in cc
+
+load_not_session : (words : List (List ℕ)) (count workers : ℕ) (store : Store) → Asks words (Load count workers) → Asks words (Session store) → ⊥
+load_not_session words count workers store l s = let e = words_ask_for_one words (Load count workers) (Session store) l s in cc
+
+load_not_serve : (words : List (List ℕ)) (count workers : ℕ) (serving : Serving) → Asks words (Load count workers) → Asks words (Serve serving) → ⊥
+load_not_serve words count workers serving l v = let e = words_ask_for_one words (Load count workers) (Serve serving) l v in cc
+
 same_serving : (words : List (List ℕ)) (a b : Serving) → Asks words (Serve a) → Asks words (Serve b) → a ≡ b
 same_serving words a b f g = let e = words_ask_for_one words (Serve a) (Serve b) f g in cc
+
+-- a promise on a load, by the numbers that the words have
+same_load : (words : List (List ℕ)) (count workers n m : ℕ) (P : ℕ → ℕ → Type 0) → Asks words (Load count workers) → Asks words (Load n m) → P count workers → P n m
+same_load words count workers n m P l k h =
+    let e = words_ask_for_one words (Load count workers) (Load n m) l k in
+    let first : count ≡ n = cc in
+    let second : workers ≡ m = cc in
+    subst (λ (x : ℕ). P x m) first (subst (P count) second h)
 
 same_block : (words : List (List ℕ)) (a b : Cidr) → Asks words (Free a) → Asks words (Free b) → a ≡ b
 same_block words a b f g = let e = words_ask_for_one words (Free a) (Free b) f g in cc
@@ -101,6 +121,7 @@ of_free words old new before after status within asks f same_stores same_doors =
   lanes_back = lanes_kept before after same_doors;
   session = λ store a. absurd (free_apart words within _ asks a);
   serve = λ serving a. absurd (serve_not_free words serving within a asks);
+  load = λ count workers a. absurd (load_not_free words count workers within a asks);
   empty = λ unique a well z. absurd (free_apart words within _ asks a);
   complete = λ command a stands none heard. elim f.statuses [
     | inl e ↦ inl e
@@ -170,6 +191,7 @@ of_session words old new before after status store asks s same_doors = record {
   no_listener = λ none. same_doors;
   lanes_back = lanes_kept before after same_doors;
   serve = λ serving a. absurd (serve_not_session words serving store a asks);
+  load = λ count workers a. absurd (load_not_session words count workers store a asks);
   session = λ other a. subst (λ (t : Store). IsSession t old new status) (same_store words store other asks a) s;
   empty = λ unique a well z. done_empty store old new status unique (same_store words store _ asks a) s well z;
   complete = λ command a stands well heard. elim s.statuses [
@@ -216,7 +238,7 @@ of_serve : (words : List (List ℕ)) (old new : Outside) (before after : Doors) 
     → IsServe serving old new before after status → HasClauses words old new before after status
 of_serve words old new before after status serving asks s = record {
   status_ = elim s.statuses [ inl e ↦ omega arith | inr a ↦ elim a [ inl e ↦ omega arith | inr b ↦ elim b [ inl e ↦ omega arith | inr c ↦ elim c [ inl e ↦ omega arith | inr e ↦ omega arith ] ] ] ];
-  done = λ z. (let t = s.done z in (inr (inr (serving, asks, t)), t.serves.silent));
+  done = λ z. (let t = s.done z in (inr (inr (inl (serving, asks, t))), t.serves.silent));
   refused = λ z. inr (inr (serving, asks, (s.refused z).0));
   usage = λ z. absurd (elim s.statuses [ inl e ↦ omega arith | inr a ↦ elim a [ inl e ↦ omega arith | inr b ↦ elim b [ inl e ↦ omega arith | inr c ↦ elim c [ inl e ↦ omega arith | inr e ↦ omega arith ] ] ] ]);
   usage_first = λ n. absurd (n (Serve serving) asks tt);
@@ -238,11 +260,59 @@ of_serve words old new before after status serving asks s = record {
   lanes_back = s.lanes_back;
   session = λ store a. absurd (serve_not_session words serving store asks a);
   serve = λ other a. subst (λ (t : Serving). IsServe t old new before after status) (same_serving words serving other asks a) s;
+  load = λ count workers a. absurd (load_not_serve words count workers serving a asks);
   empty = λ unique a well z. absurd (serve_not_session words serving _ asks a);
   complete = λ command a stands well heard. served_complete words old new before after status serving command asks a s well heard;
   exact = λ within a well. absurd (serve_not_free words serving within asks a);
   later = s.later;
   listener_later = s.listener_later;
+}
+
+-- ---- a run of `load`
+
+of_load : (words : List (List ℕ)) (old new : Outside) (before after : Doors) (status : ℕ) (count workers : ℕ) → Asks words (Load count workers)
+    → IsLoad count workers old.streams.output new.streams.output status → new.streams.input ≡ old.streams.input → new.streams.errors ≡ old.streams.errors
+    → new.stores ≡ old.stores → after ≡ before → HasClauses words old new before after status
+of_load words old new before after status count workers asks l same_input same_errors same_stores same_doors = record {
+  status_ = elim l.statuses [ inl e ↦ omega arith | inr a ↦ elim a [ inl e ↦ omega arith | inr e ↦ omega arith ] ];
+  done = λ z. (inr (inr (inr (count, workers, asks, l.done z))), same_errors);
+  refused = λ z. absurd (elim l.statuses [ inl e ↦ omega arith | inr a ↦ elim a [ inl e ↦ omega arith | inr e ↦ omega arith ] ]);
+  usage = λ z. absurd (elim l.statuses [ inl e ↦ omega arith | inr a ↦ elim a [ inl e ↦ omega arith | inr e ↦ omega arith ] ]);
+  usage_first = λ n. absurd (n (Load count workers) asks tt);
+  fault = λ z. inr (inl (l.fault z).0);
+  free_fault = λ within a z. absurd (load_not_free words count workers within asks a);
+  starved = λ store a z output errors. absurd (load_not_session words count workers store asks a);
+  store_fault = λ z. absurd (elim l.statuses [ inl e ↦ omega arith | inr a ↦ elim a [ inl e ↦ omega arith | inr e ↦ omega arith ] ]);
+  memory = λ z. (same_errors, inr (l.memory z));
+  nothing_else = λ within a. absurd (load_not_free words count workers within asks a);
+  refuses = λ within number fault a. absurd (load_not_free words count workers within asks a);
+  no_store = λ within a. same_stores;
+  no_listener = λ none. same_doors;
+  lanes_back = lanes_kept before after same_doors;
+  session = λ store a. absurd (load_not_session words count workers store asks a);
+  serve = λ serving a. absurd (load_not_serve words count workers serving asks a);
+  load = λ n m a. (
+    same_load words count workers n m (λ x y. IsLoad x y old.streams.output new.streams.output status) asks a l,
+    same_input,
+    same_errors,
+    same_stores,
+    same_doors,
+  );
+  empty = λ unique a well z. absurd (load_not_session words count workers _ asks a);
+  complete = λ command a stands well heard. elim l.statuses [
+    | inl e ↦ inl e
+    | inr more ↦ elim more [ inl e ↦ absurd (well (inl (inr (inl (l.fault e).0)))) | inr e ↦ inr (inr e) ]
+  ];
+  exact = λ within a well. absurd (load_not_free words count workers within asks a);
+  later = record {
+    streams = record {
+      input = subst (λ (t : Told). old.streams.input.faults ≤ t.faults) (sym same_input) (omega arith);
+      output = l.later;
+      errors = subst (λ (t : Told). old.streams.errors.faults ≤ t.faults) (sym same_errors) (omega arith);
+    };
+    stores = unused old new same_stores;
+  };
+  listener_later = count_kept before after same_doors;
 }
 
 -- ---- a run whose words ask for no command
@@ -266,6 +336,7 @@ of_none words old new before after status none (u, same_stores, same_doors) = re
   no_listener = λ apart. same_doors;
   lanes_back = lanes_kept before after same_doors;
   serve = λ serving a. absurd (none (Serve serving) a tt);
+  load = λ count workers a. absurd (none (Load count workers) a tt);
   session = λ store a. absurd (none (Session store) a tt);
   empty = λ unique a well z. absurd (none (Session (record { db = None; global_unique = unique })) a tt);
   complete = λ command a stands well heard. absurd (none command a stands);
@@ -299,6 +370,7 @@ of_memory words old new before after status five same same_doors =
       no_store = λ within a. same_stores;
       no_listener = λ apart. same_doors;
       lanes_back = lanes_kept before after same_doors;
+      load = λ count workers a. (unprinted count workers old.streams.output new.streams.output status five output, input, errors, same_stores, same_doors);
       serve = λ serving a. none_served serving old new before after status (few_workers words serving a).0 five same same_doors;
       session = λ store a. not_begun store old new status five same;
       empty = λ unique a well z. absurd (omega arith);
@@ -316,6 +388,6 @@ runs_have_clauses words old new before after status (inl (Serve serving, asks, s
 runs_have_clauses words old new before after status (inl (Import kind store, asks, stands, s)) = absurd stands
 runs_have_clauses words old new before after status (inl (Export kind store, asks, stands, s)) = absurd stands
 runs_have_clauses words old new before after status (inl (Report report store, asks, stands, s)) = absurd stands
-runs_have_clauses words old new before after status (inl (Load count workers, asks, stands, s)) = absurd stands
+runs_have_clauses words old new before after status (inl (Load count workers, asks, stands, s)) = of_load words old new before after status count workers asks s.0 s.1 s.2 s.3 s.4
 runs_have_clauses words old new before after status (inr (inl (none, u))) = of_none words old new before after status none u
 runs_have_clauses words old new before after status (inr (inr (five, same, doors))) = of_memory words old new before after status five same doors

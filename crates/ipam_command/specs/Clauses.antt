@@ -17,6 +17,8 @@ use Rattle.free_lines.specs.Run.{PrintsFree, NamesLine, FailsToRead, FailsToPrin
 use Rattle.store_session.specs.Outside.{Outside, StoreFailed, AnyFailed, NoCountFalls}
 use Rattle.store_session.specs.Session.{IsLoaded, Prints, Serves, NamesFault, NamesFailure, IsSession}
 use Rattle.store_server.specs.Serve.{Doors, DoorsFailed, NobodyCame, Counts, IsServe}
+use Rattle.load_text.specs.Load.{load_text}
+use Rattle.register_load.specs.Load.{IsLoad}
 use Rattle.ipam_command.specs.Runs.{Stands, AsksNothing, usage_text, Runs}
 
 -- the words ask for what a block leaves
@@ -34,6 +36,10 @@ AsksStore words store = Asks words (Session store)
 -- the words ask for all that connect to be served
 abbrev pub AsksServe : List (List ℕ) → Serving → Type 0
 AsksServe words serving = Asks words (Serve serving)
+
+-- the words ask for so many claims by so many workers
+abbrev pub AsksLoad : List (List ℕ) → ℕ → ℕ → Type 0
+AsksLoad words count workers = Asks words (Load count workers)
 
 -- they ask for a command that opens a register of a store
 abbrev pub AsksRegister : List (List ℕ) → Type 0
@@ -60,6 +66,7 @@ IsDone words old new before after =
     ((within : Cidr) × AsksFree words within × PrintsFree within old.streams.input new.streams.input old.streams.output new.streams.output)
     ⊎ ((store : Store) × AsksStore words store × IsServed store old new)
     ⊎ ((serving : Serving) × AsksServe words serving × Counts serving old new before after)
+    ⊎ ((count workers : ℕ) × AsksLoad words count workers × Gains old.streams.output new.streams.output (load_text count))
 
 -- a line of the input is refused, or the tables of the store have a fault; the messages say which, and the output was left alone
 abbrev pub IsNamed : List (List ℕ) → Outside → Outside → Type 0
@@ -119,6 +126,9 @@ pub record HasClauses (words : List (List ℕ)) (old new : Outside) (before afte
   pub session : (store : Store) → AsksStore words store → IsSession store old new status
   -- `serve`: with each status, what was served, behind which history, what was printed, and what the store holds
   pub serve : (serving : Serving) → AsksServe words serving → IsServe serving old new before after status
+  -- `load`: with each status, what was printed, which is a text of the number of claims alone; nothing else is used
+  pub load : (count workers : ℕ) → AsksLoad words count workers → IsLoad count workers old.streams.output new.streams.output status
+      × (new.streams.input ≡ old.streams.input) × (new.streams.errors ≡ old.streams.errors) × (new.stores ≡ old.stores) × (after ≡ before)
   -- `session` without a file, where the opener did not fail: the answers are those of an empty register
   pub empty : (unique : Bool) → AsksSession words unique → (¬ StoreFailed old new) → status ≡ 0 → Prints answers_plainly (opened unique) old new
   -- a command that stands ends by itself where nothing fails: done, refused, or for want of memory

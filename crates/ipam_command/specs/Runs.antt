@@ -8,6 +8,7 @@ use Rattle.free_lines.specs.Run.{IsFree}
 use Rattle.store_session.specs.Outside.{Outside}
 use Rattle.store_session.specs.Session.{IsSession}
 use Rattle.store_server.specs.Serve.{Doors, IsServe}
+use Rattle.register_load.specs.Load.{IsLoad}
 
 -- the commands that stand; words that ask for another one are no words of a command yet
 abbrev pub Stands : Command → Type 0
@@ -17,7 +18,7 @@ Stands (Serve serving) = Unit {0}
 Stands (Import kind store) = ⊥
 Stands (Export kind store) = ⊥
 Stands (Report report store) = ⊥
-Stands (Load count workers) = ⊥
+Stands (Load count workers) = Unit {0}
 
 -- what a run of the command leaves, with its status: `before` and `after` are what the listener tells
 abbrev pub Answers : Command → Outside → Outside → Doors → Doors → ℕ → Type 0
@@ -27,7 +28,8 @@ Answers (Serve serving) old new before after status = IsServe serving old new be
 Answers (Import kind store) old new before after status = ⊥
 Answers (Export kind store) old new before after status = ⊥
 Answers (Report report store) old new before after status = ⊥
-Answers (Load count workers) old new before after status = ⊥
+Answers (Load count workers) old new before after status =
+    IsLoad count workers old.streams.output new.streams.output status × (new.streams.input ≡ old.streams.input) × (new.streams.errors ≡ old.streams.errors) × (new.stores ≡ old.stores) × (after ≡ before)
 
 -- the words ask for no command that stands
 abbrev pub AsksNothing : List (List ℕ) → Type 0

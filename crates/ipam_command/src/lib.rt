@@ -18,6 +18,7 @@ use free_lines::run_free;
 use ipam_doors::Listener;
 use ipam_edge::{Sink, Source};
 use ipam_keeper::keeper::KeeperOpener;
+use register_load::run_load;
 use std::alloc::Global;
 use std::marker::Sync;
 use std::sync::Wait;
@@ -65,6 +66,7 @@ fn run_command<
         Command::Free(within) => run_free(alloc, within, input, output, errors),
         Command::Session(store) => run_session(alloc, store, input, output, errors, opener),
         Command::Serve(serving) => run_serve(rt, alloc, serving, output, errors, listener, opener),
+        Command::Load { count, workers } => run_load(rt, alloc, *count, *workers, output),
         _ => run_none(errors),
     }
 }

@@ -1,0 +1,10 @@
+pub mod Called
+pub mod Hired
+pub mod Sent
+pub mod Dismissed
+pub mod Figure
+pub mod Loaded
+pub mod AllClaims
+pub mod Shares
+pub mod Ended
+pub mod Begun

@@ -1,0 +1,4 @@
+pub mod Load
+pub mod Hired
+pub mod Dismissed
+pub mod AllClaims

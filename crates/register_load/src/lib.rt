@@ -1,0 +1,12 @@
+//! The command `load`: many workers claim addresses of one prefix of a register in memory, one by one.
+#![tactic(auto)]
+
+mod came;
+mod claims;
+mod run;
+mod tally;
+#[cfg(test)]
+mod tests;
+mod workers;
+
+pub use run::run_load;

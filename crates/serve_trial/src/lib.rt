@@ -1,0 +1,5 @@
+//! `serve`, tried whole: two workers of the command over one store.
+#![tactic(auto)]
+
+#[cfg(test)]
+mod claims;

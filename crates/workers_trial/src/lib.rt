@@ -1,0 +1,13 @@
+//! Workers over one register, tried: sessions at once and one after another, the seats, and clients of a real port.
+#![tactic(auto)]
+
+#[cfg(test)]
+mod gates;
+#[cfg(test)]
+mod ports;
+#[cfg(test)]
+mod registers;
+#[cfg(test)]
+mod seats;
+#[cfg(test)]
+mod serving;
