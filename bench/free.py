@@ -2,7 +2,7 @@
 import ipaddress, os, random, shutil, subprocess, sys, tempfile, time
 
 top = os.path.dirname(os.path.dirname(os.path.abspath(__file__)))
-program = os.path.join(top, "crates", "ipamd", "out", "ipamd")
+program = os.environ.get("IPAMD", os.path.join(top, "crates", "ipamd", "out", "ipamd"))
 lines = int(sys.argv[1]) if len(sys.argv) > 1 else 200_000
 seed = int(sys.argv[2]) if len(sys.argv) > 2 else 1
 

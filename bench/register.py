@@ -73,7 +73,7 @@ def timed(command, data, runs):
 
 def main():
     runs = int(sys.argv[1]) if len(sys.argv) > 1 else 100
-    program = os.path.join(HERE, "..", "crates", "ipamd", "out", "ipamd")
+    program = os.environ.get("IPAMD", os.path.join(HERE, "..", "crates", "ipamd", "out", "ipamd"))
     print(f"load {os.getloadavg()[0]:.1f}, {runs} runs of 1,000 requests, a process for each run")
     for name, data in (("POST", posts()), ("GET", gets())):
         ours, ours_best = timed([program, "session"], data, runs)
