@@ -43,6 +43,7 @@ pub struct HostFiles<'a> {
 }
 
 impl<'a> HostFiles<'a> {
+    /// The files of the host that `rt` runs on: `Connects` opens one by its path.
     pub fn of(rt: &'a HostRuntime) -> HostFiles<'a> {
         HostFiles { rt }
     }
