@@ -5,4 +5,4 @@
 mod fault_words;
 mod session;
 
-pub use session::{path_of, run_session, say_fault};
+pub use session::{path_of, run_session, say_fault, start_keeper};

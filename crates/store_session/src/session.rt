@@ -38,7 +38,7 @@ pub fn path_of(alloc: Global, word: &Option<WordText>) -> Result<Option<Text>, A
 }
 
 /// Starts a keeper for a store. `Err` is `Keeper` only where the opener's count rose.
-fn start_keeper<O: KeeperOpener>(
+pub fn start_keeper<O: KeeperOpener>(
     alloc: Global,
     store: &Store,
     opener: &mut O,
