@@ -1,0 +1,3 @@
+pub mod FileKinds
+pub mod Imports
+pub mod Exports

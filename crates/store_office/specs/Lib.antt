@@ -1,0 +1,4 @@
+pub mod Files
+pub mod Import
+pub mod Making
+pub mod Export
