@@ -1,6 +1,7 @@
 -- What the parts of a run give: words that were read, and a command that was run or does not stand.
 use Rattle.std.proofs.Common.{◌≡◌, ℕ, ◌≤◌, inl, inr, refl, sym, subst, arith, List, Option, Some, None, MatchOption}
 use Rattle.inet_num.specs.Net.{Cidr}
+use Rattle.command_words.specs.declared.asked.KindName.{KindName}
 use Rattle.command_words.specs.declared.asked.Store.{Store}
 use Rattle.command_words.specs.declared.asked.Serving.{Serving}
 use Rattle.command_words.specs.declared.asked.Command.{Command}
@@ -57,11 +58,12 @@ few_claims words command count workers asks is =
 
 -- another command does not stand
 pub others_not_yet : (command : Command) → ((block : Cidr) → ¬ command ≡ Free block) → ((store : Store) → ¬ command ≡ Session store)
-    → ((serving : Serving) → ¬ command ≡ Serve serving) → ((count workers : ℕ) → ¬ command ≡ Load count workers) → ¬ Stands command
-others_not_yet (Free block) f s v l stands = f block refl
-others_not_yet (Session store) f s v l stands = s store refl
-others_not_yet (Serve serving) f s v l stands = v serving refl
-others_not_yet (Import kind store) f s v l stands = stands
-others_not_yet (Export kind store) f s v l stands = stands
-others_not_yet (Report report store) f s v l stands = stands
-others_not_yet (Load count workers) f s v l stands = l count workers refl
+    → ((serving : Serving) → ¬ command ≡ Serve serving) → ((kind : KindName) (store : Store) → ¬ command ≡ Import kind store)
+    → ((kind : KindName) (store : Store) → ¬ command ≡ Export kind store) → ((count workers : ℕ) → ¬ command ≡ Load count workers) → ¬ Stands command
+others_not_yet (Free block) f s v i x l stands = f block refl
+others_not_yet (Session store) f s v i x l stands = s store refl
+others_not_yet (Serve serving) f s v i x l stands = v serving refl
+others_not_yet (Import kind store) f s v i x l stands = i kind store refl
+others_not_yet (Export kind store) f s v i x l stands = x kind store refl
+others_not_yet (Report report store) f s v i x l stands = stands
+others_not_yet (Load count workers) f s v i x l stands = l count workers refl

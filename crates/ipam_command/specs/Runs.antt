@@ -9,14 +9,17 @@ use Rattle.store_session.specs.Outside.{Outside}
 use Rattle.store_session.specs.Session.{IsSession}
 use Rattle.store_server.specs.Serve.{Doors, IsServe}
 use Rattle.register_load.specs.Load.{IsLoad}
+use Rattle.store_office.specs.Files.{kind_named}
+use Rattle.store_office.specs.Import.{IsImport}
+use Rattle.store_office.specs.Export.{IsExport}
 
 -- the commands that stand; words that ask for another one are no words of a command yet
 abbrev pub Stands : Command → Type 0
 Stands (Free within) = Unit {0}
 Stands (Session store) = Unit {0}
 Stands (Serve serving) = Unit {0}
-Stands (Import kind store) = ⊥
-Stands (Export kind store) = ⊥
+Stands (Import kind store) = Unit {0}
+Stands (Export kind store) = Unit {0}
 Stands (Report report store) = ⊥
 Stands (Load count workers) = Unit {0}
 
@@ -25,8 +28,8 @@ abbrev pub Answers : Command → Outside → Outside → Doors → Doors → ℕ
 Answers (Free within) old new before after status = IsFree within old.streams new.streams status × (new.stores ≡ old.stores) × (after ≡ before)
 Answers (Session store) old new before after status = IsSession store old new status × (after ≡ before)
 Answers (Serve serving) old new before after status = IsServe serving old new before after status
-Answers (Import kind store) old new before after status = ⊥
-Answers (Export kind store) old new before after status = ⊥
+Answers (Import kind store) old new before after status = IsImport (kind_named kind) store old new status × (after ≡ before)
+Answers (Export kind store) old new before after status = IsExport (kind_named kind) store old new status × (after ≡ before)
 Answers (Report report store) old new before after status = ⊥
 Answers (Load count workers) old new before after status =
     IsLoad count workers old.streams.output new.streams.output status × (new.streams.input ≡ old.streams.input) × (new.streams.errors ≡ old.streams.errors) × (new.stores ≡ old.stores) × (after ≡ before)

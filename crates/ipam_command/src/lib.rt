@@ -23,6 +23,7 @@ use std::alloc::Global;
 use std::marker::Sync;
 use std::sync::Wait;
 use std::thread::Threads;
+use store_office::{kind_named, run_export, run_import};
 use store_server::run_serve;
 use store_session::run_session;
 
@@ -66,6 +67,12 @@ fn run_command<
         Command::Free(within) => run_free(alloc, within, input, output, errors),
         Command::Session(store) => run_session(alloc, store, input, output, errors, opener),
         Command::Serve(serving) => run_serve(rt, alloc, serving, output, errors, listener, opener),
+        Command::Import(kind, store) => {
+            run_import(alloc, kind_named(*kind), store, input, output, errors, opener)
+        }
+        Command::Export(kind, store) => {
+            run_export(alloc, kind_named(*kind), store, output, errors, opener)
+        }
         Command::Load { count, workers } => run_load(rt, alloc, *count, *workers, output),
         _ => run_none(errors),
     }

@@ -7,4 +7,4 @@ run_load-requires-clause-few g c κs within = few_claims c.requires.asked.0 c.ar
 
 pub returns-in_default : goal.returns-in_default
 returns-in_default g c =
-    inr (others_not_yet c.args.command.now c.in_default.not-Free c.in_default.not-Session c.in_default.not-Serve c.in_default.not-Load, (c.run_none.ensures _ _, refl, refl))
+    inr (others_not_yet c.args.command.now c.in_default.not-Free c.in_default.not-Session c.in_default.not-Serve c.in_default.not-Import c.in_default.not-Export c.in_default.not-Load, (c.run_none.ensures _ _, refl, refl))
