@@ -1,3 +1,4 @@
 pub mod FileKinds
 pub mod Imports
 pub mod Exports
+pub mod Reports

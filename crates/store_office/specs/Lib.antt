@@ -2,3 +2,4 @@ pub mod Files
 pub mod Import
 pub mod Making
 pub mod Export
+pub mod Report
