@@ -2,9 +2,10 @@
 use Rattle.std.proofs.Common.{◌≡◌, ℕ, ◌+◌, ◌≤◌, length, refl, sym, ap, subst, arith, List}
 use Rattle.inet_num.specs.Net.{Cidr}
 use Rattle.command_words.specs.declared.asked.KindName.{KindName}
+use Rattle.command_words.specs.declared.asked.Report.{Report as ReportName}
 use Rattle.command_words.specs.declared.asked.Store.{Store}
 use Rattle.command_words.specs.declared.asked.Serving.{Serving}
-use Rattle.command_words.specs.declared.asked.Command.TheVariants.{Free, Session, Serve, Import, Export, Load}
+use Rattle.command_words.specs.declared.asked.Command.TheVariants.{Free, Session, Serve, Import, Export, Report, Load}
 use Rattle.command_words.specs.Asked.{Asks}
 use Rattle.command_words.proofs.Unique.{words_ask_for_one}
 use Rattle.store_session.specs.Outside.{Stores, Outside}
@@ -78,3 +79,11 @@ same_export words kind other_kind store other_store P a b h =
     let first : kind ≡ other_kind = cc in
     let second : store ≡ other_store = cc in
     subst (λ (s : Store). P other_kind s) second (subst (λ (k : KindName). P k store) first h)
+
+pub same_report : (words : List (List ℕ)) (report other_report : ReportName) (store other_store : Store) (P : ReportName → Store → Type 0)
+    → Asks words (Report report store) → Asks words (Report other_report other_store) → P report store → P other_report other_store
+same_report words report other_report store other_store P a b h =
+    let e = words_ask_for_one words (Report report store) (Report other_report other_store) a b in
+    let first : report ≡ other_report = cc in
+    let second : store ≡ other_store = cc in
+    subst (λ (s : Store). P other_report s) second (subst (λ (r : ReportName). P r store) first h)
