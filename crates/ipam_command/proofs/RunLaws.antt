@@ -83,7 +83,7 @@ of_free words old new before after status within asks f same_stores same_doors =
   export_keeps = λ kind kept a. absurd (let e = words_ask_for_one words (Export kind kept) (Free within) a asks in cc);
   report = λ report kept a. absurd (let e = words_ask_for_one words (Report report kept) (Free within) a asks in cc);
   report_keeps = λ report kept a. absurd (let e = words_ask_for_one words (Report report kept) (Free within) a asks in cc);
-  complete = λ command a stands none heard. elim f.statuses [
+  complete = λ command a none heard. elim f.statuses [
     | inl e ↦ inl e
     | inr more ↦ elim more [
       | inl e ↦ inr (inl e)
