@@ -1,0 +1,151 @@
+//! The drafts that the rows of an import stand for, and the rules that rows break by themselves.
+
+ghost use Rattle.std.specs.Prelude.{◌≡◌, None, IfOk};
+ghost use Rattle.ipam_data.specs.Checks.{first};
+ghost use Rattle.ipam_data.specs.Fields.{drafted, told_of_draft};
+ghost use Rattle.import_rows.specs.Imports.{draft_of};
+ghost use Rattle.register_shelves.specs.Held.{state_of};
+ghost use Rattle.plan_import.specs.Halts.{fault_of};
+
+use crate::names::{name_fault, rir_id_of, role_id_of, vrf_id_of};
+use import_rows::rows::ImportRow;
+use ipam_data::address::IpAddress;
+use ipam_data::aggregate::Aggregate;
+use ipam_data::calls::Draft;
+use ipam_data::prefix::Prefix;
+use ipam_data::range::IpRange;
+use ipam_data::replies::{Rule, View};
+use ipam_data::rir::Rir;
+use ipam_data::role::Role;
+use ipam_data::vrf::{Vrf, copy_distinguisher};
+use register_shelves::Shelves;
+use std::alloc::AllocError;
+
+/// The draft that a row stands for.
+pub(crate) fn draft(shelves: &Shelves, row: &ImportRow) -> Result<Draft, AllocError>
+    ensures { IfOk result (λ d. d ≡ draft_of (state_of shelves.now) row.now) }
+{
+    match row {
+        ImportRow::Vrf {
+            name,
+            rd,
+            enforce_unique,
+            description,
+        } => Ok(Draft::Vrf {
+            name: name.copy()?,
+            rd: copy_distinguisher(rd)?,
+            enforce_unique: *enforce_unique,
+            description: description.copy()?,
+        }),
+        ImportRow::Rir {
+            name,
+            slug,
+            is_private,
+            description,
+        } => Ok(Draft::Rir {
+            name: name.copy()?,
+            slug: slug.copy()?,
+            is_private: *is_private,
+            description: description.copy()?,
+        }),
+        ImportRow::Role {
+            name,
+            slug,
+            weight,
+            description,
+        } => Ok(Draft::Role {
+            name: name.copy()?,
+            slug: slug.copy()?,
+            weight: *weight,
+            description: description.copy()?,
+        }),
+        ImportRow::Aggregate {
+            block,
+            rir,
+            description,
+        } => Ok(Draft::Aggregate {
+            block: *block,
+            rir: rir_id_of(shelves, rir),
+            description: description.copy()?,
+        }),
+        ImportRow::Prefix {
+            block,
+            vrf,
+            status,
+            role,
+            is_pool,
+            mark_utilized,
+            description,
+        } => Ok(Draft::Prefix {
+            block: *block,
+            vrf: vrf_id_of(shelves, vrf),
+            status: *status,
+            role: role_id_of(shelves, role),
+            is_pool: *is_pool,
+            mark_utilized: *mark_utilized,
+            description: description.copy()?,
+        }),
+        ImportRow::IpRange {
+            start,
+            end,
+            vrf,
+            status,
+            role,
+            mark_utilized,
+            description,
+        } => Ok(Draft::IpRange {
+            start: *start,
+            end: *end,
+            vrf: vrf_id_of(shelves, vrf),
+            status: *status,
+            role: role_id_of(shelves, role),
+            mark_utilized: *mark_utilized,
+            description: description.copy()?,
+        }),
+        ImportRow::IpAddress {
+            host,
+            vrf,
+            status,
+            role,
+            dns_name,
+            description,
+        } => Ok(Draft::IpAddress {
+            host: *host,
+            vrf: vrf_id_of(shelves, vrf),
+            status: *status,
+            role: *role,
+            dns_name: dns_name.copy()?,
+            description: description.copy()?,
+        }),
+    }
+}
+
+/// The row that a draft makes under an id.
+pub(crate) fn view_under(id: u32, draft: &Draft) -> Result<View, AllocError>
+    requires { first (told_of_draft draft.now) ≡ None }
+    ensures { IfOk result (λ v. v ≡ drafted id draft.now) }
+{
+    match draft {
+        Draft::Vrf { .. } => Ok(View::Vrf(Vrf::drafted(id, draft)?)),
+        Draft::Rir { .. } => Ok(View::Rir(Rir::drafted(id, draft)?)),
+        Draft::Role { .. } => Ok(View::Role(Role::drafted(id, draft)?)),
+        Draft::Aggregate { .. } => Ok(View::Aggregate(Aggregate::drafted(id, draft)?)),
+        Draft::Prefix { .. } => Ok(View::Prefix {
+            row: Prefix::drafted(id, draft)?,
+            depth: 0,
+            children: 0,
+        }),
+        Draft::IpRange { .. } => Ok(View::IpRange(IpRange::drafted(id, draft)?)),
+        Draft::IpAddress { .. } => Ok(View::IpAddress(IpAddress::drafted(id, draft)?)),
+    }
+}
+
+/// The first rule that a row breaks by its names or its values.
+pub(crate) fn fault(shelves: &Shelves, row: &ImportRow) -> Option<Rule>
+    ensures { result ≡ fault_of (state_of shelves.now) row.now }
+{
+    match name_fault(shelves, row) {
+        Some(rule) => Some(rule),
+        None => row.value_fault(),
+    }
+}
