@@ -19,7 +19,7 @@ use Rattle.plan_import.specs.declared.ready.Ready.{Ready}
 use Rattle.plan_import.specs.Halts.{fault_of, IsHaltBy, halt_at}
 use Rattle.plan_import.specs.Ready.{key_where, ready_of, ready_rows, keys_of, record_keys, ready_checks, IsTaken}
 use Rattle.plan_import.specs.Plan.{AreMade}
-use Rattle.plan_import.proofs.Keys.{count_first, makes_keys}
+use Rattle.plan_import.proofs.KeyLaws.{count_first, makes_keys}
 use Rattle.plan_import.proofs.Steps.{row_first}
 
 -- an import that has come so far
