@@ -4,14 +4,13 @@ use Rattle.std.proofs.lemmas.Bool.Decides.{nat_tests}
 use Rattle.std.specs.Prelude.{Result, Ok, Err, IfOk, IfErr, OnOk}
 use Rattle.ipam_data.specs.declared.kinds.Kind.{Kind}
 use Rattle.ipam_data.specs.declared.kinds.Kind.TheVariants.{Vrfs, Rirs, Roles, Aggregates, Prefixes, Ranges, Addresses}
-use Rattle.ipam_data.specs.declared.calls.Draft.{Draft}
 use Rattle.ipam_data.specs.declared.replies.Refusal.{Refusal}
 use Rattle.ipam_data.specs.declared.replies.Refusal.TheVariants.{Limit}
 use Rattle.ipam_data.specs.declared.replies.Reply.TheVariants.{Imported as ImportedReply}
 use Rattle.ipam_data.specs.declared.replies.View.{View}
 use Rattle.ipam_data.specs.declared.replies.Which.TheVariants.{Rows}
 use Rattle.ipam_data.specs.declared.update.Update.{Update}
-use Rattle.ipam_data.specs.Checks.{first, too_many, no_log, most_spent}
+use Rattle.ipam_data.specs.Checks.{first, too_many, no_log}
 use Rattle.ipam_data.specs.State.{State, verdict_of}
 use Rattle.ipam_data.specs.Updates.{updated, with_spent}
 use Rattle.ipam_data.specs.Lawful.{IsLawful}

@@ -1,5 +1,5 @@
 -- One record of an import, as its plan has it.
-use Rattle.std.proofs.Common.{◌≡◌, ◌∙◌, ℕ, ◌+◌, ◌≤◌, Bool, true, false, List, [], ◌∷◌, ◌++◌, length, map, Option, Some, None, option_map, Result, Ok, Err, refl, ap, ap₂, sym, subst, arith, inr}
+use Rattle.std.proofs.Common.{◌≡◌, ◌∙◌, ℕ, ◌+◌, ◌≤◌, true, List, [], ◌∷◌, ◌++◌, length, map, Option, Some, None, refl, ap, ap₂, sym, subst, arith, inr}
 use Rattle.ipam_data.specs.declared.calls.Draft.{Draft}
 use Rattle.ipam_data.specs.declared.calls.Draft.TheVariants.{Vrf as VrfDraft, Rir as RirDraft, Role as RoleDraft, Aggregate as AggregateDraft, Prefix as PrefixDraft, IpRange as RangeDraft, IpAddress as AddressDraft}
 use Rattle.ipam_data.specs.declared.kinds.Kind.{Kind}
@@ -37,7 +37,7 @@ use Rattle.ipam_data.proofs.RangeLaws.{ranges_sound}
 use Rattle.ipam_data.proofs.AddressLaws.{addresses_sound}
 use Rattle.import_rows.specs.declared.rows.ImportRow.{ImportRow}
 use Rattle.import_rows.specs.declared.rows.ImportRow.TheVariants.{Vrf as VrfRow, Rir as RirRow, Role as RoleRow, Aggregate as AggregateRow, Prefix as PrefixRow, IpRange as RangeRow, IpAddress as AddressRow}
-use Rattle.import_rows.specs.Imports.{name_rules, value_rules, zero_mask, vrf_rule, role_rule, draft_of, Progress, record_of, with_record, with_draft, makes_one, create_checks, at_row, row_verdict}
+use Rattle.import_rows.specs.Imports.{name_rules, value_rules, draft_of, record_of, with_record, create_checks}
 use Rattle.ipam_data.proofs.Verdicts.{none_left}
 use Rattle.import_rows.proofs.ImportLaws.{record_keeps}
 use Rattle.register_shelves.proofs.Firsts.{head_refuses, head_passes}

@@ -10,15 +10,13 @@ use Rattle.ipam_data.specs.Checks.{first, breaks}
 use Rattle.ipam_data.specs.Fields.{told_of_draft}
 use Rattle.ipam_data.specs.State.{State}
 use Rattle.import_rows.specs.declared.rows.ImportRow.{ImportRow}
-use Rattle.import_rows.specs.Imports.{create_checks, begun, row_verdicts}
+use Rattle.import_rows.specs.Imports.{create_checks}
 use Rattle.row_counts.specs.declared.Leftovers.{Leftovers}
 use Rattle.row_counts.specs.Left.{IsLeft}
-use Rattle.plan_import.specs.declared.halt.Halt.{Halt}
 use Rattle.plan_import.specs.declared.ready.Ready.{Ready}
-use Rattle.plan_import.specs.Halts.{IsHaltBy, halt_at}
 use Rattle.plan_import.specs.Ready.{ready_rows, keys_of, record_keys, IsTaken}
 use Rattle.plan_import.proofs.KeyLaws.{any_at}
-use Rattle.plan_import.proofs.Loops.{HasComeTo, IsAt, line_at, makes, come_more, come_halt}
+use Rattle.plan_import.proofs.Loops.{HasComeTo, IsAt, line_at, makes, come_more}
 use Rattle.plan_import.proofs.Records.{nothing_told}
 
 -- the row at an index, and its line

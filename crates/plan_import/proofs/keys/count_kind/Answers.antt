@@ -1,6 +1,4 @@
-use Rattle.std.proofs.Common.{◌≡◌, ◌∙◌, ℕ, ◌<◌, ◌≤◌, ◌^◌, List, [], length, map, take, sym, arith}
-use Rattle.ipam_data.specs.State.{State}
-use Rattle.row_counts.specs.Left.{IsLeft}
+use Rattle.std.proofs.Common.{◌∙◌, ℕ, ◌<◌, ◌≤◌, ◌^◌, List, length, map, take, sym, arith}
 use Rattle.register_shelves.specs.Held.{state_of}
 use Rattle.plan_import.specs.Ready.{key_of_row}
 use Rattle.plan_import.proofs.KeyLaws.{left_small, few_taken, count_next}

@@ -1,4 +1,4 @@
-use Rattle.std.proofs.Common.{◌≡◌, ◌∙◌, ℕ, ◌+◌, ◌<◌, List, [], ◌∷◌, ◌++◌, length, take, get_or, ap, ap₂, sym, arith}
+use Rattle.std.proofs.Common.{◌≡◌, ◌∙◌, ℕ, ◌+◌, ◌<◌, List, [], ◌∷◌, ◌++◌, length, take, ap, ap₂, sym, arith}
 use Rattle.std.proofs.lemmas.List.{take_more}
 use Rattle.row_counts.specs.Keys.{spelled, key_of}
 use Rattle.plan_import.proofs.KeyLaws.{key_next}

@@ -1,7 +1,5 @@
-use Rattle.std.proofs.Common.{◌≡◌, ◌∙◌, ◌+◌, ◌≤◌, None, true, sym, arith}
-use Rattle.ipam_data.specs.Checks.{first}
+use Rattle.std.proofs.Common.{◌∙◌, ◌+◌, ◌≤◌, sym, arith}
 use Rattle.ipam_data.specs.Steps.{next_for}
-use Rattle.import_rows.specs.Imports.{create_checks}
 use Rattle.register_shelves.specs.Held.{state_of}
 use Rattle.plan_import.proofs.Records.{next_room, put_leads, made_lawful}
 use Rattle.plan_import.proofs.one.make.Goals as goal
