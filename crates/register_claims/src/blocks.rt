@@ -26,8 +26,8 @@ use ipam_data::replies::{Blocks, Refusal, Reply};
 use register_shelves::{Planned, Shelves};
 use std::alloc::AllocError;
 
-/// The first available blocks of a prefix that is there, at most `limit`. `Err` is want of memory.
-fn available_in(shelves: &Shelves, row: &Prefix, limit: u32) -> Result<Vec<Block>, AllocError>
+/// The first available blocks of a prefix that is there, at most `limit`: the largest free ones, in order. `Err` is want of memory.
+pub fn available_in(shelves: &Shelves, row: &Prefix, limit: u32) -> Result<Vec<Block>, AllocError>
     requires lawful { IsLawful (state_of shelves.now) }
     requires there { IsThere shelves.now.prefixes.rows row.now }
     ensures { IfOk result (λ v. v.items ≡ take limit (available_blocks_of row.now.block (child_blocks shelves.now.prefixes.rows row.now))) }

@@ -68,8 +68,8 @@ fn plan_aggregate_figure(shelves: &Shelves, id: u32) -> Planned
     }
 }
 
-/// How much of a prefix that is there is used.
-fn figure_of_prefix(shelves: &Shelves, row: &Prefix) -> u8
+/// How much of a prefix that is there is used, in whole percent. It takes no memory.
+pub fn figure_of_prefix(shelves: &Shelves, row: &Prefix) -> u8
     requires lawful { IsLawful (state_of shelves.now) }
     requires there { IsThere shelves.now.prefixes.rows row.now }
     ensures { result ≡ prefix_figure (state_of shelves.now) row.now }
