@@ -1,3 +1,5 @@
 pub mod FileKinds
 pub mod Imports
 pub mod Exports
+pub mod Stored
+pub mod FileRows
