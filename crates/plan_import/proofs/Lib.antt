@@ -1,5 +1,6 @@
-pub mod Keys
+pub mod KeyLaws
 pub mod Records
 pub mod Steps
 pub mod Loops
+pub mod Rows
 pub mod Plans

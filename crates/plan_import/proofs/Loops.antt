@@ -1,15 +1,13 @@
 -- How far the rows of an import have come, and what one more row does.
-use Rattle.std.proofs.Common.{◌≡◌, ◌∙◌, ℕ, zero, suc, ◌+◌, ◌<◌, ◌≤◌, Bool, true, false, not, nat_lt, List, [], ◌∷◌, ◌++◌, length, map, drop, get_or, Option, Some, None, option_map, Result, Ok, Err, refl, ap, sym, subst, arith, count_by, length-append}
+use Rattle.std.proofs.Common.{◌≡◌, ◌∙◌, ℕ, zero, suc, ◌+◌, ◌<◌, Bool, true, false, not, nat_lt, List, [], ◌∷◌, ◌++◌, length, map, drop, get_or, Option, Some, None, option_map, Ok, Err, refl, ap, sym, arith, count_by}
 use Rattle.std.specs.Prelude.{bytes_eq}
-use Rattle.std.specs.List.{list_any}
 use Rattle.ipam_data.specs.declared.kinds.Kind.{Kind}
 use Rattle.ipam_data.specs.declared.replies.Refusal.{Refusal}
 use Rattle.ipam_data.specs.declared.replies.View.{View}
 use Rattle.ipam_data.specs.Checks.{first}
 use Rattle.ipam_data.specs.State.{State}
-use Rattle.ipam_data.specs.Lawful.{IsLawful}
 use Rattle.import_rows.specs.declared.rows.ImportRow.{ImportRow}
-use Rattle.import_rows.specs.Imports.{draft_of, texts_of, Progress, begun, makes_one, with_draft, after_row, after_rows, at_row, create_checks, row_verdict, row_verdicts}
+use Rattle.import_rows.specs.Imports.{draft_of, texts_of, Progress, begun, makes_one, with_draft, after_row, after_rows, at_row, row_verdict, row_verdicts}
 use Rattle.row_counts.specs.Keys.{key_of}
 use Rattle.row_counts.specs.declared.Leftovers.{Leftovers}
 use Rattle.row_counts.specs.Left.{IsLeft}
@@ -19,7 +17,7 @@ use Rattle.plan_import.specs.declared.ready.Ready.{Ready}
 use Rattle.plan_import.specs.Halts.{fault_of, IsHaltBy, halt_at}
 use Rattle.plan_import.specs.Ready.{key_where, ready_of, ready_rows, keys_of, record_keys, ready_checks, IsTaken}
 use Rattle.plan_import.specs.Plan.{AreMade}
-use Rattle.plan_import.proofs.Keys.{count_first, makes_keys}
+use Rattle.plan_import.proofs.KeyLaws.{count_first, makes_keys}
 use Rattle.plan_import.proofs.Steps.{row_first}
 
 -- an import that has come so far

@@ -1,23 +1,23 @@
 -- What the rows of an import come to, as its plan has it.
-use Rattle.std.proofs.Common.{◌≡◌, ◌∙◌, ℕ, suc, ◌+◌, ◌-◌, ◌≤◌, ◌<◌, Bool, true, false, List, [], ◌∷◌, ◌++◌, length, Option, Some, None, refl, ap, ap₂, sym, subst, arith, length-append, nat_le, if◌then◌else◌}
+use Rattle.std.proofs.Common.{◌≡◌, ◌∙◌, ℕ, suc, ◌+◌, ◌-◌, ◌≤◌, ◌<◌, Bool, true, false, List, [], ◌∷◌, ◌++◌, length, Option, Some, None, refl, ap, ap₂, sym, subst, arith, length-append, nat_le, ◌==◌, if◌then◌else◌}
 use Rattle.std.proofs.lemmas.Bool.Decides.{nat_tests}
+use Rattle.std.specs.Prelude.{Result, Ok, Err, IfOk, IfErr, OnOk}
 use Rattle.ipam_data.specs.declared.kinds.Kind.{Kind}
 use Rattle.ipam_data.specs.declared.kinds.Kind.TheVariants.{Vrfs, Rirs, Roles, Aggregates, Prefixes, Ranges, Addresses}
-use Rattle.ipam_data.specs.declared.calls.Draft.{Draft}
 use Rattle.ipam_data.specs.declared.replies.Refusal.{Refusal}
 use Rattle.ipam_data.specs.declared.replies.Refusal.TheVariants.{Limit}
 use Rattle.ipam_data.specs.declared.replies.Reply.TheVariants.{Imported as ImportedReply}
 use Rattle.ipam_data.specs.declared.replies.View.{View}
 use Rattle.ipam_data.specs.declared.replies.Which.TheVariants.{Rows}
 use Rattle.ipam_data.specs.declared.update.Update.{Update}
-use Rattle.ipam_data.specs.Checks.{first, too_many, no_log, most_spent}
+use Rattle.ipam_data.specs.Checks.{first, too_many, no_log}
 use Rattle.ipam_data.specs.State.{State, verdict_of}
 use Rattle.ipam_data.specs.Updates.{updated, with_spent}
 use Rattle.ipam_data.specs.Lawful.{IsLawful}
 use Rattle.ipam_data.proofs.Sound.{log_from, spent_keeps}
 use Rattle.ipam_stored.specs.Stored.{next_of}
 use Rattle.import_rows.specs.declared.rows.ImportRow.{ImportRow}
-use Rattle.import_rows.specs.Imports.{most_rows, draft_of, Progress, begun, makes_one, with_draft, after_row, after_rows, row_verdicts, items_of, import_plan, AreOfKind}
+use Rattle.import_rows.specs.Imports.{most_rows, draft_of, Progress, begun, makes_one, record_of, with_draft, after_row, after_rows, row_verdicts, items_of, import_plan, AreOfKind}
 use Rattle.import_rows.proofs.ImportLaws.{import_leads, spent_all}
 use Rattle.register_shelves.specs.Held.{Held, state_of, next_in}
 use Rattle.register_shelves.proofs.Firsts.{head_refuses, head_passes}
@@ -37,15 +37,18 @@ made_few old kind so (row ∷ rows) =
     let one = go (makes_one old kind so.seen (draft_of old row)) in omega arith
   where
     go : (t : Bool) → length (with_draft t so (draft_of old row)).made ≤ length so.made + 1
-    go true = omega (arith, length-append so.made (_ ∷ []))
+    go true = omega (arith, length-append so.made (record_of so.state (draft_of old row) ∷ []))
     go false = omega arith
 
 pub few_made : (old : State) (kind : Kind) (rows : List ImportRow) (after : State) (made : List View) → AreMade old kind rows after made → length made ≤ length rows
 few_made old kind rows after made h = let few = made_few old kind (begun old) rows in let same = ap (λ (views : List View). length views) h.records in omega arith
 
+more_items : (n : ℕ) → items_for (suc n) ≡ suc n
+more_items n = let e : (suc n == 0) ≡ false = grind (arith, nat_tests) in ap (λ (b : Bool). if b then 1 else suc n) e
+
 items_are : (rows : List ImportRow) → items_of rows ≡ items_for (length rows)
 items_are [] = refl
-items_are (row ∷ rows) = refl
+items_are (row ∷ rows) = sym (more_items (length rows))
 
 -- the next id of a kind
 next_is : (held : Held) (kind : Kind) → next_of (state_of held) kind ≡ next_in held kind
@@ -128,3 +131,23 @@ state_after old kind rows after last made q h e =
 
 pub lawful_after : (after last : State) (n : ℕ) → IsLawful after → no_log after.spent n ≡ None → last ≡ with_spent after n → IsLawful last
 lawful_after after last n h free e = subst IsLawful (sym e) (spent_keeps after n h (log_from after.spent n (ap (λ (o : Option Refusal). first (o ∷ [])) free)))
+
+-- ---- what is handed out
+
+module _ (old : State) (kind : Kind) (rows : List ImportRow) (held : Held) (made : List View) (few : length rows ≤ 10000) (h : AreMade old kind rows (state_of held) made) where
+  pub ok_imported : (result : Result Imported Halt) → OnOk result (no_log (state_of held).spent (items_for (length rows)) ≡ None)
+      → IfOk result (λ done. done.update ≡ record { puts = made; cuts = []; next = (kind, next_in held kind) ∷ []; spent = items_for (length rows) })
+      → IfOk result (λ done. done.created ≡ length made) → IfOk result (λ done. done.present ≡ length rows - length made)
+      → IfOk result (λ done. IsImported (import_plan old kind rows) done)
+  ok_imported (Ok done) free u c p = is_imported old kind rows held made done few h free u c p
+  ok_imported (Err halt) free u c p = tt
+
+  pub ok_state : (result : Result Imported Halt) (last : State) → AreOfKind kind rows → OnOk result (last ≡ with_spent (state_of held) (items_for (length rows)))
+      → OnOk result (last ≡ updated old (import_plan old kind rows).update)
+  ok_state (Ok done) last q e = state_after old kind rows (state_of held) last made q h e
+  ok_state (Err halt) last q e = tt
+
+  pub err_halted : (result : Result Imported Halt) → IfErr result (λ halt. IsHaltBy (no_log (state_of held).spent (items_for (length rows))) halt)
+      → IfErr result (λ halt. IsHaltBy (verdict_of (import_plan old kind rows)) halt)
+  err_halted (Ok done) e = tt
+  err_halted (Err halt) e = halt_by_log old kind rows (state_of held) made halt few h e

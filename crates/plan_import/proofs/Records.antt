@@ -1,5 +1,5 @@
 -- One record of an import, as its plan has it.
-use Rattle.std.proofs.Common.{◌≡◌, ◌∙◌, ℕ, ◌+◌, ◌≤◌, Bool, true, false, List, [], ◌∷◌, ◌++◌, length, map, Option, Some, None, option_map, Result, Ok, Err, refl, ap, sym, subst, arith, inr}
+use Rattle.std.proofs.Common.{◌≡◌, ◌∙◌, ℕ, ◌+◌, ◌≤◌, true, List, [], ◌∷◌, ◌++◌, length, map, Option, Some, None, refl, ap, ap₂, sym, subst, arith, inr}
 use Rattle.ipam_data.specs.declared.calls.Draft.{Draft}
 use Rattle.ipam_data.specs.declared.calls.Draft.TheVariants.{Vrf as VrfDraft, Rir as RirDraft, Role as RoleDraft, Aggregate as AggregateDraft, Prefix as PrefixDraft, IpRange as RangeDraft, IpAddress as AddressDraft}
 use Rattle.ipam_data.specs.declared.kinds.Kind.{Kind}
@@ -21,7 +21,7 @@ use Rattle.ipam_data.specs.Prefixes.{prefix_rules}
 use Rattle.ipam_data.specs.Ranges.{range_rules, range_told}
 use Rattle.ipam_data.specs.Addresses.{address_rules}
 use Rattle.ipam_data.specs.ByKind.{by_view}
-use Rattle.ipam_data.specs.Fields.{drafted, told_of_draft, kind_of_draft}
+use Rattle.ipam_data.specs.Fields.{drafted, told_of_draft, kind_of_draft, HasDraftBounds}
 use Rattle.ipam_data.specs.Steps.{next_for}
 use Rattle.ipam_data.specs.Updates.{with_view, with_next, FitsOn, IsFit}
 use Rattle.ipam_data.specs.Lawful.{IsLawful}
@@ -37,8 +37,9 @@ use Rattle.ipam_data.proofs.RangeLaws.{ranges_sound}
 use Rattle.ipam_data.proofs.AddressLaws.{addresses_sound}
 use Rattle.import_rows.specs.declared.rows.ImportRow.{ImportRow}
 use Rattle.import_rows.specs.declared.rows.ImportRow.TheVariants.{Vrf as VrfRow, Rir as RirRow, Role as RoleRow, Aggregate as AggregateRow, Prefix as PrefixRow, IpRange as RangeRow, IpAddress as AddressRow}
-use Rattle.import_rows.specs.Imports.{name_rules, value_rules, zero_mask, vrf_rule, role_rule, draft_of, Progress, record_of, with_record, with_draft, makes_one, create_checks, at_row, row_verdict}
+use Rattle.import_rows.specs.Imports.{name_rules, value_rules, draft_of, record_of, with_record, create_checks}
 use Rattle.ipam_data.proofs.Verdicts.{none_left}
+use Rattle.import_rows.proofs.ImportLaws.{record_keeps}
 use Rattle.register_shelves.proofs.Firsts.{head_refuses, head_passes}
 use Rattle.register_plans.specs.Broken.{first_broken}
 use Rattle.plan_import.specs.Halts.{fault_of}
@@ -170,3 +171,15 @@ pub checks_are : (s : State) (d : Draft) (view : View) (found : Option Refusal) 
     → found ≡ by_view view (λ T rules row. first (creation rules s [] row)) → found ≡ first (create_checks true s d)
 checks_are s d view found t v f =
     f ∙ ap (λ (x : View). by_view x (λ T rules row. first (creation rules s [] row))) v ∙ view_untold s (told_of_draft d) (record_of s d) t
+
+-- ---- the record that was made
+
+-- the state after its record was put and the next id set past it
+pub put_leads : (s new : State) (d : Draft) (view : View) (kind : Kind) (id : ℕ) → view ≡ drafted id d → kind ≡ kind_of_draft d → id ≡ next_for s d
+    → new ≡ with_next (with_view s view) (kind, id + 1) → new ≡ with_record s d
+put_leads s new d view kind id v k i e =
+    e ∙ ap₂ (λ (x : View) (n : Kind × ℕ). with_next (with_view s x) n) (v ∙ ap (λ (n : ℕ). drafted n d) i) (ap₂ (λ (x : Kind) (n : ℕ). (x, n + 1)) k i) ∙ record_put s d
+
+-- it is lawful
+pub made_lawful : (s new : State) (d : Draft) → IsLawful s → HasDraftBounds d → first (create_checks true s d) ≡ None → new ≡ with_record s d → IsLawful new
+made_lawful s new d h b v e = subst IsLawful (sym e) (record_keeps s d h b v)

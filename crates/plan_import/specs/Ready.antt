@@ -1,5 +1,5 @@
 -- What is known of the rows of an import before any record is made, and what one row then does.
-use Rattle.std.specs.Prelude.{◌≡◌, ℕ, Bool, List, [], ◌∷◌, ◌++◌, Option, Some, None, Result, Ok, Err, map}
+use Rattle.std.specs.Prelude.{◌≡◌, ℕ, Bool, List, [], ◌∷◌, Option, Some, None, Result, Ok, Err, map}
 use Rattle.ipam_data.specs.declared.kinds.Kind.{Kind}
 use Rattle.ipam_data.specs.declared.calls.Draft.{Draft}
 use Rattle.ipam_data.specs.declared.replies.Rule.{Rule}
@@ -11,12 +11,11 @@ use Rattle.ipam_data.specs.Plans.{KindRules}
 use Rattle.ipam_data.specs.ByKind.{by_kind}
 use Rattle.ipam_stored.specs.Stored.{stored_row}
 use Rattle.import_rows.specs.declared.rows.ImportRow.{ImportRow}
-use Rattle.import_rows.specs.Imports.{texts_of, draft_of, begun, with_draft, create_checks, row_verdicts}
+use Rattle.import_rows.specs.Imports.{texts_of, draft_of, with_draft, create_checks}
 use Rattle.row_counts.specs.Keys.{key_of}
 use Rattle.plan_import.specs.declared.halt.Halt.{Halt}
 use Rattle.plan_import.specs.declared.ready.Ready.{Ready}
 use Rattle.plan_import.specs.Halts.{fault_of, IsHaltBy}
-use Rattle.plan_import.specs.Plan.{AreMade}
 
 -- ---- before any record is made
 
@@ -58,10 +57,3 @@ IsTaken makes row s made after more (Ok u) =
     × ((with_draft makes (record { state = s; seen = []; made = made }) row.draft).state ≡ after)
     × ((with_draft makes (record { state = s; seen = []; made = made }) row.draft).made ≡ more)
 IsTaken makes row s made after more (Err halt) = IsHaltBy (first (ready_checks makes s row)) halt
-
--- ---- all rows
-
--- how the rows of an import end
-abbrev pub IsEnd : State → Kind → List ImportRow → State → Result (List View) Halt → Type 0
-IsEnd old kind rows after (Ok made) = AreMade old kind rows after made
-IsEnd old kind rows after (Err halt) = IsHaltBy (first (row_verdicts old kind (begun old) 1 rows)) halt

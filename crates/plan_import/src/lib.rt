@@ -140,6 +140,9 @@ pub fn make_rows(shelves: &mut Shelves, kind: Kind, rows: &[ImportRow]) -> Resul
     if rows.len() > MOST_ROWS as usize {
         return Err(Halt::Refused(Refusal::Limit(Which::Rows, u64::from(MOST_ROWS))));
     }
-    let records = make_all(shelves, kind, rows)?;
+    let records = match make_all(shelves, kind, rows) {
+        Ok(records) => records,
+        Err(halt) => return Err(halt),
+    };
     finish(shelves, kind, rows.len() as u32, records)
 }

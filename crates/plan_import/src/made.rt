@@ -1,15 +1,16 @@
 //! The rows of an import made into records, one after another.
 
-ghost use Rattle.std.specs.Prelude.{◌≡◌, ℕ, ◌++◌, ◌∷◌, ◌≤◌, [], List, None, true, not, nat_lt, OnOk, bytes_eq, count_by, length};
+ghost use Rattle.std.specs.Prelude.{◌≡◌, ℕ, ◌++◌, ◌∷◌, ◌≤◌, [], List, None, true, not, nat_lt, IfErr, IfOk, OnOk, bytes_eq, count_by, length};
 ghost use Rattle.std.specs.List.{list_any};
 ghost use Rattle.ipam_data.specs.Checks.{first};
 ghost use Rattle.ipam_data.specs.Fields.{told_of_draft};
 ghost use Rattle.ipam_data.specs.Lawful.{IsLawful};
-ghost use Rattle.import_rows.specs.Imports.{at_row};
+ghost use Rattle.import_rows.specs.Imports.{at_row, begun, row_verdicts};
 ghost use Rattle.row_counts.specs.Left.{IsLeft};
 ghost use Rattle.register_shelves.specs.Held.{state_of};
-ghost use Rattle.plan_import.specs.Halts.{halt_at};
-ghost use Rattle.plan_import.specs.Ready.{IsEnd, IsTaken};
+ghost use Rattle.plan_import.specs.Halts.{IsHaltBy, halt_at};
+ghost use Rattle.plan_import.specs.Plan.{AreMade};
+ghost use Rattle.plan_import.specs.Ready.{IsTaken};
 
 use crate::halt::Halt;
 use crate::keys::leftovers;
@@ -50,7 +51,10 @@ fn take_row(
     if left.spend(row.key.as_str()) {
         return Ok(());
     }
-    let view = make(shelves, &row.draft)?;
+    let view = match make(shelves, &row.draft) {
+        Ok(view) => view,
+        Err(halt) => return Err(halt),
+    };
     keep(made, view)?;
     Ok(())
 }
@@ -84,7 +88,8 @@ pub(crate) fn make_all(
 ) -> Result<Vec<View>, Halt>
     requires lawful { IsLawful (state_of shelves.old) }
     requires few { length lines.now ≤ 10000 }
-    ensures end { IsEnd (state_of shelves.old) kind lines.now (state_of shelves.new) result }
+    ensures made { IfOk result (λ v. AreMade (state_of shelves.old) kind lines.now (state_of shelves.new) v.items) }
+    ensures halted { IfErr result (λ halt. IsHaltBy (first (row_verdicts (state_of shelves.old) kind (begun (state_of shelves.old)) 1 lines.now)) halt) }
     ensures lawful { OnOk result (IsLawful (state_of shelves.new)) }
 {
     let rows = ready_all(shelves, lines)?;

@@ -41,15 +41,22 @@ fn role_of<'a>(rows: &'a [Role], name: &Name) -> Option<&'a Role>
     rows.iter().find(|row| is_role_named(row, name))
 }
 
+/// The id of the role with the name.
+fn role_with(shelves: &Shelves, name: &Name) -> Option<u32>
+    ensures { result ≡ role_named shelves.now.roles.rows name.now }
+{
+    match role_of(shelves.roles().rows(), name) {
+        Some(row) => Some(row.id),
+        None => None,
+    }
+}
+
 /// The id of the role with the name that is given.
 pub(crate) fn role_id_of(shelves: &Shelves, name: &Option<Name>) -> Option<u32>
     ensures { result ≡ role_named_too shelves.now.roles.rows name.now }
 {
     match name {
-        Some(name) => match role_of(shelves.roles().rows(), name) {
-            Some(row) => Some(row.id),
-            None => None,
-        },
+        Some(name) => role_with(shelves, name),
         None => None,
     }
 }

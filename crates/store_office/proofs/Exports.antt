@@ -1,10 +1,10 @@
 -- What a run of a command that prints a text of the register leaves, as its record has it, by where it ended.
-use Rattle.std.proofs.Common.{◌≡◌, ℕ, ◌≤◌, ◌⊎◌, List, inl, inr, refl, arith}
+use Rattle.std.proofs.Common.{◌≡◌, ℕ, ◌⊎◌, List, inl, inr, refl, arith}
 use Rattle.ipam_stored.specs.declared.opening.OpenFault.{OpenFault}
 use Rattle.ipam_stored.specs.declared.opening.OpenFault.TheVariants.{Keeper, BadTables, Memory, BadRow, Version, BadNext, Limit}
 use Rattle.command_words.specs.declared.asked.Store.{Store}
 use Rattle.command_streams.specs.Streams.{EndsWith}
-use Rattle.store_session.specs.Outside.{Outside, StoreFailed, IsUnused, NoCountFalls}
+use Rattle.store_session.specs.Outside.{Outside, IsUnused, NoCountFalls}
 use Rattle.store_session.specs.FaultWords.{IsSaid, fault_line}
 use Rattle.store_session.specs.Session.{IsBadStore, NamesFault, NamesFailure, FailsToSay}
 use Rattle.store_office.specs.Making.{IsOpenStop}

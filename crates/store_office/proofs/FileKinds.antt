@@ -1,6 +1,5 @@
 -- The rows of a file of a kind are of the kind.
-use Rattle.std.proofs.Common.{◌≡◌, ◌⊎◌, inl, inr, ℕ, ◌+◌, Bool, true, false, List, [], ◌∷◌, Option, Result, Ok, Err, IfOk, MatchBool, refl, subst, sym}
-use Rattle.std.specs.List.{AllByRecursion}
+use Rattle.std.proofs.Common.{◌≡◌, inl, inr, ℕ, ◌+◌, Bool, true, false, List, [], ◌∷◌, Option, Result, Ok, Err, IfOk, MatchBool, refl, subst, sym}
 use Rattle.inet_num.specs.Net.{Cidr}
 use Rattle.ipam_data.specs.Hosts.{Masked}
 use Rattle.ipam_data.specs.declared.kinds.Kind.{Kind}

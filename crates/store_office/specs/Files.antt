@@ -1,8 +1,9 @@
 -- What is known of a file on the input, and the words that say why it or its import is refused.
-use Rattle.std.specs.Prelude.{◌≡◌, ℕ, ◌⊎◌, List, [], ◌∷◌, ◌++◌, Option, Some, None, Ok, Err, IfSome}
+use Rattle.std.specs.Prelude.{◌≡◌, ℕ, ◌⊎◌, List, [], ◌∷◌, ◌++◌, Some, Ok, Err, IfSome}
 use Rattle.ipam_data.specs.declared.kinds.Kind.{Kind}
 use Rattle.ipam_data.specs.declared.kinds.Kind.TheVariants as kind
 use Rattle.ipam_data.specs.declared.replies.Refusal.{Refusal}
+use Rattle.ipam_data.specs.declared.replies.Refusal.TheVariants.{Memory as NoMemory}
 use Rattle.ipam_words.specs.Lines.{refusal_line}
 use Rattle.import_rows.specs.declared.rows.ImportRow.{ImportRow}
 use Rattle.csv_import.specs.Files.{IsFileOf}
@@ -30,6 +31,12 @@ GivesRows kind old new rows = IfSome old.bytes (λ bytes. IsFileOf kind bytes (O
 abbrev pub RefusesFile : Kind → Told → Refusal → Type 0
 RefusesFile kind old refusal = IfSome old.bytes (λ bytes. IsFileOf kind bytes (Err refusal))
 
+-- a refusal as a stop: want of memory stands by itself
+abbrev pub IsStopOf : Refusal → FileStop → Type 0
+IsStopOf refusal Unread = ⊥
+IsStopOf refusal (Refused other) = (other ≡ refusal) × ¬ (refusal ≡ NoMemory)
+IsStopOf refusal Memory = refusal ≡ NoMemory
+
 -- why the input gave no rows
 abbrev pub IsFileStop : Kind → Told → Told → FileStop → Type 0
 IsFileStop kind old new Unread = Failed old new
@@ -43,3 +50,9 @@ refusal_text refusal = refusal_line refusal ++ 10 ∷ []
 -- it was said and the status is this one, or it could not be; or memory was wanting, and nothing was said
 abbrev pub NamesIt : Refusal → ℕ → Told → Told → ℕ → Type 0
 NamesIt refusal wanted old new status = EndsWith old new (refusal_text refusal) wanted status ⊎ ((status ≡ 5) × (new ≡ old))
+
+-- why the input gave no rows was said, with its status; nothing is said where it failed
+abbrev pub IsFileStopSaid : FileStop → Told → Told → ℕ → Type 0
+IsFileStopSaid Unread old new status = (status ≡ 3) × (new ≡ old)
+IsFileStopSaid (Refused refusal) old new status = NamesIt refusal 1 old new status
+IsFileStopSaid Memory old new status = (status ≡ 5) × (new ≡ old)

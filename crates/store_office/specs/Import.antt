@@ -1,12 +1,11 @@
 -- What a run of the command `import` promises of each status: the rows of a file become records of the register of a store, all of them in
 -- one change, or none.
-use Rattle.std.specs.Prelude.{◌≡◌, ℕ, ◌⊎◌, List, [], ◌∷◌, ◌++◌, Option, Some, None, codes, decimal}
+use Rattle.std.specs.Prelude.{◌≡◌, ℕ, ◌⊎◌, List, [], ◌∷◌, ◌++◌, Some, None, codes, decimal}
 use Rattle.ipam_data.specs.declared.kinds.Kind.{Kind}
-use Rattle.ipam_data.specs.declared.replies.Reply.{Reply}
 use Rattle.ipam_data.specs.declared.replies.Reply.TheVariants.{Imported}
 use Rattle.ipam_data.specs.declared.replies.Refusal.{Refusal}
 use Rattle.ipam_data.specs.declared.replies.Refusal.TheVariants.{Keeper as NotWritten}
-use Rattle.ipam_data.specs.State.{State, Plan, verdict_of}
+use Rattle.ipam_data.specs.State.{State, verdict_of}
 use Rattle.ipam_data.specs.Updates.{updated}
 use Rattle.ipam_stored.specs.declared.opening.OpenFault.{OpenFault}
 use Rattle.ipam_stored.specs.declared.opening.OpenFault.TheVariants.{Keeper as NotRead}
@@ -39,10 +38,14 @@ pub record IsStored (kind : Kind) (store : Store) (old new : Outside) : Type 0 w
   pub present : ℕ
   pub counts : (import_plan state kind rows).reply ≡ Imported created present
 
--- the file, or the import of its rows, is refused so
+-- the opener was not used
+abbrev pub NothingOpened : Outside → Outside → Type 0
+NothingOpened old new = new.stores ≡ old.stores
+
+-- the file is refused so, and nothing was opened; or the import of its rows is
 abbrev pub IsRefusedSo : Kind → Store → Outside → Outside → Refusal → Type 0
 IsRefusedSo kind store old new refusal =
-    RefusesFile kind old.streams.input refusal
+    (RefusesFile kind old.streams.input refusal × NothingOpened old new)
     ⊎ ((rows : List ImportRow) × (state : State) × IsImportOf kind store old new rows state × (verdict_of (import_plan state kind rows) ≡ Some refusal))
 
 -- nothing was printed, and told tables are as they were
@@ -78,6 +81,7 @@ pub record NamesStore (old new : Outside) : Type 0 where
 -- 3: the input failed, and nothing was opened
 pub record FailsToRead (old new : Outside) : Type 0 where
   pub failed : Failed old.streams.input new.streams.input
+  pub unopened : NothingOpened old new
   pub left : LeavesAll old new
   pub silent : new.streams.errors ≡ old.streams.errors
 
@@ -88,9 +92,19 @@ pub record FailsToPrint (kind : Kind) (store : Store) (old new : Outside) : Type
   pub front : GainsFront old.streams.output new.streams.output (counts_text done.created done.present)
   pub silent : new.streams.errors ≡ old.streams.errors
 
--- 3: what was to be said could not be
-pub record FailsToSay (old new : Outside) : Type 0 where
+-- the text names what stopped the import: a refusal, the store's tables, or the store that failed
+abbrev pub IsToSay : Kind → Store → Outside → Outside → List ℕ → Type 0
+IsToSay kind store old new text =
+    ((refusal : Refusal) × IsRefusedSo kind store old new refusal × (text ≡ refusal_text refusal))
+    ⊎ ((fault : OpenFault) × IsBadStore store old fault × (text ≡ fault_line fault))
+    ⊎ (StoreFailed old new × ((text ≡ fault_line NotRead) ⊎ (text ≡ refusal_text NotWritten)))
+
+-- 3: what was to be said could not be, and the messages have a front of it
+pub record FailsToSay (kind : Kind) (store : Store) (old new : Outside) : Type 0 where
   pub failed : Failed old.streams.errors new.streams.errors
+  pub text : List ℕ
+  pub cause : IsToSay kind store old new text
+  pub front : GainsFront old.streams.errors new.streams.errors text
   pub left : LeavesAll old new
 
 -- a run of `import`
@@ -98,7 +112,7 @@ pub record IsImport (kind : Kind) (store : Store) (old new : Outside) (status : 
   pub statuses : (status ≡ 0) ⊎ (status ≡ 1) ⊎ (status ≡ 3) ⊎ (status ≡ 4) ⊎ (status ≡ 5)
   pub done : status ≡ 0 → PrintsCounts kind store old new
   pub refused : status ≡ 1 → NamesRefusal kind store old new ⊎ NamesTables store old new
-  pub fault : status ≡ 3 → FailsToRead old new ⊎ FailsToPrint kind store old new ⊎ FailsToSay old new
+  pub fault : status ≡ 3 → FailsToRead old new ⊎ FailsToPrint kind store old new ⊎ FailsToSay kind store old new
   pub store_fault : status ≡ 4 → NamesStore old new
   -- 5: want of memory. Nothing was said
   pub memory : status ≡ 5 → LeavesAll old new × (new.streams.errors ≡ old.streams.errors)

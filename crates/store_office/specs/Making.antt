@@ -1,5 +1,5 @@
 -- What is known of an import on its way into a store: while it is made, when it is stored, and where it stops.
-use Rattle.std.specs.Prelude.{◌≡◌, ℕ, ◌⊎◌, List, Option, Some, None, IsSome}
+use Rattle.std.specs.Prelude.{◌≡◌, ℕ, List, Option, Some, None, IsSome}
 use Rattle.ipam_data.specs.declared.kinds.Kind.{Kind}
 use Rattle.ipam_data.specs.declared.replies.Reply.TheVariants.{Imported}
 use Rattle.ipam_data.specs.declared.replies.Refusal.TheVariants.{Keeper as NotWritten}
@@ -20,6 +20,8 @@ use Rattle.command_words.specs.declared.asked.Store.{Store}
 use Rattle.command_streams.specs.Streams.{Told}
 use Rattle.store_session.specs.Outside.{Stores, AreSame}
 use Rattle.store_session.specs.FaultWords.{IsSaid}
+use Rattle.plan_import.specs.declared.halt.Halt.{Halt}
+use Rattle.plan_import.specs.declared.halt.Halt.TheVariants.{Refused as Halted, Memory as NoMemory}
 use Rattle.store_office.specs.declared.import.MakeStop.{MakeStop}
 use Rattle.store_office.specs.declared.import.MakeStop.TheVariants.{Refused, Keeper, Memory}
 use Rattle.store_office.specs.declared.import.ImportStop.{ImportStop}
@@ -31,6 +33,11 @@ use Rattle.store_office.specs.Import.{counts_text}
 abbrev pub stop_by : KeepFault → MakeStop
 stop_by KeeperFailed = Keeper
 stop_by KeeperMemory = Memory
+
+-- what stops an import where its rows are halted
+abbrev pub stop_of : Halt → MakeStop
+stop_of (Halted refusal) = Refused refusal
+stop_of NoMemory = Memory
 
 -- no check of the plan refuses, and this text has the counts of its answer
 abbrev pub IsCounted : Plan → List ℕ → Type 0
@@ -79,9 +86,13 @@ pub record IsImportStop (kind : Kind) (store : Store) (rows : List ImportRow) (o
   pub cause : IsStop kind store rows old new stop
   pub same : AreSame old.stored new.stored
 
+-- why the rows were not made was said, with its status
+abbrev pub IsMakingSaid : MakeStop → Told → Told → ℕ → Type 0
+IsMakingSaid (Refused refusal) old new status = NamesIt refusal 1 old new status
+IsMakingSaid Keeper old new status = NamesIt NotWritten 4 old new status
+IsMakingSaid Memory old new status = (status ≡ 5) × (new ≡ old)
+
 -- it was said, with its status
 abbrev pub IsStopSaid : ImportStop → Told → Told → ℕ → Type 0
 IsStopSaid (Opening fault) old new status = IsSaid fault old new status
-IsStopSaid (Making (Refused refusal)) old new status = NamesIt refusal 1 old new status
-IsStopSaid (Making Keeper) old new status = NamesIt NotWritten 4 old new status
-IsStopSaid (Making Memory) old new status = (status ≡ 5) × (new ≡ old)
+IsStopSaid (Making stop) old new status = IsMakingSaid stop old new status

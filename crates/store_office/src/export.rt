@@ -1,6 +1,6 @@
 //! The command `export`.
 
-ghost use Rattle.std.specs.Prelude.{◌≡◌, ◌≤◌, IfOk, OnErr};
+ghost use Rattle.std.specs.Prelude.{◌≡◌, ◌≤◌, IfOk};
 ghost use Rattle.ipam_data.specs.Lawful.{IsLawful};
 ghost use Rattle.csv_import.specs.Exports.{rows_text};
 ghost use Rattle.plan_export.specs.Exported.{exported};
@@ -13,6 +13,7 @@ use crate::opened::open_store;
 use command_streams::{DONE, MEMORY, end_with};
 use command_words::Store;
 use csv_import::write_rows;
+use import_rows::rows::ImportRow;
 use ipam_data::kinds::Kind;
 use ipam_edge::Sink;
 use ipam_keeper::keeper::KeeperOpener;
@@ -21,15 +22,24 @@ use register_shelves::Shelves;
 use std::alloc::{AllocError, Global};
 use store_session::say_fault;
 
-/// The text of an export of the records of a kind. `Err` is want of memory.
-fn export_text(alloc: Global, shelves: &Shelves, kind: Kind) -> Result<Vec<u8>, AllocError>
-    requires { IsLawful (state_of shelves.now) }
-    ensures { IfOk result (λ v. v.items ≡ rows_text kind (exported (state_of shelves.now) kind)) }
+/// The text of a file of these rows. `Err` is want of memory.
+fn text_of(alloc: Global, kind: Kind, rows: &[ImportRow]) -> Result<Vec<u8>, AllocError>
+    ensures { IfOk result (λ v. v.items ≡ rows_text kind rows.now) }
 {
-    let rows = rows_of(shelves, kind)?;
     let mut text = Vec::new(alloc);
-    write_rows(alloc, kind, rows.as_slice(), &mut text)?;
+    write_rows(alloc, kind, rows, &mut text)?;
     Ok(text)
+}
+
+/// The text of an export of the records of a kind. The records are given away. `Err` is want of memory.
+fn export_text(alloc: Global, kind: Kind, shelves: Shelves) -> Result<Vec<u8>, AllocError>
+    requires { IsLawful (state_of shelves) }
+    ensures { IfOk result (λ v. v.items ≡ rows_text kind (exported (state_of shelves) kind)) }
+{
+    let rows = rows_of(&shelves, kind);
+    drop(shelves);
+    let rows = rows?;
+    text_of(alloc, kind, rows.as_slice())
 }
 
 /// Runs `export`: the records of a kind, as a file that `import` takes, from the register of the store, which stays as it is.
@@ -47,8 +57,7 @@ pub fn run_export<Si: Sink, Se: Sink, O: KeeperOpener>(
 {
     match open_store(alloc, store, opener) {
         Ok((shelves, kept)) => {
-            let text = export_text(alloc, &shelves, kind);
-            drop(shelves);
+            let text = export_text(alloc, kind, shelves);
             opener.done(kept);
             match text {
                 Ok(text) => end_with(output, text.as_slice(), DONE),

@@ -3,13 +3,13 @@
 ghost use Rattle.std.specs.Prelude.{◌≡◌, ◌≤◌, IfOk, IfErr, string_bytes};
 ghost use Rattle.import_rows.specs.Imports.{AreOfKind};
 ghost use Rattle.command_streams.specs.Streams.{told};
-ghost use Rattle.store_office.specs.Files.{GivesRows, IsFileStop, NamesIt, kind_named as kind_of_name, refusal_text};
+ghost use Rattle.store_office.specs.Files.{GivesRows, IsStopOf, IsFileStop, IsFileStopSaid, NamesIt, kind_named as kind_of_name, refusal_text};
 
-use command_streams::{MEMORY, end_with};
+use command_streams::{FAULT, MEMORY, REFUSED, end_with};
 use command_words::KindName;
 use csv_import::files::MOST_BYTES;
 use csv_import::read_rows;
-use import_rows::rows::ImportRow;
+use import_rows::rows::ImportRows;
 use ipam_data::kinds::Kind;
 use ipam_data::replies::{Part, Refusal};
 use ipam_edge::{Sink, Source};
@@ -43,14 +43,24 @@ pub enum FileStop {
     Memory,
 }
 
+/// A file's refusal as what stops its reading.
+fn stop_of(refusal: Refusal) -> FileStop
+    ensures { IsStopOf refusal result }
+{
+    match refusal {
+        Refusal::Memory => FileStop::Memory,
+        _ => FileStop::Refused(refusal),
+    }
+}
+
 /// Reads the whole input as a file of rows of a kind.
 pub(crate) fn read_file<So: Source>(
     alloc: Global,
     kind: Kind,
     input: &mut So,
-) -> Result<Vec<ImportRow>, FileStop>
-    ensures rows { IfOk result (λ v. GivesRows kind (told So.left So.faults input.old) (told So.left So.faults input.new) v.items) }
-    ensures kind { IfOk result (λ v. AreOfKind kind v.items) }
+) -> Result<ImportRows, FileStop>
+    ensures rows { IfOk result (λ v. GivesRows kind (told So.left So.faults input.old) (told So.left So.faults input.new) v) }
+    ensures kind { IfOk result (λ v. AreOfKind kind v) }
     ensures stop { IfErr result (IsFileStop kind (told So.left So.faults input.old) (told So.left So.faults input.new)) }
     ensures later { So.faults input.old ≤ So.faults input.new }
 {
@@ -61,9 +71,8 @@ pub(crate) fn read_file<So: Source>(
         Err(Unread::Memory) => return Err(FileStop::Memory),
     };
     match read_rows(alloc, kind, bytes.as_slice()) {
-        Ok(rows) => Ok(rows),
-        Err(Refusal::Memory) => Err(FileStop::Memory),
-        Err(refusal) => Err(FileStop::Refused(refusal)),
+        Ok(rows) => Ok(ImportRows::of(rows)),
+        Err(refusal) => Err(stop_of(refusal)),
     }
 }
 
@@ -89,5 +98,18 @@ pub(crate) fn say_refusal<Se: Sink>(
     match refusal_words(alloc, refusal) {
         Ok(line) => end_with(errors, line.as_bytes(), wanted),
         Err(_) => MEMORY,
+    }
+}
+
+/// Says why the input gives no rows, and gives the status of that: 1 for a refusal, 3 where the input failed and 5 for want of memory, of
+/// which nothing is said.
+pub(crate) fn say_file_stop<Se: Sink>(alloc: Global, stop: &FileStop, errors: &mut Se) -> u8
+    ensures said { IsFileStopSaid stop.now (told Se.written Se.faults errors.old) (told Se.written Se.faults errors.new) result }
+    ensures later { Se.faults errors.old ≤ Se.faults errors.new }
+{
+    match stop {
+        FileStop::Unread => FAULT,
+        FileStop::Refused(refusal) => say_refusal(alloc, refusal, REFUSED, errors),
+        FileStop::Memory => MEMORY,
     }
 }

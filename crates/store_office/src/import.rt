@@ -10,15 +10,15 @@ ghost use Rattle.register_shelves.specs.Held.{state_of};
 ghost use Rattle.command_streams.specs.Streams.{Told, streams, told};
 ghost use Rattle.store_session.specs.Outside.{outside, stores};
 ghost use Rattle.store_office.specs.Files.{GivesRows};
-ghost use Rattle.store_office.specs.Making.{IsCounted, IsNoRefusal, IsMakeStop, HasImported, IsImportStop, IsStopSaid};
+ghost use Rattle.store_office.specs.Making.{stop_of, IsCounted, IsNoRefusal, IsMakeStop, HasImported, IsImportStop, IsMakingSaid, IsStopSaid};
 ghost use Rattle.store_office.specs.Import.{IsImport, counts_text as counts_of};
 ghost use Rattle.store_office.specs.declared.import.MakeStop.TheVariants as stop;
 
-use crate::files::{FileStop, read_file, say_refusal};
+use crate::files::{read_file, say_file_stop, say_refusal};
 use crate::opened::open_store;
-use command_streams::{DONE, FAULT, MEMORY, REFUSED, STORE, end_with};
+use command_streams::{DONE, MEMORY, REFUSED, STORE, end_with};
 use command_words::Store;
-use import_rows::rows::ImportRow;
+use import_rows::rows::ImportRows;
 use ipam_data::kinds::Kind;
 use ipam_data::replies::Refusal;
 use ipam_edge::{Sink, Source};
@@ -66,6 +66,16 @@ impl From<KeepFault> for MakeStop {
     }
 }
 
+/// What stops an import where its rows are halted.
+fn stop_at(halt: Halt) -> MakeStop
+    ensures { result ≡ stop_of halt }
+{
+    match halt {
+        Halt::Refused(refusal) => MakeStop::Refused(refusal),
+        Halt::Memory => MakeStop::Memory,
+    }
+}
+
 /// How many records were made and how many rows stand for others, in words.
 fn counts_text(alloc: Global, created: u32, present: u32) -> Result<String, AllocError>
     ensures { IfOk result (λ s. string_bytes s ≡ counts_of created present) }
@@ -74,11 +84,7 @@ fn counts_text(alloc: Global, created: u32, present: u32) -> Result<String, Allo
 }
 
 /// Has the keeper store what an import did, and gives its counts in words. All memory is taken before.
-fn store_made<K: Keeper>(
-    alloc: Global,
-    made: &Imported,
-    keeper: &mut K,
-) -> Result<String, MakeStop>
+fn store_made<K: Keeper>(alloc: Global, made: &Imported, keeper: &mut K) -> Result<String, MakeStop>
     ensures text { IfOk result (λ s. string_bytes s ≡ counts_of made.now.created made.now.present) }
     ensures ok { OnOk result (K.told keeper.new ≡ option_map (changed (change_of made.now.update)) (K.told keeper.old)) }
     ensures err { OnErr result (K.told keeper.new ≡ K.told keeper.old) }
@@ -97,7 +103,7 @@ fn store_made<K: Keeper>(
 fn import_over<K: Keeper>(
     alloc: Global,
     kind: Kind,
-    rows: &[ImportRow],
+    rows: &ImportRows,
     mut shelves: Shelves,
     keeper: &mut K,
 ) -> Result<String, MakeStop>
@@ -112,12 +118,12 @@ fn import_over<K: Keeper>(
     ensures failed { IsErrOf result stop.Keeper → Rose (K.faults keeper.old) (K.faults keeper.new) }
     ensures later { K.faults keeper.old ≤ K.faults keeper.new }
 {
-    let made = make_rows(&mut shelves, kind, rows);
+    rows.bounds();
+    let made = make_rows(&mut shelves, kind, rows.as_slice());
     drop(shelves);
     match made {
         Ok(made) => store_made(alloc, &made, keeper),
-        Err(Halt::Refused(refusal)) => Err(MakeStop::Refused(refusal)),
-        Err(Halt::Memory) => Err(MakeStop::Memory),
+        Err(halt) => Err(stop_at(halt)),
     }
 }
 
@@ -134,7 +140,7 @@ pub enum ImportStop {
 fn import_into<O: KeeperOpener>(
     alloc: Global,
     kind: Kind,
-    rows: &[ImportRow],
+    rows: &ImportRows,
     store: &Store,
     opener: &mut O,
 ) -> Result<String, ImportStop>
@@ -157,6 +163,19 @@ fn import_into<O: KeeperOpener>(
     }
 }
 
+/// Says why rows were not made, and gives the status of that: 1 for a refusal, 4 where the keeper failed, and 5 for want of memory, of which
+/// nothing is said.
+fn say_making<Se: Sink>(alloc: Global, stop: &MakeStop, errors: &mut Se) -> u8
+    ensures said { IsMakingSaid stop.now (told Se.written Se.faults errors.old) (told Se.written Se.faults errors.new) result }
+    ensures later { Se.faults errors.old ≤ Se.faults errors.new }
+{
+    match stop {
+        MakeStop::Refused(refusal) => say_refusal(alloc, refusal, REFUSED, errors),
+        MakeStop::Keeper => say_refusal(alloc, &Refusal::Keeper, STORE, errors),
+        MakeStop::Memory => MEMORY,
+    }
+}
+
 /// Says why rows did not come into a store, and gives the status of that.
 fn say_stop<Se: Sink>(alloc: Global, stop: &ImportStop, errors: &mut Se) -> u8
     ensures said { IsStopSaid stop.now (told Se.written Se.faults errors.old) (told Se.written Se.faults errors.new) result }
@@ -164,13 +183,7 @@ fn say_stop<Se: Sink>(alloc: Global, stop: &ImportStop, errors: &mut Se) -> u8
 {
     match stop {
         ImportStop::Opening(fault) => say_fault(alloc, fault, errors),
-        ImportStop::Making(MakeStop::Refused(refusal)) => {
-            say_refusal(alloc, refusal, REFUSED, errors)
-        }
-        ImportStop::Making(MakeStop::Keeper) => {
-            say_refusal(alloc, &Refusal::Keeper, STORE, errors)
-        }
-        ImportStop::Making(MakeStop::Memory) => MEMORY,
+        ImportStop::Making(stop) => say_making(alloc, stop, errors),
     }
 }
 
@@ -178,14 +191,14 @@ fn say_stop<Se: Sink>(alloc: Global, stop: &ImportStop, errors: &mut Se) -> u8
 fn run_rows<Si: Sink, Se: Sink, O: KeeperOpener>(
     alloc: Global,
     kind: Kind,
-    rows: &[ImportRow],
+    rows: &ImportRows,
     store: &Store,
     output: &mut Si,
     errors: &mut Se,
     opener: &mut O,
 ) -> u8
     requires { AreOfKind kind rows.now }
-    ensures ran { (before after : Told) → GivesRows kind before after rows.now → before.faults ≤ after.faults → IsImport kind store.now
+    ensures { (before after : Told) → GivesRows kind before after rows.now → before.faults ≤ after.faults → IsImport kind store.now
         (outside (streams before (told Si.written Si.faults output.old) (told Se.written Se.faults errors.old)) (stores O.stored O.faults opener.old))
         (outside (streams after (told Si.written Si.faults output.new) (told Se.written Se.faults errors.new)) (stores O.stored O.faults opener.new)) result }
 {
@@ -211,9 +224,7 @@ pub fn run_import<So: Source, Si: Sink, Se: Sink, O: KeeperOpener>(
         (outside (streams (told So.left So.faults input.new) (told Si.written Si.faults output.new) (told Se.written Se.faults errors.new)) (stores O.stored O.faults opener.new)) result }
 {
     match read_file(alloc, kind, input) {
-        Ok(rows) => run_rows(alloc, kind, rows.as_slice(), store, output, errors, opener),
-        Err(FileStop::Unread) => FAULT,
-        Err(FileStop::Refused(refusal)) => say_refusal(alloc, &refusal, REFUSED, errors),
-        Err(FileStop::Memory) => MEMORY,
+        Ok(rows) => run_rows(alloc, kind, &rows, store, output, errors, opener),
+        Err(stop) => say_file_stop(alloc, &stop, errors),
     }
 }

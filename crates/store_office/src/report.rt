@@ -99,6 +99,17 @@ fn report_text(alloc: Global, shelves: &Shelves, report: Report) -> Result<Vec<u
     }
 }
 
+/// The text of a report of records that are given away.
+fn text_of_given(alloc: Global, report: Report, shelves: Shelves) -> Result<Vec<u8>, ReportStop>
+    requires { IsLawful (state_of shelves) }
+    ensures ok { IfOk result (λ v. text_of (state_of shelves) report ≡ Some v.items) }
+    ensures stop { IfErr result (IsReportStop (state_of shelves) report) }
+{
+    let text = report_text(alloc, &shelves, report);
+    drop(shelves);
+    text
+}
+
 /// Runs `report`: a text about the prefixes of the register of the store, which stays as it is.
 pub fn run_report<Si: Sink, Se: Sink, O: KeeperOpener>(
     alloc: Global,
@@ -114,8 +125,7 @@ pub fn run_report<Si: Sink, Se: Sink, O: KeeperOpener>(
 {
     match open_store(alloc, store, opener) {
         Ok((shelves, kept)) => {
-            let text = report_text(alloc, &shelves, report);
-            drop(shelves);
+            let text = text_of_given(alloc, report, shelves);
             opener.done(kept);
             match text {
                 Ok(text) => end_with(output, text.as_slice(), DONE),

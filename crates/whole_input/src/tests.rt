@@ -8,7 +8,7 @@ fn an_input_is_read_to_its_end_or_is_too_long(rt: HostRuntime) -> Result<(), Fai
     let bytes = Vec::from_slice(rt.alloc(), b"abcde")?;
     let mut input = BytesSource::new(bytes, Vec::new(rt.alloc()), 2);
     let read = read_whole(rt.alloc(), &mut input, 5);
-    assert!(rt; read.is_ok_and(|bytes| bytes.as_slice() == b"abcde"));
+    assert!(rt; read.is_ok_and(|bytes| bytes.as_slice() == b"abcde".as_slice()));
     let bytes = Vec::from_slice(rt.alloc(), b"abcde")?;
     let mut input = BytesSource::new(bytes, Vec::new(rt.alloc()), 2);
     assert_eq!(rt;
