@@ -2,6 +2,7 @@
 
 ghost use Rattle.std.specs.Prelude.{OnOk};
 ghost use Rattle.ipam_data.specs.Lawful.{IsLawful};
+ghost use Rattle.ipam_data.specs.Updates.{CanUpdate, updated};
 ghost use Rattle.register_shelves.specs.Held.{state_of};
 
 use crate::rows_of;
@@ -11,6 +12,7 @@ use ipam_data::calls::Draft;
 use ipam_data::kinds::Kind;
 use ipam_data::prefix::PrefixStatus;
 use ipam_data::text::{Bounded, Name, Tested, Weight};
+use ipam_data::update::Update;
 use register_plans::plan_draft;
 use register_shelves::{Planned, Shelves};
 use std::alloc::{AllocError, Global};
@@ -42,12 +44,46 @@ fn block(text: &str) -> Result<Block, AllocError> {
     }
 }
 
-/// The weight of this number; one that is none is told as want of memory.
-fn weight(value: u16) -> Result<Weight, AllocError> {
-    match Weight::of(value) {
-        Some(weight) => Ok(weight),
-        None => Err(AllocError),
-    }
+/// A VRF.
+fn vrf(alloc: Global) -> Result<Draft, AllocError> {
+    Ok(Draft::Vrf {
+        name: text(alloc, "blue")?,
+        rd: None,
+        enforce_unique: true,
+        description: text(alloc, "")?,
+    })
+}
+
+/// A RIR.
+fn rir(alloc: Global) -> Result<Draft, AllocError> {
+    Ok(Draft::Rir {
+        name: text(alloc, "ARIN")?,
+        slug: text(alloc, "arin")?,
+        is_private: false,
+        description: text(alloc, "")?,
+    })
+}
+
+/// A role.
+fn role(alloc: Global) -> Result<Draft, AllocError> {
+    let Some(weight) = Weight::of(10) else {
+        return Err(AllocError);
+    };
+    Ok(Draft::Role {
+        name: text(alloc, "core")?,
+        slug: text(alloc, "core")?,
+        weight,
+        description: text(alloc, "")?,
+    })
+}
+
+/// An aggregate of the RIR.
+fn aggregate(alloc: Global, block: Block) -> Result<Draft, AllocError> {
+    Ok(Draft::Aggregate {
+        block,
+        rir: 1,
+        description: text(alloc, "")?,
+    })
 }
 
 /// A prefix in the table of the VRF of an id, with the role of the same id, or in the global table without a role.
@@ -63,65 +99,69 @@ fn prefix(alloc: Global, block: Block, id: Option<u32>) -> Result<Draft, AllocEr
     })
 }
 
+/// Makes an update that leaves a lawful state.
+fn commit(shelves: &mut Shelves, update: Update) -> Result<(), AllocError>
+    requires old { IsLawful (state_of shelves.old) }
+    requires can { CanUpdate (state_of shelves.old) update }
+    requires lawful { IsLawful (updated (state_of shelves.old) update) }
+    ensures { OnOk result (IsLawful (state_of shelves.new)) }
+{
+    match shelves.reserve(update.puts.as_slice()) {
+        Ok(()) => {
+            shelves.update(update);
+            Ok(())
+        }
+        Err(error) => {
+            drop(update);
+            Err(error)
+        }
+    }
+}
+
 /// Makes the record of a draft; one that is refused is told as want of memory.
 fn make(shelves: &mut Shelves, draft: &Draft) -> Result<(), AllocError>
     requires { IsLawful (state_of shelves.old) }
     ensures { OnOk result (IsLawful (state_of shelves.new)) }
 {
     draft.bounds();
-    match plan_draft(shelves, draft)? {
-        Planned::Change(update, _) => {
-            shelves.reserve(update.puts.as_slice())?;
-            shelves.update(update);
-            Ok(())
+    let planned = plan_draft(shelves, draft)?;
+    match planned {
+        Planned::Change(update, reply) => {
+            drop(reply);
+            commit(shelves, update)
         }
-        _ => Err(AllocError),
+        Planned::Read(reply) => {
+            drop(reply);
+            Err(AllocError)
+        }
+        Planned::Refused(refusal) => {
+            drop(refusal);
+            Err(AllocError)
+        }
     }
 }
 
-/// A VRF, a RIR and a role.
-fn make_names(alloc: Global, shelves: &mut Shelves) -> Result<(), AllocError>
+/// The same of a draft that is given away.
+fn put(shelves: &mut Shelves, draft: Draft) -> Result<(), AllocError>
     requires { IsLawful (state_of shelves.old) }
     ensures { OnOk result (IsLawful (state_of shelves.new)) }
 {
-    let vrf = Draft::Vrf {
-        name: text(alloc, "blue")?,
-        rd: None,
-        enforce_unique: true,
-        description: text(alloc, "")?,
-    };
-    make(shelves, &vrf)?;
-    let rir = Draft::Rir {
-        name: text(alloc, "ARIN")?,
-        slug: text(alloc, "arin")?,
-        is_private: false,
-        description: text(alloc, "")?,
-    };
-    make(shelves, &rir)?;
-    let role = Draft::Role {
-        name: text(alloc, "core")?,
-        slug: text(alloc, "core")?,
-        weight: weight(10)?,
-        description: text(alloc, "")?,
-    };
-    make(shelves, &role)
+    let made = make(shelves, &draft);
+    drop(draft);
+    made
 }
 
-/// An aggregate of the RIR, and two prefixes, the first one of the VRF and the role.
-fn make_blocks(alloc: Global, shelves: &mut Shelves) -> Result<(), AllocError>
+/// A VRF, a RIR, a role, an aggregate of the RIR, and two prefixes, the first one of the VRF and the role.
+fn fill(alloc: Global, shelves: &mut Shelves) -> Result<(), AllocError>
     requires { IsLawful (state_of shelves.old) }
     ensures { OnOk result (IsLawful (state_of shelves.new)) }
 {
-    let aggregate = Draft::Aggregate {
-        block: block("10.0.0.0/8")?,
-        rir: 1,
-        description: text(alloc, "")?,
-    };
-    make(shelves, &aggregate)?;
-    let named = prefix(alloc, block("10.0.0.0/24")?, Some(1))?;
-    make(shelves, &named)?;
-    let plain = prefix(alloc, block("10.0.1.0/24")?, None)?;
-    make(shelves, &plain)
+    put(shelves, vrf(alloc)?)?;
+    put(shelves, rir(alloc)?)?;
+    put(shelves, role(alloc)?)?;
+    put(shelves, aggregate(alloc, block("10.0.0.0/8")?)?)?;
+    put(shelves, prefix(alloc, block("10.0.0.0/24")?, Some(1))?)?;
+    put(shelves, prefix(alloc, block("10.0.1.0/24")?, None)?)
 }
 
 /// The name, or the word for none.
@@ -169,8 +209,7 @@ fn put_kind(
 fn told_in(alloc: Global, shelves: &mut Shelves) -> Result<String, AllocError>
     requires { IsLawful (state_of shelves.old) }
 {
-    make_names(alloc, shelves)?;
-    make_blocks(alloc, shelves)?;
+    fill(alloc, shelves)?;
     let mut out = String::new(alloc);
     put_kind(alloc, &mut out, shelves, Kind::Vrfs)?;
     put_kind(alloc, &mut out, shelves, Kind::Rirs)?;

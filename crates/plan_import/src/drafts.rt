@@ -1,9 +1,11 @@
 //! The drafts that the rows of an import stand for, and the rules that rows break by themselves.
 
 ghost use Rattle.std.specs.Prelude.{◌≡◌, None, IfOk};
+ghost use Rattle.ipam_data.specs.declared.kinds.Kind.TheVariants.{Vrfs, Rirs, Roles, Aggregates, Prefixes, Ranges, Addresses};
 ghost use Rattle.ipam_data.specs.Checks.{first};
 ghost use Rattle.ipam_data.specs.Fields.{drafted, told_of_draft};
-ghost use Rattle.import_rows.specs.Imports.{draft_of};
+ghost use Rattle.ipam_data.specs.State.{State};
+ghost use Rattle.import_rows.specs.Imports.{draft_of, kind_of_row};
 ghost use Rattle.register_shelves.specs.Held.{state_of};
 ghost use Rattle.plan_import.specs.Halts.{fault_of};
 
@@ -21,9 +23,10 @@ use ipam_data::vrf::{Vrf, copy_distinguisher};
 use register_shelves::Shelves;
 use std::alloc::AllocError;
 
-/// The draft that a row stands for.
-pub(crate) fn draft(shelves: &Shelves, row: &ImportRow) -> Result<Draft, AllocError>
-    ensures { IfOk result (λ d. d ≡ draft_of (state_of shelves.now) row.now) }
+/// The draft that a row of a VRF stands for.
+fn vrf_draft(row: &ImportRow) -> Result<Draft, AllocError>
+    requires { kind_of_row row.now ≡ Vrfs }
+    ensures { (s : State) → IfOk result (λ d. d ≡ draft_of s row.now) }
 {
     match row {
         ImportRow::Vrf {
@@ -37,6 +40,16 @@ pub(crate) fn draft(shelves: &Shelves, row: &ImportRow) -> Result<Draft, AllocEr
             enforce_unique: *enforce_unique,
             description: description.copy()?,
         }),
+        _ => unreachable!(),
+    }
+}
+
+/// The draft that a row of a RIR stands for.
+fn rir_draft(row: &ImportRow) -> Result<Draft, AllocError>
+    requires { kind_of_row row.now ≡ Rirs }
+    ensures { (s : State) → IfOk result (λ d. d ≡ draft_of s row.now) }
+{
+    match row {
         ImportRow::Rir {
             name,
             slug,
@@ -48,6 +61,16 @@ pub(crate) fn draft(shelves: &Shelves, row: &ImportRow) -> Result<Draft, AllocEr
             is_private: *is_private,
             description: description.copy()?,
         }),
+        _ => unreachable!(),
+    }
+}
+
+/// The draft that a row of a role stands for.
+fn role_draft(row: &ImportRow) -> Result<Draft, AllocError>
+    requires { kind_of_row row.now ≡ Roles }
+    ensures { (s : State) → IfOk result (λ d. d ≡ draft_of s row.now) }
+{
+    match row {
         ImportRow::Role {
             name,
             slug,
@@ -59,6 +82,16 @@ pub(crate) fn draft(shelves: &Shelves, row: &ImportRow) -> Result<Draft, AllocEr
             weight: *weight,
             description: description.copy()?,
         }),
+        _ => unreachable!(),
+    }
+}
+
+/// The draft that a row of an aggregate stands for.
+fn aggregate_draft(shelves: &Shelves, row: &ImportRow) -> Result<Draft, AllocError>
+    requires { kind_of_row row.now ≡ Aggregates }
+    ensures { IfOk result (λ d. d ≡ draft_of (state_of shelves.now) row.now) }
+{
+    match row {
         ImportRow::Aggregate {
             block,
             rir,
@@ -68,6 +101,16 @@ pub(crate) fn draft(shelves: &Shelves, row: &ImportRow) -> Result<Draft, AllocEr
             rir: rir_id_of(shelves, rir),
             description: description.copy()?,
         }),
+        _ => unreachable!(),
+    }
+}
+
+/// The draft that a row of a prefix stands for.
+fn prefix_draft(shelves: &Shelves, row: &ImportRow) -> Result<Draft, AllocError>
+    requires { kind_of_row row.now ≡ Prefixes }
+    ensures { IfOk result (λ d. d ≡ draft_of (state_of shelves.now) row.now) }
+{
+    match row {
         ImportRow::Prefix {
             block,
             vrf,
@@ -85,6 +128,16 @@ pub(crate) fn draft(shelves: &Shelves, row: &ImportRow) -> Result<Draft, AllocEr
             mark_utilized: *mark_utilized,
             description: description.copy()?,
         }),
+        _ => unreachable!(),
+    }
+}
+
+/// The draft that a row of a range stands for.
+fn range_draft(shelves: &Shelves, row: &ImportRow) -> Result<Draft, AllocError>
+    requires { kind_of_row row.now ≡ Ranges }
+    ensures { IfOk result (λ d. d ≡ draft_of (state_of shelves.now) row.now) }
+{
+    match row {
         ImportRow::IpRange {
             start,
             end,
@@ -102,6 +155,16 @@ pub(crate) fn draft(shelves: &Shelves, row: &ImportRow) -> Result<Draft, AllocEr
             mark_utilized: *mark_utilized,
             description: description.copy()?,
         }),
+        _ => unreachable!(),
+    }
+}
+
+/// The draft that a row of an address stands for.
+fn address_draft(shelves: &Shelves, row: &ImportRow) -> Result<Draft, AllocError>
+    requires { kind_of_row row.now ≡ Addresses }
+    ensures { IfOk result (λ d. d ≡ draft_of (state_of shelves.now) row.now) }
+{
+    match row {
         ImportRow::IpAddress {
             host,
             vrf,
@@ -117,6 +180,22 @@ pub(crate) fn draft(shelves: &Shelves, row: &ImportRow) -> Result<Draft, AllocEr
             dns_name: dns_name.copy()?,
             description: description.copy()?,
         }),
+        _ => unreachable!(),
+    }
+}
+
+/// The draft that a row stands for.
+pub(crate) fn draft(shelves: &Shelves, row: &ImportRow) -> Result<Draft, AllocError>
+    ensures { IfOk result (λ d. d ≡ draft_of (state_of shelves.now) row.now) }
+{
+    match row {
+        ImportRow::Vrf { .. } => vrf_draft(row),
+        ImportRow::Rir { .. } => rir_draft(row),
+        ImportRow::Role { .. } => role_draft(row),
+        ImportRow::Aggregate { .. } => aggregate_draft(shelves, row),
+        ImportRow::Prefix { .. } => prefix_draft(shelves, row),
+        ImportRow::IpRange { .. } => range_draft(shelves, row),
+        ImportRow::IpAddress { .. } => address_draft(shelves, row),
     }
 }
 

@@ -31,6 +31,15 @@ fn keep(made: &mut Vec<View>, view: View) -> Result<(), AllocError>
     Ok(())
 }
 
+/// Whether a record is left that the row may stand for. It then stands for that.
+fn stands(left: &mut Leftovers, row: &Ready) -> bool
+    ensures left { (keys records spent : List (List ℕ)) → IsLeft left.old keys records spent → IsLeft left.new keys records (spent ++ row.now.key ∷ []) }
+    ensures found { (keys records spent : List (List ℕ)) → IsLeft left.old keys records spent → list_any (bytes_eq row.now.key) keys ≡ true
+        → result ≡ nat_lt (count_by (bytes_eq row.now.key) spent) (count_by (bytes_eq row.now.key) records) }
+{
+    left.spend(row.key.as_str())
+}
+
 /// What one row does: it is refused, it stands for a record that is left, or it makes one.
 fn take_row(
     shelves: &mut Shelves,
@@ -48,7 +57,7 @@ fn take_row(
     if let Some(rule) = row.fault {
         return Err(Halt::Refused(Refusal::Rule(rule)));
     }
-    if left.spend(row.key.as_str()) {
+    if stands(left, row) {
         return Ok(());
     }
     let view = match make(shelves, &row.draft) {

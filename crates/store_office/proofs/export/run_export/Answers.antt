@@ -1,4 +1,4 @@
-use Rattle.std.proofs.Common.{refl, ◌∙◌, arith}
+use Rattle.std.proofs.Common.{refl, ◌∙◌, arith, rules}
 use Rattle.register_shelves.specs.Held.{state_of}
 use Rattle.store_session.proofs.Refused.{back_after, raised_later}
 use Rattle.store_office.proofs.Exports.{of_printed, of_refused, at_memory}
@@ -7,7 +7,7 @@ use Rattle.store_office.proofs.export.run_export.Goals as goal
 pub returns-in-Ok-text : goal.returns-in-Ok-text
 returns-in-Ok-text g c = λ input.
     of_printed _ _ _ _ _ c.as_slice.result.now (state_of c.in-Ok.shelves, c.in-Ok.ensures.state, c.as_slice.ensures.value ∙ c.in-Ok-text.ensures) c.end_with.ensures.ends
-    (record { input = refl; errors = refl; stored = back_after _ _ _ _ _ _ _ c.in-Ok.ensures.lent c.in-Ok.ensures.stays refl c.in-Ok.ensures.told c.done.ensures.returned })
+    (record { input = refl; errors = refl; stored = back_after _ _ _ _ _ _ _ c.in-Ok.ensures.lent c.in-Ok.ensures.stays (search rules) c.in-Ok.ensures.told c.done.ensures.returned })
     (record {
       streams = record { input = omega arith; output = c.end_with.ensures.later; errors = omega arith };
       stores = raised_later _ _ _ _ c.open_store.ensures.later c.done.ensures.raised;
@@ -16,7 +16,7 @@ returns-in-Ok-text g c = λ input.
 pub returns-in-Err-text : goal.returns-in-Err-text
 returns-in-Err-text g c = λ input.
     at_memory _ _ _ _ _ refl
-    (record { input = refl; errors = refl; stored = back_after _ _ _ _ _ _ _ c.in-Ok.ensures.lent c.in-Ok.ensures.stays refl c.in-Ok.ensures.told c.done.ensures.returned })
+    (record { input = refl; errors = refl; stored = back_after _ _ _ _ _ _ _ c.in-Ok.ensures.lent c.in-Ok.ensures.stays (search rules) c.in-Ok.ensures.told c.done.ensures.returned })
     refl
     (record {
       streams = record { input = omega arith; output = omega arith; errors = omega arith };
