@@ -179,7 +179,14 @@ fn many_rows_at_once(rt: HostRuntime) -> Result<(), Fail> {
     let none: [&[u32]; 3] = [&[], &[], &[]];
     let left = told(&rt, alloc, &mut opener, words, refused.as_bytes(), none)?;
     assert_eq!(rt; left.as_str(), "1 row 10000: duplicate: coincides with 1\n");
-    let left = told(&rt, alloc, &mut opener, words, refused.as_bytes(), [&[], &[], &[0]])?;
+    let left = told(
+        &rt,
+        alloc,
+        &mut opener,
+        words,
+        refused.as_bytes(),
+        [&[], &[], &[0]],
+    )?;
     assert_eq!(rt; left.as_str(), "3 ");
     let good = many_rows(alloc, 10_000, false)?;
     let unsaid = told(

@@ -68,7 +68,15 @@ fn run_command<
         Command::Session(store) => run_session(alloc, store, input, output, errors, opener),
         Command::Serve(serving) => run_serve(rt, alloc, serving, output, errors, listener, opener),
         Command::Import(kind, store) => {
-            run_import(alloc, kind_named(*kind), store, input, output, errors, opener)
+            run_import(
+                alloc,
+                kind_named(*kind),
+                store,
+                input,
+                output,
+                errors,
+                opener,
+            )
         }
         Command::Export(kind, store) => {
             run_export(alloc, kind_named(*kind), store, output, errors, opener)
