@@ -1,12 +1,16 @@
 -- What a run of `report` leaves, as the command's record has it, by where it ended.
 use Rattle.std.proofs.Common.{◌≡◌, ℕ, ◌⊎◌, List, inl, inr, arith}
 use Rattle.ipam_data.specs.declared.replies.Refusal.{Refusal}
+use Rattle.ipam_data.specs.State.{State}
 use Rattle.command_words.specs.declared.asked.Report.{Report}
 use Rattle.command_words.specs.declared.asked.Store.{Store}
 use Rattle.store_session.specs.Outside.{Outside, IsUnused, NoCountFalls}
+use Rattle.store_session.specs.Session.{IsLoaded}
 use Rattle.store_office.specs.Files.{NamesIt}
 use Rattle.store_office.specs.Export.{IsPrinting}
-use Rattle.store_office.specs.Report.{IsReportText, IsAbsent, IsReport}
+use Rattle.store_office.specs.declared.report.ReportStop.{ReportStop}
+use Rattle.store_office.specs.declared.report.ReportStop.TheVariants.{Absent, Memory}
+use Rattle.store_office.specs.Report.{IsReportText, IsAbsent, IsReportStop, IsReportStopSaid, IsReport}
 
 module _ (report : Report) (store : Store) (old new : Outside) (status : ℕ) where
   -- it printed the text, or the opening was refused
@@ -21,8 +25,20 @@ module _ (report : Report) (store : Store) (old new : Outside) (status : ℕ) wh
     later = p.later;
   }
 
+  -- memory was wanting
+  of_memory : status ≡ 5 → new.streams.errors ≡ old.streams.errors → IsUnused old new → NoCountFalls old new → IsReport report store old new status
+  of_memory five silent unused later = record {
+    statuses = inr (inr (inr (inr five)));
+    done = λ z. absurd (omega arith);
+    refused = λ z. absurd (omega arith);
+    fault = λ z. absurd (omega arith);
+    store_fault = λ z. absurd (omega arith);
+    memory = λ z. (record { input = unused.input; errors = silent; stored = unused.stored }, unused.output);
+    later = later;
+  }
+
   -- the prefix was not there
-  pub of_absent : (refusal : Refusal) → IsAbsent report store old refusal → NamesIt refusal 1 old.streams.errors new.streams.errors status
+  of_absent : (refusal : Refusal) → IsAbsent report store old refusal → NamesIt refusal 1 old.streams.errors new.streams.errors status
       → IsUnused old new → NoCountFalls old new → IsReport report store old new status
   of_absent refusal absent (inl (inl e)) unused later = let one = e.0 in record {
     statuses = inr (inl one);
@@ -42,12 +58,10 @@ module _ (report : Report) (store : Store) (old new : Outside) (status : ℕ) wh
     memory = λ z. absurd (omega arith);
     later = later;
   }
-  of_absent refusal absent (inr e) unused later = let five = e.0 in record {
-    statuses = inr (inr (inr (inr five)));
-    done = λ z. absurd (omega arith);
-    refused = λ z. absurd (omega arith);
-    fault = λ z. absurd (omega arith);
-    store_fault = λ z. absurd (omega arith);
-    memory = λ z. (record { input = unused.input; errors = e.1; stored = unused.stored }, unused.output);
-    later = later;
-  }
+  of_absent refusal absent (inr e) unused later = of_memory e.0 e.1 unused later
+
+  -- it has no text
+  pub of_stop : (stop : ReportStop) (state : State) → IsLoaded store old state → IsReportStop state report stop
+      → IsReportStopSaid stop old.streams.errors new.streams.errors status → IsUnused old new → NoCountFalls old new → IsReport report store old new status
+  of_stop (Absent refusal) state loaded cause said unused later = of_absent refusal (state, loaded, cause) said unused later
+  of_stop Memory state loaded cause said unused later = of_memory said.0 said.1 unused later

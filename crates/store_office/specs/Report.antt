@@ -14,12 +14,12 @@ use Rattle.ipam_report.specs.Reports.{tree_text, table_text, free_text}
 use Rattle.command_words.specs.declared.asked.Report.{Report}
 use Rattle.command_words.specs.declared.asked.Report.TheVariants.{Tree, Utilization, Free}
 use Rattle.command_words.specs.declared.asked.Store.{Store}
-use Rattle.command_streams.specs.Streams.{Gains, GainsFront, Failed}
+use Rattle.command_streams.specs.Streams.{Told, Gains, GainsFront, Failed}
 use Rattle.store_session.specs.Outside.{Outside, IsUnused, NoCountFalls}
 use Rattle.store_session.specs.Session.{IsLoaded, NamesFault, NamesFailure, FailsToSay}
 use Rattle.store_office.specs.declared.report.ReportStop.{ReportStop}
 use Rattle.store_office.specs.declared.report.ReportStop.TheVariants.{Absent, Memory}
-use Rattle.store_office.specs.Files.{refusal_text}
+use Rattle.store_office.specs.Files.{refusal_text, NamesIt}
 use Rattle.store_office.specs.Export.{LeavesInput, Prints, PrintsFront}
 
 -- at most so many blocks are told of what is free
@@ -50,6 +50,11 @@ IsAbsentIn s report refusal = (report_text s report ≡ None) × (report_refusal
 abbrev pub IsReportStop : State → Report → ReportStop → Type 0
 IsReportStop s report (Absent refusal) = IsAbsentIn s report refusal
 IsReportStop s report Memory = Unit {0}
+
+-- that was said, with its status
+abbrev pub IsReportStopSaid : ReportStop → Told → Told → ℕ → Type 0
+IsReportStopSaid (Absent refusal) old new status = NamesIt refusal 1 old new status
+IsReportStopSaid Memory old new status = (status ≡ 5) × (new ≡ old)
 
 -- the text of a report of the state that was loaded
 abbrev pub IsReportText : Report → Store → Outside → List ℕ → Type 0

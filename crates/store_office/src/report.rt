@@ -1,13 +1,13 @@
 //! The command `report`.
 
-ghost use Rattle.std.specs.Prelude.{◌≡◌, Some, IfOk, IfErr};
+ghost use Rattle.std.specs.Prelude.{◌≡◌, ◌≤◌, Some, IfOk, IfErr};
 ghost use Rattle.ipam_data.specs.Lawful.{IsLawful};
 ghost use Rattle.register_shelves.specs.Held.{state_of};
 ghost use Rattle.survey_lines.specs.Survey.{survey_of};
 ghost use Rattle.ipam_report.specs.Reports.{tree_text as tree_lines, table_text as table_lines};
 ghost use Rattle.command_streams.specs.Streams.{Told, streams, told};
 ghost use Rattle.store_session.specs.Outside.{outside, stores};
-ghost use Rattle.store_office.specs.Report.{IsReport, IsReportStop, report_text as text_of};
+ghost use Rattle.store_office.specs.Report.{IsReport, IsReportStop, IsReportStopSaid, report_text as text_of};
 ghost use Rattle.command_words.specs.declared.asked.Report.TheVariants.{Free};
 
 use crate::files::say_refusal;
@@ -110,6 +110,17 @@ fn text_of_given(alloc: Global, report: Report, shelves: Shelves) -> Result<Vec<
     text
 }
 
+/// Says why a report has no text, and gives the status of that.
+fn say_stop<Se: Sink>(alloc: Global, stop: &ReportStop, errors: &mut Se) -> u8
+    ensures said { IsReportStopSaid stop.now (told Se.written Se.faults errors.old) (told Se.written Se.faults errors.new) result }
+    ensures later { Se.faults errors.old ≤ Se.faults errors.new }
+{
+    match stop {
+        ReportStop::Absent(refusal) => say_refusal(alloc, refusal, REFUSED, errors),
+        ReportStop::Memory => MEMORY,
+    }
+}
+
 /// Runs `report`: a text about the prefixes of the register of the store, which stays as it is.
 pub fn run_report<Si: Sink, Se: Sink, O: KeeperOpener>(
     alloc: Global,
@@ -129,8 +140,7 @@ pub fn run_report<Si: Sink, Se: Sink, O: KeeperOpener>(
             opener.done(kept);
             match text {
                 Ok(text) => end_with(output, text.as_slice(), DONE),
-                Err(ReportStop::Absent(refusal)) => say_refusal(alloc, &refusal, REFUSED, errors),
-                Err(ReportStop::Memory) => MEMORY,
+                Err(stop) => say_stop(alloc, &stop, errors),
             }
         }
         Err(fault) => say_fault(alloc, &fault, errors),
