@@ -174,11 +174,11 @@ fn told<R: Threads + Wait + Sync>(
 fn many_rows_at_once(rt: HostRuntime) -> Result<(), Fail> {
     let alloc = rt.alloc();
     let mut opener = MemoryOpener::new(Vec::new(alloc), Vec::new(alloc));
-    let refused = many_rows(alloc, 10_000, true)?;
+    let refused = many_rows(alloc, 1_000, true)?;
     let words = "import prefixes --db a";
     let none: [&[u32]; 3] = [&[], &[], &[]];
     let left = told(&rt, alloc, &mut opener, words, refused.as_bytes(), none)?;
-    assert_eq!(rt; left.as_str(), "1 row 10000: duplicate: coincides with 1\n");
+    assert_eq!(rt; left.as_str(), "1 row 1000: duplicate: coincides with 1\n");
     let left = told(
         &rt,
         alloc,
@@ -188,7 +188,7 @@ fn many_rows_at_once(rt: HostRuntime) -> Result<(), Fail> {
         [&[], &[], &[0]],
     )?;
     assert_eq!(rt; left.as_str(), "3 ");
-    let good = many_rows(alloc, 10_000, false)?;
+    let good = many_rows(alloc, 1_000, false)?;
     let unsaid = told(
         &rt,
         alloc,
@@ -199,7 +199,7 @@ fn many_rows_at_once(rt: HostRuntime) -> Result<(), Fail> {
     )?;
     assert_eq!(rt; unsaid.as_str(), "3 ");
     let again = told(&rt, alloc, &mut opener, words, good.as_bytes(), none)?;
-    assert_eq!(rt; again.as_str(), "0 created 0 present 10000\n");
+    assert_eq!(rt; again.as_str(), "0 created 0 present 1000\n");
     let more = many_rows(alloc, 10_001, false)?;
     let left = told(&rt, alloc, &mut opener, words, more.as_bytes(), none)?;
     assert_eq!(rt; left.as_str(), "1 limit: rows would exceed 10000\n");
