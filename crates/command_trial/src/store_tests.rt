@@ -38,7 +38,8 @@ const CASES: [&str; 6] = [
 0|session --db a|~POST /api/ipam/prefixes/|{"prefix":"10.0.0.0/24"}|503 Service Unavailable|Ipam-Place: 0|{"code":"keeper","detail":"the store could not be written"}~POST /api/ipam/prefixes/|{"prefix":"10.0.0.0/24"}|201 Created|Ipam-Place: 0|{"children":0,"depth":0,"description":"","family":4,"id":1,"is_pool":false,"mark_utilized":false,"prefix":"10.0.0.0/24","role":null,"status":{"label":"Active","value":"active"},"vrf":null}"#,
 ];
 
-fn number(word: &str) -> u32 {
+/// The number that a word is, or 0.
+pub fn number(word: &str) -> u32 {
     word.parse::<u32>().unwrap_or(0)
 }
 
@@ -93,7 +94,7 @@ fn keeper_of(alloc: Global, line: &str) -> Result<MemoryKeeper, AllocError> {
 }
 
 /// An opener that has the tables of a first line under the path `a`.
-fn opener_of(alloc: Global, line: &str) -> Result<MemoryOpener, AllocError> {
+pub fn opener_of(alloc: Global, line: &str) -> Result<MemoryOpener, AllocError> {
     let tables = keeper_of(alloc, line)?.into_tables();
     let tables = Tables {
         version: number(line.split(';').next().unwrap_or("")),

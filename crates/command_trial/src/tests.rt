@@ -78,9 +78,9 @@ Session
 session x
 session --db
 serve --bind 127.0.0.1:0 --workers 33
-import vrfs
-export vrfs
-report tree
+import vlans
+export
+report tree --prefix 1
 load 0";
 
 #[test]

@@ -1,3 +1,5 @@
 pub mod Empty
+pub mod Apart
+pub mod OfficeLaws
 pub mod RunLaws
 pub mod Parts

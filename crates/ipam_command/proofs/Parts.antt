@@ -1,32 +1,25 @@
 -- What the parts of a run give: words that were read, and a command that was run or does not stand.
 use Rattle.std.proofs.Common.{◌≡◌, ℕ, ◌≤◌, inl, inr, refl, sym, subst, arith, List, Option, Some, None, MatchOption}
-use Rattle.inet_num.specs.Net.{Cidr}
-use Rattle.command_words.specs.declared.asked.Store.{Store}
 use Rattle.command_words.specs.declared.asked.Serving.{Serving}
 use Rattle.command_words.specs.declared.asked.Command.{Command}
-use Rattle.command_words.specs.declared.asked.Command.TheVariants.{Free, Session, Serve, Import, Export, Report, Load}
+use Rattle.command_words.specs.declared.asked.Command.TheVariants.{Serve, Load}
 use Rattle.command_words.specs.Asked.{Asks, IsNoCommand}
 use Rattle.command_words.specs.Values.{IsNumberOr, IsNumberValue, most_claims, most_workers}
-use Rattle.command_words.proofs.Unique.{words_ask_for_one}
 use Rattle.store_session.specs.Outside.{Outside}
 use Rattle.store_server.specs.Serve.{Doors}
-use Rattle.ipam_command.specs.Runs.{Stands, SaysUsage, RunsCommand, Runs}
+use Rattle.ipam_command.specs.Runs.{Answers, SaysUsage, Runs}
 
--- a command that was read, and run or refused
+-- a command that was read, and run
 pub runs_asked : (words : List (List ℕ)) (found : Option Command) (command : Command) (old new : Outside) (before after : Doors) (status : ℕ) → found ≡ Some command
-    → MatchOption found (IsNoCommand words) (λ c. Asks words c) → RunsCommand command old new before after status → Runs words old new before after status
-runs_asked words found command old new before after status is read (inl (stands, answers)) =
-    inl (command, subst (λ (f : Option Command). MatchOption f (IsNoCommand words) (λ c. Asks words c)) is read, stands, answers)
-runs_asked words found command old new before after status is read (inr (not_yet, usage)) =
-    let asks : Asks words command = subst (λ (f : Option Command). MatchOption f (IsNoCommand words) (λ c. Asks words c)) is read in
-    inr (inl ((λ other a stands. not_yet (subst Stands (words_ask_for_one words other command a asks) stands)), usage))
+    → MatchOption found (IsNoCommand words) (λ c. Asks words c) → Answers command old new before after status → Runs words old new before after status
+runs_asked words found command old new before after status is read answers =
+    inl (command, subst (λ (f : Option Command). MatchOption f (IsNoCommand words) (λ c. Asks words c)) is read, answers)
 
 -- words that ask for nothing
 pub runs_none : (words : List (List ℕ)) (found : Option Command) (old new : Outside) (before after : Doors) (status : ℕ) → found ≡ None
     → MatchOption found (IsNoCommand words) (λ c. Asks words c) → SaysUsage old new before after status → Runs words old new before after status
 runs_none words found old new before after status is read usage =
-    let none : IsNoCommand words = subst (λ (f : Option Command). MatchOption f (IsNoCommand words) (λ c. Asks words c)) is read in
-    inr (inl ((λ command asks stands. none command asks), usage))
+    inr (inl (subst (λ (f : Option Command). MatchOption f (IsNoCommand words) (λ c. Asks words c)) is read, usage))
 
 -- words that were read ask for the command
 pub asked_of : (words : List (List ℕ)) (found : Option Command) (command : Command) → found ≡ Some command
@@ -54,14 +47,3 @@ few_claims words command count workers asks is =
     let claims = few most_claims _ count a.values.0 in
     let hands = few_or 1 most_workers _ workers (omega arith, omega arith) a.values.1 in
     (claims.0, claims.1, hands.0, hands.1)
-
--- another command does not stand
-pub others_not_yet : (command : Command) → ((block : Cidr) → ¬ command ≡ Free block) → ((store : Store) → ¬ command ≡ Session store)
-    → ((serving : Serving) → ¬ command ≡ Serve serving) → ((count workers : ℕ) → ¬ command ≡ Load count workers) → ¬ Stands command
-others_not_yet (Free block) f s v l stands = f block refl
-others_not_yet (Session store) f s v l stands = s store refl
-others_not_yet (Serve serving) f s v l stands = v serving refl
-others_not_yet (Import kind store) f s v l stands = stands
-others_not_yet (Export kind store) f s v l stands = stands
-others_not_yet (Report report store) f s v l stands = stands
-others_not_yet (Load count workers) f s v l stands = l count workers refl

@@ -6,7 +6,7 @@ use Rattle.command_words.specs.declared.asked.Store.{Store}
 use Rattle.command_words.specs.declared.asked.Serving.{Serving}
 use Rattle.command_words.specs.declared.asked.Command.{Command}
 use Rattle.command_words.specs.declared.asked.Command.TheVariants.{Free, Session, Serve, Import, Export, Report, Load}
-use Rattle.command_words.specs.Asked.{Asks}
+use Rattle.command_words.specs.Asked.{Asks, IsNoCommand}
 use Rattle.command_words.proofs.Unique.{words_ask_for_one}
 use Rattle.command_streams.specs.Streams.{Streams, Told, Gains, Failed}
 use Rattle.free_lines.specs.declared.free.LineFault.{LineFault}
@@ -22,50 +22,15 @@ use Rattle.store_session.specs.Session.{Prints, Serves, IsSession}
 use Rattle.store_server.specs.Serve.{Doors, DoorsFailed, IsServe}
 use Rattle.register_load.specs.Load.{IsLoad}
 use Rattle.register_load.proofs.Ended.{unprinted}
-use Rattle.ipam_command.specs.Runs.{AsksNothing, SaysUsage}
+use Rattle.ipam_command.specs.Runs.{SaysUsage}
 use Rattle.ipam_command.specs.Clauses.{ListenerFailed, IsExact, HasClauses, RunsHaveClauses}
+use Rattle.store_office.specs.Files.{kind_named}
 use Rattle.ipam_command.proofs.Empty.{empty_opened}
+use Rattle.ipam_command.proofs.Apart.{free_apart, serve_not_free, serve_not_session, load_not_free, load_not_session, load_not_serve, same_serving, same_load, same_block, same_store, unused, lanes_kept, count_kept, nobody}
+use Rattle.ipam_command.proofs.OfficeLaws.{import_not_begun, export_not_begun, report_not_begun, tables_stay, of_import, of_export, of_report}
 use Rattle.store_session.proofs.Refused.{not_begun}
 use Rattle.store_server.proofs.Unserved.{not_begun as none_served}
 use Rattle.ipam_command.proofs.Parts.{few_workers}
-
--- the words of `free` are not those of `session`
-free_apart : (words : List (List ℕ)) (within : Cidr) (store : Store) → Asks words (Free within) → Asks words (Session store) → ⊥
-free_apart words within store f s = let e = words_ask_for_one words (Free within) (Session store) f s in cc
-
--- nor are those of `serve` those of another
-serve_not_free : (words : List (List ℕ)) (serving : Serving) (within : Cidr) → Asks words (Serve serving) → Asks words (Free within) → ⊥
-serve_not_free words serving within v f = let e = words_ask_for_one words (Serve serving) (Free within) v f in cc
-
-serve_not_session : (words : List (List ℕ)) (serving : Serving) (store : Store) → Asks words (Serve serving) → Asks words (Session store) → ⊥
-serve_not_session words serving store v s = let e = words_ask_for_one words (Serve serving) (Session store) v s in cc
-
--- nor are those of `load`
-load_not_free : (words : List (List ℕ)) (count workers : ℕ) (within : Cidr) → Asks words (Load count workers) → Asks words (Free within) → ⊥
-load_not_free words count workers within l f = let e = words_ask_for_one words (Load count workers) (Free within) l f in cc
-
-load_not_session : (words : List (List ℕ)) (count workers : ℕ) (store : Store) → Asks words (Load count workers) → Asks words (Session store) → ⊥
-load_not_session words count workers store l s = let e = words_ask_for_one words (Load count workers) (Session store) l s in cc
-
-load_not_serve : (words : List (List ℕ)) (count workers : ℕ) (serving : Serving) → Asks words (Load count workers) → Asks words (Serve serving) → ⊥
-load_not_serve words count workers serving l v = let e = words_ask_for_one words (Load count workers) (Serve serving) l v in cc
-
-same_serving : (words : List (List ℕ)) (a b : Serving) → Asks words (Serve a) → Asks words (Serve b) → a ≡ b
-same_serving words a b f g = let e = words_ask_for_one words (Serve a) (Serve b) f g in cc
-
--- a promise on a load, by the numbers that the words have
-same_load : (words : List (List ℕ)) (count workers n m : ℕ) (P : ℕ → ℕ → Type 0) → Asks words (Load count workers) → Asks words (Load n m) → P count workers → P n m
-same_load words count workers n m P l k h =
-    let e = words_ask_for_one words (Load count workers) (Load n m) l k in
-    let first : count ≡ n = cc in
-    let second : workers ≡ m = cc in
-    subst (λ (x : ℕ). P x m) first (subst (P count) second h)
-
-same_block : (words : List (List ℕ)) (a b : Cidr) → Asks words (Free a) → Asks words (Free b) → a ≡ b
-same_block words a b f g = let e = words_ask_for_one words (Free a) (Free b) f g in cc
-
-same_store : (words : List (List ℕ)) (a b : Store) → Asks words (Session a) → Asks words (Session b) → a ≡ b
-same_store words a b f g = let e = words_ask_for_one words (Session a) (Session b) f g in cc
 
 -- where the blocks were printed no line is refused
 exact_done : (within : Cidr) (told : Option (List ℕ)) (Gained : List ℕ → Type 0) (Ended : Type 0) (status : ℕ) → status ≡ 0
@@ -79,17 +44,6 @@ exact_refused : (within : Cidr) (told : Option (List ℕ)) (Said : ℕ → LineF
 exact_refused within None Said status one named = tt
 exact_refused within (Some bytes) Said status one named = inr (inl (one, (named.0, named.1, named.2)))
 
--- no opener was used
-unused : (old new : Outside) → new.stores ≡ old.stores → old.stores.faults ≤ new.stores.faults
-unused old new same = let e = ap (λ (t : Stores). t.faults) same in omega arith
-
--- no listener was used
-lanes_kept : (before after : Doors) → after ≡ before → length after.returned + before.lanes ≡ length before.returned + after.lanes
-lanes_kept before after same = subst (λ (d : Doors). length d.returned + before.lanes ≡ length before.returned + d.lanes) (sym same) refl
-
-count_kept : (before after : Doors) → after ≡ before → before.faults ≤ after.faults
-count_kept before after same = let e = ap (λ (d : Doors). d.faults) same in omega arith
-
 -- ---- a run of `free`
 
 of_free : (words : List (List ℕ)) (old new : Outside) (before after : Doors) (status : ℕ) (within : Cidr) → Asks words (Free within) → IsFree within old.streams new.streams status
@@ -99,7 +53,7 @@ of_free words old new before after status within asks f same_stores same_doors =
   done = λ z. (inl (within, asks, (f.done z).0), (f.done z).1);
   refused = λ z. inl (within, asks, (f.refused z).0, (f.refused z).1);
   usage = λ z. absurd (elim f.statuses [ inl e ↦ omega arith | inr more ↦ elim more [ inl e ↦ omega arith | inr rest ↦ elim rest [ inl e ↦ omega arith | inr e ↦ omega arith ] ] ]);
-  usage_first = λ n. absurd (n (Free within) asks tt);
+  usage_first = λ n. absurd (n (Free within) asks);
   fault = λ z. elim (f.fault z) [ inl h ↦ inl h.failed | inr more ↦ elim more [ inl h ↦ inr (inl h.failed) | inr h ↦ inr (inr (inl h.failed)) ] ];
   free_fault = λ other a z. (let same : within ≡ other = same_block words within other asks a in (subst (λ (b : Cidr). IsFree b old.streams new.streams status) same f).fault z);
   starved = λ store a z output errors. absurd (free_apart words within _ asks a);
@@ -123,7 +77,13 @@ of_free words old new before after status within asks f same_stores same_doors =
   serve = λ serving a. absurd (serve_not_free words serving within a asks);
   load = λ count workers a. absurd (load_not_free words count workers within a asks);
   empty = λ unique a well z. absurd (free_apart words within _ asks a);
-  complete = λ command a stands none heard. elim f.statuses [
+  import = λ kind kept a. absurd (let e = words_ask_for_one words (Import kind kept) (Free within) a asks in cc);
+  import_whole = λ kind kept a. absurd (let e = words_ask_for_one words (Import kind kept) (Free within) a asks in cc);
+  export = λ kind kept a. absurd (let e = words_ask_for_one words (Export kind kept) (Free within) a asks in cc);
+  export_keeps = λ kind kept a. absurd (let e = words_ask_for_one words (Export kind kept) (Free within) a asks in cc);
+  report = λ report kept a. absurd (let e = words_ask_for_one words (Report report kept) (Free within) a asks in cc);
+  report_keeps = λ report kept a. absurd (let e = words_ask_for_one words (Report report kept) (Free within) a asks in cc);
+  complete = λ command a none heard. elim f.statuses [
     | inl e ↦ inl e
     | inr more ↦ elim more [
       | inl e ↦ inr (inl e)
@@ -179,11 +139,11 @@ of_session words old new before after status store asks s same_doors = record {
   done = λ z. (let t = s.done z in (inr (inl (store, asks, (t.serves.state, t.serves.loaded, t.prints, t.plain))), t.serves.silent));
   refused = λ z. inr (inl (store, asks, s.refused z));
   usage = λ z. absurd (elim s.statuses [ inl e ↦ omega arith | inr a ↦ elim a [ inl e ↦ omega arith | inr b ↦ elim b [ inl e ↦ omega arith | inr c ↦ elim c [ inl e ↦ omega arith | inr e ↦ omega arith ] ] ] ]);
-  usage_first = λ n. absurd (n (Session store) asks tt);
+  usage_first = λ n. absurd (n (Session store) asks);
   fault = λ z. elim (s.fault z) [ inl h ↦ inl h.failed | inr more ↦ elim more [ inl h ↦ inr (inl h.failed) | inr h ↦ inr (inr (inl h.failed)) ] ];
   free_fault = λ within a z. absurd (free_apart words within store a asks);
   starved = λ other a z output errors. starved other old new status (subst (λ (t : Store). IsSession t old new status) (same_store words store other asks a) s) z output errors;
-  store_fault = λ z. (inl (store, asks), s.store_fault z, record { lanes = ap (λ (d : Doors). d.lanes) same_doors; returned = ap (λ (d : Doors). d.returned) same_doors });
+  store_fault = λ z. (nobody before after same_doors, inl (inl (store, asks), s.store_fault z));
   memory = λ z. ((s.memory z).0, inl (store, asks));
   nothing_else = λ within a. absurd (free_apart words within store a asks);
   refuses = λ within number fault a. absurd (free_apart words within store a asks);
@@ -194,7 +154,13 @@ of_session words old new before after status store asks s same_doors = record {
   load = λ count workers a. absurd (load_not_session words count workers store a asks);
   session = λ other a. subst (λ (t : Store). IsSession t old new status) (same_store words store other asks a) s;
   empty = λ unique a well z. done_empty store old new status unique (same_store words store _ asks a) s well z;
-  complete = λ command a stands well heard. elim s.statuses [
+  import = λ kind kept a. absurd (let e = words_ask_for_one words (Import kind kept) (Session store) a asks in cc);
+  import_whole = λ kind kept a. absurd (let e = words_ask_for_one words (Import kind kept) (Session store) a asks in cc);
+  export = λ kind kept a. absurd (let e = words_ask_for_one words (Export kind kept) (Session store) a asks in cc);
+  export_keeps = λ kind kept a. absurd (let e = words_ask_for_one words (Export kind kept) (Session store) a asks in cc);
+  report = λ report kept a. absurd (let e = words_ask_for_one words (Report report kept) (Session store) a asks in cc);
+  report_keeps = λ report kept a. absurd (let e = words_ask_for_one words (Report report kept) (Session store) a asks in cc);
+  complete = λ command a well heard. elim s.statuses [
     | inl e ↦ inl e
     | inr a ↦ elim a [
       | inl e ↦ inr (inl e)
@@ -239,9 +205,9 @@ of_serve : (words : List (List ℕ)) (old new : Outside) (before after : Doors) 
 of_serve words old new before after status serving asks s = record {
   status_ = elim s.statuses [ inl e ↦ omega arith | inr a ↦ elim a [ inl e ↦ omega arith | inr b ↦ elim b [ inl e ↦ omega arith | inr c ↦ elim c [ inl e ↦ omega arith | inr e ↦ omega arith ] ] ] ];
   done = λ z. (let t = s.done z in (inr (inr (inl (serving, asks, t))), t.serves.silent));
-  refused = λ z. inr (inr (serving, asks, (s.refused z).0));
+  refused = λ z. inr (inr (inl (serving, asks, (s.refused z).0)));
   usage = λ z. absurd (elim s.statuses [ inl e ↦ omega arith | inr a ↦ elim a [ inl e ↦ omega arith | inr b ↦ elim b [ inl e ↦ omega arith | inr c ↦ elim c [ inl e ↦ omega arith | inr e ↦ omega arith ] ] ] ]);
-  usage_first = λ n. absurd (n (Serve serving) asks tt);
+  usage_first = λ n. absurd (n (Serve serving) asks);
   fault = λ z. elim (s.fault z) [
     | inl h ↦ inr (inr (inr (serving, asks, h.failed)))
     | inr more ↦ elim more [
@@ -251,7 +217,7 @@ of_serve words old new before after status serving asks s = record {
   ];
   free_fault = λ within a z. absurd (serve_not_free words serving within asks a);
   starved = λ store a z output errors. absurd (serve_not_session words serving store asks a);
-  store_fault = λ z. (inr (serving, asks), (s.store_fault z).0, (s.store_fault z).1);
+  store_fault = λ z. ((s.store_fault z).1, inl (inr (inl (serving, asks)), (s.store_fault z).0));
   memory = λ z. (let t = (s.memory z).streams in (ap (λ (u : Streams). u.errors) t, inr (ap (λ (u : Streams). u.output) t)));
   nothing_else = λ within a. absurd (serve_not_free words serving within asks a);
   refuses = λ within number fault a. absurd (serve_not_free words serving within asks a);
@@ -262,7 +228,13 @@ of_serve words old new before after status serving asks s = record {
   serve = λ other a. subst (λ (t : Serving). IsServe t old new before after status) (same_serving words serving other asks a) s;
   load = λ count workers a. absurd (load_not_serve words count workers serving a asks);
   empty = λ unique a well z. absurd (serve_not_session words serving _ asks a);
-  complete = λ command a stands well heard. served_complete words old new before after status serving command asks a s well heard;
+  import = λ kind kept a. absurd (let e = words_ask_for_one words (Import kind kept) (Serve serving) a asks in cc);
+  import_whole = λ kind kept a. absurd (let e = words_ask_for_one words (Import kind kept) (Serve serving) a asks in cc);
+  export = λ kind kept a. absurd (let e = words_ask_for_one words (Export kind kept) (Serve serving) a asks in cc);
+  export_keeps = λ kind kept a. absurd (let e = words_ask_for_one words (Export kind kept) (Serve serving) a asks in cc);
+  report = λ report kept a. absurd (let e = words_ask_for_one words (Report report kept) (Serve serving) a asks in cc);
+  report_keeps = λ report kept a. absurd (let e = words_ask_for_one words (Report report kept) (Serve serving) a asks in cc);
+  complete = λ command a well heard. served_complete words old new before after status serving command asks a s well heard;
   exact = λ within a well. absurd (serve_not_free words serving within asks a);
   later = s.later;
   listener_later = s.listener_later;
@@ -275,10 +247,10 @@ of_load : (words : List (List ℕ)) (old new : Outside) (before after : Doors) (
     → new.stores ≡ old.stores → after ≡ before → HasClauses words old new before after status
 of_load words old new before after status count workers asks l same_input same_errors same_stores same_doors = record {
   status_ = elim l.statuses [ inl e ↦ omega arith | inr a ↦ elim a [ inl e ↦ omega arith | inr e ↦ omega arith ] ];
-  done = λ z. (inr (inr (inr (count, workers, asks, l.done z))), same_errors);
+  done = λ z. (inr (inr (inr (inl (count, workers, asks, l.done z)))), same_errors);
   refused = λ z. absurd (elim l.statuses [ inl e ↦ omega arith | inr a ↦ elim a [ inl e ↦ omega arith | inr e ↦ omega arith ] ]);
   usage = λ z. absurd (elim l.statuses [ inl e ↦ omega arith | inr a ↦ elim a [ inl e ↦ omega arith | inr e ↦ omega arith ] ]);
-  usage_first = λ n. absurd (n (Load count workers) asks tt);
+  usage_first = λ n. absurd (n (Load count workers) asks);
   fault = λ z. inr (inl (l.fault z).0);
   free_fault = λ within a z. absurd (load_not_free words count workers within asks a);
   starved = λ store a z output errors. absurd (load_not_session words count workers store asks a);
@@ -299,7 +271,13 @@ of_load words old new before after status count workers asks l same_input same_e
     same_doors,
   );
   empty = λ unique a well z. absurd (load_not_session words count workers _ asks a);
-  complete = λ command a stands well heard. elim l.statuses [
+  import = λ kind kept a. absurd (let e = words_ask_for_one words (Import kind kept) (Load count workers) a asks in cc);
+  import_whole = λ kind kept a. absurd (let e = words_ask_for_one words (Import kind kept) (Load count workers) a asks in cc);
+  export = λ kind kept a. absurd (let e = words_ask_for_one words (Export kind kept) (Load count workers) a asks in cc);
+  export_keeps = λ kind kept a. absurd (let e = words_ask_for_one words (Export kind kept) (Load count workers) a asks in cc);
+  report = λ report kept a. absurd (let e = words_ask_for_one words (Report report kept) (Load count workers) a asks in cc);
+  report_keeps = λ report kept a. absurd (let e = words_ask_for_one words (Report report kept) (Load count workers) a asks in cc);
+  complete = λ command a well heard. elim l.statuses [
     | inl e ↦ inl e
     | inr more ↦ elim more [ inl e ↦ absurd (well (inl (inr (inl (l.fault e).0)))) | inr e ↦ inr (inr e) ]
   ];
@@ -317,7 +295,7 @@ of_load words old new before after status count workers asks l same_input same_e
 
 -- ---- a run whose words ask for no command
 
-of_none : (words : List (List ℕ)) (old new : Outside) (before after : Doors) (status : ℕ) → AsksNothing words → SaysUsage old new before after status
+of_none : (words : List (List ℕ)) (old new : Outside) (before after : Doors) (status : ℕ) → IsNoCommand words → SaysUsage old new before after status
     → HasClauses words old new before after status
 of_none words old new before after status none (u, same_stores, same_doors) = record {
   status_ = elim u.said [ inl s ↦ (let e = s.0 in omega arith) | inr s ↦ (let e = s.0 in omega arith) ];
@@ -326,21 +304,27 @@ of_none words old new before after status none (u, same_stores, same_doors) = re
   usage = λ z. (none, elim u.said [ inl s ↦ s.1 | inr s ↦ (let e = s.0 in absurd (omega arith)) ]);
   usage_first = λ n. (u.input, u.output, same_stores, same_doors, elim u.said [ inl s ↦ inl s.0 | inr s ↦ inr (inl (s.0, s.1)) ]);
   fault = λ z. elim u.said [ inl s ↦ (let e = s.0 in absurd (omega arith)) | inr s ↦ inr (inr (inl s.1)) ];
-  free_fault = λ within a z. absurd (none (Free within) a tt);
-  starved = λ store a z output errors. absurd (none (Session store) a tt);
+  free_fault = λ within a z. absurd (none (Free within) a);
+  starved = λ store a z output errors. absurd (none (Session store) a);
   store_fault = λ z. absurd (elim u.said [ inl s ↦ (let e = s.0 in omega arith) | inr s ↦ (let e = s.0 in omega arith) ]);
   memory = λ z. absurd (elim u.said [ inl s ↦ (let e = s.0 in omega arith) | inr s ↦ (let e = s.0 in omega arith) ]);
-  nothing_else = λ within a. absurd (none (Free within) a tt);
-  refuses = λ within number fault a. absurd (none (Free within) a tt);
-  no_store = λ within a. absurd (none (Free within) a tt);
+  nothing_else = λ within a. absurd (none (Free within) a);
+  refuses = λ within number fault a. absurd (none (Free within) a);
+  no_store = λ within a. absurd (none (Free within) a);
   no_listener = λ apart. same_doors;
   lanes_back = lanes_kept before after same_doors;
-  serve = λ serving a. absurd (none (Serve serving) a tt);
-  load = λ count workers a. absurd (none (Load count workers) a tt);
-  session = λ store a. absurd (none (Session store) a tt);
-  empty = λ unique a well z. absurd (none (Session (record { db = None; global_unique = unique })) a tt);
-  complete = λ command a stands well heard. absurd (none command a stands);
-  exact = λ within a well. absurd (none (Free within) a tt);
+  serve = λ serving a. absurd (none (Serve serving) a);
+  load = λ count workers a. absurd (none (Load count workers) a);
+  session = λ store a. absurd (none (Session store) a);
+  empty = λ unique a well z. absurd (none (Session (record { db = None; global_unique = unique })) a);
+  import = λ kind store a. absurd (none (Import kind store) a);
+  import_whole = λ kind store a. absurd (none (Import kind store) a);
+  export = λ kind store a. absurd (none (Export kind store) a);
+  export_keeps = λ kind store a. absurd (none (Export kind store) a);
+  report = λ report store a. absurd (none (Report report store) a);
+  report_keeps = λ report store a. absurd (none (Report report store) a);
+  complete = λ command a well heard. absurd (none command a);
+  exact = λ within a well. absurd (none (Free within) a);
   later = record { streams = u.later; stores = unused old new same_stores };
   listener_later = count_kept before after same_doors;
 }
@@ -374,7 +358,13 @@ of_memory words old new before after status five same same_doors =
       serve = λ serving a. none_served serving old new before after status (few_workers words serving a).0 five same same_doors;
       session = λ store a. not_begun store old new status five same;
       empty = λ unique a well z. absurd (omega arith);
-      complete = λ command a stands well heard. inr (inr five);
+      import = λ kind store a. (import_not_begun (kind_named kind) store old new status five same, same_doors);
+      import_whole = λ kind store a. inl (tables_stay old new same_stores, (λ z. omega arith));
+      export = λ kind store a. (export_not_begun (kind_named kind) store old new status five same, same_doors);
+      export_keeps = λ kind store a. tables_stay old new same_stores;
+      report = λ report store a. (report_not_begun report store old new status five same, same_doors);
+      report_keeps = λ report store a. tables_stay old new same_stores;
+      complete = λ command a well heard. inr (inr five);
       exact = λ within a well. always old.streams.input.bytes _ (λ bytes. inl five);
       later = subst (λ (t : Outside). NoCountFalls old t) (sym same)
           (record { streams = record { input = omega arith; output = omega arith; errors = omega arith }; stores = omega arith });
@@ -382,12 +372,12 @@ of_memory words old new before after status five same same_doors =
     }
 
 pub runs_have_clauses : RunsHaveClauses
-runs_have_clauses words old new before after status (inl (Free within, asks, stands, f)) = of_free words old new before after status within asks f.0 f.1 f.2
-runs_have_clauses words old new before after status (inl (Session store, asks, stands, s)) = of_session words old new before after status store asks s.0 s.1
-runs_have_clauses words old new before after status (inl (Serve serving, asks, stands, s)) = of_serve words old new before after status serving asks s
-runs_have_clauses words old new before after status (inl (Import kind store, asks, stands, s)) = absurd stands
-runs_have_clauses words old new before after status (inl (Export kind store, asks, stands, s)) = absurd stands
-runs_have_clauses words old new before after status (inl (Report report store, asks, stands, s)) = absurd stands
-runs_have_clauses words old new before after status (inl (Load count workers, asks, stands, s)) = of_load words old new before after status count workers asks s.0 s.1 s.2 s.3 s.4
+runs_have_clauses words old new before after status (inl (Free within, asks, f)) = of_free words old new before after status within asks f.0 f.1 f.2
+runs_have_clauses words old new before after status (inl (Session store, asks, s)) = of_session words old new before after status store asks s.0 s.1
+runs_have_clauses words old new before after status (inl (Serve serving, asks, s)) = of_serve words old new before after status serving asks s
+runs_have_clauses words old new before after status (inl (Import kind store, asks, s)) = of_import words old new before after status kind store asks s.0 s.1
+runs_have_clauses words old new before after status (inl (Export kind store, asks, s)) = of_export words old new before after status kind store asks s.0 s.1
+runs_have_clauses words old new before after status (inl (Report report store, asks, s)) = of_report words old new before after status report store asks s.0 s.1
+runs_have_clauses words old new before after status (inl (Load count workers, asks, s)) = of_load words old new before after status count workers asks s.0 s.1 s.2 s.3 s.4
 runs_have_clauses words old new before after status (inr (inl (none, u))) = of_none words old new before after status none u
 runs_have_clauses words old new before after status (inr (inr (five, same, doors))) = of_memory words old new before after status five same doors

@@ -7,19 +7,25 @@ use Rattle.rest_ipam.specs.Answered.{opened, answers_plainly}
 use Rattle.kept_session.specs.Answered.{fresh, answers_kept}
 use Rattle.command_words.specs.declared.asked.Command.{Command}
 use Rattle.command_words.specs.declared.asked.Command.TheVariants.{Free, Session, Serve, Import, Export, Report, Load}
+use Rattle.command_words.specs.declared.asked.KindName.{KindName}
+use Rattle.command_words.specs.declared.asked.Report.{Report as ReportName}
 use Rattle.command_words.specs.declared.asked.Store.{Store}
 use Rattle.command_words.specs.declared.asked.Serving.{Serving}
-use Rattle.command_words.specs.Asked.{Asks}
+use Rattle.command_words.specs.Asked.{Asks, IsNoCommand}
 use Rattle.command_streams.specs.Streams.{Gains, Failed}
 use Rattle.free_lines.specs.declared.free.LineFault.{LineFault}
 use Rattle.free_lines.specs.Free.{IsRefusedLine}
 use Rattle.free_lines.specs.Run.{PrintsFree, NamesLine, FailsToRead, FailsToPrint, FailsToSay}
-use Rattle.store_session.specs.Outside.{Outside, StoreFailed, AnyFailed, NoCountFalls}
+use Rattle.store_session.specs.Outside.{Outside, StoreFailed, AnyFailed, AreSame, NoCountFalls}
 use Rattle.store_session.specs.Session.{IsLoaded, Prints, Serves, NamesFault, NamesFailure, IsSession}
 use Rattle.store_server.specs.Serve.{Doors, DoorsFailed, NobodyCame, Counts, IsServe}
 use Rattle.load_text.specs.Load.{load_text}
 use Rattle.register_load.specs.Load.{IsLoad}
-use Rattle.ipam_command.specs.Runs.{Stands, AsksNothing, usage_text, Runs}
+use Rattle.store_office.specs.Files.{kind_named}
+use Rattle.store_office.specs.Import.{PrintsCounts, NamesRefusal, NamesTables, NamesStore, IsStored, IsImport}
+use Rattle.store_office.specs.Export.{IsExportText, Prints as PrintsText, IsExport}
+use Rattle.store_office.specs.Report.{IsReportText, NamesAbsent, IsReport}
+use Rattle.ipam_command.specs.Runs.{usage_text, Runs}
 
 -- the words ask for what a block leaves
 abbrev pub AsksFree : List (List ℕ) → Cidr → Type 0
@@ -41,9 +47,23 @@ AsksServe words serving = Asks words (Serve serving)
 abbrev pub AsksLoad : List (List ℕ) → ℕ → ℕ → Type 0
 AsksLoad words count workers = Asks words (Load count workers)
 
--- they ask for a command that opens a register of a store
+-- the words ask for the rows of a file into the register of this store
+abbrev pub AsksImport : List (List ℕ) → KindName → Store → Type 0
+AsksImport words kind store = Asks words (Import kind store)
+
+-- the words ask for the records of a kind out of the register of this store
+abbrev pub AsksExport : List (List ℕ) → KindName → Store → Type 0
+AsksExport words kind store = Asks words (Export kind store)
+
+-- the words ask for a text about the register of this store
+abbrev pub AsksReport : List (List ℕ) → ReportName → Store → Type 0
+AsksReport words report store = Asks words (Report report store)
+
+-- they ask for a command that opens a register of a store and has the store written at most by requests
 abbrev pub AsksRegister : List (List ℕ) → Type 0
-AsksRegister words = ((store : Store) × AsksStore words store) ⊎ ((serving : Serving) × AsksServe words serving)
+AsksRegister words =
+    ((store : Store) × AsksStore words store) ⊎ ((serving : Serving) × AsksServe words serving) ⊎ ((kind : KindName) × (store : Store) × AsksExport words kind store)
+    ⊎ ((report : ReportName) × (store : Store) × AsksReport words report store)
 
 -- the command is one that uses the listener, which failed meanwhile
 abbrev pub ListenerFailed : Command → Doors → Doors → Type 0
@@ -67,6 +87,9 @@ IsDone words old new before after =
     ⊎ ((store : Store) × AsksStore words store × IsServed store old new)
     ⊎ ((serving : Serving) × AsksServe words serving × Counts serving old new before after)
     ⊎ ((count workers : ℕ) × AsksLoad words count workers × Gains old.streams.output new.streams.output (load_text count))
+    ⊎ ((kind : KindName) × (store : Store) × AsksImport words kind store × PrintsCounts (kind_named kind) store old new)
+    ⊎ ((kind : KindName) × (store : Store) × AsksExport words kind store × PrintsText (IsExportText (kind_named kind) store old) old new)
+    ⊎ ((report : ReportName) × (store : Store) × AsksReport words report store × PrintsText (IsReportText report store old) old new)
 
 -- a line of the input is refused, or the tables of the store have a fault; the messages say which, and the output was left alone
 abbrev pub IsNamed : List (List ℕ) → Outside → Outside → Type 0
@@ -74,6 +97,9 @@ IsNamed words old new =
     ((within : Cidr) × AsksFree words within × NamesLine within old.streams.input old.streams.errors new.streams.errors × (new.streams.output ≡ old.streams.output))
     ⊎ ((store : Store) × AsksStore words store × NamesFault store old new)
     ⊎ ((serving : Serving) × AsksServe words serving × NamesFault serving.store old new)
+    ⊎ ((kind : KindName) × (store : Store) × AsksImport words kind store × (NamesRefusal (kind_named kind) store old new ⊎ NamesTables store old new))
+    ⊎ ((kind : KindName) × (store : Store) × AsksExport words kind store × NamesFault store old new)
+    ⊎ ((report : ReportName) × (store : Store) × AsksReport words report store × (NamesFault store old new ⊎ NamesAbsent report store old new))
 
 -- the status says whether a line of these bytes is refused: 1 where one is, 0 where none is, and 5 for want of memory
 abbrev pub IsExact : Cidr → ℕ → List ℕ → Type 0
@@ -88,14 +114,14 @@ pub record HasClauses (words : List (List ℕ)) (old new : Outside) (before afte
   pub status_ : status ≤ 5
   -- 0: what the words ask for is on the output, whole, and the messages were left alone
   pub done : status ≡ 0 → IsDone words old new before after × (new.streams.errors ≡ old.streams.errors)
-  -- 1: the words ask for `free` and a line is refused, or for a session or for serving over a store whose tables have a fault; the messages
-  -- gained exactly the text that names it, and the output was left alone
+  -- 1: the words ask for `free` and a line is refused, or for an import and its file or its rows are, or for a report on a prefix that is
+  -- not there, or for a register of a store whose tables have a fault; the messages gained exactly the text that names it, and the output was left alone
   pub refused : status ≡ 1 → IsNamed words old new
   -- 2: the words ask for no command, and the usage line is on the messages
-  pub usage : status ≡ 2 → AsksNothing words × Gains old.streams.errors new.streams.errors usage_text
+  pub usage : status ≡ 2 → IsNoCommand words × Gains old.streams.errors new.streams.errors usage_text
   -- where the words ask for no command nothing but the messages is used, and the status is 2, or 3 where they failed, or 5 where
   -- memory was wanting to read the words and nothing was said
-  pub usage_first : AsksNothing words → (new.streams.input ≡ old.streams.input) × (new.streams.output ≡ old.streams.output) × (new.stores ≡ old.stores) × (after ≡ before)
+  pub usage_first : IsNoCommand words → (new.streams.input ≡ old.streams.input) × (new.streams.output ≡ old.streams.output) × (new.stores ≡ old.stores) × (after ≡ before)
       × ((status ≡ 2) ⊎ ((status ≡ 3) × Failed old.streams.errors new.streams.errors) ⊎ ((status ≡ 5) × (new.streams.errors ≡ old.streams.errors)))
   -- 3: the input, the output or the messages failed in this call, or, for `serve`, the listener did
   pub fault : status ≡ 3 → Failed old.streams.input new.streams.input ⊎ Failed old.streams.output new.streams.output ⊎ Failed old.streams.errors new.streams.errors
@@ -106,8 +132,10 @@ pub record HasClauses (words : List (List ℕ)) (old new : Outside) (before afte
   -- 3, for `session`: where neither the output nor the messages failed, the input did, and every answer was written
   pub starved : (store : Store) → AsksStore words store → status ≡ 3 → ¬ Failed old.streams.output new.streams.output → ¬ Failed old.streams.errors new.streams.errors
       → Failed old.streams.input new.streams.input × Serves store old new SourceFault
-  -- 4: the words ask for a session or for serving; the opener failed, which was said, and nothing else was used
-  pub store_fault : status ≡ 4 → AsksRegister words × NamesFailure old new × NobodyCame before after
+  -- 4: the words ask for a register of a store, the opener failed, which was said, and nothing else was used; or for an import, and the
+  -- store could not be read or not be written, which was said, and told tables are as they were
+  pub store_fault : status ≡ 4 → NobodyCame before after
+      × ((AsksRegister words × NamesFailure old new) ⊎ ((kind : KindName) × (store : Store) × AsksImport words kind store × NamesStore old new))
   -- 5: want of memory. Nothing was said, and `free` and `serve` have nothing on the output
   pub memory : status ≡ 5 → (new.streams.errors ≡ old.streams.errors) × (((store : Store) × AsksStore words store) ⊎ (new.streams.output ≡ old.streams.output))
   -- `free` has nothing on the output unless the status is 0 or a write of it failed
@@ -126,13 +154,28 @@ pub record HasClauses (words : List (List ℕ)) (old new : Outside) (before afte
   pub session : (store : Store) → AsksStore words store → IsSession store old new status
   -- `serve`: with each status, what was served, behind which history, what was printed, and what the store holds
   pub serve : (serving : Serving) → AsksServe words serving → IsServe serving old new before after status
+  -- `import`: with each status, what was read, printed and said, and what the store holds
+  pub import : (kind : KindName) (store : Store) → AsksImport words kind store → IsImport (kind_named kind) store old new status × (after ≡ before)
+  -- and with each status told tables are as they were, or those of the state after the whole import; they are as they were unless the
+  -- status is 0, or the output failed
+  pub import_whole : (kind : KindName) (store : Store) → AsksImport words kind store
+      → (AreSame old.stores.stored new.stores.stored × ¬ (status ≡ 0))
+      ⊎ (IsStored (kind_named kind) store old new × ((status ≡ 0) ⊎ ((status ≡ 3) × Failed old.streams.output new.streams.output)))
+  -- `export`: with each status, what was printed and said
+  pub export : (kind : KindName) (store : Store) → AsksExport words kind store → IsExport (kind_named kind) store old new status × (after ≡ before)
+  -- and with each status told tables are as they were
+  pub export_keeps : (kind : KindName) (store : Store) → AsksExport words kind store → AreSame old.stores.stored new.stores.stored
+  -- `report`: with each status, what was printed and said
+  pub report : (report : ReportName) (store : Store) → AsksReport words report store → IsReport report store old new status × (after ≡ before)
+  -- and with each status told tables are as they were
+  pub report_keeps : (report : ReportName) (store : Store) → AsksReport words report store → AreSame old.stores.stored new.stores.stored
   -- `load`: with each status, what was printed, which is a text of the number of claims alone; nothing else is used
   pub load : (count workers : ℕ) → AsksLoad words count workers → IsLoad count workers old.streams.output new.streams.output status
       × (new.streams.input ≡ old.streams.input) × (new.streams.errors ≡ old.streams.errors) × (new.stores ≡ old.stores) × (after ≡ before)
   -- `session` without a file, where the opener did not fail: the answers are those of an empty register
   pub empty : (unique : Bool) → AsksSession words unique → (¬ StoreFailed old new) → status ≡ 0 → Prints answers_plainly (opened unique) old new
-  -- a command that stands ends by itself where nothing fails: done, refused, or for want of memory
-  pub complete : (command : Command) → Asks words command → Stands command → (¬ AnyFailed old new) → (¬ ListenerFailed command before after)
+  -- a command ends by itself where nothing fails: done, refused, or for want of memory
+  pub complete : (command : Command) → Asks words command → (¬ AnyFailed old new) → (¬ ListenerFailed command before after)
       → (status ≡ 0) ⊎ (status ≡ 1) ⊎ (status ≡ 5)
   -- `free`: over a told input, where nothing fails, the status is 1 exactly where a line is refused, memory apart
   pub exact : (within : Cidr) → AsksFree words within → (¬ AnyFailed old new) → IfSome old.streams.input.bytes (IsExact within status)

@@ -2,38 +2,28 @@
 use Rattle.std.specs.Prelude.{◌≡◌, ℕ, ◌⊎◌, ◌++◌, List, [], ◌∷◌, codes}
 use Rattle.command_words.specs.declared.asked.Command.{Command}
 use Rattle.command_words.specs.declared.asked.Command.TheVariants.{Free, Session, Serve, Import, Export, Report, Load}
-use Rattle.command_words.specs.Asked.{Asks}
+use Rattle.command_words.specs.Asked.{Asks, IsNoCommand}
 use Rattle.command_streams.specs.Streams.{Streams, EndsWith, NeverFalls}
 use Rattle.free_lines.specs.Run.{IsFree}
 use Rattle.store_session.specs.Outside.{Outside}
 use Rattle.store_session.specs.Session.{IsSession}
 use Rattle.store_server.specs.Serve.{Doors, IsServe}
 use Rattle.register_load.specs.Load.{IsLoad}
-
--- the commands that stand; words that ask for another one are no words of a command yet
-abbrev pub Stands : Command → Type 0
-Stands (Free within) = Unit {0}
-Stands (Session store) = Unit {0}
-Stands (Serve serving) = Unit {0}
-Stands (Import kind store) = ⊥
-Stands (Export kind store) = ⊥
-Stands (Report report store) = ⊥
-Stands (Load count workers) = Unit {0}
+use Rattle.store_office.specs.Files.{kind_named}
+use Rattle.store_office.specs.Import.{IsImport}
+use Rattle.store_office.specs.Export.{IsExport}
+use Rattle.store_office.specs.Report.{IsReport}
 
 -- what a run of the command leaves, with its status: `before` and `after` are what the listener tells
 abbrev pub Answers : Command → Outside → Outside → Doors → Doors → ℕ → Type 0
 Answers (Free within) old new before after status = IsFree within old.streams new.streams status × (new.stores ≡ old.stores) × (after ≡ before)
 Answers (Session store) old new before after status = IsSession store old new status × (after ≡ before)
 Answers (Serve serving) old new before after status = IsServe serving old new before after status
-Answers (Import kind store) old new before after status = ⊥
-Answers (Export kind store) old new before after status = ⊥
-Answers (Report report store) old new before after status = ⊥
+Answers (Import kind store) old new before after status = IsImport (kind_named kind) store old new status × (after ≡ before)
+Answers (Export kind store) old new before after status = IsExport (kind_named kind) store old new status × (after ≡ before)
+Answers (Report report store) old new before after status = IsReport report store old new status × (after ≡ before)
 Answers (Load count workers) old new before after status =
     IsLoad count workers old.streams.output new.streams.output status × (new.streams.input ≡ old.streams.input) × (new.streams.errors ≡ old.streams.errors) × (new.stores ≡ old.stores) × (after ≡ before)
-
--- the words ask for no command that stands
-abbrev pub AsksNothing : List (List ℕ) → Type 0
-AsksNothing words = (command : Command) → Asks words command → ¬ Stands command
 
 -- what is said where the words ask for no command
 abbrev pub usage_text : List ℕ
@@ -50,15 +40,10 @@ pub record IsUsage (old new : Streams) (status : ℕ) : Type 0 where
 abbrev pub SaysUsage : Outside → Outside → Doors → Doors → ℕ → Type 0
 SaysUsage old new before after status = IsUsage old.streams new.streams status × (new.stores ≡ old.stores) × (after ≡ before)
 
--- a run of a command that was read: it was run, or it does not stand
-abbrev pub RunsCommand : Command → Outside → Outside → Doors → Doors → ℕ → Type 0
-RunsCommand command old new before after status =
-    (Stands command × Answers command old new before after status) ⊎ ((¬ Stands command) × SaysUsage old new before after status)
-
--- a run of the program: the words ask for a command that stands, which was run; or they ask for none; or memory was wanting to
+-- a run of the program: the words ask for a command, which was run; or they ask for none; or memory was wanting to
 -- read them, and nothing was used
 abbrev pub Runs : List (List ℕ) → Outside → Outside → Doors → Doors → ℕ → Type 0
 Runs words old new before after status =
-    ((command : Command) × Asks words command × Stands command × Answers command old new before after status)
-    ⊎ (AsksNothing words × SaysUsage old new before after status)
+    ((command : Command) × Asks words command × Answers command old new before after status)
+    ⊎ (IsNoCommand words × SaysUsage old new before after status)
     ⊎ ((status ≡ 5) × (new ≡ old) × (after ≡ before))

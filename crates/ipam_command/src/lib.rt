@@ -7,7 +7,7 @@ ghost use Rattle.command_streams.specs.Streams.{Told, streams, told};
 ghost use Rattle.ipam_command.specs.Clauses.{RunsHaveClauses};
 ghost use Rattle.store_session.specs.Outside.{Stores, outside, stores};
 ghost use Rattle.store_server.specs.Serve.{doors};
-ghost use Rattle.ipam_command.specs.Runs.{IsUsage, Runs, RunsCommand};
+ghost use Rattle.ipam_command.specs.Runs.{Answers, IsUsage, Runs};
 
 mod entry;
 
@@ -23,6 +23,7 @@ use std::alloc::Global;
 use std::marker::Sync;
 use std::sync::Wait;
 use std::thread::Threads;
+use store_office::{kind_named, run_export, run_import, run_report};
 use store_server::run_serve;
 use store_session::run_session;
 
@@ -37,7 +38,7 @@ fn run_none<Se: Sink>(errors: &mut Se) -> u8
     end_with(errors, USAGE_TEXT, USAGE)
 }
 
-/// Runs a command that was read, if it stands.
+/// Runs a command that was read.
 fn run_command<
     R: Threads + Wait + Sync,
     So: Source,
@@ -57,7 +58,7 @@ fn run_command<
 ) -> u8
     requires asked { (words : List (List ℕ)) × Asks words command.now }
     requires none_out { length (L.returned listener.old) ≤ L.lanes listener.old }
-    ensures { RunsCommand command.now
+    ensures { Answers command.now
         (outside (streams (told So.left So.faults input.old) (told Si.written Si.faults output.old) (told Se.written Se.faults errors.old)) (stores O.stored O.faults opener.old))
         (outside (streams (told So.left So.faults input.new) (told Si.written Si.faults output.new) (told Se.written Se.faults errors.new)) (stores O.stored O.faults opener.new))
         (doors L.bound L.lanes L.returned L.faults listener.old) (doors L.bound L.lanes L.returned L.faults listener.new) result }
@@ -66,8 +67,24 @@ fn run_command<
         Command::Free(within) => run_free(alloc, within, input, output, errors),
         Command::Session(store) => run_session(alloc, store, input, output, errors, opener),
         Command::Serve(serving) => run_serve(rt, alloc, serving, output, errors, listener, opener),
+        Command::Import(kind, store) => {
+            run_import(
+                alloc,
+                kind_named(*kind),
+                store,
+                input,
+                output,
+                errors,
+                opener,
+            )
+        }
+        Command::Export(kind, store) => {
+            run_export(alloc, kind_named(*kind), store, output, errors, opener)
+        }
         Command::Load { count, workers } => run_load(rt, alloc, *count, *workers, output),
-        _ => run_none(errors),
+        Command::Report(report, store) => {
+            run_report(alloc, *report, store, output, errors, opener)
+        }
     }
 }
 

@@ -1,0 +1,240 @@
+//! Imports, exports and reports over stores: files and texts byte for byte, what is refused, and what a refused import leaves.
+
+use crate::session_tests::part;
+use crate::store_tests::{number, opener_of};
+use crate::tests::{Left, run_over};
+use ipam_keeper::opener::MemoryOpener;
+use std::alloc::{AllocError, Global};
+use std::marker::Sync;
+use std::sync::Wait;
+use std::test::Fail;
+use std::thread::Threads;
+
+/// A store a case. Its first line is as that of a case of `store_tests`. Each line after it is a run over the store: its status, its words,
+/// its input, its output and what it says. A semicolon is the end of a line, and a caret a carriage return.
+const CASES: [&str; 9] = [
+    r#"1
+0|import prefixes --db a|prefix,vrf,status;10.0.0.0/24,,active;10.0.1.0/24,,active;10.0.2.0/24,,container;|created 3 present 0;|
+0|import prefixes --db a|prefix,vrf,status;10.0.0.0/24,,active;10.0.1.0/24,,active;10.0.2.0/24,,container;|created 0 present 3;|
+0|export prefixes --db a||prefix,vrf,status,role,is_pool,mark_utilized,description;10.0.0.0/24,,active,,false,false,;10.0.1.0/24,,active,,false,false,;10.0.2.0/24,,container,,false,false,;|
+0|export prefixes --db b||prefix,vrf,status,role,is_pool,mark_utilized,description;|
+0|export prefixes||prefix,vrf,status,role,is_pool,mark_utilized,description;|"#,
+    r#"1
+0|import vrfs --db a|name;red;red;|created 2 present 0;|
+1|import prefixes --db a|prefix,vrf;10.0.0.0/8,red;||row 1: ambiguous: vrfs 1 and 2 have this name;
+1|import prefixes --db a|prefix,vrf;10.0.0.0/8,;10.1.0.0/16,green;||row 2: no_such_name: no vrfs has this name;
+0|import vrfs --db a|name;red;red;|created 0 present 2;|
+0|import vrfs --db a|name;red;red;red;|created 1 present 2;|
+0|export prefixes --db a||prefix,vrf,status,role,is_pool,mark_utilized,description;|"#,
+    r#"1
+1|import ip-addresses --db a|address,role;10.0.0.1/24,vip;10.0.0.1/24,vip;10.0.0.1/24,;||row 3: duplicate: coincides with 1;
+0|export ip-addresses --db a||address,vrf,status,role,dns_name,description;|"#,
+    r#"1
+1|import prefixes --db a|prefix,description;10.0.0.0/24,"a ""b"", c";10.0.1.0/24||row 2: field: row is missing or malformed;
+0|export prefixes --db a||prefix,vrf,status,role,is_pool,mark_utilized,description;|
+0|import prefixes --db a|prefix,description;10.0.0.0/24,"a ""b"", c";|created 1 present 0;|
+0|export prefixes --db a||prefix,vrf,status,role,is_pool,mark_utilized,description;10.0.0.0/24,,active,,false,false,"a ""b"", c";|
+0|import prefixes --db a|﻿description,prefix^;,10.0.1.0/24^;|created 1 present 0;|
+0|import prefixes --db a|prefix;|created 0 present 0;|
+1|import prefixes --db a|||row 0: field: column is missing or malformed;
+1|import prefixes --db a|prefix,color;||row 0: field: column is missing or malformed;
+1|import prefixes --db a|prefix,status;10.3.0.0/16,new;||row 1: field: status is missing or malformed;
+1|import prefixes --db a|prefix;10.3.0.1/16;||row 1: host_bits: host bits are set, the prefix is 10.3.0.0/16;"#,
+    r#"1
+0|import vrfs --db a|name,rd,enforce_unique,description;red,65000:1,false,;blue,,,kept;|created 2 present 0;|
+0|import rirs --db a|slug,name;rfc-1918,RFC 1918;|created 1 present 0;|
+0|import roles --db a|name,slug,weight;Servers,servers,;|created 1 present 0;|
+0|import aggregates --db a|prefix,rir;10.0.0.0/8,RFC 1918;|created 1 present 0;|
+0|import prefixes --db a|prefix,vrf,status,role,is_pool;10.0.0.0/16,,container,,;10.0.0.0/24,red,,Servers,true;|created 2 present 0;|
+0|import ip-ranges --db a|start_address,end_address,vrf;10.0.0.10/24,10.0.0.19/24,red;|created 1 present 0;|
+0|import ip-addresses --db a|address,vrf,role,dns_name;10.0.0.1/24,red,vip,GW.Example.org;|created 1 present 0;|
+0|export vrfs --db a||name,rd,enforce_unique,description;red,65000:1,false,;blue,,true,kept;|
+0|export rirs --db a||name,slug,is_private,description;RFC 1918,rfc-1918,false,;|
+0|export roles --db a||name,slug,weight,description;Servers,servers,1000,;|
+0|export aggregates --db a||prefix,rir,description;10.0.0.0/8,RFC 1918,;|
+0|export prefixes --db a||prefix,vrf,status,role,is_pool,mark_utilized,description;10.0.0.0/16,,container,,false,false,;10.0.0.0/24,red,active,Servers,true,false,;|
+0|export ip-ranges --db a||start_address,end_address,vrf,status,role,mark_utilized,description;10.0.0.10/24,10.0.0.19/24,red,active,,false,;|
+0|export ip-addresses --db a||address,vrf,status,role,dns_name,description;10.0.0.1/24,red,active,vip,gw.example.org,;|"#,
+    r#"1
+0|import prefixes --db a|prefix,status;10.0.0.0/16,container;10.0.0.0/24,active;|created 2 present 0;|
+0|report tree --db a||global;  10.0.0.0/16 container;    10.0.0.0/24 active;|
+0|report utilization --db a||10.0.0.0/16                                 global         container    0;10.0.0.0/24                                 global         active       0;|
+0|report free --db a --prefix 1||10.0.1.0/24                                                                     256;10.0.2.0/23                                                                     512;10.0.4.0/22                                                                    1024;10.0.8.0/21                                                                    2048;10.0.16.0/20                                                                   4096;10.0.32.0/19                                                                   8192;10.0.64.0/18                                                                  16384;10.0.128.0/17                                                                 32768;|
+1|report free --db a --prefix 9|||not_found: prefixes 9 is not there;
+0|report tree --db b|||"#,
+    r#"1;fails 0
+4|import prefixes --db a|prefix;10.0.0.0/24;||store: the store could not be read;
+4|export prefixes --db a|||store: the store could not be read;
+4|report tree --db a|||store: the store could not be read;"#,
+    r#"1;fails 1
+4|import prefixes --db a|prefix;10.0.0.0/24;||keeper: the store could not be written;
+0|export prefixes --db a||prefix,vrf,status,role,is_pool,mark_utilized,description;|"#,
+    r#"9
+1|import prefixes --db a|prefix;10.0.0.0/24;||store: version 9;
+1|export vrfs --db a|||store: version 9;
+1|report tree --db a|||store: version 9;"#,
+];
+
+/// What a part of a line stands for.
+fn bytes_of(alloc: Global, part: &str) -> Result<Vec<u8>, AllocError> {
+    let mut bytes = Vec::new(alloc);
+    for byte in part.bytes() {
+        bytes.push(match byte {
+            b';' => b'\n',
+            b'^' => b'\r',
+            other => other,
+        })?;
+    }
+    Ok(bytes)
+}
+
+/// Whether a line leaves what it says.
+fn is_as_said<R: Threads + Wait + Sync>(
+    rt: &R,
+    alloc: Global,
+    opener: &mut MemoryOpener,
+    line: &str,
+) -> Result<bool, AllocError> {
+    let input = bytes_of(alloc, part(line, 2))?;
+    let none: [&[u32]; 3] = [&[], &[], &[]];
+    let left = run_over(rt, alloc, opener, part(line, 1), &input, 4_096, none)?;
+    let output = bytes_of(alloc, part(line, 3))?;
+    let errors = bytes_of(alloc, part(line, 4))?;
+    Ok(
+        u32::from(left.status) == number(part(line, 0))
+            && left.output.as_slice() == output.as_slice()
+            && left.errors.as_slice() == errors.as_slice(),
+    )
+}
+
+/// The number of the first line of a case that does not leave what it says, or 0.
+fn wrong_line<R: Threads + Wait + Sync>(
+    rt: &R,
+    alloc: Global,
+    case: &str,
+) -> Result<usize, AllocError> {
+    let mut opener = opener_of(alloc, case.lines().next().unwrap_or(""))?;
+    let mut wrong = 0usize;
+    for (number, line) in case.lines().enumerate().skip(1) {
+        if wrong == 0 && !is_as_said(rt, alloc, &mut opener, line)? {
+            wrong = number;
+        }
+    }
+    Ok(wrong)
+}
+
+#[test]
+fn files_and_texts(rt: HostRuntime) -> Result<(), Fail> {
+    for case in CASES {
+        let wrong = wrong_line(&rt, rt.alloc(), case)?;
+        assert!(rt; wrong == 0, "line {wrong} of {case}");
+    }
+    Ok(())
+}
+
+/// A header of one column, and prefixes of 24 bits one after another; the last of all is the first one again, in another status, where it is to
+/// be refused.
+fn many_rows(alloc: Global, count: u32, is_refused: bool) -> Result<String, AllocError> {
+    let mut text = String::from_str(alloc, "prefix,status\n")?;
+    for n in 1..count {
+        let row = format!(in alloc; "10.{}.{}.0/24,\n", n / 256, n % 256)?;
+        text.push_str(&row)?;
+    }
+    let last = if is_refused {
+        "10.0.1.0/24,reserved\n"
+    } else {
+        "10.255.0.0/24,\n"
+    };
+    text.push_str(last)?;
+    Ok(text)
+}
+
+/// What a run with this input leaves, in words.
+fn told<R: Threads + Wait + Sync>(
+    rt: &R,
+    alloc: Global,
+    opener: &mut MemoryOpener,
+    words: &str,
+    input: &[u8],
+    fails: [&[u32]; 3],
+) -> Result<String, AllocError> {
+    let Left {
+        status,
+        output,
+        errors,
+    } = run_over(rt, alloc, opener, words, input, 65_536, fails)?;
+    let mut text = format!(in alloc; "{status} ")?;
+    for byte in output.as_slice().iter().chain(errors.as_slice()) {
+        text.push(char::from(*byte))?;
+    }
+    Ok(text)
+}
+
+#[test]
+fn many_rows_at_once(rt: HostRuntime) -> Result<(), Fail> {
+    let alloc = rt.alloc();
+    let mut opener = MemoryOpener::new(Vec::new(alloc), Vec::new(alloc));
+    let refused = many_rows(alloc, 1_000, true)?;
+    let words = "import prefixes --db a";
+    let none: [&[u32]; 3] = [&[], &[], &[]];
+    let left = told(&rt, alloc, &mut opener, words, refused.as_bytes(), none)?;
+    assert_eq!(rt; left.as_str(), "1 row 1000: duplicate: coincides with 1\n");
+    let left = told(
+        &rt,
+        alloc,
+        &mut opener,
+        words,
+        refused.as_bytes(),
+        [&[], &[], &[0]],
+    )?;
+    assert_eq!(rt; left.as_str(), "3 ");
+    let good = many_rows(alloc, 1_000, false)?;
+    let unsaid = told(
+        &rt,
+        alloc,
+        &mut opener,
+        words,
+        good.as_bytes(),
+        [&[], &[0], &[]],
+    )?;
+    assert_eq!(rt; unsaid.as_str(), "3 ");
+    let again = told(&rt, alloc, &mut opener, words, good.as_bytes(), none)?;
+    assert_eq!(rt; again.as_str(), "0 created 0 present 1000\n");
+    let more = many_rows(alloc, 10_001, false)?;
+    let left = told(&rt, alloc, &mut opener, words, more.as_bytes(), none)?;
+    assert_eq!(rt; left.as_str(), "1 limit: rows would exceed 10000\n");
+    let left = told(
+        &rt,
+        alloc,
+        &mut opener,
+        words,
+        good.as_bytes(),
+        [&[1], &[], &[]],
+    )?;
+    assert_eq!(rt; left.as_str(), "3 ");
+    Ok(())
+}
+
+/// A file of so many bytes: a header, and lines without a byte.
+fn file_of(alloc: Global, bytes: usize) -> Result<Vec<u8>, AllocError> {
+    let mut file = Vec::from_slice(alloc, b"prefix\n")?;
+    file.resize(bytes, b'\n')?;
+    Ok(file)
+}
+
+#[test]
+fn a_file_as_long_as_may_be(rt: HostRuntime) -> Result<(), Fail> {
+    let alloc = rt.alloc();
+    let mut opener = MemoryOpener::new(Vec::new(alloc), Vec::new(alloc));
+    let none: [&[u32]; 3] = [&[], &[], &[]];
+    let longest = file_of(alloc, 4_194_304)?;
+    let left = told(&rt, alloc, &mut opener, "import prefixes", &longest, none)?;
+    assert_eq!(rt; left.as_str(), "0 created 0 present 0\n");
+    let longer = file_of(alloc, 4_194_305)?;
+    let left = told(&rt, alloc, &mut opener, "import prefixes", &longer, none)?;
+    assert_eq!(rt;
+        left.as_str(),
+        "1 too_large: the body exceeds 4194304 bytes\n"
+    );
+    Ok(())
+}

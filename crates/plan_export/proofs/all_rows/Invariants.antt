@@ -1,0 +1,6 @@
+use Rattle.std.proofs.Common.{◌≡◌, map, take}
+use Rattle.register_shelves.specs.Held.{state_of}
+use Rattle.plan_export.proofs.all_rows.Given as goal
+
+abbrev pub invariant-records : goal.invariant-records
+invariant-records g l = l.rows.items ≡ map (g.T.Exported.as_line (state_of l.shelves)) (take l.index (g.T.Registered.rules.shelf (state_of l.shelves)).rows)

@@ -1,0 +1,6 @@
+pub mod KeyLaws
+pub mod Records
+pub mod Steps
+pub mod Loops
+pub mod Rows
+pub mod Plans

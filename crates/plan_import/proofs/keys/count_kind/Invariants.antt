@@ -1,0 +1,8 @@
+use Rattle.std.proofs.Common.{ℕ, List, [], map, take}
+use Rattle.row_counts.specs.Left.{IsLeft}
+use Rattle.register_shelves.specs.Held.{state_of}
+use Rattle.plan_import.specs.Ready.{key_of_row}
+use Rattle.plan_import.proofs.keys.count_kind.Given as goal
+
+abbrev pub invariant-records : goal.invariant-records
+invariant-records g l = (keys : List (List ℕ)) → IsLeft l.fn.left keys [] [] → IsLeft l.left keys (map (key_of_row g.T.Registered.rules) (take l.index (g.T.Registered.rules.shelf (state_of l.shelves)).rows)) []

@@ -1,0 +1,76 @@
+use Rattle.std.proofs.Common.{◌≡◌, ◌∙◌, ℕ, ◌+◌, ◌<◌, List, [], length, refl, ap, sym, subst, arith}
+use Rattle.ipam_data.specs.declared.replies.View.{View}
+use Rattle.ipam_data.specs.Checks.{first}
+use Rattle.ipam_data.specs.State.{State}
+use Rattle.import_rows.specs.declared.rows.ImportRow.{ImportRow}
+use Rattle.import_rows.specs.Imports.{begun, row_verdicts}
+use Rattle.row_counts.specs.Left.{IsLeft}
+use Rattle.register_shelves.specs.Held.{state_of}
+use Rattle.plan_import.specs.declared.halt.Halt.{Halt}
+use Rattle.plan_import.specs.declared.ready.Ready.{Ready}
+use Rattle.plan_import.specs.Halts.{IsHaltBy, halt_at}
+use Rattle.plan_import.specs.Ready.{ready_rows, keys_of, record_keys}
+use Rattle.plan_import.proofs.Loops.{HasComeTo, come_none, come_halt}
+use Rattle.plan_import.proofs.Rows.{row_at, row_any, row_told, next}
+use Rattle.plan_import.proofs.made.make_all.Goals as goal
+
+pub loop-row-init : goal.loop-row-init
+loop-row-init c =
+    let old : State = state_of c.args.shelves.now in
+    let lines : List ImportRow = c.args.lines.now in
+    let are : c.deref.result.now ≡ ready_rows old lines = c.deref.ensures.value ∙ c.in_ok-rows.ensures in
+    record {
+      come =
+          subst (λ (views : List View). HasComeTo old c.args.kind lines 0 old views c.in_ok-left.left) (sym c.new-made.ensures.items)
+          (come_none old c.args.kind lines c.in_ok-left.left (subst (λ (rows : List Ready). IsLeft c.in_ok-left.left (keys_of rows) (record_keys old c.args.kind) []) are c.in_ok-left.ensures));
+      lawful = c.requires.lawful;
+      number = refl;
+    }
+
+pub take_row-requires-clause-told : goal.take_row-requires-clause-told
+take_row-requires-clause-told c = λ f.
+    let old : State = state_of c.args.shelves.now in
+    let lines : List ImportRow = c.args.lines.now in
+    let i : ℕ = c.loop-row.row-index in
+    let rows : List Ready = c.deref-row-items.result.now in
+    let are : rows ≡ ready_rows old lines = c.deref-row-items.ensures.value ∙ c.in_ok-rows.ensures in
+    let low : i < length rows = omega arith in
+    row_told old lines i c.row-item.result (row_at old lines rows i c.row-item.result are low c.row-item.is) f
+
+pub loop-row-preserved : goal.loop-row-preserved
+loop-row-preserved c =
+    let old : State = state_of c.args.shelves.now in
+    let lines : List ImportRow = c.args.lines.now in
+    let i : ℕ = c.loop-row.row-index in
+    let rows : List Ready = c.deref-row-items.result.now in
+    let are : rows ≡ ready_rows old lines = c.deref-row-items.ensures.value ∙ c.in_ok-rows.ensures in
+    let low : i < length rows = omega arith in
+    let h = c.loop-row.invariant.come in
+    let any = row_any old lines rows i c.row-item.result are low c.row-item.is in
+    let number = c.loop-row.invariant.number in
+    record {
+      come =
+          next old c.args.kind lines rows i (state_of c.loop-row.shelves) c.loop-row.made.items c.loop-row.left h c.row-item.result are low c.row-item.is
+          (state_of c.take_row.new.shelves) c.take_row.new.made.items c.take_row.new.left
+          (c.in-Ok.ensures.step (keys_of (ready_rows old lines)) (record_keys old c.args.kind) h.spent h.is_left any)
+          (c.in-Ok.ensures.left (keys_of (ready_rows old lines)) (record_keys old c.args.kind) h.spent h.is_left);
+      lawful = c.in-Ok.ensures.lawful;
+      number = omega arith;
+    }
+
+pub returns-in-Err-clause-halted : goal.returns-in-Err-clause-halted
+returns-in-Err-clause-halted c =
+    let old : State = state_of c.args.shelves.now in
+    let lines : List ImportRow = c.args.lines.now in
+    let i : ℕ = c.loop-row.row-index in
+    let rows : List Ready = c.deref-row-items.result.now in
+    let are : rows ≡ ready_rows old lines = c.deref-row-items.ensures.value ∙ c.in_ok-rows.ensures in
+    let low : i < length rows = omega arith in
+    let h = c.loop-row.invariant.come in
+    let any = row_any old lines rows i c.row-item.result are low c.row-item.is in
+    let number : i + 1 ≡ c.loop-row.n + 1 = (let k = c.loop-row.invariant.number in omega arith) in
+    subst (λ (halt : Halt). IsHaltBy (first (row_verdicts old c.args.kind (begun old) 1 lines)) halt)
+    (ap (λ (n : ℕ). halt_at n c.in-Err.halt) number ∙ sym c.stopped_at.ensures)
+    (come_halt old c.args.kind lines i (state_of c.loop-row.shelves) c.loop-row.made.items c.loop-row.left h c.row-item.result (row_at old lines rows i c.row-item.result are low c.row-item.is)
+    c.in-Err.halt (state_of c.take_row.new.shelves) c.take_row.new.made.items
+    (c.in-Err.ensures.step (keys_of (ready_rows old lines)) (record_keys old c.args.kind) h.spent h.is_left any))

@@ -1,0 +1,12 @@
+use Rattle.std.proofs.Common.{◌≡◌}
+use Rattle.ipam_data.specs.Lawful.{IsLawful}
+use Rattle.register_shelves.specs.Held.{state_of}
+use Rattle.plan_import.proofs.Loops.{HasComeTo}
+use Rattle.plan_import.proofs.made.make_all.Given as goal
+
+abbrev pub invariant-loop-row : goal.invariant-loop-row
+invariant-loop-row l = record {
+  come : HasComeTo (state_of l.fn.shelves) l.fn.kind l.lines l.row-index (state_of l.shelves) l.made.items l.left;
+  lawful : IsLawful (state_of l.shelves);
+  number : l.n ≡ l.row-index;
+}

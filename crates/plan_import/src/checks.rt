@@ -1,0 +1,54 @@
+//! Why a record can't be made, but for the log.
+
+ghost use Rattle.std.specs.Prelude.{◌≡◌, []};
+ghost use Rattle.ipam_data.specs.ByKind.{by_view};
+ghost use Rattle.ipam_data.specs.Checks.{first, no_room};
+ghost use Rattle.ipam_data.specs.Plans.{creation};
+ghost use Rattle.register_shelves.specs.Held.{state_of};
+
+use ipam_data::kinds::{Kind, LAST_ID};
+use ipam_data::replies::{Refusal, View, Which};
+use register_plans::{Registered, broken};
+use register_shelves::Shelves;
+
+/// Why a kind takes no further row, if so: it would have more than `most`, or no id is left.
+fn no_room_for_one(kind: Kind, most: u32, count: u32, next: u32) -> Option<Refusal>
+    ensures { result ≡ first (no_room kind most count next 1) }
+{
+    if count >= most {
+        return Some(Refusal::Limit(Which::Kind(kind), u64::from(most)));
+    }
+    if next > LAST_ID {
+        return Some(Refusal::Limit(Which::Ids, u64::from(LAST_ID)));
+    }
+    None
+}
+
+/// Why a row can't be made, if so, where nothing is told of its draft; the log has no say.
+fn check_row<T: Registered>(shelves: &Shelves, row: &T) -> Option<Refusal>
+    ensures { result ≡ first (creation T.rules (state_of shelves.now) [] row.now) }
+{
+    if let Some(rule) = broken(shelves, row) {
+        return Some(Refusal::Rule(rule));
+    }
+    no_room_for_one(T::kind(), T::most(), T::count(shelves), T::next(shelves))
+}
+
+/// The same of a row of any kind.
+pub(crate) fn check_view(shelves: &Shelves, view: &View) -> Option<Refusal>
+    ensures { result ≡ by_view view.now (λ T rules row. first (creation rules (state_of shelves.now) [] row)) }
+{
+    match view {
+        View::Vrf(row) => check_row(shelves, row),
+        View::Rir(row) => check_row(shelves, row),
+        View::Role(row) => check_row(shelves, row),
+        View::Aggregate(row) => check_row(shelves, row),
+        View::Prefix {
+            row,
+            depth: _,
+            children: _,
+        } => check_row(shelves, row),
+        View::IpRange(row) => check_row(shelves, row),
+        View::IpAddress(row) => check_row(shelves, row),
+    }
+}

@@ -1,0 +1,118 @@
+//! The keys of rows and records, and how many records are left that a row may stand for.
+
+ghost use Rattle.std.specs.Prelude.{◌≡◌, ℕ, ◌<◌, ◌++◌, [], List, IfOk, OnOk, Some, length, map, slice_get, string_bytes};
+ghost use Rattle.ipam_stored.specs.Stored.{stored_row};
+ghost use Rattle.row_counts.specs.Keys.{key_of};
+ghost use Rattle.row_counts.specs.Left.{IsLeft};
+ghost use Rattle.register_shelves.specs.Held.{state_of};
+ghost use Rattle.plan_import.specs.Ready.{keys_of, key_of_row, record_keys};
+
+use crate::ready::Ready;
+use ipam_data::address::IpAddress;
+use ipam_data::aggregate::Aggregate;
+use ipam_data::kinds::Kind;
+use ipam_data::prefix::Prefix;
+use ipam_data::range::IpRange;
+use ipam_data::replies::View;
+use ipam_data::rir::Rir;
+use ipam_data::role::Role;
+use ipam_data::vrf::Vrf;
+use ipam_stored::tables::Text;
+use ipam_stored::writing::write_row;
+use register_plans::Registered;
+use register_shelves::Shelves;
+use row_counts::{Leftovers, put_text};
+use std::alloc::{AllocError, Global};
+
+/// The key of texts.
+fn key_of_texts(alloc: Global, texts: &[Text]) -> Result<String, AllocError>
+    ensures { IfOk result (λ k. string_bytes k ≡ key_of texts.now) }
+{
+    let mut key = String::new(alloc);
+    for text in texts {
+        put_text(&mut key, text.as_str().as_bytes())?;
+    }
+    Ok(key)
+}
+
+/// The key of a row's texts.
+pub(crate) fn key_of_view(alloc: Global, view: &View) -> Result<String, AllocError>
+    ensures { IfOk result (λ k. string_bytes k ≡ key_of (stored_row view.now).fields) }
+{
+    let row = write_row(alloc, view)?;
+    key_of_texts(alloc, row.fields.as_slice())
+}
+
+/// The key of a record.
+fn key_of_record<T: Registered>(alloc: Global, row: &T) -> Result<String, AllocError>
+    ensures { IfOk result (λ k. string_bytes k ≡ key_of_row T.rules row.now) }
+{
+    let view = row.copied()?.into_view();
+    key_of_view(alloc, &view)
+}
+
+/// The record at an index that is there.
+fn record_at<T: Registered>(shelves: &Shelves, index: u32) -> &T
+    requires { index < length (T.rules.shelf (state_of shelves.now)).rows }
+    ensures { Some result.now ≡ slice_get (T.rules.shelf (state_of shelves.now)).rows index }
+{
+    match T::nth(shelves, index) {
+        Some(row) => row,
+        None => unreachable!(),
+    }
+}
+
+/// Notes the keys of all rows of an import.
+fn expect_all(alloc: Global, rows: &[Ready]) -> Result<Leftovers, AllocError>
+    ensures { IfOk result (λ left. IsLeft left (keys_of rows.now) [] []) }
+{
+    let mut left = Leftovers::new(alloc);
+    for row in rows {
+        let key = String::from_str(alloc, row.key.as_str())?;
+        left.expect(key)?;
+    }
+    Ok(left)
+}
+
+/// Counts the records of a kind under their keys.
+fn count_kind<T: Registered>(shelves: &Shelves, left: &mut Leftovers) -> Result<(), AllocError>
+    requires { (keys : List (List ℕ)) × IsLeft left.old keys [] [] }
+    ensures { (keys : List (List ℕ)) → IsLeft left.old keys [] [] → OnOk result (IsLeft left.new keys (map (key_of_row T.rules) (T.rules.shelf (state_of shelves.now)).rows) []) }
+{
+    let count = T::count(shelves);
+    'records: for index in 0..count {
+        let row: &T = record_at(shelves, index);
+        let key = key_of_record(shelves.allocator(), row)?;
+        left.count(&key);
+    }
+    Ok(())
+}
+
+/// Counts the records of a kind, by its name.
+fn count_all(shelves: &Shelves, kind: Kind, left: &mut Leftovers) -> Result<(), AllocError>
+    requires { (keys : List (List ℕ)) × IsLeft left.old keys [] [] }
+    ensures { (keys : List (List ℕ)) → IsLeft left.old keys [] [] → OnOk result (IsLeft left.new keys (record_keys (state_of shelves.now) kind) []) }
+{
+    match kind {
+        Kind::Vrfs => count_kind::<Vrf>(shelves, left),
+        Kind::Rirs => count_kind::<Rir>(shelves, left),
+        Kind::Roles => count_kind::<Role>(shelves, left),
+        Kind::Aggregates => count_kind::<Aggregate>(shelves, left),
+        Kind::Prefixes => count_kind::<Prefix>(shelves, left),
+        Kind::Ranges => count_kind::<IpRange>(shelves, left),
+        Kind::Addresses => count_kind::<IpAddress>(shelves, left),
+    }
+}
+
+/// How many records of the kind are left that each row may stand for: one look for each row and each record.
+pub(crate) fn leftovers(
+    shelves: &Shelves,
+    kind: Kind,
+    rows: &[Ready],
+) -> Result<Leftovers, AllocError>
+    ensures { IfOk result (λ left. IsLeft left (keys_of rows.now) (record_keys (state_of shelves.now) kind) []) }
+{
+    let mut left = expect_all(shelves.allocator(), rows)?;
+    count_all(shelves, kind, &mut left)?;
+    Ok(left)
+}

@@ -1,0 +1,94 @@
+//! One record, made of a draft.
+
+ghost use Rattle.std.specs.Prelude.{◌≡◌, ◌+◌, None, true, IfOk, IfErr, OnOk};
+ghost use Rattle.ipam_data.specs.Checks.{first};
+ghost use Rattle.ipam_data.specs.Fields.{kind_of_draft, told_of_draft};
+ghost use Rattle.ipam_data.specs.Lawful.{IsLawful};
+ghost use Rattle.ipam_data.specs.Steps.{next_for};
+ghost use Rattle.ipam_data.specs.Updates.{IsFit, with_next, with_view};
+ghost use Rattle.import_rows.specs.Imports.{create_checks, record_of, with_record};
+ghost use Rattle.register_shelves.specs.Held.{state_of};
+ghost use Rattle.plan_import.specs.Halts.{IsHaltBy};
+
+use crate::checks::check_view;
+use crate::drafts::view_under;
+use crate::halt::Halt;
+use ipam_data::calls::Draft;
+use ipam_data::kinds::Kind;
+use ipam_data::replies::{Refusal, View};
+use register_shelves::Shelves;
+use std::alloc::AllocError;
+
+/// The kind of the record that a draft makes.
+fn kind_of(draft: &Draft) -> Kind
+    ensures { result ≡ kind_of_draft draft.now }
+{
+    match draft {
+        Draft::Vrf { .. } => Kind::Vrfs,
+        Draft::Rir { .. } => Kind::Rirs,
+        Draft::Role { .. } => Kind::Roles,
+        Draft::Aggregate { .. } => Kind::Aggregates,
+        Draft::Prefix { .. } => Kind::Prefixes,
+        Draft::IpRange { .. } => Kind::Ranges,
+        Draft::IpAddress { .. } => Kind::Addresses,
+    }
+}
+
+/// The next id of the kind of a draft.
+fn next_id(shelves: &Shelves, draft: &Draft) -> u32
+    ensures { result ≡ next_for (state_of shelves.now) draft.now }
+{
+    match draft {
+        Draft::Vrf { .. } => shelves.next(Kind::Vrfs),
+        Draft::Rir { .. } => shelves.next(Kind::Rirs),
+        Draft::Role { .. } => shelves.next(Kind::Roles),
+        Draft::Aggregate { .. } => shelves.next(Kind::Aggregates),
+        Draft::Prefix { .. } => shelves.next(Kind::Prefixes),
+        Draft::IpRange { .. } => shelves.next(Kind::Ranges),
+        Draft::IpAddress { .. } => shelves.next(Kind::Addresses),
+    }
+}
+
+/// Puts a record, and sets the next id of its kind.
+fn put_record(shelves: &mut Shelves, view: View, kind: Kind, next: u32) -> Result<(), AllocError>
+    requires { IsFit (state_of shelves.old) view }
+    ensures { OnOk result (state_of shelves.new ≡ with_next (with_view (state_of shelves.old) view) (kind, next)) }
+{
+    shelves.admit(view)?;
+    shelves.set_next(kind, next);
+    Ok(())
+}
+
+/// Why the record of a draft can't be made beside those that are there, if so; the log has no say.
+fn refused(shelves: &Shelves, draft: &Draft, view: &View) -> Option<Refusal>
+    requires told { first (told_of_draft draft.now) ≡ None }
+    requires made { view.now ≡ record_of (state_of shelves.now) draft.now }
+    ensures { result ≡ first (create_checks true (state_of shelves.now) draft.now) }
+{
+    check_view(shelves, view)
+}
+
+/// Makes the record of a draft, where no check refuses it, and hands out a copy.
+pub(crate) fn make(shelves: &mut Shelves, draft: &Draft) -> Result<View, Halt>
+    requires lawful { IsLawful (state_of shelves.old) }
+    requires told { first (told_of_draft draft.now) ≡ None }
+    ensures made { IfOk result (λ v. v ≡ record_of (state_of shelves.old) draft.now) }
+    ensures state { OnOk result (state_of shelves.new ≡ with_record (state_of shelves.old) draft.now) }
+    ensures free { OnOk result (first (create_checks true (state_of shelves.old) draft.now) ≡ None) }
+    ensures lawful { OnOk result (IsLawful (state_of shelves.new)) }
+    ensures err { IfErr result (λ halt. IsHaltBy (first (create_checks true (state_of shelves.old) draft.now)) halt) }
+{
+    draft.bounds();
+    let id = next_id(shelves, draft);
+    let view = view_under(id, draft)?;
+    match refused(shelves, draft, &view) {
+        Some(refusal) => {
+            drop(view);
+            return Err(Halt::Refused(refusal));
+        }
+        None => {}
+    }
+    put_record(shelves, view, kind_of(draft), id + 1)?;
+    let copy = view_under(id, draft)?;
+    Ok(copy)
+}

@@ -1,0 +1,71 @@
+//! The rows of an import made ready, before any record is made.
+
+ghost use Rattle.std.specs.Prelude.{◌≡◌, None, IfOk, string_bytes};
+ghost use Rattle.ipam_data.specs.Checks.{first};
+ghost use Rattle.ipam_data.specs.Fields.{told_of_draft};
+ghost use Rattle.import_rows.specs.Imports.{texts_of};
+ghost use Rattle.row_counts.specs.Keys.{key_of};
+ghost use Rattle.register_shelves.specs.Held.{state_of};
+ghost use Rattle.plan_import.specs.Ready.{key_where, ready_of, ready_rows};
+
+use crate::drafts::{draft, fault, view_under};
+use crate::keys::key_of_view;
+use import_rows::rows::ImportRow;
+use ipam_data::calls::Draft;
+use ipam_data::replies::Rule;
+use ipam_data::text::Text;
+use register_shelves::Shelves;
+use std::alloc::{AllocError, Global};
+
+/// A row made ready: its draft, the rule that it breaks by its names or its values, and, where it breaks none, the key of its texts.
+#[derive(Drop)]
+pub struct Ready {
+    pub(crate) draft: Draft,
+    pub(crate) fault: Option<Rule>,
+    pub(crate) key: Text,
+}
+
+/// The key of a draft's texts, which say nothing of its id.
+fn key_of_draft(alloc: Global, draft: &Draft) -> Result<String, AllocError>
+    requires { first (told_of_draft draft.now) ≡ None }
+    ensures { IfOk result (λ k. string_bytes k ≡ key_of (texts_of draft.now)) }
+{
+    let view = view_under(0, draft)?;
+    key_of_view(alloc, &view)
+}
+
+/// The key of a draft, where its row breaks no rule by its names or its values.
+fn key_if(alloc: Global, fault: &Option<Rule>, draft: &Draft) -> Result<String, AllocError>
+    requires { fault.now ≡ None → first (told_of_draft draft.now) ≡ None }
+    ensures { IfOk result (λ k. string_bytes k ≡ key_where fault.now draft.now) }
+{
+    match fault {
+        Some(_) => Ok(String::new(alloc)),
+        None => key_of_draft(alloc, draft),
+    }
+}
+
+/// Makes a row ready.
+fn make_ready(shelves: &Shelves, row: &ImportRow) -> Result<Ready, AllocError>
+    ensures { IfOk result (λ r. r ≡ ready_of (state_of shelves.now) row.now) }
+{
+    let draft = draft(shelves, row)?;
+    let fault = fault(shelves, row);
+    let key = key_if(shelves.allocator(), &fault, &draft)?;
+    Ok(Ready {
+        draft,
+        fault,
+        key: Text::of(key),
+    })
+}
+
+/// Makes all rows ready.
+pub(crate) fn ready_all(shelves: &Shelves, rows: &[ImportRow]) -> Result<Vec<Ready>, AllocError>
+    ensures { IfOk result (λ v. v.items ≡ ready_rows (state_of shelves.now) rows.now) }
+{
+    let mut all = Vec::new(shelves.allocator());
+    for row in rows {
+        all.push(make_ready(shelves, row)?)?;
+    }
+    Ok(all)
+}

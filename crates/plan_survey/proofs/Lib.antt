@@ -1,0 +1,4 @@
+pub mod OneOrder
+pub mod Numbers
+pub mod Figures
+pub mod Surveyed

@@ -1,0 +1,7 @@
+use Rattle.std.proofs.Common.{◌≡◌, map, take}
+use Rattle.register_shelves.specs.Held.{state_of}
+use Rattle.plan_survey.specs.Digits.{placed_row}
+use Rattle.plan_survey.proofs.placed_lines.Given as goal
+
+abbrev pub invariant-prefixes : goal.invariant-prefixes
+invariant-prefixes l = l.placed.items ≡ map (placed_row (state_of l.shelves)) (take l.index l.shelves.prefixes.rows)

@@ -1,0 +1,77 @@
+//! Surveys over the register's shelves: the lines of a report of all prefixes, in the order of their places.
+#![tactic(auto)]
+
+ghost use Rattle.std.specs.Prelude.{◌≡◌, ◌<◌, Some, IfOk, IsPermutation, length, map, slice_get};
+ghost use Rattle.std.specs.List.Sorted.{IsSortedByKey};
+ghost use Rattle.ipam_data.specs.Lawful.{IsLawful};
+ghost use Rattle.register_shelves.specs.Held.{state_of};
+ghost use Rattle.survey_lines.specs.Survey.{survey_of};
+ghost use Rattle.plan_survey.specs.declared.line.Placed.{Placed as SeenPlaced};
+ghost use Rattle.plan_survey.specs.Digits.{digits_cmp, placed_row};
+
+mod line;
+mod place;
+#[cfg(test)]
+mod tests;
+
+use crate::line::{Placed, placed_line};
+use ipam_data::prefix::Prefix;
+use register_shelves::Shelves;
+use row_book::Book;
+use std::alloc::{AllocError, Global};
+use survey_lines::PrefixLine;
+
+/// The prefix at an index that is there.
+fn prefix_at(shelves: &Shelves, index: u32) -> &Prefix
+    requires { index < length shelves.now.prefixes.rows }
+    ensures { Some result.now ≡ slice_get shelves.now.prefixes.rows index }
+{
+    match shelves.prefixes().at(index) {
+        Some(row) => row,
+        None => unreachable!(),
+    }
+}
+
+/// The lines of all prefixes with their places, in the order of the ids.
+fn placed_lines(shelves: &Shelves) -> Result<Vec<Placed>, AllocError>
+    requires { IsLawful (state_of shelves.now) }
+    ensures { IfOk result (λ v. v.items ≡ map (placed_row (state_of shelves.now)) shelves.now.prefixes.rows) }
+{
+    let mut placed = Vec::new(shelves.allocator());
+    let count = shelves.prefixes().len();
+    'prefixes: for index in 0..count {
+        let row = prefix_at(shelves, index);
+        placed.push(placed_line(shelves, row))?;
+    }
+    Ok(placed)
+}
+
+/// Puts lines in the order of their places.
+fn sort(placed: &mut Vec<Placed>)
+    ensures same { IsPermutation placed.old.items placed.new.items }
+    ensures sorted { IsSortedByKey (λ (p : SeenPlaced). p.place) digits_cmp placed.new.items }
+{
+    placed.sort_unstable_by_key(|line| line.place);
+}
+
+/// The lines without their places.
+fn lines_of(alloc: Global, placed: &[Placed]) -> Result<Vec<PrefixLine>, AllocError>
+    ensures { IfOk result (λ v. v.items ≡ map (λ (p : SeenPlaced). p.line) placed.now) }
+{
+    let mut lines = Vec::new(alloc);
+    'lines: for row in placed {
+        lines.push(row.line)?;
+    }
+    Ok(lines)
+}
+
+/// The lines of all prefixes, in the order of their places. `Err` is want of memory.
+pub fn survey(shelves: &Shelves) -> Result<Vec<PrefixLine>, AllocError>
+    requires { IsLawful (state_of shelves.now) }
+    ensures { IfOk result (λ v. v.items ≡ survey_of (state_of shelves.now)) }
+{
+    let mut placed = placed_lines(shelves)?;
+    sort(&mut placed);
+    let lines = lines_of(shelves.allocator(), placed.as_slice())?;
+    Ok(lines)
+}

@@ -1,0 +1,6 @@
+pub mod FileKinds
+pub mod Imports
+pub mod Exports
+pub mod Stored
+pub mod FileRows
+pub mod Reports

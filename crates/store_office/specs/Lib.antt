@@ -1,0 +1,5 @@
+pub mod Files
+pub mod Import
+pub mod Making
+pub mod Export
+pub mod Report
