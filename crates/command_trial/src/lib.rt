@@ -2,6 +2,8 @@
 #![tactic(auto)]
 
 #[cfg(test)]
+mod fault_tests;
+#[cfg(test)]
 mod office_tests;
 #[cfg(test)]
 mod session_tests;

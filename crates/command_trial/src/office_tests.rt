@@ -76,7 +76,7 @@ const CASES: [&str; 9] = [
 ];
 
 /// What a part of a line stands for.
-fn bytes_of(alloc: Global, part: &str) -> Result<Vec<u8>, AllocError> {
+pub fn bytes_of(alloc: Global, part: &str) -> Result<Vec<u8>, AllocError> {
     let mut bytes = Vec::new(alloc);
     for byte in part.bytes() {
         bytes.push(match byte {

@@ -1,5 +1,8 @@
 //! `run` over objects in memory: words that are no command yet, each status, and messages that fail.
 
+ghost use Rattle.std.specs.Prelude.{◌≤◌, length};
+ghost use Rattle.ipam_doors.specs.ListListeners.{listener_returned, listener_lanes};
+
 use ipam_command::run;
 use ipam_doors::ListListener;
 use ipam_edge::{BytesSink, BytesSource};
@@ -18,17 +21,19 @@ pub struct Left {
     pub errors: Vec<u8>,
 }
 
-/// Runs words, with one space between two of them, over told objects, whose calls with these numbers fail, in pieces of this size, and
-/// over a listener without lanes.
-pub fn run_over<R: Threads + Wait + Sync>(
+/// Runs words, with one space between two of them, over told objects, whose calls with these numbers fail, in pieces of this size.
+pub fn run_with<R: Threads + Wait + Sync>(
     rt: &R,
     alloc: Global,
+    listener: &mut ListListener,
     opener: &mut MemoryOpener,
     words: &str,
     input: &[u8],
     piece: usize,
     fails: [&[u32]; 3],
-) -> Result<Left, AllocError> {
+) -> Result<Left, AllocError>
+    requires { length (listener_returned listener.old) ≤ listener_lanes listener.old }
+{
     let piece = piece.max(1);
     let mut list = Vec::new(alloc);
     for word in words.split(' ') {
@@ -39,7 +44,6 @@ pub fn run_over<R: Threads + Wait + Sync>(
     let mut input = BytesSource::new(bytes, Vec::from_slice(alloc, source)?, piece);
     let mut output = BytesSink::new(alloc, Vec::from_slice(alloc, sink)?, piece, 65_536)?;
     let mut errors = BytesSink::new(alloc, Vec::from_slice(alloc, messages)?, piece, 4_096)?;
-    let mut listener = ListListener::new(alloc, Vec::new(alloc))?;
     let status = run(
         rt,
         alloc,
@@ -47,7 +51,7 @@ pub fn run_over<R: Threads + Wait + Sync>(
         &mut input,
         &mut output,
         &mut errors,
-        &mut listener,
+        listener,
         opener,
     );
     Ok(Left {
@@ -55,6 +59,20 @@ pub fn run_over<R: Threads + Wait + Sync>(
         output: output.into_bytes(),
         errors: errors.into_bytes(),
     })
+}
+
+/// The same over a listener without lanes.
+pub fn run_over<R: Threads + Wait + Sync>(
+    rt: &R,
+    alloc: Global,
+    opener: &mut MemoryOpener,
+    words: &str,
+    input: &[u8],
+    piece: usize,
+    fails: [&[u32]; 3],
+) -> Result<Left, AllocError> {
+    let mut nobody = ListListener::new(alloc, Vec::new(alloc))?;
+    run_with(rt, alloc, &mut nobody, opener, words, input, piece, fails)
 }
 
 /// The same with an opener of its own, which has no tables.

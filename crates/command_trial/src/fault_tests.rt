@@ -1,0 +1,175 @@
+//! Calls of handed-in objects that fail, one after another: the status, what is written and said, and what the store has afterwards.
+ghost use Rattle.std.specs.Prelude.{◌≡◌, ◌≤◌, [], IfOk, length};
+ghost use Rattle.ipam_doors.specs.ListLanes.{lane_told};
+ghost use Rattle.ipam_doors.specs.ListListeners.{listener_returned, listener_lanes};
+
+use crate::office_tests::bytes_of;
+use crate::session_tests::part;
+use crate::store_tests::{number, opener_of};
+use crate::tests::{Left, run_with};
+use ipam_doors::{Handed, ListLane, ListListener};
+use ipam_edge::{BytesSink, BytesSource};
+use ipam_keeper::keeper::KeeperOpener;
+use ipam_keeper::opener::MemoryOpener;
+use ipam_stored::tables::{Row, Text};
+use std::alloc::{AllocError, Global};
+use std::marker::Sync;
+use std::sync::Wait;
+use std::test::Fail;
+use std::thread::Threads;
+
+/// A request that makes a prefix.
+const POST: &str =
+    "POST /api/ipam/prefixes/ HTTP/1.1^;Host: x^;Content-Length: 24^;^;{\"prefix\":\"10.0.0.0/24\"}";
+
+/// A failing call a line: the object and the number of its call, from 0; the words; the input, where `POST` stands for that request; the status;
+/// the output; what is said; how many connections were answered; the rows of the store afterwards. A semicolon is the end of a line, and a caret
+/// a carriage return.
+const CALLS: &str = r#"input 0|session --db a|POST|3|||0|
+output 0|session --db a|POST|3|||0|1,10.0.0.0/24,,active,,false,false,;
+keeper 0|session --db a|POST|4||store: the store could not be read;|0|
+keeper 1|session --db a|POST|0|HTTP/1.1 503 Service Unavailable^;Content-Type: application/json^;Content-Length: 59^;Ipam-Place: 0^;^;{"code":"keeper","detail":"the store could not be written"}||0|
+keeper 1|import prefixes --db a|prefix,vrf,status;10.0.0.0/24,,active;10.0.1.0/24,,active;10.0.2.0/24,,container;|4||keeper: the store could not be written;|0|
+lane 0|serve --bind x --workers 1 --connections 2 --db a||3|entries 1;||1|1,10.0.0.0/24,,active,,false,false,;
+errors 0|free||3|||0|"#;
+
+/// The number of the call of an object that fails in a line, or one that is never made.
+fn failing<'a>(line: &'a str, object: &'a str) -> u32 {
+    let mut words = part(line, 0).split(' ');
+    if words.next() == Some(object) {
+        number(words.next().unwrap_or(""))
+    } else {
+        u32::MAX
+    }
+}
+
+/// A listener with one lane of two connections, on each of which the request comes; of the lane the accept of this number fails.
+fn listener_of(alloc: Global, accept: u32) -> Result<ListListener, AllocError>
+    ensures { IfOk result (λ l. (listener_returned l ≡ []) × (listener_lanes l ≡ 0)) }
+{
+    let mut pairs = Vec::new(alloc);
+    for _ in 0..2 {
+        let source = BytesSource::new(bytes_of(alloc, POST)?, Vec::new(alloc), 1000);
+        let sink = BytesSink::new(alloc, Vec::new(alloc), 1000, 4096)?;
+        pairs.push((source, sink))?;
+    }
+    let mut lanes = Vec::new(alloc);
+    lanes.push(ListLane::new(alloc, pairs, Vec::from_slice(alloc, &[accept])?)?)?;
+    ListListener::new(alloc, lanes)
+}
+
+/// Whether something was written to a connection.
+fn is_answered(handed: &Handed) -> bool {
+    match handed.finished() {
+        Some(pair) => !pair.1.bytes().is_empty(),
+        None => false,
+    }
+}
+
+/// How many connections of a lane were answered.
+fn answered(lane: &ListLane) -> usize {
+    lane.handed()
+        .iter()
+        .filter(|handed| is_answered(handed))
+        .count()
+}
+
+/// The same of the first lane that came back.
+fn served(listener: &ListListener) -> usize {
+    match listener.returned().first() {
+        Some(lane) => answered(lane),
+        None => 0,
+    }
+}
+
+/// Puts a row at the end of a text: its id and its fields, with a comma before each.
+fn tell_row(alloc: Global, row: &Row, told: &mut String) -> Result<(), AllocError> {
+    let id = format!(in alloc; "{}", row.id)?;
+    told.push_str(&id)?;
+    for field in row.fields.as_slice() {
+        told.push_str(",")?;
+        told.push_str(field.as_str())?;
+    }
+    told.push_str(";")
+}
+
+/// The rows under the path `a`.
+fn rows_told(alloc: Global, opener: &mut MemoryOpener) -> Result<String, AllocError> {
+    let path = Text::of(String::from_str(alloc, "a")?);
+    let kept = opener.start(Some(&path)).map_err(|_| AllocError)?;
+    let mut told = String::new(alloc);
+    for row in kept.into_tables().rows.as_slice() {
+        tell_row(alloc, row, &mut told)?;
+    }
+    Ok(told)
+}
+
+/// Runs a line.
+fn ran<R: Threads + Wait + Sync>(
+    rt: &R,
+    alloc: Global,
+    listener: &mut ListListener,
+    opener: &mut MemoryOpener,
+    line: &str,
+) -> Result<Left, AllocError>
+    requires { length (listener_returned listener.old) ≤ listener_lanes listener.old }
+{
+    let input = match part(line, 2) {
+        "POST" => POST,
+        other => other,
+    };
+    let input = bytes_of(alloc, input)?;
+    let source = [failing(line, "input")];
+    let sink = [failing(line, "output")];
+    let messages = [failing(line, "errors")];
+    let fails: [&[u32]; 3] = [&source, &sink, &messages];
+    run_with(
+        rt,
+        alloc,
+        listener,
+        opener,
+        part(line, 1),
+        &input,
+        4_096,
+        fails,
+    )
+}
+
+/// What a line leaves: its parts from the status on.
+fn left_by<R: Threads + Wait + Sync>(
+    rt: &R,
+    alloc: Global,
+    line: &str,
+) -> Result<String, AllocError> {
+    let tables = format!(in alloc; "1;fails {}", failing(line, "keeper"))?;
+    let mut opener = opener_of(alloc, &tables)?;
+    let mut listener = listener_of(alloc, failing(line, "lane"))?;
+    let left = ran(rt, alloc, &mut listener, &mut opener, line)?;
+    let mut text = format!(in alloc; "|{}|", left.status)?;
+    for byte in left
+        .output
+        .as_slice()
+        .iter()
+        .chain(b"|")
+        .chain(left.errors.as_slice())
+    {
+        text.push(match byte {
+            b'\n' => ';',
+            b'\r' => '^',
+            other => char::from(*other),
+        })?;
+    }
+    let rows = rows_told(alloc, &mut opener)?;
+    let rest = format!(in alloc; "|{}|{rows}", served(&listener))?;
+    text.push_str(&rest)?;
+    Ok(text)
+}
+
+#[test]
+fn each_call_fails_in_turn(rt: HostRuntime) -> Result<(), Fail> {
+    for line in CALLS.lines() {
+        let left = left_by(&rt, rt.alloc(), line)?;
+        assert!(rt; line.ends_with(left.as_str()), "{line}: {left}");
+    }
+    Ok(())
+}
