@@ -1,5 +1,5 @@
--- Where no answer tells that the keeper failed, the answers are the plain register's.
-use Rattle.std.proofs.Common.{◌≡◌, ℕ, List, [], Option, Ok, Err, inl, inr, refl, sym, ◌∙◌, ap, arith, length}
+-- Where no answer tells that the keeper failed, the answers are the plain register's, or tell that memory was wanting.
+use Rattle.std.proofs.Common.{◌≡◌, ℕ, List, [], Option, Ok, Err, inl, inr, refl, sym, ◌∙◌, ap, arith}
 use Rattle.ipam_data.specs.declared.calls.Call.{Call}
 use Rattle.ipam_data.specs.declared.replies.Reply.{Reply}
 use Rattle.ipam_json.specs.declared.replies.Links.{Links}
@@ -8,26 +8,26 @@ use Rattle.http_session.specs.Talk.{Answer}
 use Rattle.http_session.specs.Ends.{IsEnd}
 use Rattle.http_session.specs.declared.session.SessionEnd.{SessionEnd}
 use Rattle.rest_routes.specs.Requests.{Asked}
-use Rattle.rest_routes.specs.Answers.{reply_answer, finished_links, end_of}
-use Rattle.rest_ipam.specs.Answered.{Seen, stepped, call_answer, answers_plainly, IsAnswer as IsPlainAnswer}
+use Rattle.rest_ipam.specs.Answered.{Seen, call_answer, answers_plainly, IsReplied as IsPlainly, IsAnswer as IsPlainAnswer}
 use Rattle.kept_session.specs.Answered.{Standing, IsTold, IsAnswer, answers_kept}
 use Rattle.shared_session.proofs.Carried.{IsCarried, end_carried}
 
 told_behind : (s : Standing) (call : Call) (links : Links) (a : Answer) (t : Standing) → IsTold s call links a t → t.failed ≡ 0 → s.failed ≡ 0
 told_behind s call links a t (reply, inl plain, is) none = sym plain.failed ∙ none
-told_behind s call links a t (reply, inr unstored, is) none = absurd (elim unstored.failed [
+told_behind s call links a t (reply, inr (inl unstored), is) none = absurd (elim unstored.failed [
   | inl e ↦ omega arith
   | inr e ↦ (let last = e.1 in omega arith)
 ])
+told_behind s call links a t (reply, inr (inr wanting), is) none = ap (λ (x : Standing). x.failed) (sym wanting.stays) ∙ none
 
 told_plainly : (s : Standing) (call : Call) (links : Links) (a : Answer) (t : Standing) → IsTold s call links a t → t.failed ≡ 0
-    → (a ≡ call_answer s.seen call links) × (t.seen ≡ stepped s.seen call)
-told_plainly s call links a t (reply, inl plain, is) none =
-    (is ∙ ap (λ (r : Reply). reply_answer r (finished_links r (end_of call) links) (length s.seen.log)) plain.reply_is, plain.seen)
-told_plainly s call links a t (reply, inr unstored, is) none = absurd (elim unstored.failed [
+    → (reply : Reply) × IsPlainly s.seen call reply t.seen × (a ≡ call_answer s.seen call links reply)
+told_plainly s call links a t (reply, inl plain, is) none = (reply, inl (plain.reply_is, plain.seen), is)
+told_plainly s call links a t (reply, inr (inl unstored), is) none = absurd (elim unstored.failed [
   | inl e ↦ omega arith
   | inr e ↦ (let last = e.1 in omega arith)
 ])
+told_plainly s call links a t (reply, inr (inr wanting), is) none = (reply, inr (wanting.reply_is, ap (λ (x : Standing). x.seen) wanting.stays), is)
 
 answer_behind : (s : Standing) (target : List ℕ) (asked : Asked) (a : Answer) (t : Standing) → IsAnswer s target asked a t → t.failed ≡ 0 → s.failed ≡ 0
 answer_behind s target (Ok asked) a t is none = told_behind s asked.0 asked.1 a t is none

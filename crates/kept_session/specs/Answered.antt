@@ -1,10 +1,10 @@
 -- The answers of a register over a keeper that one connection has for itself: those of the plain register, one after another; but where
--- the keeper fails a call that no check refuses is answered so, and all stays.
+-- the keeper fails a call that no check refuses is answered so, and where memory is wanting a call is, and all stays.
 use Rattle.std.specs.Prelude.{◌≡◌, ◌⊎◌, ℕ, Bool, List, [], length, Option, None, is_some, Result, Ok, Err}
 use Rattle.ipam_data.specs.declared.calls.Call.{Call}
 use Rattle.ipam_data.specs.declared.replies.Reply.{Reply}
 use Rattle.ipam_data.specs.declared.replies.Reply.TheVariants.{Refused}
-use Rattle.ipam_data.specs.declared.replies.Refusal.TheVariants.{Keeper}
+use Rattle.ipam_data.specs.declared.replies.Refusal.TheVariants.{Keeper, Memory}
 use Rattle.ipam_data.specs.State.{State}
 use Rattle.ipam_data.specs.Steps.{plain_step, verdict}
 use Rattle.http_session.specs.declared.reply.Reply.{Reply as Written}
@@ -37,8 +37,13 @@ pub record IsUnstored (old : Standing) (call : Call) (reply : Reply) (new : Stan
   pub seen : new.seen ≡ old.seen
   pub failed : IsRaised old.failed 1 new.failed
 
+-- memory was wanting in the register, and all is as before
+pub record IsWanting (old : Standing) (reply : Reply) (new : Standing) : Type 0 where
+  pub reply_is : reply ≡ Refused Memory
+  pub stays : new ≡ old
+
 abbrev pub IsReplied : Standing → Call → Reply → Standing → Type 0
-IsReplied old call reply new = IsPlain old call reply new ⊎ IsUnstored old call reply new
+IsReplied old call reply new = IsPlain old call reply new ⊎ IsUnstored old call reply new ⊎ IsWanting old reply new
 
 -- the answer to a call, whose page has these links as far as there are rows
 abbrev pub IsTold : Standing → Call → Links → Answer → Standing → Type 0
@@ -50,7 +55,8 @@ abbrev pub IsAnswer : Standing → List ℕ → Asked → Answer → Standing �
 IsAnswer old target (Ok asked) answer new = IsTold old asked.0 asked.1 answer new
 IsAnswer old target (Err refusal) answer new = IsRefusedAnswer target refusal answer × (new ≡ old)
 
--- a request is answered as the plain register would, or the keeper failed; bytes that are none are answered by their refusal
+-- a request is answered as the plain register would, or the keeper failed, or memory was wanting; bytes that are none are answered by their
+-- refusal
 abbrev pub answers_kept : May Standing
 answers_kept =
     record {

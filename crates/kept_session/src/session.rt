@@ -5,7 +5,7 @@ ghost use Rattle.ipam_edge.specs.Faults.{Rose};
 ghost use Rattle.http_session.specs.Steps.{framed};
 ghost use Rattle.http_session.specs.Ends.{IsLeft, IsSession};
 ghost use Rattle.http_session.specs.Replies.{answer_of};
-ghost use Rattle.rest_routes.specs.Answers.{IsRefusedAnswer, reply_answer, finished_links};
+ghost use Rattle.rest_routes.specs.Answers.{IsRefusedAnswer};
 ghost use Rattle.rest_ipam.specs.Answered.{seen_of};
 ghost use Rattle.kept_session.specs.Answered.{Standing, standing, Attended, attended, IsReplied, IsActed, answers_kept, answers_telling};
 
@@ -16,10 +16,8 @@ use ipam_edge::{Sink, Source};
 use ipam_json::Links;
 use ipam_keeper::keeper::Keeper;
 use register_core::Register;
-use rest_routes::{
-    Routes, answer_of_fault, answer_of_refusal_by, answer_of_reply, finish_links, page_end,
-    read_call_by,
-};
+use rest_ipam::answer_to;
+use rest_routes::{Routes, answer_of_fault, answer_of_refusal_by, page_end, read_call_by};
 use std::alloc::{AllocError, Global};
 use std::marker::PhantomData;
 
@@ -65,32 +63,17 @@ fn ask<K: Keeper>(register: &mut Register<K>, failed: &mut u64, call: Call) -> R
     requires few { failed.old ≤ K.faults register.old.keeper }
     ensures few { failed.new ≤ K.faults register.new.keeper }
     ensures telling { IsSome (K.told register.old.keeper) ↔ IsSome (K.told register.new.keeper) }
-    ensures memory { result ≡ Reply.Refused Refusal.Memory → standing (seen_of register.new) failed.new ≡ standing (seen_of register.old) failed.old }
-    ensures replied { result ≢ Reply.Refused Refusal.Memory
-        → IsReplied (standing (seen_of register.old) failed.old) call result (standing (seen_of register.new) failed.new) }
+    ensures replied { IsReplied (standing (seen_of register.old) failed.old) call result (standing (seen_of register.new) failed.new) }
 {
     let reply = register.act(CALLER, call);
+    if is_memory(&reply) {
+        return reply;
+    }
     if is_failed(&reply) {
         *failed = failed.saturating_add(1);
         return reply;
     }
     reply
-}
-
-/// The answer of a reply, which stands at this place, and whose page ends with so many rows. `Err` is want of memory.
-fn answer_to(
-    alloc: Global,
-    reply: &Reply,
-    end: u64,
-    links: Links,
-    place: u64,
-) -> Result<Answer, AllocError>
-    ensures { IfOk result (λ a. answer_of a ≡ reply_answer reply.now (finished_links reply.now end links) place) }
-{
-    let links = finish_links(reply, end, links);
-    let answer = answer_of_reply(alloc, reply, &links, place);
-    drop(links);
-    answer
 }
 
 /// The place of the next answer: the number of accepted changes.
@@ -100,8 +83,7 @@ fn place_of<K: Keeper>(register: &Register<K>) -> u64
     register.log().len() as u64
 }
 
-/// Lets the register answer a call, and writes the answer. The one error is want of memory: the register is then as before, or
-/// the call was made and its answer is lost.
+/// Lets the register answer a call, and writes the answer. The one error is want of memory for the answer, which is then lost.
 fn act<K: Keeper>(
     alloc: Global,
     register: &mut Register<K>,
@@ -117,11 +99,6 @@ fn act<K: Keeper>(
     let place = place_of(register);
     let end = page_end(&call);
     let reply = ask(register, failed, call);
-    if is_memory(&reply) {
-        drop(reply);
-        drop(links);
-        return Err(AllocError);
-    }
     let answer = answer_to(alloc, &reply, end, links, place);
     drop(reply);
     answer
@@ -200,7 +177,8 @@ impl<'a, K: Keeper> Desk for KeptDesk<'a, K> {
 /// Serves one connection with a register of its own, from its first byte to its end, and notes its changes under the number 0. The
 /// table of routes is lent. `SourceFault` comes where a read failed, with all requests that lay whole in the bytes read answered;
 /// `SinkFault` where a write failed, with a shorter front of the last answer written; `Memory` where memory was wanting, before a call
-/// reached the register or after its reply was made. As many answers as `failed` says tell that the keeper failed, and the keeper
+/// reached the register or for the text of a reply that tells something else: that the register wanted memory is answered like any other
+/// reply. As many answers as `failed` says tell that the keeper failed, and the keeper
 /// failed at least as often. A keeper that tells its tables tells them at the end, and one that tells none goes on so.
 pub fn serve_kept<K: Keeper, So: Source, Si: Sink>(
     alloc: Global,

@@ -5,8 +5,8 @@ ghost use Rattle.ipam_edge.specs.Faults.{Rose};
 ghost use Rattle.http_session.specs.Steps.{Grown, framed};
 ghost use Rattle.http_session.specs.Ends.{IsEnd, IsLeft, IsReadAsNeeded, IsSession};
 ghost use Rattle.http_session.specs.Replies.{answer_of};
-ghost use Rattle.rest_routes.specs.Answers.{IsRefusedAnswer};
-ghost use Rattle.rest_ipam.specs.Answered.{Seen, seen_of, opened, answers_plainly, IsActed};
+ghost use Rattle.rest_routes.specs.Answers.{IsRefusedAnswer, finished_links, reply_answer};
+ghost use Rattle.rest_ipam.specs.Answered.{Seen, seen_of, opened, answers_plainly, IsReplied, IsActed};
 
 use http_session::{Desk, Fault, HttpRequest, Reply as Answer, SessionEnd, serve};
 use ipam_data::calls::Call;
@@ -16,8 +16,8 @@ use ipam_json::Links;
 use ipam_keeper::unkept::Unkept;
 use register_core::{Register, Settings, begin};
 use rest_routes::{
-    Routes, answer_of_fault, answer_of_refusal_by, answer_of_reply, finish_links, page_end,
-    read_call_by,
+    Routes, answer_of_fault, answer_of_refusal_by, answer_of_reply, answer_of_want, finish_links,
+    page_end, read_call_by,
 };
 use std::alloc::{AllocError, Global};
 use std::mem;
@@ -52,8 +52,39 @@ pub fn own_register(alloc: Global, settings: Settings) -> OwnRegister
     begin(alloc, Unkept::new(alloc), settings)
 }
 
-/// Lets the register answer a call, and writes the answer. The one error is want of memory: the register is then as before, or
-/// the call was made and its answer is lost.
+/// Lets the register answer a call.
+fn ask(register: &mut OwnRegister, call: Call) -> Reply
+    ensures { IsReplied (seen_of register.old) call result (seen_of register.new) }
+{
+    let reply = register.act(CALLER, call);
+    if is_memory(&reply) {
+        return reply;
+    }
+    reply
+}
+
+/// The answer of a reply of a register, which stands at this place, and whose page ends with so many rows. That the register wanted memory
+/// is told without memory; `Err` is want of it for the text of another reply.
+pub fn answer_to(
+    alloc: Global,
+    reply: &Reply,
+    end: u64,
+    links: Links,
+    place: u64,
+) -> Result<Answer, AllocError>
+    ensures { IfOk result (λ a. answer_of a ≡ reply_answer reply.now (finished_links reply.now end links) place) }
+{
+    if is_memory(reply) {
+        drop(links);
+        return Ok(answer_of_want(place));
+    }
+    let links = finish_links(reply, end, links);
+    let answer = answer_of_reply(alloc, reply, &links, place);
+    drop(links);
+    answer
+}
+
+/// Lets the register answer a call, and writes the answer. The one error is want of memory for the answer, which is then lost.
 fn act(
     alloc: Global,
     register: &mut OwnRegister,
@@ -64,16 +95,9 @@ fn act(
 {
     let place = register.log().len() as u64;
     let end = page_end(&call);
-    let reply = register.act(CALLER, call);
-    if is_memory(&reply) {
-        drop(reply);
-        drop(links);
-        return Err(AllocError);
-    }
-    let links = finish_links(&reply, end, links);
-    let answer = answer_of_reply(alloc, &reply, &links, place);
+    let reply = ask(register, call);
+    let answer = answer_to(alloc, &reply, end, links, place);
     drop(reply);
-    drop(links);
     answer
 }
 
@@ -177,7 +201,7 @@ fn serve_by<So: Source, Si: Sink>(
 /// Serves one connection with a register of its own, from its first byte to its end, and notes its changes under the number 0.
 /// `SourceFault` comes where a read failed, with all requests that lay whole in the bytes read answered; `SinkFault` where a
 /// write failed, with a front of the last answer written; `Memory` where memory was wanting, before a call reached the register
-/// or after its reply was made.
+/// or for the text of a reply that tells something else: that the register wanted memory is answered like any other reply.
 /// The table of routes is built once, before the first read.
 pub fn serve_session<So: Source, Si: Sink>(
     alloc: Global,
