@@ -7,8 +7,6 @@ ghost use Rattle.ipam_data.specs.declared.address.IpAddress.{IpAddress as SeenAd
 ghost use Rattle.ipam_data.specs.Addresses.{address_fault, clash_of};
 
 mod clashes;
-#[cfg(test)]
-mod tests;
 
 use crate::clashes::{is_slaac_of_ipv4, least_clash, pair_at};
 use block_space::Space;

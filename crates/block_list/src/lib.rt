@@ -145,6 +145,3 @@ impl Space for BlockList {
         next_available(blocks, &within, from.value(), strict)
     }
 }
-
-#[cfg(test)]
-mod tests;

@@ -24,6 +24,3 @@ mod weights;
 
 pub use exports::write_rows;
 pub use files::read_rows;
-
-#[cfg(test)]
-mod tests;

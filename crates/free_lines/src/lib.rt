@@ -3,8 +3,6 @@
 
 mod free;
 mod lines;
-#[cfg(test)]
-mod tests;
 mod writing;
 
 pub use free::{LineFault, free_has_one_answer, run_free};

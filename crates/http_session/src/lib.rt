@@ -11,12 +11,10 @@ mod pen;
 mod reply;
 mod request;
 mod session;
-#[cfg(test)]
-mod tests;
 mod wait;
 
 pub use answer::{PutEnd, put_answer};
 pub use laws::{cut_anywhere, more_bytes, one_list, one_reading};
 pub use reply::{Body, NumberField, Reply};
 pub use request::{Asked, Fault, HttpRequest, Inbox, next_request};
-pub use session::{Desk, SessionEnd, serve};
+pub use session::{Desk, SessionEnd, serve, serve_line};

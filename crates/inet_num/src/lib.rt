@@ -9,8 +9,6 @@ mod percentage;
 mod plain;
 mod same;
 mod text;
-#[cfg(test)]
-mod text_tests;
 mod written;
 
 pub use percentage::percent;
@@ -301,6 +299,3 @@ impl Block {
         Some((low, high))
     }
 }
-
-#[cfg(test)]
-mod tests;

@@ -9,8 +9,6 @@ mod list_listener;
 mod listener;
 mod patience;
 mod tcp;
-#[cfg(test)]
-mod tests;
 
 pub use gate::{Gate, OpenGate};
 pub use lane::Lane;

@@ -169,7 +169,8 @@ pub struct TcpDoors<'a, R> {
 impl<'a, R: Net<Listener = TcpListener, Stream = TcpStream> + Clock> TcpDoors<'a, R> {
     /// A listener that is not bound yet. `base` is how long a client may be silent at first, and how long a write waits for it.
     pub fn new(rt: &'a R, alloc: Global, base: Duration) -> TcpDoors<'a, R>
-        ensures { result.faults ≡ 0 }
+        ensures faults { result.faults ≡ 0 }
+        ensures unbound { (result.bound ≡ 0) × (result.lanes ≡ 0) × (result.back.items ≡ []) }
     {
         TcpDoors {
             rt,

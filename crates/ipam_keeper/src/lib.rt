@@ -6,6 +6,4 @@ pub mod keeper;
 pub mod memory;
 pub mod opener;
 mod places;
-#[cfg(test)]
-mod tests;
 pub mod unkept;

@@ -12,7 +12,5 @@ pub mod reading;
 mod rir;
 mod role;
 pub mod tables;
-#[cfg(test)]
-mod tests;
 mod vrf;
 pub mod writing;

@@ -7,8 +7,6 @@ mod codes;
 mod details;
 mod lines;
 mod names;
-#[cfg(test)]
-mod tests;
 
 pub use choices::{
     address_role_label, address_role_named, address_role_value, address_status_label,

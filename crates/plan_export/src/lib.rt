@@ -8,8 +8,6 @@ ghost use Rattle.plan_export.specs.Exported.{exported};
 
 mod line;
 mod names;
-#[cfg(test)]
-mod tests;
 
 use crate::line::Exported;
 use import_rows::rows::ImportRow;

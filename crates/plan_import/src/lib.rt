@@ -20,8 +20,6 @@ mod made;
 mod names;
 mod one;
 mod ready;
-#[cfg(test)]
-mod tests;
 
 use crate::made::make_all;
 pub use halt::Halt;

@@ -11,8 +11,6 @@ ghost use Rattle.plan_survey.specs.Digits.{digits_cmp, placed_row};
 
 mod line;
 mod place;
-#[cfg(test)]
-mod tests;
 
 use crate::line::{Placed, placed_line};
 use ipam_data::prefix::Prefix;

@@ -228,6 +228,3 @@ impl Space for Tree {
             .next_available(&within, from.value(), strict, steps)
     }
 }
-
-#[cfg(test)]
-mod tests;

@@ -5,8 +5,6 @@ mod came;
 mod claims;
 mod run;
 mod tally;
-#[cfg(test)]
-mod tests;
 mod workers;
 
 pub use run::run_load;

@@ -6,8 +6,6 @@ mod hire;
 mod keeping;
 mod service;
 mod serving;
-#[cfg(test)]
-mod tests;
 mod watched;
 
 pub use ending::{Listening, Served, Unserved};

@@ -1,6 +1,6 @@
 //! Room for the rows of an update.
 
-ghost use Rattle.std.specs.Prelude.{◌≡◌, ℕ, ◌<◌, ◌≤◌, ◌+◌, ◌^◌, ◌==◌, ◌∷◌, [], true, false, OnOk, length, count_by};
+ghost use Rattle.std.specs.Prelude.{◌≡◌, ℕ, ◌<◌, ◌≤◌, ◌+◌, ◌^◌, ◌==◌, ◌∷◌, [], true, false, OnOk, OnErr, length, count_by};
 ghost use Rattle.ipam_data.specs.Updates.{with_view, IsFit};
 ghost use Rattle.ipam_data.specs.declared.kinds.Table.{Table as SeenTable};
 ghost use Rattle.placed_book.specs.Book.{spare_of, IsInOrder};
@@ -177,10 +177,11 @@ impl Shelves {
         self.reserve(std::slice::from_ref(view))
     }
 
-    /// Takes room for a row, and puts it. `Err` is want of memory.
+    /// Takes room for a row, and puts it. `Err` is want of memory, and the state is then as it was.
     pub fn admit(&mut self, view: View) -> Result<(), AllocError>
         requires fits { IsFit (state_of self.old) view }
-        ensures { OnOk result (state_of self.new ≡ with_view (state_of self.old) view) }
+        ensures ok { OnOk result (state_of self.new ≡ with_view (state_of self.old) view) }
+        ensures err { OnErr result (state_of self.new ≡ state_of self.old) }
     {
         if self.is_huge() {
             return Err(AllocError);

@@ -1,7 +1,7 @@
 //! How many records are left that the rows of an import may stand for. Rows and records are told apart by keys, which are texts.
 #![tactic(auto)]
 
-ghost use Rattle.std.specs.Prelude.{◌≡◌, ◌+◌, ◌<◌, ◌^◌, ◌++◌, ◌∷◌, [], ℕ, List, Some, None, true, not, nat_lt, OnOk, string_bytes, bytes_eq, count_by};
+ghost use Rattle.std.specs.Prelude.{◌≡◌, ◌+◌, ◌<◌, ◌^◌, ◌++◌, ◌∷◌, [], ℕ, List, Some, None, true, false, not, nat_lt, OnOk, string_bytes, bytes_eq, count_by};
 ghost use Rattle.std.specs.List.{list_any};
 ghost use Rattle.row_counts.specs.Keys.{spelled};
 ghost use Rattle.row_counts.specs.Left.{IsLeft, left_of};
@@ -63,6 +63,7 @@ impl Leftovers {
         ensures left { (keys records spent : List (List ℕ)) → IsLeft self.old keys records spent → IsLeft self.new keys records (spent ++ key.now ∷ []) }
         ensures found { (keys records spent : List (List ℕ)) → IsLeft self.old keys records spent → list_any (bytes_eq key.now) keys ≡ true
             → result ≡ nat_lt (count_by (bytes_eq key.now) spent) (count_by (bytes_eq key.now) records) }
+        ensures strange { left_of self.old key.now ≡ None → result ≡ false }
     {
         match self.counts.get_mut(key) {
             Some(count) => if *count > 0 {

@@ -130,6 +130,3 @@ pub fn span_of(block: &Block) -> Span
         last: block.last(),
     }
 }
-
-#[cfg(test)]
-mod tests;

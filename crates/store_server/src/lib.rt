@@ -4,7 +4,5 @@
 
 mod count;
 mod serve;
-#[cfg(test)]
-mod tests;
 
 pub use serve::run_serve;

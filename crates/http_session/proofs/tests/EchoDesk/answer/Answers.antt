@@ -1,8 +1,0 @@
-use Rattle.std.proofs.Common.{inl, refl}
-use Rattle.http_session.proofs.tests.EchoDesk.answer.Goals as goal
-
-pub returns-then-eq-clause-err : goal.returns-then-eq-clause-err
-returns-then-eq-clause-err c = inl refl
-
-pub returns-in-Err-clause-err : goal.returns-in-Err-clause-err
-returns-in-Err-clause-err c = inl refl

@@ -1,6 +1,0 @@
-use Rattle.std.proofs.Common.{◌≡◌}
-use Rattle.inet_num.specs.declared.Family.TheVariants.{V4}
-use Rattle.span_set.proofs.tests.agrees.Given as goal
-
-abbrev pub invariant-children : goal.invariant-children
-invariant-children l = l.set.family ≡ V4
