@@ -172,7 +172,7 @@ pub record HasClauses (words : List (List ℕ)) (old new : Outside) (before afte
   -- `load`: with each status, what was printed, which is a text of the number of claims alone; nothing else is used
   pub load : (count workers : ℕ) → AsksLoad words count workers → IsLoad count workers old.streams.output new.streams.output status
       × (new.streams.input ≡ old.streams.input) × (new.streams.errors ≡ old.streams.errors) × (new.stores ≡ old.stores) × (after ≡ before)
-  -- `session` without a file, where the opener did not fail: the answers are those of an empty register, want of memory in it aside
+  -- `session` without a file, where the opener did not fail: the answers are those of an empty register
   pub empty : (unique : Bool) → AsksSession words unique → (¬ StoreFailed old new) → status ≡ 0 → Prints answers_plainly (opened unique) old new
   -- a command ends by itself where nothing fails: done, refused, or for want of memory
   pub complete : (command : Command) → Asks words command → (¬ AnyFailed old new) → (¬ ListenerFailed command before after)
