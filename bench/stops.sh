@@ -1,11 +1,11 @@
 #!/usr/bin/env bash
-# Every stop of a store: ten creations and a deletion are stored in a SQLite file in memory until a call of the log's or the database's
+# Every stop of a store: an import of ten prefixes, ten creations and a deletion are stored in a SQLite file in memory until a call of the log's or the database's
 # file fails, at each call in turn; the files, with all that was written, with what was synced alone, or torn, are opened again, and must
 # have the tables of before or after the change that was being made. It writes a program over the crate stop_trial into a scratch copy,
 # proves and builds it there, runs it, and says how many stops were tried.   bench/stops.sh [changes]
 set -euo pipefail
 top=$(cd "$(dirname "$0")/.." && pwd)
-changes=${1:-11}
+changes=${1:-12}
 scratch=$(mktemp -d)
 trap 'rm -rf "$scratch"' EXIT
 mkdir -p "$scratch/crates/all_stops/src"

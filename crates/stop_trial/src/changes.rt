@@ -6,35 +6,69 @@ use ipam_keeper::keeper::{KeepFault, Keeper};
 use ipam_stored::tables::{Change, Row, Rows, Tables, Text, Texts};
 use std::alloc::{AllocError, Global};
 
-/// How many changes there are: ten creations and a deletion.
-pub const CHANGES: u32 = 11;
+/// How many changes there are: an import of ten prefixes, ten creations and a deletion.
+pub const CHANGES: u32 = 12;
 
-/// The columns of the VRF of this number.
-fn fields(alloc: Global, number: u32) -> Result<Texts, AllocError> {
+/// How many rows the import makes.
+const IMPORTED: u32 = 10;
+
+/// A row of these columns.
+fn row_of(alloc: Global, kind: Kind, id: u32, columns: &[&str]) -> Result<Row, AllocError> {
     let mut texts = Vec::new(alloc);
-    texts.push(Text::of(format!(in alloc; "customer {number}")?))?;
-    texts.push(Text::of(format!(in alloc; "65000:{number}")?))?;
-    texts.push(Text::of(String::from_str(alloc, "true")?))?;
-    texts.push(Text::of(String::from_str(alloc, "")?))?;
-    Ok(Texts::of(texts))
+    for column in columns {
+        texts.push(Text::of(String::from_str(alloc, column)?))?;
+    }
+    Ok(Row {
+        kind,
+        id,
+        fields: Texts::of(texts),
+    })
 }
 
-/// The creation of the VRF of this number.
-fn creation(alloc: Global, number: u32) -> Result<Change, AllocError> {
-    let fields = fields(alloc, number)?;
-    let mut puts = Vec::new(alloc);
-    puts.push(Row {
-        kind: Kind::Vrfs,
-        id: number,
-        fields,
-    })?;
+/// The prefix of this number.
+fn prefix_of(alloc: Global, number: u32) -> Result<Row, AllocError> {
+    let block = format!(in alloc; "10.0.{number}.0/24")?;
+    let columns = [block.as_str(), "", "active", "", "false", "false", ""];
+    row_of(alloc, Kind::Prefixes, number, &columns)
+}
+
+/// The VRF of this number.
+fn vrf_of(alloc: Global, number: u32) -> Result<Row, AllocError> {
+    let name = format!(in alloc; "customer {number}")?;
+    let rd = format!(in alloc; "65000:{number}")?;
+    row_of(
+        alloc,
+        Kind::Vrfs,
+        number,
+        &[name.as_str(), rd.as_str(), "true", ""],
+    )
+}
+
+/// A change that puts rows of a kind, whose next id is then this.
+fn puts_of(alloc: Global, puts: Vec<Row>, kind: Kind, next_id: u32) -> Result<Change, AllocError> {
     let mut next = Vec::new(alloc);
-    next.push((Kind::Vrfs, number.saturating_add(1)))?;
+    next.push((kind, next_id))?;
     Ok(Change {
         puts: Rows::of(puts),
         cuts: Ids::of(Vec::new(alloc)),
         next: Ids::of(next),
     })
+}
+
+/// The import of ten prefixes, which is one change.
+fn import(alloc: Global) -> Result<Change, AllocError> {
+    let mut puts = Vec::new(alloc);
+    for number in 1..=IMPORTED {
+        puts.push(prefix_of(alloc, number)?)?;
+    }
+    puts_of(alloc, puts, Kind::Prefixes, IMPORTED + 1)
+}
+
+/// The creation of the VRF of this number.
+fn creation(alloc: Global, number: u32) -> Result<Change, AllocError> {
+    let mut puts = Vec::new(alloc);
+    puts.push(vrf_of(alloc, number)?)?;
+    puts_of(alloc, puts, Kind::Vrfs, number.saturating_add(1))
 }
 
 /// The deletion of the first VRF.
@@ -50,10 +84,10 @@ fn deletion(alloc: Global) -> Result<Change, AllocError> {
 
 /// The change of this number, from 1.
 fn change_of(alloc: Global, number: u32) -> Result<Change, AllocError> {
-    if number < CHANGES {
-        creation(alloc, number)
-    } else {
-        deletion(alloc)
+    match number {
+        1 => import(alloc),
+        CHANGES => deletion(alloc),
+        _ => creation(alloc, number.saturating_sub(1)),
     }
 }
 
