@@ -2,7 +2,7 @@
 #![tactic(auto)]
 
 #[cfg(test)]
-mod fault_tests;
+mod line_tests;
 #[cfg(test)]
 mod office_tests;
 #[cfg(test)]

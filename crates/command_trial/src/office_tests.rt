@@ -170,48 +170,37 @@ fn told<R: Threads + Wait + Sync>(
     Ok(text)
 }
 
+/// Imports of many prefixes one after another into one store: how many, whether the last is refused, which calls of the input, the output and the
+/// messages fail, and what is left.
+const MANY: [(u32, bool, [&[u32]; 3], &str); 6] = [
+    (
+        1_000,
+        true,
+        [&[], &[], &[]],
+        "1 row 1000: duplicate: coincides with 1\n",
+    ),
+    (1_000, true, [&[], &[], &[0]], "3 "),
+    (1_000, false, [&[], &[0], &[]], "3 "),
+    (1_000, false, [&[], &[], &[]], "0 created 0 present 1000\n"),
+    (
+        10_001,
+        false,
+        [&[], &[], &[]],
+        "1 limit: rows would exceed 10000\n",
+    ),
+    (1_000, false, [&[1], &[], &[]], "3 "),
+];
+
 #[test]
 fn many_rows_at_once(rt: HostRuntime) -> Result<(), Fail> {
     let alloc = rt.alloc();
     let mut opener = MemoryOpener::new(Vec::new(alloc), Vec::new(alloc));
-    let refused = many_rows(alloc, 1_000, true)?;
-    let words = "import prefixes --db a";
-    let none: [&[u32]; 3] = [&[], &[], &[]];
-    let left = told(&rt, alloc, &mut opener, words, refused.as_bytes(), none)?;
-    assert_eq!(rt; left.as_str(), "1 row 1000: duplicate: coincides with 1\n");
-    let left = told(
-        &rt,
-        alloc,
-        &mut opener,
-        words,
-        refused.as_bytes(),
-        [&[], &[], &[0]],
-    )?;
-    assert_eq!(rt; left.as_str(), "3 ");
-    let good = many_rows(alloc, 1_000, false)?;
-    let unsaid = told(
-        &rt,
-        alloc,
-        &mut opener,
-        words,
-        good.as_bytes(),
-        [&[], &[0], &[]],
-    )?;
-    assert_eq!(rt; unsaid.as_str(), "3 ");
-    let again = told(&rt, alloc, &mut opener, words, good.as_bytes(), none)?;
-    assert_eq!(rt; again.as_str(), "0 created 0 present 1000\n");
-    let more = many_rows(alloc, 10_001, false)?;
-    let left = told(&rt, alloc, &mut opener, words, more.as_bytes(), none)?;
-    assert_eq!(rt; left.as_str(), "1 limit: rows would exceed 10000\n");
-    let left = told(
-        &rt,
-        alloc,
-        &mut opener,
-        words,
-        good.as_bytes(),
-        [&[1], &[], &[]],
-    )?;
-    assert_eq!(rt; left.as_str(), "3 ");
+    for (count, is_refused, fails, wanted) in MANY {
+        let rows = many_rows(alloc, count, is_refused)?;
+        let words = "import prefixes --db a";
+        let left = told(&rt, alloc, &mut opener, words, rows.as_bytes(), fails)?;
+        assert_eq!(rt; left.as_str(), wanted);
+    }
     Ok(())
 }
 

@@ -2,7 +2,10 @@
 
 use crate::tests::run_on;
 use std::alloc::{AllocError, Global};
+use std::marker::Sync;
+use std::sync::Wait;
 use std::test::Fail;
+use std::thread::Threads;
 
 /// A conversation, an exchange to a line: what is asked, by its method and target; its body; and what has to be answered: the
 /// status, the field past the length, the body.
@@ -222,95 +225,58 @@ fn opening(alloc: Global) -> Result<(Vec<u8>, Vec<u8>), AllocError> {
     Ok((input, output))
 }
 
-#[test]
-fn requests_and_their_answers(rt: HostRuntime) -> Result<(), Fail> {
-    let (input, output) = conversation(rt.alloc(), EXCHANGES)?;
-    for piece in [1, 7, 4_096] {
-        let left = run_on(&rt, rt.alloc(), "session", &input, piece, [&[], &[], &[]])?;
-        assert!(rt; left.status == 0 && left.errors.is_empty());
-        assert!(rt;
-            left.output.as_slice() == output.as_slice(),
-            "pieces of {piece}"
-        );
-    }
-    Ok(())
-}
+/// Conversations, each of which has a register of its own.
+const CONVERSATIONS: [&str; 3] = [EXCHANGES, CHANGES, KINDS];
 
-#[test]
-fn changes_and_what_is_not_there(rt: HostRuntime) -> Result<(), Fail> {
-    let (input, output) = conversation(rt.alloc(), CHANGES)?;
-    let left = run_on(&rt, rt.alloc(), "session", &input, 4_096, [&[], &[], &[]])?;
-    assert!(rt; left.status == 0 && left.errors.is_empty());
-    assert!(rt; left.output.as_slice() == output.as_slice());
-    Ok(())
-}
-
-#[test]
-fn the_other_kinds(rt: HostRuntime) -> Result<(), Fail> {
-    let (input, output) = conversation(rt.alloc(), KINDS)?;
-    let left = run_on(&rt, rt.alloc(), "session", &input, 4_096, [&[], &[], &[]])?;
-    assert!(rt; left.status == 0 && left.errors.is_empty());
-    assert!(rt; left.output.as_slice() == output.as_slice());
-    Ok(())
-}
-
-#[test]
-fn an_input_that_ends_inside_a_body(rt: HostRuntime) -> Result<(), Fail> {
-    let (mut input, mut output) = opening(rt.alloc())?;
+/// The first request and its answer, and behind it a request that ends inside its body.
+fn cut_short(alloc: Global) -> Result<(Vec<u8>, Vec<u8>), AllocError> {
+    let (mut input, mut output) = opening(alloc)?;
     put(
         &mut input,
         "POST /api/ipam/vrfs/ HTTP/1.1\r\nContent-Length: 14\r\n\r\n{\"name\"",
     )?;
     put(&mut output, CUT_SHORT)?;
+    Ok((input, output))
+}
+
+/// Whether an input in pieces of this size is answered so, and nothing is said.
+fn is_answered<R: Threads + Wait + Sync>(
+    rt: &R,
+    alloc: Global,
+    input: &[u8],
+    output: &[u8],
+    piece: usize,
+) -> Result<bool, AllocError> {
+    let left = run_on(rt, alloc, "session", input, piece, [&[], &[], &[]])?;
+    Ok(left.status == 0 && left.errors.is_empty() && left.output.as_slice() == output)
+}
+
+/// The first size of pieces in which an input is answered otherwise, or 0.
+fn wrong_piece<R: Threads + Wait + Sync>(
+    rt: &R,
+    alloc: Global,
+    (input, output): (Vec<u8>, Vec<u8>),
+) -> Result<usize, AllocError> {
     for piece in [1, 7, 4_096] {
-        let left = run_on(&rt, rt.alloc(), "session", &input, piece, [&[], &[], &[]])?;
-        assert!(rt; left.status == 0 && left.output.as_slice() == output.as_slice());
+        if !is_answered(rt, alloc, &input, &output, piece)? {
+            return Ok(piece);
+        }
+    }
+    Ok(0)
+}
+
+#[test]
+fn requests_and_their_answers(rt: HostRuntime) -> Result<(), Fail> {
+    for text in CONVERSATIONS {
+        let piece = wrong_piece(&rt, rt.alloc(), conversation(rt.alloc(), text)?)?;
+        assert!(rt; piece == 0, "pieces of {piece} of {text}");
     }
     Ok(())
 }
 
 #[test]
-fn an_empty_input_and_failing_objects(rt: HostRuntime) -> Result<(), Fail> {
-    let empty = run_on(&rt, rt.alloc(), "session", b"", 4_096, [&[], &[], &[]])?;
-    assert!(rt; empty.status == 0 && empty.output.is_empty() && empty.errors.is_empty());
-    let (input, output) = opening(rt.alloc())?;
-    let read = run_on(&rt, rt.alloc(), "session", &input, 4_096, [&[1], &[], &[]])?;
-    assert!(rt; read.status == 3 && read.output.as_slice() == output.as_slice());
-    let write = run_on(&rt, rt.alloc(), "session", &input, 4_096, [&[], &[0], &[]])?;
-    assert!(rt; write.status == 3 && write.output.is_empty());
-    Ok(())
-}
-
-#[test]
-fn one_block_twice_where_that_is_asked_for(rt: HostRuntime) -> Result<(), Fail> {
-    let (input, _) = opening(rt.alloc())?;
-    let mut twice = Vec::from_slice(rt.alloc(), &input)?;
-    twice.extend_from_slice(&input)?;
-    let refused = run_on(
-        &rt,
-        rt.alloc(),
-        "session --global-unique=yes",
-        &twice,
-        4_096,
-        [&[], &[], &[]],
-    )?;
-    assert!(rt;
-        refused.status == 0
-            && refused.output.ends_with(b"{\"code\":\"duplicate\",\"detail\":\"coincides with 1\"}")
-    );
-    let taken = run_on(
-        &rt,
-        rt.alloc(),
-        "session --global-unique no",
-        &twice,
-        4_096,
-        [&[], &[], &[]],
-    )?;
-    assert!(rt;
-        taken.status == 0
-            && taken.output.ends_with(
-                b"\"status\":{\"label\":\"Active\",\"value\":\"active\"},\"vrf\":null}"
-            )
-    );
+fn an_input_that_ends_inside_a_body(rt: HostRuntime) -> Result<(), Fail> {
+    let piece = wrong_piece(&rt, rt.alloc(), cut_short(rt.alloc())?)?;
+    assert!(rt; piece == 0, "pieces of {piece}");
     Ok(())
 }
