@@ -34,6 +34,8 @@ BENCHES = [
     Bench("fuzz", ["fuzz.py", "--session", "2000", "--serve", "20000"], ["fuzz.py", "--session", "200", "--serve", "2000"], 1800),
     Bench("limits", ["limits.sh"], ["limits.sh"], 900, ["/usr/bin/time"]),
     Bench("free", ["free.sh"], ["free.sh", "20000"], 900, ["/usr/bin/time", "iprange"]),
+    Bench("import", ["import.sh"], ["import.sh"], 900, ["sqlite3"]),
+    Bench("growths", ["growths.py"], ["growths.py", "free", "post"], 1800, ["cc"]),
     Bench("register", ["register.sh", "40"], ["register.sh", "5"], 600),
     Bench("claims", ["claims.sh"], ["claims.sh"], 1200, ["psql", "runuser"]),
     Bench("store", ["store.sh", "3"], ["store.sh", "1"], 600),
@@ -110,6 +112,14 @@ def of_register(told):
             for found in re.finditer(r"^(\w+): ipamd ([\d,]+) a second .* http.server ([\d,]+)", told, re.M)]
 
 
+def of_import(told):
+    rows = []
+    for found in re.finditer(r"^(prefixes|ip-addresses) +([\d.]+) +([\d.]+) +([\d.]+) +([\d.]+) +([\d.]+)$", told, re.M):
+        for where, figure in (("in memory", found[2]), ("into an empty file", found[3]), ("into a full file", found[4])):
+            rows.append((f"an import of 10,000 {found[1]} {where}, seconds", figure, "sqlite3", found[6], float(found[6]) / max(float(figure), 0.001)))
+    return rows
+
+
 def of_full(told):
     rows = []
     for what, pattern in (("200,000 prefixes over HTTP, seconds", r"in no order over HTTP: ([\d.]+) s$"), ("500,000 addresses over HTTP beside them, seconds", r"addresses in no order over HTTP: ([\d.]+) s; "),
@@ -118,7 +128,7 @@ def of_full(told):
     return rows
 
 
-TABLE = {"free": of_free, "claims": of_claims, "store": of_store, "serve": of_serve, "register": of_register, "full": of_full}
+TABLE = {"free": of_free, "claims": of_claims, "store": of_store, "serve": of_serve, "register": of_register, "import": of_import, "full": of_full}
 
 
 def version_of(words, pattern):
@@ -136,6 +146,7 @@ def versions():
         "netaddr": version_of(["/usr/bin/python3", "-c", "import netaddr; print('netaddr', netaddr.__version__)"], r"netaddr ([\d.]+)"),
         "PostgreSQL": version_of(["psql", "--version"], r"\) ([\d.]+)"),
         "SQLite": version_of(["python3", "-c", "import sqlite3; print('sqlite', sqlite3.sqlite_version)"], r"sqlite ([\d.]+)"),
+        "sqlite3": version_of(["sqlite3", "--version"], r"^([\d.]+)"),
         "nginx": version_of(["nginx", "-v"], r"nginx/([\d.]+)"),
         "wrk": version_of(["wrk", "-v"], r"wrk \S*?([\d.]+)"),
         "http.server": "Python " + version_of(["python3", "--version"], r"Python ([\d.]+)"),
@@ -165,7 +176,6 @@ def main():
     for what, ours, peer, theirs, ratio in rows:
         name = peer.split(",")[0]
         print(f"| {what} | {ours} | {peer + (' ' + peers[name] if name in peers else '') if peer != 'none' else ''} | {theirs} | {'' if ratio is None else ratio if isinstance(ratio, str) else f'{ratio:,.2f}'} |")
-    print("| an import | no command imports yet | | | |")
     for title, lines in (("not run", not_run), ("failed", failed)):
         print(f"{title}: " + ("; ".join(lines) if lines else "none"))
     sys.exit(1 if failed else 0)

@@ -22,8 +22,9 @@ listens() {
     grep -qi ":$(printf %04x "$port") 00000000:0000 0A" /proc/net/tcp
 }
 
+# serves a register, in memory or over the file that is told
 start() {
-    "$program" serve --bind "127.0.0.1:$port" --workers 8 > /dev/null 2> "$folder/errors" < /dev/null &
+    "$program" serve --bind "127.0.0.1:$port" --workers 8 "$@" > /dev/null 2> "$folder/errors" < /dev/null &
     server=$!
     for _ in $(seq 100); do
         listens && return
@@ -62,11 +63,11 @@ if /usr/bin/python3 -c 'import pynetbox' 2>/dev/null; then
 else
     echo "not run: pynetbox, which /usr/bin/python3 does not have"
 fi
-start
+start --db "$folder/moved.db"
 move netbox examples/netbox examples/netbox/csv 0 "made 24, present 0, refused 0" "made 0, present 24, refused 0"
 move phpipam examples/phpipam examples/phpipam/csv 1 "made 18, present 0, refused 1" "made 0, present 18, refused 1"
-python3 "$top/docs/tree.py" "$url" | cmp - "$top/docs/tree.svg" || fail "docs/tree.svg is not what docs/tree.py draws"
 stop
+"$program" report tree --db "$folder/moved.db" | python3 "$top/docs/tree.py" | cmp - "$top/docs/tree.svg" || fail "docs/tree.svg is not what docs/tree.py draws"
 start
 move spreadsheet examples/spreadsheet.csv examples/spreadsheet-csv 1 "made 23, present 1, refused 1" "made 0, present 24, refused 1"
 stop
