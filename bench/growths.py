@@ -30,7 +30,7 @@ POST = b'POST /api/ipam/prefixes/ HTTP/1.1\r\nHost: x\r\nContent-Length: 24\r\n\
 GET = b"GET /api/ipam/prefixes/1/ HTTP/1.1\r\nHost: x\r\n\r\n"
 WANT = (b'HTTP/1.1 500 Internal Server Error\r\nContent-Type: application/json\r\nContent-Length: 38\r\nIpam-Place: %d\r\n\r\n'
         b'{"code":"memory","detail":"no memory"}')
-ABSENT = (b'HTTP/1.1 404 Not Found\r\nContent-Type: application/json\r\nContent-Length: 56\r\nIpam-Place: 0\r\n\r\n'
+ABSENT = (b'HTTP/1.1 404 Not Found\r\nContent-Type: application/json\r\nContent-Length: 55\r\nIpam-Place: 0\r\n\r\n'
           b'{"code":"not_found","detail":"prefixes 1 is not there"}')
 FRONT = r"""
 #define _GNU_SOURCE
