@@ -1,0 +1,7 @@
+//! The outside tried: objects in memory, streams, and lanes in memory and over a socket.
+#![tactic(auto)]
+
+#[cfg(test)]
+mod ipam_doors_tests;
+#[cfg(test)]
+mod ipam_edge_tests;

@@ -1,0 +1,5 @@
+//! The command `free` tried line by line, over objects in memory.
+#![tactic(auto)]
+
+#[cfg(test)]
+mod free_lines_tests;
