@@ -145,3 +145,6 @@ impl Space for BlockList {
         next_available(blocks, &within, from.value(), strict)
     }
 }
+
+#[cfg(test)]
+mod tests;

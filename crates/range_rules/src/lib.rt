@@ -15,6 +15,8 @@ ghost use Rattle.range_rules.specs.Tracks.{entry_of, passes, one, one_of, IsKept
 
 mod crossing;
 mod pieces;
+#[cfg(test)]
+mod tests;
 mod tracks;
 
 use crate::crossing::{least_crossing, own_fault};

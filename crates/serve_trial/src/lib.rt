@@ -3,3 +3,7 @@
 
 #[cfg(test)]
 mod claims;
+#[cfg(test)]
+mod register_load_tests;
+#[cfg(test)]
+mod store_server_tests;

@@ -2,4 +2,6 @@
 #![tactic(auto)]
 
 #[cfg(test)]
+mod radix_tree_tests;
+#[cfg(test)]
 mod tests;

@@ -2,4 +2,6 @@
 #![tactic(auto)]
 
 #[cfg(test)]
+mod ipam_words_tests;
+#[cfg(test)]
 mod tests;

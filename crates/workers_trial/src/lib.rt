@@ -6,8 +6,12 @@ mod gates;
 #[cfg(test)]
 mod ports;
 #[cfg(test)]
+mod register_server_tests;
+#[cfg(test)]
 mod registers;
 #[cfg(test)]
 mod seats;
 #[cfg(test)]
 mod serving;
+#[cfg(test)]
+mod shared_workers_tests;
