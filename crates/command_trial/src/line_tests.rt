@@ -66,20 +66,31 @@ fn failing<'a>(line: &'a str, object: &'a str) -> u32 {
     }
 }
 
-/// A listener with one lane of two connections, on each of which the request comes, where one comes; of the lane the accept of a line fails.
+/// A connection on which the request comes.
+fn pair_of(alloc: Global) -> Result<(BytesSource, BytesSink), AllocError> {
+    let source = BytesSource::new(bytes_of(alloc, POST)?, Vec::new(alloc), 1000);
+    let sink = BytesSink::new(alloc, Vec::new(alloc), 1000, 4096)?;
+    Ok((source, sink))
+}
+
+/// A lane of two connections, of whose accepts that of a line fails.
+fn lane_of(alloc: Global, line: &str) -> Result<ListLane, AllocError>
+    ensures { IfOk result (λ l. lane_told l ≡ []) }
+{
+    let fails = Vec::from_slice(alloc, &[failing(line, "lane")])?;
+    let mut pairs = Vec::new(alloc);
+    pairs.push(pair_of(alloc)?)?;
+    pairs.push(pair_of(alloc)?)?;
+    ListLane::new(alloc, pairs, fails)
+}
+
+/// A listener with such a lane, where one comes.
 fn listener_of(alloc: Global, line: &str) -> Result<ListListener, AllocError>
     ensures { IfOk result (λ l. (listener_returned l ≡ []) × (listener_lanes l ≡ 0)) }
 {
-    let mut pairs = Vec::new(alloc);
-    for _ in 0..2 {
-        let source = BytesSource::new(bytes_of(alloc, POST)?, Vec::new(alloc), 1000);
-        let sink = BytesSink::new(alloc, Vec::new(alloc), 1000, 4096)?;
-        pairs.push((source, sink))?;
-    }
-    let fails = Vec::from_slice(alloc, &[failing(line, "lane")])?;
     let mut lanes = Vec::new(alloc);
     if !line.starts_with("nobody") {
-        lanes.push(ListLane::new(alloc, pairs, fails)?)?;
+        lanes.push(lane_of(alloc, line)?)?;
     }
     ListListener::new(alloc, lanes)
 }
