@@ -39,6 +39,7 @@ FRONT = r"""
 #include <stdatomic.h>
 #include <stdio.h>
 #include <stdlib.h>
+#include <sys/syscall.h>
 #include <unistd.h>
 static atomic_long calls;
 static long refused;
@@ -51,10 +52,13 @@ __attribute__((constructor)) static void begin(void) {
     atomic_store(&calls, 0);
 }
 __attribute__((destructor)) static void end(void) {
-    char text[32];
     int file = open(getenv("COUNTED"), O_CREAT | O_TRUNC | O_WRONLY, 0600);
     dprintf(file, "%ld", atomic_load(&calls));
     close(file);
+}
+void _exit(int status) {
+    end();
+    for (;;) syscall(SYS_exit_group, status);
 }
 void *malloc(size_t size) {
     if (!real_malloc) real_malloc = dlsym(RTLD_NEXT, "malloc");
