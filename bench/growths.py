@@ -8,10 +8,14 @@ call that met it. The tables are read by Python's sqlite3 and compared here. The
 - with `--try` by the program that `rt try --fail-alloc` builds, which also stops at a bad access or a number that does not fit: it is built once, with a
   number that no run comes to, and that number is written over in its two comparisons. Then `load` is run with 20 claims: with 1,000 a run takes twenty seconds.
 
+As many runs are under way at once as there are processors.
+
     python3 bench/growths.py [--try] [free|import|post|store|load ..]
 """
 import collections
+import concurrent.futures
 import os
+import queue
 import shutil
 import sqlite3
 import subprocess
@@ -73,34 +77,30 @@ void *realloc(void *old, size_t size) {
 
 class Fronted:
     """The built program, with the library in front of its allocator."""
-    knows_count = True
 
     def __init__(self, folder):
         self.program = os.environ.get("IPAMD", os.path.join(TOP, "crates/ipamd/out/ipamd"))
         if not os.access(self.program, os.X_OK):
             sys.exit("build the program first: ./ipamd free 10.0.0.0/8 </dev/null")
-        self.library, self.counted = os.path.join(folder, "front.so"), os.path.join(folder, "counted")
+        self.library = os.path.join(folder, "front.so")
         source = os.path.join(folder, "front.c")
         with open(source, "w") as file:
             file.write(FRONT)
         subprocess.run(["cc", "-shared", "-fPIC", "-O1", "-w", "-o", self.library, source], check=True)
 
-    def run(self, number, words, given):
-        env = {"LD_PRELOAD": self.library, "REFUSED": str(number), "COUNTED": self.counted}
+    def run(self, number, words, given, folder):
+        counted = os.path.join(folder, "counted")
+        env = {"LD_PRELOAD": self.library, "REFUSED": str(number), "COUNTED": counted}
         done = subprocess.run([self.program, *words], input=given, capture_output=True, env=env, timeout=PATIENCE)
-        with open(self.counted) as file:
+        with open(counted) as file:
             return (done.returncode, done.stdout, done.stderr), int(file.read())
 
 
 class Tried:
     """The program of `rt try`, whose number is written over."""
-    knows_count = False
 
     def __init__(self, folder):
-        self.program = os.path.join(folder, "tried")
-        built = os.environ.get("IPAMD_TRIED") or self.build(folder)
-        shutil.copy(built, self.program)
-        os.chmod(self.program, 0o700)
+        self.program = os.environ.get("IPAMD_TRIED") or self.build(folder)
         with open(self.program, "rb") as file:
             text, wanted = file.read(), COMPARES + NEVER.to_bytes(4, "little")
         self.places = [at + len(COMPARES) for at in range(len(text)) if text.startswith(wanted, at)] if text.count(wanted) < 9 else []
@@ -128,12 +128,17 @@ class Tried:
             sys.exit(f"rt try built no program: {b''.join(said)[-400:]}")
         return kept
 
-    def run(self, number, words, given):
-        with open(self.program, "r+b") as file:
+    def run(self, number, words, given, folder):
+        """Each folder has a copy of the program, which is written over."""
+        program = os.path.join(folder, "tried")
+        if not os.path.exists(program):
+            shutil.copy(self.program, program)
+            os.chmod(program, 0o700)
+        with open(program, "r+b") as file:
             for at in self.places:
                 file.seek(at)
                 file.write((number or NEVER).to_bytes(4, "little"))
-        done = subprocess.run([self.program, *words], input=given, capture_output=True, env={"ASAN_OPTIONS": "detect_leaks=0"}, timeout=PATIENCE)
+        done = subprocess.run([program, *words], input=given, capture_output=True, env={"ASAN_OPTIONS": "detect_leaks=0"}, timeout=PATIENCE)
         return (done.returncode, done.stdout, done.stderr), None
 
 
@@ -162,7 +167,7 @@ class Case:
         if self.db is not None:
             shutil.copy(self.db, path)
         words = self.words + (["--db", path] if self.db is not None else [])
-        outcome, count = runner.run(number, words, self.given)
+        outcome, count = runner.run(number, words, self.given, folder)
         return outcome, count, tables(path) if self.db is not None else None
 
 
@@ -188,21 +193,44 @@ def named(outcome, held, usual, usual_held, before):
     return None
 
 
-def swept(name, case, runner, folder):
-    usual, total, usual_held = case.run(runner, 0, folder)
-    before = tables(case.db) if case.db is not None else None
-    print(f"{name}: the usual outcome is status {usual[0]} with {len(usual[1])} bytes" + (f", {total} requests for memory" if total else ""), flush=True)
-    came, last, number = collections.Counter(), 0, 0
-    while number < (total or last + 100):
-        number += 1
-        outcome, count, held = case.run(runner, number, folder)
-        what = named(outcome, held, usual, usual_held, before)
+class Sweep:
+    """A case with each number in turn, by several runs at once; a folder belongs to one run."""
+
+    def __init__(self, name, case, runner, folders):
+        self.name, self.case, self.runner, self.folders = name, case, runner, folders
+        self.usual, self.total, self.usual_held = self.run(0)
+        self.before = tables(case.db) if case.db is not None else None
+        self.came, self.last, self.tried = collections.Counter(), 0, 0
+
+    def run(self, number):
+        folder = self.folders.get()
+        try:
+            return self.case.run(self.runner, number, folder)
+        finally:
+            self.folders.put(folder)
+
+    def end(self):
+        """The last number, as far as it is known."""
+        return self.total or self.last + 100
+
+    def take(self, number, outcome, count, held):
+        what = named(outcome, held, self.usual, self.usual_held, self.before)
         if what is None:
-            sys.exit(f"{name}: where request {number} is refused: {outcome}, and the store holds {held}")
-        came[what] += 1
-        total = max(total, count) if total else None
-        last = number if what != "the usual outcome" else last
-    print(f"{name}: {number} numbers tried: " + "; ".join(f"{count} {what}" for what, count in came.most_common()), flush=True)
+            sys.exit(f"{self.name}: where request {number} is refused: {outcome}, and the store holds {held}")
+        self.came[what] += 1
+        self.tried += 1
+        self.total = max(self.total, count) if self.total else None
+        self.last = max(self.last, number) if what != "the usual outcome" else self.last
+
+    def all(self, jobs):
+        counted = f", {self.total} requests for memory" if self.total else ""
+        print(f"{self.name}: the usual outcome is status {self.usual[0]} with {len(self.usual[1])} bytes{counted}", flush=True)
+        with concurrent.futures.ThreadPoolExecutor(jobs) as pool:
+            while self.tried < self.end():
+                numbers = range(self.tried + 1, min(self.end(), self.tried + 100 * jobs) + 1)
+                for number, told in zip(numbers, pool.map(self.run, numbers)):
+                    self.take(number, *told)
+        print(f"{self.name}: {self.tried} numbers tried: " + "; ".join(f"{count} {what}" for what, count in self.came.most_common()), flush=True)
 
 
 def main():
@@ -210,8 +238,12 @@ def main():
     folder = tempfile.mkdtemp()
     try:
         runner = Tried(folder) if "--try" in sys.argv[1:] else Fronted(folder)
+        jobs, folders = os.cpu_count() or 1, queue.SimpleQueue()
+        for job in range(jobs):
+            os.mkdir(os.path.join(folder, str(job)))
+            folders.put(os.path.join(folder, str(job)))
         empty = os.path.join(folder, "empty.db")
-        runner.run(0, ["export", "vrfs", "--db", empty], b"")
+        runner.run(0, ["export", "vrfs", "--db", empty], b"", folder)
         cases = {
             "free": Case(["free", "10.0.0.0/16"], BLOCK),
             "import": Case(["import", "prefixes"], ROWS, db=empty),
@@ -220,7 +252,7 @@ def main():
             "load": Case(["load", "20" if "--try" in sys.argv[1:] else "1000", "--workers", "4"], b""),
         }
         for name in wanted or cases:
-            swept(name, cases[name], runner, folder)
+            Sweep(name, cases[name], runner, folders).all(jobs)
     finally:
         shutil.rmtree(folder, ignore_errors=True)
     print("growths: all as it should be")

@@ -1,0 +1,37 @@
+#!/usr/bin/env bash
+# docs/OPERATING.md under systemd: a Debian of its own is made by debootstrap below a folder (once; two minutes), started by systemd-nspawn without a network, and in it
+# bench/systemd_steps.sh goes through the steps as they are written. By the built program (./ipamd builds it; IPAMD=PROGRAM takes another one). As root, with
+# debootstrap and systemd-container.   bench/systemd.sh [FOLDER]
+set -euo pipefail
+top=$(cd "$(dirname "$0")/.." && pwd)
+program=${IPAMD:-$top/crates/ipamd/out/ipamd}
+[ -x "$program" ] || { echo "build the program first: ./ipamd free 10.0.0.0/8 </dev/null" >&2; exit 1; }
+root=${1:-/var/tmp/ipamd-debian}
+packages=systemd,systemd-sysv,dbus,curl,nginx-light,openssl,sqlite3,procps,iproute2,man-db
+[ -e "$root/made" ] || { debootstrap --variant=minbase --include="$packages" bookworm "$root" > "$root.log" 2>&1 && touch "$root/made"; }
+
+rm -rf "$root/root/ipamd" "$root/root/told" "$root/var/lib/private/ipamd" "$root/var/lib/ipamd" "$root/etc/systemd/system/ipamd.service.d" "$root/etc/nginx/register.users"
+mkdir -p "$root/root/ipamd"
+git -C "$top" archive HEAD | tar -x -C "$root/root/ipamd"
+# what is tried is what stands here, also where it is not committed yet
+cp "$top"/bench/systemd_steps.sh "$root/root/ipamd/bench/"
+cp "$top"/docs/OPERATING.md "$root/root/ipamd/docs/"
+cp "$top"/examples/* "$root/root/ipamd/examples/" 2>/dev/null || true
+install -m 755 "$program" "$root/root/program"
+cat > "$root/etc/systemd/system/steps.service" <<U
+[Unit]
+Description=the steps of OPERATING.md
+After=multi-user.target
+[Service]
+Type=oneshot
+WorkingDirectory=/root/ipamd
+Environment=HOME=/root TERM=dumb PATH=/usr/local/sbin:/usr/local/bin:/usr/sbin:/usr/bin:/sbin:/bin
+ExecStart=/bin/bash bench/systemd_steps.sh /root/told
+ExecStopPost=/bin/systemctl --no-block poweroff
+U
+mkdir -p "$root/etc/systemd/system/graphical.target.wants"
+ln -sf /etc/systemd/system/steps.service "$root/etc/systemd/system/graphical.target.wants/steps.service"
+timeout 300 script -qc "systemd-nspawn -D $root --register=no --keep-unit --private-network -b" "$root/root/console" > /dev/null 2>&1 < /dev/null || true
+[ -e "$root/root/told" ] || { echo "systemd: it did not start; $root/root/console" >&2; exit 1; }
+cat "$root/root/told"
+tail -n 1 "$root/root/told" | grep -q '^systemd: .* all as it should be$'

@@ -1,0 +1,130 @@
+#!/usr/bin/env bash
+# The steps of docs/OPERATING.md that want systemd, one after another, in the Debian that bench/systemd.sh starts: `step` takes a line that stands in
+# that page, `look` one of our own; each has a status and a pattern that its output matches.   bench/systemd_steps.sh FILE
+set -u
+exec > "$1" 2>&1
+steps=0 looks=0 bad=0
+export IPAMD=/root/program
+
+try() {
+    local status=$1 pattern=$2 command=$3 told out
+    out=$(bash -c "$command" 2>&1)
+    told=$?
+    if [ "$told" = "$status" ] && grep -qE -- "$pattern" <<< "$out"; then
+        return
+    fi
+    bad=$((bad + 1))
+    printf 'BAD  %s\n     status %s, wanted %s and a line with %s\n%s\n' "$command" "$told" "$status" "$pattern" "$out"
+}
+
+step() {
+    steps=$((steps + 1))
+    grep -qxF -- "    $3" docs/OPERATING.md || { bad=$((bad + 1)); echo "BAD  not in OPERATING.md: $3"; }
+    try "$1" "$2" "$3"
+}
+
+look() {
+    looks=$((looks + 1))
+    try "$1" "$2" "$3"
+}
+
+# until the register listens, ten seconds at most
+listens() {
+    look 0 '' 'for _ in $(seq 100); do curl -s -o /dev/null http://127.0.0.1:8080/ && exit; sleep 0.1; done; exit 1'
+}
+
+post() {
+    look 0 "$2" "curl -s -w '%{http_code}' -d '{\"prefix\":\"$1\"}' http://127.0.0.1:8080/api/ipam/prefixes/"
+}
+
+today=$(date +%F)
+step 0 '^installed ipamd [0-9.]+: /usr/local/bin/ipamd, /usr/local/share/man/man1/ipamd.1, /usr/local/lib/systemd/system/ipamd.service$' './install.sh /usr/local'
+step 0 '^10.0.1.0/24$' "printf '10.0.0.0/24\\n' | ipamd free 10.0.0.0/22"
+look 0 'address' 'man ipamd | cat'
+
+# a service
+step 0 '' 'systemctl daemon-reload'
+step 0 '' 'systemctl enable --now ipamd'
+listens
+step 0 'Active: active \(running\)' 'systemctl status ipamd'
+step 0 '^\{"count":0,"next":null,"previous":null,"results":\[\]\}$' 'curl -s http://127.0.0.1:8080/api/ipam/prefixes/'
+look 0 '^ipamd' 'ps -o user= -p "$(systemctl show -p MainPID --value ipamd)"'
+look 0 '^drwx------.* ipamd +ipamd ' 'ls -ld /var/lib/private/ipamd'
+look 0 '^-rw-------.* ipamd +ipamd ' 'ls -l /var/lib/ipamd/register.db'
+look 0 'Overall exposure level for ipamd.service: 1.[0-9] OK' 'systemd-analyze security --no-pager ipamd'
+post 10.0.0.0/24 '201$'
+
+# nginx before it
+look 0 '' 'openssl req -x509 -newkey ec -pkeyopt ec_paramgen_curve:prime256v1 -nodes -days 2 -subj /CN=register.example.net -addext subjectAltName=DNS:register.example.net -keyout /etc/ssl/private/register.key -out /etc/ssl/certs/register.pem'
+step 0 '' 'cp examples/nginx-ipamd.conf /etc/nginx/conf.d/ipamd.conf'
+users="printf 'anna:%s\\n' \"\$(openssl passwd -apr1)\" >> /etc/nginx/register.users"
+steps=$((steps + 1))
+grep -qxF -- "    $users" docs/OPERATING.md || { bad=$((bad + 1)); echo "BAD  not in OPERATING.md: $users"; }
+# the password is typed twice, on a terminal
+printf '%s\n' "$users" > /root/users.sh
+look 0 '' '(sleep 1; echo secret; sleep 1; echo secret; sleep 1) | script -qec "bash /root/users.sh" /dev/null'
+look 0 '^anna:\$apr1\$' 'cat /etc/nginx/register.users'
+step 0 'test is successful' 'nginx -t && systemctl reload nginx'
+outside="curl -s -w '%{http_code}' --cacert /etc/ssl/certs/register.pem --resolve register.example.net:443:127.0.0.1"
+look 0 '"count":1,.*200$' "sleep 1; $outside -u anna:secret https://register.example.net/api/ipam/prefixes/"
+look 0 '401$' "$outside https://register.example.net/api/ipam/prefixes/"
+
+# a copy, and what is made behind it
+step 0 '' 'systemctl stop ipamd'
+step 0 '' 'ipamd session --db /var/lib/ipamd/register.db < /dev/null && cp /var/lib/ipamd/register.db register-$(date +%F).db'
+step 0 '' 'systemctl start ipamd'
+listens
+post 10.0.1.0/24 '201$'
+look 0 '^0$' "ipamd session --db register-$today.db < /dev/null; echo \$?"
+
+# the copy put back
+step 0 '' 'systemctl stop ipamd'
+step 0 '' 'rm -f /var/lib/ipamd/register.db-wal /var/lib/ipamd/register.db-shm'
+look 0 '' "cp register-$today.db /var/lib/ipamd/register.db"
+step 0 '' 'systemctl start ipamd'
+listens
+look 0 '^\{"count":1,' 'curl -s http://127.0.0.1:8080/api/ipam/prefixes/'
+post 10.0.2.0/24 '201$'
+
+# the log, before a restart and behind it
+step 0 '^Ipam-Place: 1.?$' "curl -s -o /dev/null -D - 'http://127.0.0.1:8080/api/ipam/vrfs/?limit=1' | grep Ipam-Place"
+look 0 '' 'systemctl restart ipamd'
+listens
+step 0 '^Ipam-Place: 0.?$' "curl -s -o /dev/null -D - 'http://127.0.0.1:8080/api/ipam/vrfs/?limit=1' | grep Ipam-Place"
+
+# other words, by an editor that writes them
+printf '#!/bin/sh\nprintf "[Service]\\nExecStart=\\nExecStart=/usr/local/bin/ipamd serve --bind 127.0.0.1:8081 --workers 4 --db /var/lib/ipamd/register.db\\n" > "$1"\n' > /root/editor
+chmod +x /root/editor
+look 0 '' 'script -qec "SYSTEMD_EDITOR=/root/editor systemctl edit ipamd" /dev/null; systemctl restart ipamd; sleep 1'
+look 0 '^\{"count":2,' 'curl -s http://127.0.0.1:8081/api/ipam/prefixes/'
+look 0 '' 'systemctl revert ipamd; systemctl restart ipamd'
+listens
+
+# a crash, a file that another program has, a row that breaks a rule
+look 0 '' 'systemctl kill -s KILL ipamd; sleep 6'
+listens
+look 0 '^NRestarts=1$' 'systemctl show -p NRestarts ipamd'
+look 0 '^\{"count":2,' 'curl -s http://127.0.0.1:8080/api/ipam/prefixes/'
+look 0 '' 'systemctl stop ipamd'
+look 0 '^ExecMainStatus=4$' 'sleep 4 | ipamd session --db /var/lib/ipamd/register.db & sleep 1; systemctl start ipamd; sleep 1; systemctl show -p ExecMainStatus ipamd; wait'
+look 0 '' 'sleep 6'
+listens
+look 0 '' 'systemctl stop ipamd; cp /var/lib/ipamd/register.db whole.db; sqlite3 /var/lib/ipamd/register.db "UPDATE prefixes SET prefix = '"'10.0.0.1/24'"' WHERE id = 1"'
+look 0 '^ExecMainStatus=1$' 'systemctl start ipamd; sleep 8; systemctl show -p ExecMainStatus -p NRestarts ipamd'
+look 0 '^Active: failed|Active: failed' 'systemctl status ipamd; true'
+look 0 'store: prefixes 1: ' 'journalctl --no-pager -u ipamd | tail -n 20'
+look 0 '' 'cp whole.db /var/lib/ipamd/register.db; rm -f /var/lib/ipamd/register.db-wal /var/lib/ipamd/register.db-shm; systemctl reset-failed ipamd; systemctl start ipamd'
+listens
+
+# a new version
+step 0 '' 'systemctl stop ipamd'
+step 0 '' 'ipamd session --db /var/lib/ipamd/register.db < /dev/null && cp /var/lib/ipamd/register.db register-before.db'
+step 0 '^installed ipamd' './install.sh /usr/local'
+step 0 '' 'systemctl daemon-reload && systemctl start ipamd'
+listens
+look 0 '^\{"count":2,' 'curl -s http://127.0.0.1:8080/api/ipam/prefixes/'
+if [ "$bad" = 0 ]; then
+    echo "systemd: $steps lines of OPERATING.md and $looks looks, systemd $(systemctl --version | sed -n '1s/systemd \([0-9]*\).*/\1/p'): all as it should be"
+else
+    echo "systemd: $bad of $((steps + looks)) not as they should be"
+fi
