@@ -19,6 +19,7 @@ class Bench:
     limit: int
     needs: list = field(default_factory=list)
     proves: bool = False
+    long: bool = False
 
 
 BENCHES = [
@@ -29,19 +30,22 @@ BENCHES = [
     Bench("serve_smoke", ["serve_smoke.sh"], ["serve_smoke.sh"], 120, ["curl"]),
     Bench("clients", ["clients.sh"], ["clients.sh"], 300, ["curl"]),
     Bench("operating", ["operating.sh"], ["operating.sh"], 300, ["curl", "sqlite3"]),
+    Bench("pages", ["pages.py", "--quiet"], ["pages.py", "--quiet"], 300, ["curl", "socat"]),
+    Bench("systemd", ["systemd.sh"], ["systemd.sh"], 600, ["debootstrap", "systemd-nspawn"]),
     Bench("proxy", ["proxy.sh"], ["proxy.sh"], 400, ["curl", "nginx", "openssl"]),
     Bench("kill", ["kill.sh", "3"], ["kill.sh", "1"], 600),
     Bench("fuzz", ["fuzz.py", "--session", "2000", "--serve", "20000"], ["fuzz.py", "--session", "200", "--serve", "2000"], 1800),
     Bench("limits", ["limits.sh"], ["limits.sh"], 900, ["/usr/bin/time"]),
     Bench("free", ["free.sh"], ["free.sh", "20000"], 900, ["/usr/bin/time", "iprange"]),
     Bench("import", ["import.sh"], ["import.sh"], 900, ["sqlite3"]),
-    Bench("growths", ["growths.py"], ["growths.py", "free", "post"], 5400, ["cc"]),
+    Bench("growths", ["growths.py", "free", "import", "post", "store"], ["growths.py", "free", "post"], 1800, ["cc"]),
     Bench("register", ["register.sh", "40"], ["register.sh", "5"], 600),
     Bench("claims", ["claims.sh"], ["claims.sh"], 1200, ["psql", "runuser"]),
     Bench("store", ["store.sh", "3"], ["store.sh", "1"], 600),
     Bench("serve", ["serve.sh", "2"], ["serve.sh", "1"], 900, ["curl"]),
     Bench("full", ["full.sh"], ["full.sh"], 1200),
     Bench("full_log", ["full_log.sh"], ["full_log.sh"], 900),
+    Bench("growths_load", ["growths.py", "load"], ["growths.py", "load"], 5400, ["cc"], long=True),
 ] + [Bench(name, [name], [name], 1800, ["rt"], proves=True)
      for name in ("act.sh", "book.sh", "lock.sh", "node_size.sh", "prefixes.sh", "session.sh", "stops.sh", "text_compare.py", "tree.sh")]
 
@@ -153,18 +157,30 @@ def versions():
     }
 
 
+def why_not(bench, names):
+    """Why a bench is not run, or None where it is."""
+    missing = [need for need in bench.needs if shutil.which(need) is None and not os.access(need, os.X_OK)]
+    if missing:
+        return f"{', '.join(missing)} not found"
+    if bench.proves and not names and "--proved" not in sys.argv:
+        return "proves a program of its own (--proved)"
+    if bench.long and not names and "--long" not in sys.argv:
+        return "takes half an hour (--long)"
+    return None
+
+
 def main():
     names = [word for word in sys.argv[1:] if not word.startswith("--")]
-    quick, proved = "--quick" in sys.argv, "--proved" in sys.argv
+    quick = "--quick" in sys.argv
     peers = versions()
     print(f"{os.cpu_count()} processors, load {os.getloadavg()[0]:.1f}; " + ", ".join(f"{name} {version}" for name, version in peers.items()))
     rows, not_run, failed = [], [], []
     for bench in BENCHES:
         if names and bench.name not in names:
             continue
-        missing = [need for need in bench.needs if shutil.which(need) is None and not os.access(need, os.X_OK)]
-        if missing or bench.proves and not proved and not names:
-            not_run.append(f"{bench.name}: " + (f"{', '.join(missing)} not found" if missing else "proves a program of its own (--proved)"))
+        reason = why_not(bench, names)
+        if reason is not None:
+            not_run.append(f"{bench.name}: {reason}")
             continue
         print(f"\n== {bench.name}, load {os.getloadavg()[0]:.1f}", flush=True)
         told, status, took = run(bench, bench.quick if quick else bench.words)
