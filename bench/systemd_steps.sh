@@ -48,9 +48,11 @@ step 0 '' 'systemctl enable --now ipamd'
 listens
 step 0 'Active: active \(running\)' 'systemctl status ipamd'
 step 0 '^\{"count":0,"next":null,"previous":null,"results":\[\]\}$' 'curl -s http://127.0.0.1:8080/api/ipam/prefixes/'
-look 0 '^ipamd' 'ps -o user= -p "$(systemctl show -p MainPID --value ipamd)"'
-look 0 '^drwx------.* ipamd +ipamd ' 'ls -ld /var/lib/private/ipamd'
-look 0 '^-rw-------.* ipamd +ipamd ' 'ls -l /var/lib/ipamd/register.db'
+# by name where the machine has libnss-systemd; else by a number of those that systemd gives
+user='(ipamd|6[1-5][0-9]{3})'
+look 0 "^$user\$" 'ps -o user= -p "$(systemctl show -p MainPID --value ipamd)"'
+look 0 "^drwx------.* $user +$user " 'ls -ld /var/lib/private/ipamd'
+look 0 "^-rw-------.* $user +$user " 'ls -l /var/lib/ipamd/register.db'
 look 0 'Overall exposure level for ipamd.service: 1.[0-9] OK' 'systemd-analyze security --no-pager ipamd'
 post 10.0.0.0/24 '201$'
 
@@ -111,7 +113,7 @@ look 0 '' 'sleep 6'
 listens
 look 0 '' 'systemctl stop ipamd; cp /var/lib/ipamd/register.db whole.db; sqlite3 /var/lib/ipamd/register.db "UPDATE prefixes SET prefix = '"'10.0.0.1/24'"' WHERE id = 1"'
 look 0 '^ExecMainStatus=1$' 'systemctl start ipamd; sleep 8; systemctl show -p ExecMainStatus -p NRestarts ipamd'
-look 0 '^Active: failed|Active: failed' 'systemctl status ipamd; true'
+look 0 'Active: failed' 'systemctl status ipamd; true'
 look 0 'store: prefixes 1: ' 'journalctl --no-pager -u ipamd | tail -n 20'
 look 0 '' 'cp whole.db /var/lib/ipamd/register.db; rm -f /var/lib/ipamd/register.db-wal /var/lib/ipamd/register.db-shm; systemctl reset-failed ipamd; systemctl start ipamd'
 listens
