@@ -19,7 +19,6 @@ class Bench:
     limit: int
     needs: list = field(default_factory=list)
     proves: bool = False
-    long: bool = False
 
 
 BENCHES = [
@@ -38,14 +37,13 @@ BENCHES = [
     Bench("limits", ["limits.sh"], ["limits.sh"], 900, ["/usr/bin/time"]),
     Bench("free", ["free.sh"], ["free.sh", "20000"], 900, ["/usr/bin/time", "iprange"]),
     Bench("import", ["import.sh"], ["import.sh"], 900, ["sqlite3"]),
-    Bench("growths", ["growths.py", "free", "import", "post", "store"], ["growths.py", "free", "post"], 1800, ["cc"]),
+    Bench("growths", ["growths.py"], ["growths.py", "free", "post"], 1800, ["cc"]),
     Bench("register", ["register.sh", "40"], ["register.sh", "5"], 600),
     Bench("claims", ["claims.sh"], ["claims.sh"], 1200, ["psql", "runuser"]),
     Bench("store", ["store.sh", "3"], ["store.sh", "1"], 600),
     Bench("serve", ["serve.sh", "2"], ["serve.sh", "1"], 900, ["curl"]),
     Bench("full", ["full.sh"], ["full.sh"], 1200),
     Bench("full_log", ["full_log.sh"], ["full_log.sh"], 900),
-    Bench("growths_load", ["growths.py", "load"], ["growths.py", "load"], 5400, ["cc"], long=True),
 ] + [Bench(name, [name], [name], 1800, ["rt"], proves=True)
      for name in ("act.sh", "book.sh", "lock.sh", "node_size.sh", "prefixes.sh", "session.sh", "stops.sh", "text_compare.py", "tree.sh")]
 
@@ -164,8 +162,6 @@ def why_not(bench, names):
         return f"{', '.join(missing)} not found"
     if bench.proves and not names and "--proved" not in sys.argv:
         return "proves a program of its own (--proved)"
-    if bench.long and not names and "--long" not in sys.argv:
-        return "takes half an hour (--long)"
     return None
 
 
