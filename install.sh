@@ -1,6 +1,6 @@
 #!/bin/sh
 # Copies the program, its manual page and its systemd unit below a prefix: PREFIX/bin, PREFIX/share/man/man1, PREFIX/lib/systemd/system. The program
-# is built first where it is not there yet, which takes an hour or so from nothing; IPAMD=PROGRAM installs one that is built. Nothing is started, and no user is made.
+# is built first where it is not there yet, which takes half a minute where the gate passed on the machine, and half an hour or more from nothing; IPAMD=PROGRAM installs one that is built. Nothing is started, and no user is made.
 # usage: ./install.sh PREFIX, as ./install.sh /usr/local
 set -eu
 [ $# -eq 1 ] || { echo "usage: ./install.sh PREFIX" >&2; exit 2; }
