@@ -262,6 +262,7 @@ class Folder:
         command = step.command.replace("/usr/local", f"{self.path}/here")
         done = subprocess.run(["bash", "-c", command], cwd=self.path, env=self.env, stdin=subprocess.DEVNULL, capture_output=True, timeout=1800)
         told = (done.stdout.decode() + done.stderr.decode()).replace(f"{self.path}/here", "/usr/local")
+        told = re.sub(r"^ipamd: (proving and building .*|built)\n", "", told, flags=re.M)
         if done.returncode != step.status or not re.search(step.wanted, told, re.S):
             sys.exit(f"pages: {step.page}: {step.command}\nstatus {done.returncode}, printed\n{told}\nwanted {step.wanted}")
         return told
