@@ -34,7 +34,7 @@ copy() {
 : > "$scratch/crates.txt"
 copy register_core
 cp "$top/HANDLES" "$scratch/"
-echo 'act_bench: inet_num ipam_data ipam_keeper ipam_stored register_core anyhow' >> "$scratch/crates.txt"
+echo 'act_bench: inet_num ipam_data ipam_keeper stored_tables register_core anyhow' >> "$scratch/crates.txt"
 bench=$scratch/crates/act_bench
 mkdir -p "$bench/src"
 cat > "$bench/src/main.rt" <<'E'

@@ -26,9 +26,9 @@ cat > "$bench/src/main.rt" <<'E2'
 //! fastest and the slowest removal of five at the front, of five in the middle, and the sum of all answers.
 #![tactic(auto)]
 
-use indexed_book::IndexedBook;
+use placed_book::IndexedBook;
 use ipam_data::kinds::Row;
-use row_book::RowBook;
+use placed_book::RowBook;
 use std::alloc::AllocError;
 use std::env;
 use std::time::Instant;

@@ -8,7 +8,7 @@ ghost use Rattle.ipam_data.specs.Rirs.{rir_fault, same_rir_name, same_rir_slug};
 
 use ipam_data::replies::Rule;
 use ipam_data::rir::Rir;
-use row_book::RowBook;
+use placed_book::RowBook;
 
 /// RIRs in the order of their ids.
 pub type RirBook = RowBook<Rir>;

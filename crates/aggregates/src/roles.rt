@@ -8,7 +8,7 @@ ghost use Rattle.ipam_data.specs.Roles.{role_fault, same_role_name, same_role_sl
 
 use ipam_data::replies::Rule;
 use ipam_data::role::Role;
-use row_book::RowBook;
+use placed_book::RowBook;
 
 /// Roles in the order of their ids.
 pub type RoleBook = RowBook<Role>;

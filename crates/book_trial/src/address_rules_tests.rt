@@ -5,11 +5,11 @@
 ghost use Rattle.std.specs.Prelude.{◌≡◌, ℕ, ◌+◌, ◌≤◌, IfSome, OnOk};
 ghost use Rattle.ipam_data.specs.Shelf.{AllBelow};
 ghost use Rattle.ipam_data.specs.Rows.{address_id};
-ghost use Rattle.address_rules.specs.Book.{IsInOrder};
+ghost use Rattle.ip_addresses.specs.Book.{IsInOrder};
 
-use address_rules::{AddressBook, AddressRules};
 use block_list::BlockList;
 use inet_num::{Addr, Family};
+use ip_addresses::{AddressBook, AddressRules};
 use ipam_data::address::{AddressRole, AddressStatus, IpAddress};
 use ipam_data::host::Host;
 use ipam_data::kinds::Table;

@@ -6,7 +6,7 @@ use ipam_data::kinds::Table;
 use ipam_data::replies::Rule;
 use ipam_data::text::{Description, Distinguisher, Name};
 use ipam_data::vrf::Vrf;
-use row_book::Book;
+use placed_book::Book;
 use std::alloc::{AllocError, Global};
 use std::process::Abort;
 use std::test::Fail;

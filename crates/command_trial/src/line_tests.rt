@@ -1,22 +1,22 @@
 //! Runs, a line each: the call of a handed-in object that fails, if any; the status, what is written and said, and what the store has afterwards.
 ghost use Rattle.std.specs.Prelude.{◌≡◌, ◌≤◌, [], IfOk, length};
-ghost use Rattle.ipam_doors.specs.ListLanes.{lane_told};
-ghost use Rattle.ipam_doors.specs.ListListeners.{listener_returned, listener_lanes};
+ghost use Rattle.ipam_listen.specs.ListLanes.{lane_told};
+ghost use Rattle.ipam_listen.specs.ListListeners.{listener_returned, listener_lanes};
 
 use crate::office_tests::bytes_of;
 use crate::session_tests::part;
 use crate::store_tests::{number, opener_of};
 use crate::tests::{Left, run_with};
-use ipam_doors::{Handed, ListLane, ListListener};
 use ipam_edge::{BytesSink, BytesSource};
 use ipam_keeper::keeper::KeeperOpener;
 use ipam_keeper::opener::MemoryOpener;
-use ipam_stored::tables::{Row, Text};
+use ipam_listen::{Handed, ListLane, ListListener};
 use std::alloc::{AllocError, Global};
 use std::marker::Sync;
 use std::sync::Wait;
 use std::test::Fail;
 use std::thread::Threads;
+use stored_tables::tables::{Row, Text};
 
 /// A request that makes a prefix.
 const POST: &str =

@@ -8,12 +8,12 @@ use ipam_keeper::empty::empty_tables;
 use ipam_keeper::keeper::Keeper;
 use ipam_keeper::memory::MemoryKeeper;
 use ipam_keeper::opener::MemoryOpener;
-use ipam_stored::tables::{Change, Row, Rows, Tables, Text, Texts};
 use std::alloc::{AllocError, Global};
 use std::marker::Sync;
 use std::sync::Wait;
 use std::test::Fail;
 use std::thread::Threads;
+use stored_tables::tables::{Change, Row, Rows, Tables, Text, Texts};
 
 /// A store a case. Its first line is the version of the tables under the path `a` and, behind semicolons, what is put into the empty
 /// ones: prefixes, where a hyphen stands for the empty text, and which calls of each keeper fail. Each line after it is a session over

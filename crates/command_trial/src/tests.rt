@@ -1,12 +1,12 @@
 //! `run` over objects in memory.
 
 ghost use Rattle.std.specs.Prelude.{◌≤◌, length};
-ghost use Rattle.ipam_doors.specs.ListListeners.{listener_returned, listener_lanes};
+ghost use Rattle.ipam_listen.specs.ListListeners.{listener_returned, listener_lanes};
 
 use ipam_command::run;
-use ipam_doors::ListListener;
 use ipam_edge::{BytesSink, BytesSource};
 use ipam_keeper::opener::MemoryOpener;
+use ipam_listen::ListListener;
 use std::alloc::{AllocError, Global};
 use std::marker::Sync;
 use std::sync::Wait;

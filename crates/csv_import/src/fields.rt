@@ -1,7 +1,7 @@
 //! The texts of fields.
 
 ghost use Rattle.std.specs.Prelude.{◌≡◌, IfOk, string_bytes};
-ghost use Rattle.ipam_stored.specs.Stored.{flag_text, optional_text, host_text};
+ghost use Rattle.stored_tables.specs.Stored.{flag_text, optional_text, host_text};
 ghost use Rattle.csv_import.specs.Exports.{role_text};
 
 use inet_num::Addr;

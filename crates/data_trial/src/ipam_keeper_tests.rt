@@ -6,9 +6,9 @@ use ipam_keeper::empty::empty_tables;
 use ipam_keeper::keeper::{KeepFault, Keeper, KeeperOpener};
 use ipam_keeper::memory::MemoryKeeper;
 use ipam_keeper::opener::MemoryOpener;
-use ipam_stored::tables::{Change, Row, Rows, Text, Texts};
 use std::alloc::{AllocError, Global};
 use std::test::Fail;
+use stored_tables::tables::{Change, Row, Rows, Text, Texts};
 
 /// A call a line, numbered from 0: what is asked, whether it is done, and how many calls have failed then.
 const CALLS: &str = "\

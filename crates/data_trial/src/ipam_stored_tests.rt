@@ -1,11 +1,11 @@
 //! Stored rows that are read and those that are not, by the formats of their columns.
 
 use ipam_data::kinds::Kind;
-use ipam_stored::reading::read_row;
-use ipam_stored::tables::{Row, Text, Texts};
-use ipam_stored::writing::write_row;
 use std::alloc::{AllocError, Global};
 use std::test::Fail;
+use stored_tables::reading::read_row;
+use stored_tables::tables::{Row, Text, Texts};
+use stored_tables::writing::write_row;
 
 /// A case a line: whether the row is read, its kind, its id, and its texts, where a hyphen stands for the empty one.
 const CASES: &str = "\

@@ -1,10 +1,10 @@
 //! Lanes in memory and over a socket.
 
 ghost use Rattle.std.specs.Prelude.{◌≡◌, [], IfOk, IfSome, All, vec_len};
-ghost use Rattle.ipam_doors.specs.ListLanes.{lane_told};
+ghost use Rattle.ipam_listen.specs.ListLanes.{lane_told};
 
-use ipam_doors::{Lane, ListLane, ListListener, Listener, TcpDoor, TcpDoors};
 use ipam_edge::{BytesSink, BytesSource, Failed, Sink, Source};
+use ipam_listen::{Lane, ListLane, ListListener, Listener, TcpDoor, TcpDoors};
 use std::alloc::{AllocError, Global};
 use std::io::{Read, Write};
 use std::marker::Sync;

@@ -11,3 +11,4 @@ mod untaken;
 pub use addresses::{available_addrs, range_addrs};
 pub use blocks::available_blocks;
 pub use bounds::usable_bounds;
+pub use untaken::push_untaken;

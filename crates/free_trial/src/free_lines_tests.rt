@@ -1,6 +1,6 @@
 //! `run_free` over objects in memory: the same answer however the bytes are cut, each status, and each failing object.
 
-use free_lines::run_free;
+use command_free::run_free;
 use inet_num::read_block;
 use ipam_edge::{BytesSink, BytesSource};
 use std::alloc::{AllocError, Global};

@@ -20,7 +20,7 @@ use Rattle.ipam_data.specs.Vrfs.{vrf_fault, ids_named}
 use Rattle.ipam_data.specs.Prefixes.{prefix_fault}
 use Rattle.ipam_data.specs.Addresses.{address_fault}
 use Rattle.ipam_data.specs.HostNames.{is_dns_name}
-use Rattle.ipam_stored.specs.Stored.{vrf_texts, prefix_texts, address_texts}
+use Rattle.stored_tables.specs.Stored.{vrf_texts, prefix_texts, address_texts}
 use Rattle.ipam_data.proofs.Samples.{after, vrf, v4, host, host6}
 use Rattle.import_rows.specs.declared.rows.ImportRow.{ImportRow}
 use Rattle.import_rows.specs.declared.rows.ImportRow.TheVariants.{Vrf as VrfRow, Prefix as PrefixRow, IpRange as RangeRow, IpAddress as AddressRow}

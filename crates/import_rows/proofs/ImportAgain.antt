@@ -18,7 +18,7 @@ use Rattle.ipam_data.specs.declared.replies.Reply.{Reply}
 use Rattle.ipam_data.specs.declared.replies.Reply.TheVariants.{Imported}
 use Rattle.ipam_data.specs.declared.replies.Which.TheVariants.{Rows}
 use Rattle.ipam_data.specs.declared.replies.View.{View}
-use Rattle.ipam_stored.specs.declared.tables.Row.{Row}
+use Rattle.stored_tables.specs.declared.tables.Row.{Row}
 use Rattle.ipam_data.specs.Rows.{vrf_id, rir_id, role_id, aggregate_id, prefix_id, range_id, address_id}
 use Rattle.ipam_data.specs.Shelf.{with_row, AllBelow}
 use Rattle.ipam_data.specs.Checks.{first, breaks, too_many, no_log, most_spent}
@@ -32,7 +32,7 @@ use Rattle.ipam_data.specs.Prefixes.{prefix_rules}
 use Rattle.ipam_data.specs.Ranges.{range_rules}
 use Rattle.ipam_data.specs.Addresses.{address_rules}
 use Rattle.ipam_data.specs.Updates.{with_spent, updated, answered, outcome}
-use Rattle.ipam_stored.specs.Stored.{stored_row, vrf_texts, rir_texts, role_texts, aggregate_texts, prefix_texts, range_texts, address_texts}
+use Rattle.stored_tables.specs.Stored.{stored_row, vrf_texts, rir_texts, role_texts, aggregate_texts, prefix_texts, range_texts, address_texts}
 use Rattle.ipam_data.specs.Lawful.{IsLawful}
 use Rattle.import_rows.specs.Laws.{ImportAgainMakesNothing}
 use Rattle.import_rows.specs.Imports.{texts_of, times, records_of, kind_of_row, name_rules, value_rules, draft_of, Progress, begun, makes_one, record_of, with_record, with_draft, after_row, after_rows, at_row, create_checks, row_checks, row_verdict, row_verdicts, items_of, import_plan, most_rows, AreOfKind}

@@ -13,7 +13,7 @@ use Rattle.ipam_data.specs.Checks.{first, breaks, too_many, no_log}
 use Rattle.ipam_data.specs.State.{State, verdict_of}
 use Rattle.ipam_data.specs.Plans.{KindRules, broken, no_seats, creation}
 use Rattle.ipam_data.specs.Updates.{with_view, with_next, AreFit, CanUpdate}
-use Rattle.ipam_stored.specs.Stored.{next_of}
+use Rattle.stored_tables.specs.Stored.{next_of}
 use Rattle.ipam_data.specs.Vrfs.{vrf_rules}
 use Rattle.ipam_data.specs.Rirs.{rir_rules}
 use Rattle.ipam_data.specs.Roles.{role_rules}

@@ -25,7 +25,7 @@ use Rattle.ipam_data.specs.Prefixes.{prefix_rules}
 use Rattle.ipam_data.specs.Ranges.{range_rules}
 use Rattle.ipam_data.specs.Addresses.{address_rules}
 use Rattle.ipam_data.specs.Updates.{with_view, with_next, with_spent, updated, outcome}
-use Rattle.ipam_stored.specs.Stored.{next_of}
+use Rattle.stored_tables.specs.Stored.{next_of}
 use Rattle.ipam_data.specs.Steps.{next_for}
 use Rattle.ipam_data.specs.ByKind.{by_view}
 use Rattle.ipam_data.specs.Fields.{drafted, told_of_draft, HasDraftBounds}

@@ -33,7 +33,7 @@ use Rattle.ipam_data.specs.Plans.{add_row, creation}
 use Rattle.ipam_data.specs.Vrfs.{ids_named}
 use Rattle.ipam_data.specs.Ranges.{range_family, range_mask, most_of_range}
 use Rattle.ipam_data.specs.Addresses.{is_slaac_of_v4}
-use Rattle.ipam_stored.specs.Stored.{stored_row, stored_rows, next_of}
+use Rattle.stored_tables.specs.Stored.{stored_row, stored_rows, next_of}
 use Rattle.ipam_data.specs.ByKind.{by_view}
 use Rattle.ipam_data.specs.Fields.{drafted, told_of_draft, HasDraftBounds}
 use Rattle.ipam_data.specs.Steps.{next_for}

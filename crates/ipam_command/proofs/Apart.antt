@@ -8,8 +8,8 @@ use Rattle.command_words.specs.declared.asked.Serving.{Serving}
 use Rattle.command_words.specs.declared.asked.Command.TheVariants.{Free, Session, Serve, Import, Export, Report, Load}
 use Rattle.command_words.specs.Asked.{Asks}
 use Rattle.command_words.proofs.Unique.{words_ask_for_one}
-use Rattle.store_session.specs.Outside.{Stores, Outside}
-use Rattle.store_server.specs.Serve.{Doors, NobodyCame}
+use Rattle.command_session.specs.Outside.{Stores, Outside}
+use Rattle.command_serve.specs.Serve.{Doors, NobodyCame}
 
 -- the words of `free` are not those of `session`
 pub free_apart : (words : List (List ℕ)) (within : Cidr) (store : Store) → Asks words (Free within) → Asks words (Session store) → ⊥

@@ -12,11 +12,11 @@ use Rattle.ipam_data.specs.declared.range.IpRange.{IpRange}
 use Rattle.ipam_data.specs.declared.address.IpAddress.{IpAddress}
 use Rattle.ipam_data.specs.Shelf.{Shelf}
 use Rattle.ipam_data.specs.State.{State, empty_shelf, empty_state}
-use Rattle.ipam_stored.specs.declared.tables.Row.{Row}
-use Rattle.ipam_stored.specs.declared.tables.Tables.{Tables}
-use Rattle.ipam_stored.specs.Stored.{stored_rows, stored_vrf, stored_rir, stored_role, stored_aggregate, stored_prefix, stored_range, stored_address}
-use Rattle.ipam_stored.specs.Order.{empty_tables}
-use Rattle.ipam_stored.specs.Opening.{IsOpening}
+use Rattle.stored_tables.specs.declared.tables.Row.{Row}
+use Rattle.stored_tables.specs.declared.tables.Tables.{Tables}
+use Rattle.stored_tables.specs.Stored.{stored_rows, stored_vrf, stored_rir, stored_role, stored_aggregate, stored_prefix, stored_range, stored_address}
+use Rattle.stored_tables.specs.Order.{empty_tables}
+use Rattle.stored_tables.specs.Opening.{IsOpening}
 
 front_empty : {T : Type 0} (a b : List T) → a ++ b ≡ [] → a ≡ []
 front_empty [] b e = refl

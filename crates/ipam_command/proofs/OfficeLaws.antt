@@ -9,13 +9,13 @@ use Rattle.command_words.specs.Asked.{Asks}
 use Rattle.command_words.proofs.Unique.{words_ask_for_one}
 use Rattle.command_streams.specs.Streams.{Failed}
 use Rattle.ipam_data.specs.declared.kinds.Kind.{Kind}
-use Rattle.store_session.specs.Outside.{Stores, Outside, AreSame, NoCountFalls}
-use Rattle.store_session.proofs.Refused.{unchanged}
-use Rattle.store_server.specs.Serve.{Doors}
-use Rattle.store_office.specs.Files.{kind_named}
-use Rattle.store_office.specs.Import.{IsStored, IsImport}
-use Rattle.store_office.specs.Export.{IsExportText, IsPrinting, IsExport}
-use Rattle.store_office.specs.Report.{IsReportText, IsReport}
+use Rattle.command_session.specs.Outside.{Stores, Outside, AreSame, NoCountFalls}
+use Rattle.command_session.proofs.Refused.{unchanged}
+use Rattle.command_serve.specs.Serve.{Doors}
+use Rattle.command_files.specs.Files.{kind_named}
+use Rattle.command_files.specs.Import.{IsStored, IsImport}
+use Rattle.command_files.specs.Export.{IsExportText, IsPrinting, IsExport}
+use Rattle.command_files.specs.Report.{IsReportText, IsReport}
 use Rattle.ipam_command.specs.Clauses.{HasClauses}
 use Rattle.ipam_command.proofs.Apart.{lanes_kept, count_kept, nobody, same_import, same_export, same_report}
 

@@ -5,8 +5,8 @@ use Rattle.command_words.specs.declared.asked.Command.{Command}
 use Rattle.command_words.specs.declared.asked.Command.TheVariants.{Serve, Load}
 use Rattle.command_words.specs.Asked.{Asks, IsNoCommand}
 use Rattle.command_words.specs.Values.{IsNumberOr, IsNumberValue, most_claims, most_workers}
-use Rattle.store_session.specs.Outside.{Outside}
-use Rattle.store_server.specs.Serve.{Doors}
+use Rattle.command_session.specs.Outside.{Outside}
+use Rattle.command_serve.specs.Serve.{Doors}
 use Rattle.ipam_command.specs.Runs.{Answers, SaysUsage, Runs}
 
 -- a command that was read, and run

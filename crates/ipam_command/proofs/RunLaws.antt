@@ -9,27 +9,27 @@ use Rattle.command_words.specs.declared.asked.Command.TheVariants.{Free, Session
 use Rattle.command_words.specs.Asked.{Asks, IsNoCommand}
 use Rattle.command_words.proofs.Unique.{words_ask_for_one}
 use Rattle.command_streams.specs.Streams.{Streams, Told, Gains, Failed}
-use Rattle.free_lines.specs.declared.free.LineFault.{LineFault}
-use Rattle.free_lines.specs.Free.{IsFreeText, IsRefusedLine, refusal_text_of}
-use Rattle.free_lines.specs.Run.{IsFree}
-use Rattle.free_lines.proofs.OneAnswer.{one_answer}
-use Rattle.free_lines.proofs.Runs.{always}
+use Rattle.command_free.specs.declared.free.LineFault.{LineFault}
+use Rattle.command_free.specs.Free.{IsFreeText, IsRefusedLine, refusal_text_of}
+use Rattle.command_free.specs.Run.{IsFree}
+use Rattle.command_free.proofs.OneAnswer.{one_answer}
+use Rattle.command_free.proofs.Runs.{always}
 use Rattle.ipam_data.specs.State.{State, empty_state}
 use Rattle.rest_ipam.specs.Answered.{answers_plainly}
 use Rattle.kept_session.specs.Answered.{fresh}
-use Rattle.store_session.specs.Outside.{Stores, Outside, StoreFailed, AnyFailed, NoCountFalls}
-use Rattle.store_session.specs.Session.{Prints, Serves, IsSession}
-use Rattle.store_server.specs.Serve.{Doors, DoorsFailed, IsServe}
-use Rattle.register_load.specs.Load.{IsLoad}
-use Rattle.register_load.proofs.Ended.{unprinted}
+use Rattle.command_session.specs.Outside.{Stores, Outside, StoreFailed, AnyFailed, NoCountFalls}
+use Rattle.command_session.specs.Session.{Prints, Serves, IsSession}
+use Rattle.command_serve.specs.Serve.{Doors, DoorsFailed, IsServe}
+use Rattle.command_load.specs.Load.{IsLoad}
+use Rattle.command_load.proofs.Ended.{unprinted}
 use Rattle.ipam_command.specs.Runs.{SaysUsage}
 use Rattle.ipam_command.specs.Clauses.{ListenerFailed, IsExact, HasClauses, RunsHaveClauses}
-use Rattle.store_office.specs.Files.{kind_named}
+use Rattle.command_files.specs.Files.{kind_named}
 use Rattle.ipam_command.proofs.Empty.{empty_opened}
 use Rattle.ipam_command.proofs.Apart.{free_apart, serve_not_free, serve_not_session, load_not_free, load_not_session, load_not_serve, same_serving, same_load, same_block, same_store, unused, lanes_kept, count_kept, nobody}
 use Rattle.ipam_command.proofs.OfficeLaws.{import_not_begun, export_not_begun, report_not_begun, tables_stay, of_import, of_export, of_report}
-use Rattle.store_session.proofs.Refused.{not_begun}
-use Rattle.store_server.proofs.Unserved.{not_begun as none_served}
+use Rattle.command_session.proofs.Refused.{not_begun}
+use Rattle.command_serve.proofs.Unserved.{not_begun as none_served}
 use Rattle.ipam_command.proofs.Parts.{few_workers}
 
 -- where the blocks were printed no line is refused

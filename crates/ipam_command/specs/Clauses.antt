@@ -13,18 +13,18 @@ use Rattle.command_words.specs.declared.asked.Store.{Store}
 use Rattle.command_words.specs.declared.asked.Serving.{Serving}
 use Rattle.command_words.specs.Asked.{Asks, IsNoCommand}
 use Rattle.command_streams.specs.Streams.{Gains, Failed}
-use Rattle.free_lines.specs.declared.free.LineFault.{LineFault}
-use Rattle.free_lines.specs.Free.{IsRefusedLine}
-use Rattle.free_lines.specs.Run.{PrintsFree, NamesLine, FailsToRead, FailsToPrint, FailsToSay}
-use Rattle.store_session.specs.Outside.{Outside, StoreFailed, AnyFailed, AreSame, NoCountFalls}
-use Rattle.store_session.specs.Session.{IsLoaded, Prints, Serves, NamesFault, NamesFailure, IsSession}
-use Rattle.store_server.specs.Serve.{Doors, DoorsFailed, NobodyCame, Counts, IsServe}
-use Rattle.load_text.specs.Load.{load_text}
-use Rattle.register_load.specs.Load.{IsLoad}
-use Rattle.store_office.specs.Files.{kind_named}
-use Rattle.store_office.specs.Import.{PrintsCounts, NamesRefusal, NamesTables, NamesStore, IsStored, IsImport}
-use Rattle.store_office.specs.Export.{IsExportText, Prints as PrintsText, IsExport}
-use Rattle.store_office.specs.Report.{IsReportText, NamesAbsent, IsReport}
+use Rattle.command_free.specs.declared.free.LineFault.{LineFault}
+use Rattle.command_free.specs.Free.{IsRefusedLine}
+use Rattle.command_free.specs.Run.{PrintsFree, NamesLine, FailsToRead, FailsToPrint, FailsToSay}
+use Rattle.command_session.specs.Outside.{Outside, StoreFailed, AnyFailed, AreSame, NoCountFalls}
+use Rattle.command_session.specs.Session.{IsLoaded, Prints, Serves, NamesFault, NamesFailure, IsSession}
+use Rattle.command_serve.specs.Serve.{Doors, DoorsFailed, NobodyCame, Counts, IsServe}
+use Rattle.command_load.specs.LoadText.{load_text}
+use Rattle.command_load.specs.Load.{IsLoad}
+use Rattle.command_files.specs.Files.{kind_named}
+use Rattle.command_files.specs.Import.{PrintsCounts, NamesRefusal, NamesTables, NamesStore, IsStored, IsImport}
+use Rattle.command_files.specs.Export.{IsExportText, Prints as PrintsText, IsExport}
+use Rattle.command_files.specs.Report.{IsReportText, NamesAbsent, IsReport}
 use Rattle.ipam_command.specs.Runs.{usage_text, Runs}
 
 -- the words ask for what a block leaves

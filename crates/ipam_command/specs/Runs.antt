@@ -4,15 +4,15 @@ use Rattle.command_words.specs.declared.asked.Command.{Command}
 use Rattle.command_words.specs.declared.asked.Command.TheVariants.{Free, Session, Serve, Import, Export, Report, Load}
 use Rattle.command_words.specs.Asked.{Asks, IsNoCommand}
 use Rattle.command_streams.specs.Streams.{Streams, EndsWith, NeverFalls}
-use Rattle.free_lines.specs.Run.{IsFree}
-use Rattle.store_session.specs.Outside.{Outside}
-use Rattle.store_session.specs.Session.{IsSession}
-use Rattle.store_server.specs.Serve.{Doors, IsServe}
-use Rattle.register_load.specs.Load.{IsLoad}
-use Rattle.store_office.specs.Files.{kind_named}
-use Rattle.store_office.specs.Import.{IsImport}
-use Rattle.store_office.specs.Export.{IsExport}
-use Rattle.store_office.specs.Report.{IsReport}
+use Rattle.command_free.specs.Run.{IsFree}
+use Rattle.command_session.specs.Outside.{Outside}
+use Rattle.command_session.specs.Session.{IsSession}
+use Rattle.command_serve.specs.Serve.{Doors, IsServe}
+use Rattle.command_load.specs.Load.{IsLoad}
+use Rattle.command_files.specs.Files.{kind_named}
+use Rattle.command_files.specs.Import.{IsImport}
+use Rattle.command_files.specs.Export.{IsExport}
+use Rattle.command_files.specs.Report.{IsReport}
 
 -- what a run of the command leaves, with its status: `before` and `after` are what the listener tells
 abbrev pub Answers : Command → Outside → Outside → Doors → Doors → ℕ → Type 0

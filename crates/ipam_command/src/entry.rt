@@ -4,9 +4,9 @@ ghost use Rattle.std.specs.Prelude.{◌≤◌, length};
 
 use crate::{USAGE_TEXT, run};
 use command_streams::{MEMORY, USAGE, end_with};
-use ipam_doors::Listener;
 use ipam_edge::{standard_error, standard_input, standard_output};
 use ipam_keeper::keeper::KeeperOpener;
+use ipam_listen::Listener;
 use std::env;
 use std::io::ErrorKind;
 use std::marker::Sync;

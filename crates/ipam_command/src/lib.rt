@@ -5,27 +5,27 @@ ghost use Rattle.std.specs.Prelude.{◌≤◌, List, length, map, ℕ};
 ghost use Rattle.command_words.specs.Asked.{Asks};
 ghost use Rattle.command_streams.specs.Streams.{Told, streams, told};
 ghost use Rattle.ipam_command.specs.Clauses.{RunsHaveClauses};
-ghost use Rattle.store_session.specs.Outside.{Stores, outside, stores};
-ghost use Rattle.store_server.specs.Serve.{doors};
+ghost use Rattle.command_session.specs.Outside.{Stores, outside, stores};
+ghost use Rattle.command_serve.specs.Serve.{doors};
 ghost use Rattle.ipam_command.specs.Runs.{Answers, IsUsage, Runs};
 
 mod entry;
 
+use command_files::{kind_named, run_export, run_import, run_report};
+use command_free::run_free;
+use command_load::run_load;
+use command_serve::run_serve;
+use command_session::run_session;
 use command_streams::{MEMORY, USAGE, end_with};
 use command_words::{Command, read_words};
 pub use entry::program;
-use free_lines::run_free;
-use ipam_doors::Listener;
 use ipam_edge::{Sink, Source};
 use ipam_keeper::keeper::KeeperOpener;
-use register_load::run_load;
+use ipam_listen::Listener;
 use std::alloc::Global;
 use std::marker::Sync;
 use std::sync::Wait;
 use std::thread::Threads;
-use store_office::{kind_named, run_export, run_import, run_report};
-use store_server::run_serve;
-use store_session::run_session;
 
 /// What is said where the words ask for no command.
 pub(crate) const USAGE_TEXT: &[u8] = b"usage: ipamd COMMAND\n";

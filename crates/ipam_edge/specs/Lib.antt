@@ -4,3 +4,4 @@ pub mod Memory
 pub mod Reading
 pub mod Streams
 pub mod Writing
+pub mod Whole

@@ -5,6 +5,7 @@
 mod line;
 mod memory;
 mod streams;
+mod whole;
 
 ghost use Rattle.std.specs.Prelude.{◌≡◌, ◌<◌, ◌≤◌, ℕ, List, Option, IfOk, OnErr, length};
 ghost use Rattle.std.specs.Io.KnownBytes.{ReadConsumes, WriteAppends};
@@ -15,6 +16,7 @@ ghost use Rattle.ipam_edge.specs.Writing.{AppendsLess, ByWrites, WritesAll, take
 pub use line::{Both, Line};
 pub use memory::{BytesSink, BytesSource};
 pub use streams::{StdSink, StdSource, standard_error, standard_input, standard_output};
+pub use whole::{Unread, read_whole};
 
 /// The object failed, and counted it.
 #[derive(Clone, Copy, Debug, PartialEq, Eq)]

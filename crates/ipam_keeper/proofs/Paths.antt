@@ -4,8 +4,8 @@ use Rattle.std.specs.List.{position, position_or_len, slice_set}
 use Rattle.std.proofs.lemmas.Bool.Decides.{nat_tests}
 use Rattle.std.proofs.lemmas.Slice.Eq.{bytes_eq-Decides}
 use Rattle.std.specs.declared.alloc.AllocError.{AllocError}
-use Rattle.ipam_stored.specs.declared.tables.Tables.{Tables}
-use Rattle.ipam_stored.specs.Order.{AreTables, empty_tables}
+use Rattle.stored_tables.specs.declared.tables.Tables.{Tables}
+use Rattle.stored_tables.specs.Order.{AreTables, empty_tables}
 use Rattle.ipam_keeper.specs.Keeping.{is_under, tables_at, IsReturned}
 use Rattle.ipam_keeper.specs.Opener.{AllTables, kept_at, returned}
 

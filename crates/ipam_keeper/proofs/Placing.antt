@@ -5,8 +5,8 @@ use Rattle.std.proofs.lemmas.Bool.Decides.{nat_tests}
 use Rattle.ipam_data.specs.Shelf.{row_at, placed, Rises}
 use Rattle.ipam_data.proofs.Shelves.{eq_true, eq_false}
 use Rattle.ipam_data.proofs.Placed.{lt_true, lt_false, is_ne, is_eq, is_lt}
-use Rattle.row_book.specs.Book.{place, IsAt}
-use Rattle.row_book.proofs.Places.{any_default, is_at, place_from, none_at_place}
+use Rattle.placed_book.specs.RowBook.{place, IsAt}
+use Rattle.placed_book.proofs.RowPlaces.{any_default, is_at, place_from, none_at_place}
 
 module _ {T : Type 0} (id : T → ℕ) where
   -- where no row has the id, the row comes before the first whose id is above

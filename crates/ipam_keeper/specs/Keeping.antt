@@ -1,7 +1,7 @@
 -- What a keeper tells of its tables, what an opener knows of those under each path, and what their counts of faults do.
 use Rattle.std.specs.Prelude.{◌≡◌, ℕ, ◌+◌, ◌<◌, ◌≤◌, ◌⊎◌, Bool, bytes_eq, List, [], ◌∷◌, Option, Some, None, if◌then◌else◌, option_map}
-use Rattle.ipam_stored.specs.declared.tables.Tables.{Tables}
-use Rattle.ipam_stored.specs.Order.{empty_tables}
+use Rattle.stored_tables.specs.declared.tables.Tables.{Tables}
+use Rattle.stored_tables.specs.Order.{empty_tables}
 
 -- ---- counts
 

@@ -1,7 +1,7 @@
 -- What a keeper in memory holds, and what a call does to that.
 use Rattle.std.specs.Prelude.{ℕ, ◌+◌, ◌==◌, Bool, List, nat_lt, if◌then◌else◌}
 use Rattle.std.specs.List.{list_any}
-use Rattle.ipam_stored.specs.declared.tables.Tables.{Tables}
+use Rattle.stored_tables.specs.declared.tables.Tables.{Tables}
 use Rattle.ipam_keeper.specs.Keeping.{last_count}
 
 -- the tables, the numbers of the calls that fail, how many calls there were, and how many of them failed

@@ -1,7 +1,7 @@
 -- What an opener in memory holds.
 use Rattle.std.specs.Prelude.{ℕ, ◌<◌, List, [], ◌∷◌, Option, Some, None, if◌then◌else◌}
-use Rattle.ipam_stored.specs.declared.tables.Tables.{Tables}
-use Rattle.ipam_stored.specs.Order.{AreTables}
+use Rattle.stored_tables.specs.declared.tables.Tables.{Tables}
+use Rattle.stored_tables.specs.Order.{AreTables}
 use Rattle.ipam_keeper.specs.Keeping.{is_under}
 
 -- the tables under each path, the numbers of the calls of each keeper that fail, the path of the keeper that is out, if one is, and

@@ -1,12 +1,12 @@
 //! Tables without rows.
 
 ghost use Rattle.std.specs.Prelude.{◌≡◌, IfOk, IfSome};
-ghost use Rattle.ipam_stored.specs.Order.{AreTables, empty_tables as no_rows};
+ghost use Rattle.stored_tables.specs.Order.{AreTables, empty_tables as no_rows};
 
 use ipam_data::kinds::Kind;
 use ipam_data::update::Ids;
-use ipam_stored::tables::{Rows, Tables};
 use std::alloc::{AllocError, Global};
+use stored_tables::tables::{Rows, Tables};
 
 /// The tables without rows: version 1, and each next id is 1. `Err` is want of memory.
 pub fn empty_tables(alloc: Global) -> Result<Tables, AllocError>

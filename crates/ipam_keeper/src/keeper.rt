@@ -1,14 +1,14 @@
 //! What a keeper and an opener do, whatever they keep tables in.
 
 ghost use Rattle.std.specs.Prelude.{◌≡◌, ℕ, ◌≤◌, List, Option, option_map, option_copied, IfOk, OnOk, OnErr, IsErrOf};
-ghost use Rattle.ipam_stored.specs.declared.tables.Tables.{Tables as StoredTables};
-ghost use Rattle.ipam_stored.specs.Stored.{changed};
-ghost use Rattle.ipam_stored.specs.Order.{AreTables};
+ghost use Rattle.stored_tables.specs.declared.tables.Tables.{Tables as StoredTables};
+ghost use Rattle.stored_tables.specs.Stored.{changed};
+ghost use Rattle.stored_tables.specs.Order.{AreTables};
 ghost use Rattle.ipam_keeper.specs.declared.keeper.KeepFault.TheVariants.{Memory};
 ghost use Rattle.ipam_keeper.specs.Keeping.{Rose, IsRaised, IsTold, started, IsReturned};
 
-use ipam_stored::tables::{Change, Tables, Text};
 use std::alloc::AllocError;
+use stored_tables::tables::{Change, Tables, Text};
 
 /// Why a keeper did not do what it was asked, or was not started.
 #[derive(Clone, Copy, Debug)]

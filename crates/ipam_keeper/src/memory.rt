@@ -3,8 +3,8 @@
 ghost use Rattle.std.specs.Prelude.{◌≡◌, ◌↔◌, ℕ, ◌+◌, ◌<◌, ◌≤◌, ◌==◌, ◌⊎◌, Some, option_map, IfOk, OnOk, OnErr, IsTrue, IsErrOf, MatchResult, fold, vec_len, vec_capacity};
 ghost use Rattle.std.specs.List.{list_any};
 ghost use Rattle.ipam_data.specs.Shelf.{Rises, placed};
-ghost use Rattle.ipam_stored.specs.Stored.{row_place, next_place, without_stored, changed};
-ghost use Rattle.ipam_stored.specs.Order.{AreTables};
+ghost use Rattle.stored_tables.specs.Stored.{row_place, next_place, without_stored, changed};
+ghost use Rattle.stored_tables.specs.Order.{AreTables};
 ghost use Rattle.ipam_keeper.specs.Keeping.{Rose, IsTold};
 ghost use Rattle.ipam_keeper.specs.Memory.{is_failing, counted, holding};
 
@@ -12,9 +12,9 @@ use crate::keeper::{KeepFault, Keeper};
 use crate::places::{cut_all, put_all};
 use ipam_data::kinds::Kind;
 use ipam_data::update::Ids;
-use ipam_stored::tables::{Change, Row, Rows, Tables};
 use std::alloc::{AllocError, Global};
 use std::marker::Model;
+use stored_tables::tables::{Change, Row, Rows, Tables};
 
 /// A keeper in memory. It tells its tables. Its calls are counted from 0, and those whose numbers it was given fail.
 ///
@@ -32,7 +32,7 @@ pub struct MemoryKeeper {
 impl Model for MemoryKeeper {
     ghost use Rattle.std.specs.Prelude.{◌≤◌};
     ghost use Rattle.ipam_data.specs.Shelf.{Rises};
-    ghost use Rattle.ipam_stored.specs.Stored.{row_place, next_place};
+    ghost use Rattle.stored_tables.specs.Stored.{row_place, next_place};
     ghost use Rattle.ipam_keeper.specs.Memory.{Held};
 
     ghost Value = { Held };

@@ -2,16 +2,16 @@
 
 ghost use Rattle.std.specs.Prelude.{◌≡◌, ℕ, ◌+◌, ◌<◌, ◌≤◌, min, List, Some, None, option_copied, IfOk, OnOk, OnErr, IsErrOf, vec_len, vec_capacity};
 ghost use Rattle.std.specs.List.{position};
-ghost use Rattle.ipam_stored.specs.Order.{AreTables, empty_tables as no_rows};
+ghost use Rattle.stored_tables.specs.Order.{AreTables, empty_tables as no_rows};
 ghost use Rattle.ipam_keeper.specs.Keeping.{Rose, IsRaised, started, is_under, tables_at, IsReturned};
 ghost use Rattle.ipam_keeper.specs.Opener.{AllTables, kept_at, returned, lending};
 
 use crate::empty::empty_tables;
 use crate::keeper::{KeepFault, KeeperOpener};
 use crate::memory::MemoryKeeper;
-use ipam_stored::tables::{Tables, Text};
 use std::alloc::{AllocError, Global};
 use std::marker::Model;
+use stored_tables::tables::{Tables, Text};
 
 /// An opener of keepers in memory. It tells the tables under each path. Of two entries with one path the first counts.
 ///

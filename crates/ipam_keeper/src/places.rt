@@ -2,11 +2,11 @@
 
 ghost use Rattle.std.specs.Prelude.{◌≡◌, ℕ, ◌+◌, ◌*◌, ◌<◌, ◌≤◌, None, MatchBool, IfSome, IfNone, length, fold, vec_len, vec_capacity};
 ghost use Rattle.ipam_data.specs.Shelf.{Rises, placed, without, row_at};
-ghost use Rattle.ipam_stored.specs.Stored.{kind_number, place_of, row_place, next_place, without_stored};
-ghost use Rattle.row_book.specs.Book.{place, IsAt};
+ghost use Rattle.stored_tables.specs.Stored.{kind_number, place_of, row_place, next_place, without_stored};
+ghost use Rattle.placed_book.specs.RowBook.{place, IsAt};
 
 use ipam_data::kinds::Kind;
-use ipam_stored::tables::Row;
+use stored_tables::tables::Row;
 
 /// What stands in a list by a number from 1.
 pub(crate) trait HasPlace {

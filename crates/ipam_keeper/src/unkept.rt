@@ -4,8 +4,8 @@ ghost use Rattle.std.specs.Prelude.{◌≡◌, ℕ, ◌≤◌, None, option_map,
 
 use crate::empty::empty_tables;
 use crate::keeper::{KeepFault, Keeper};
-use ipam_stored::tables::{Change, Tables};
 use std::alloc::Global;
+use stored_tables::tables::{Change, Tables};
 
 /// A keeper that keeps nothing and tells nothing. It never fails.
 #[derive(Drop)]

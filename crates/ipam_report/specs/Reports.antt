@@ -5,7 +5,7 @@ use Rattle.inet_num.specs.Net.{Cidr, size_of}
 use Rattle.inet_num.specs.Text.{block_text_of}
 use Rattle.ipam_data.specs.declared.kinds.Table.{Table}
 use Rattle.ipam_data.specs.declared.kinds.Table.TheVariants.{Global, Of}
-use Rattle.survey_lines.specs.declared.PrefixLine.{PrefixLine}
+use Rattle.ipam_data.specs.declared.survey.PrefixLine.{PrefixLine}
 use Rattle.ipam_report.specs.declared.TheConstants.{BLOCK_PLACES}
 use Rattle.ipam_data.specs.Tables.{same_table}
 use Rattle.ipam_words.specs.Words.{prefix_status_value}

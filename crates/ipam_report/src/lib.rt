@@ -8,9 +8,9 @@ ghost use Rattle.ipam_report.specs.Reports.{free_line, free_text, heading, is_he
 
 use inet_num::{Block, Family};
 use ipam_data::kinds::{Table, is_one_table};
+use ipam_data::survey::PrefixLine;
 use ipam_words::prefix_status_value;
 use std::alloc::{AllocError, Global};
-use survey_lines::PrefixLine;
 
 #[cfg(test)]
 mod tests;

@@ -4,9 +4,9 @@ use crate::{free, table, tree};
 use inet_num::{Block, read_block};
 use ipam_data::kinds::Table;
 use ipam_data::prefix::PrefixStatus;
+use ipam_data::survey::PrefixLine;
 use std::alloc::{AllocError, Global};
 use std::test::Fail;
-use survey_lines::PrefixLine;
 
 /// The three reports, one after another.
 const TEXT: &str = "global

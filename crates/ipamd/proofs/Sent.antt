@@ -15,10 +15,10 @@ use Rattle.sqlite_std_file.specs.contracts.host.HostCalls.TheImpl as calls
 use Rattle.sqlite_store.specs.contracts.store.FileStore as FileStore
 use Rattle.sqlite_store.specs.contracts.store.FileStoreStore.TheImpl as file_store
 use Rattle.sqlite_store.proofs.store.FileStore.TheSendSync as store
-use Rattle.ipam_store.specs.contracts.keeper.SqliteKeeper as SqliteKeeper
-use Rattle.ipam_store.proofs.keeper.SqliteKeeper.TheSendSync as sqlite_keeper
-use Rattle.ipam_store.specs.contracts.opener.StoreKeeper as StoreKeeper
-use Rattle.ipam_store.proofs.opener.StoreKeeper.TheSendSync as store_keeper
+use Rattle.sqlite_keeper.specs.contracts.keeper.SqliteKeeper as SqliteKeeper
+use Rattle.sqlite_keeper.proofs.keeper.SqliteKeeper.TheSendSync as sqlite_keeper
+use Rattle.sqlite_keeper.specs.contracts.opener.StoreKeeper as StoreKeeper
+use Rattle.sqlite_keeper.proofs.opener.StoreKeeper.TheSendSync as store_keeper
 use Rattle.ipamd.specs.contracts.files.HostKeeper as HostKeeper
 
 record_send : IsSend Record.the_row

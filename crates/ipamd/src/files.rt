@@ -3,11 +3,11 @@
 ghost use Rattle.std.specs.Prelude.{None};
 
 use ipam_keeper::keeper::{KeepFault, Keeper};
-use ipam_store::{Connects, CountedKeeper, SqliteKeeper};
-use ipam_stored::tables::{Change, Tables, Text};
 use sqlite::{Connection, Error};
+use sqlite_keeper::{Connects, CountedKeeper, SqliteKeeper};
 use sqlite_std_file::File;
 use sqlite_store::FileStore;
+use stored_tables::tables::{Change, Tables, Text};
 
 /// A keeper over a file of the host. It is here alone that the store of a real file is named: a type of its own, so that what is over
 /// keepers has no part of that name.

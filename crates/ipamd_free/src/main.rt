@@ -3,8 +3,8 @@
 #![tactic(auto)]
 
 use ipam_command::program;
-use ipam_doors::ListListener;
 use ipam_keeper::opener::MemoryOpener;
+use ipam_listen::ListListener;
 use std::process::ExitCode;
 
 fn main(rt: HostRuntime) -> ExitCode {

@@ -3,7 +3,7 @@
 ghost use Rattle.std.specs.Prelude.{OnOk};
 ghost use Rattle.ipam_data.specs.Lawful.{IsLawful};
 ghost use Rattle.ipam_data.specs.Updates.{CanUpdate, updated};
-ghost use Rattle.register_shelves.specs.Held.{state_of};
+ghost use Rattle.register_tables.specs.Held.{state_of};
 
 use import_rows::rows::ImportRow;
 use inet_num::{Block, read_block};
@@ -14,7 +14,7 @@ use ipam_data::text::{Bounded, Name, Tested, Weight};
 use ipam_data::update::Update;
 use plan_export::rows_of;
 use register_plans::plan_draft;
-use register_shelves::{Planned, Shelves};
+use register_tables::{Planned, Shelves};
 use std::alloc::{AllocError, Global};
 use std::test::Fail;
 

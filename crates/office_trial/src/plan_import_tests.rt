@@ -10,7 +10,7 @@ use ipam_data::kinds::Kind;
 use ipam_data::prefix::PrefixStatus;
 use ipam_data::text::{Description, Name};
 use plan_import::make_rows;
-use register_shelves::Shelves;
+use register_tables::Shelves;
 use std::alloc::{AllocError, Global};
 use std::test::Fail;
 

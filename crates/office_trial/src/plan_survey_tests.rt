@@ -3,20 +3,20 @@
 ghost use Rattle.std.specs.Prelude.{OnOk};
 ghost use Rattle.ipam_data.specs.Lawful.{IsLawful};
 ghost use Rattle.ipam_data.specs.Updates.{CanUpdate, updated};
-ghost use Rattle.register_shelves.specs.Held.{state_of};
+ghost use Rattle.register_tables.specs.Held.{state_of};
 
 use inet_num::{Family, read_block};
 use ipam_data::calls::Draft;
 use ipam_data::kinds::Table;
 use ipam_data::prefix::PrefixStatus;
+use ipam_data::survey::PrefixLine;
 use ipam_data::text::{Bounded, Tested};
 use ipam_data::update::Update;
 use plan_survey::survey;
 use register_plans::plan_draft;
-use register_shelves::{Planned, Shelves};
+use register_tables::{Planned, Shelves};
 use std::alloc::{AllocError, Global};
 use std::test::Fail;
-use survey_lines::PrefixLine;
 
 /// The table (0 is the global one), the depth, the family, the first number, the length and the percent of each prefix, in order.
 const SURVEYED: &str = "\

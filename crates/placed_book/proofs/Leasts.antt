@@ -11,8 +11,8 @@ use Rattle.ipam_data.specs.declared.kinds.Table.{Table}
 use Rattle.ipam_data.specs.Shelf.{row_at, with_row, without, least, Rises, AllBelow}
 use Rattle.ipam_data.specs.Tables.{table_of, same_table}
 use Rattle.inet_num.specs.Blocks.{same_block}
-use Rattle.row_book.specs.Book.{IsFitting}
-use Rattle.row_book.proofs.Places.{none_below, without_none, eq_true, eq_false}
+use Rattle.placed_book.specs.RowBook.{IsFitting}
+use Rattle.placed_book.proofs.RowPlaces.{none_below, without_none, eq_true, eq_false}
 use Rattle.placed_book.specs.declared.firsts.Spot.{Spot}
 use Rattle.placed_book.specs.Book.{Placed, placed_id}
 use Rattle.placed_book.specs.Keys.{number_of}

@@ -14,3 +14,6 @@ pub mod Places
 pub mod Moves
 pub mod Leasts
 pub mod Listed
+pub mod RowPlaces
+pub mod Slots
+pub mod Index

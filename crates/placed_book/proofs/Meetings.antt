@@ -8,7 +8,7 @@ use Rattle.ipam_data.specs.declared.kinds.Table.{Table}
 use Rattle.ipam_data.specs.Shelf.{row_at, least, least_pair, Rises}
 use Rattle.ipam_data.specs.Tables.{table_of, same_table}
 use Rattle.inet_num.specs.Blocks.{same_family, same_block}
-use Rattle.row_book.proofs.Places.{none_below, eq_false}
+use Rattle.placed_book.proofs.RowPlaces.{none_below, eq_false}
 use Rattle.block_space.specs.Listed.{is_same, times_of}
 use Rattle.placed_book.specs.Book.{Placed, TableBlocks, is_of, blocks_at, AreInOrder}
 use Rattle.placed_book.specs.Rivals.{in_one_table, is_where, own_times, coincide_in, is_rival}

@@ -8,7 +8,7 @@ use Rattle.inet_num.specs.Net.{Cidr}
 use Rattle.ipam_data.specs.declared.kinds.Table.{Table}
 use Rattle.ipam_data.specs.Shelf.{row_at, with_row, without, Rises}
 use Rattle.ipam_data.proofs.Shelves.{contains_cases, contains_head, contains_rest}
-use Rattle.row_book.proofs.Places.{none_below, without_none}
+use Rattle.placed_book.proofs.RowPlaces.{none_below, without_none}
 use Rattle.placed_book.specs.Book.{Placed, placed_id, TableBlocks, is_of, blocks_at, blocks_of_rows, AreInOrder}
 use Rattle.placed_book.proofs.Orders.{swapped}
 

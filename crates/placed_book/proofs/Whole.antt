@@ -8,7 +8,7 @@ use Rattle.inet_num.specs.Net.{Cidr}
 use Rattle.block_space.specs.Listed.{times_of, is_same}
 use Rattle.ipam_data.specs.Shelf.{row_at, with_row, without, Rises}
 use Rattle.inet_num.specs.Blocks.{same_family}
-use Rattle.row_book.proofs.Places.{without_none}
+use Rattle.placed_book.proofs.RowPlaces.{without_none}
 use Rattle.placed_book.specs.Book.{Placed, placed_id, TableBlocks, blocks_of_family, blocks_of_all, AreAll}
 use Rattle.placed_book.specs.Changes.{IsOneMore, IsOneLess}
 use Rattle.placed_book.proofs.Orders.{one_family, same_family-refl, count_alike, count_yes, beside}

@@ -6,3 +6,5 @@ pub mod Figures
 pub mod Codes
 pub mod Kinds
 pub mod Firsts
+pub mod RowBook
+pub mod Indexed

@@ -7,13 +7,13 @@ ghost use Rattle.placed_book.specs.Firsts.{HasFirsts, is_at, ids_at, one_if};
 ghost use Rattle.placed_book.specs.Rivals.{is_rival, stays_among};
 
 use crate::Located;
+use crate::contract::{Book, in_order};
 use crate::firsts::{Firsts, spot_at};
+use crate::indexed::IndexedBook;
 use crate::tables::Tables;
 use block_space::Space;
-use indexed_book::IndexedBook;
 use inet_num::{Block, is_one_block};
 use ipam_data::kinds::{Table, is_one_table};
-use row_book::{Book, in_order};
 use std::alloc::{AllocError, Global};
 
 /// Whether the row is in the table and has the block.

@@ -5,7 +5,7 @@ ghost use Rattle.inet_num.specs.declared.Family.{Family};
 ghost use Rattle.ipam_data.specs.declared.kinds.Table.TheVariants.{Global as GlobalTable};
 ghost use Rattle.ipam_data.specs.Shelf.{Rises};
 ghost use Rattle.block_space.specs.Listed.{times_of};
-ghost use Rattle.row_book.specs.Book.{IsAt};
+ghost use Rattle.placed_book.specs.RowBook.{IsAt};
 ghost use Rattle.placed_book.specs.Book.{TableBlocks, empty_table, table_at, is_there, spare_of, blocks_at};
 ghost use Rattle.placed_book.specs.Changes.{IsOneMore, IsOneLess, IsSwapped, IsChangedAt, IsReserved, IsSpaceOf};
 ghost use Rattle.placed_book.specs.Keys.{number_of, key_of, IsGapFor};

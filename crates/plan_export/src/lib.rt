@@ -3,7 +3,7 @@
 
 ghost use Rattle.std.specs.Prelude.{◌≡◌, ◌<◌, Some, IfOk, length, map, slice_get};
 ghost use Rattle.ipam_data.specs.Lawful.{IsLawful};
-ghost use Rattle.register_shelves.specs.Held.{state_of};
+ghost use Rattle.register_tables.specs.Held.{state_of};
 ghost use Rattle.plan_export.specs.Exported.{exported};
 
 mod line;
@@ -19,7 +19,7 @@ use ipam_data::range::IpRange;
 use ipam_data::rir::Rir;
 use ipam_data::role::Role;
 use ipam_data::vrf::Vrf;
-use register_shelves::Shelves;
+use register_tables::Shelves;
 use std::alloc::AllocError;
 
 /// The record at an index that is there.

@@ -4,7 +4,7 @@ ghost use Rattle.std.specs.Prelude.{◌≡◌, Contains, IfOk};
 ghost use Rattle.ipam_data.specs.Lawful.{IsLawful};
 ghost use Rattle.ipam_data.specs.State.{State};
 ghost use Rattle.import_rows.specs.declared.rows.ImportRow.{ImportRow};
-ghost use Rattle.register_shelves.specs.Held.{state_of};
+ghost use Rattle.register_tables.specs.Held.{state_of};
 ghost use Rattle.plan_export.specs.Exported.{vrf_line, rir_line, role_line, aggregate_line, prefix_line, range_line, address_line};
 
 use crate::names::{dns_text_of, rir_name_of, role_name_of, vrf_name_of};
@@ -17,7 +17,7 @@ use ipam_data::rir::Rir;
 use ipam_data::role::Role;
 use ipam_data::vrf::{Vrf, copy_distinguisher};
 use register_plans::Registered;
-use register_shelves::Shelves;
+use register_tables::Shelves;
 use std::alloc::AllocError;
 
 /// A kind of record that is exported.

@@ -6,8 +6,8 @@ ghost use Rattle.ipam_data.specs.Shelf.{row_at};
 ghost use Rattle.plan_export.specs.Exported.{rir_name, role_name, vrf_name};
 
 use ipam_data::text::{DnsName, DnsText, Name};
-use register_shelves::Shelves;
-use row_book::Book;
+use placed_book::Book;
+use register_tables::Shelves;
 use std::alloc::{AllocError, Global};
 
 /// The name of the VRF of an id.

@@ -21,12 +21,12 @@ use Rattle.ipam_data.specs.Aggregates.{aggregate_rules}
 use Rattle.ipam_data.specs.Prefixes.{prefix_rules}
 use Rattle.ipam_data.specs.Ranges.{range_rules}
 use Rattle.ipam_data.specs.Addresses.{address_rules}
-use Rattle.ipam_stored.specs.Stored.{stored_row}
+use Rattle.stored_tables.specs.Stored.{stored_row}
 use Rattle.import_rows.specs.Imports.{texts_of, records_of, times, makes_one}
-use Rattle.row_counts.specs.Keys.{spelled, key_of}
-use Rattle.row_counts.specs.declared.Leftovers.{Leftovers}
-use Rattle.row_counts.specs.Left.{left_of, IsLeft}
-use Rattle.row_counts.proofs.KeyLaws.{exact}
+use Rattle.plan_import.specs.Keys.{spelled, key_of}
+use Rattle.plan_import.specs.declared.leftovers.Leftovers.{Leftovers}
+use Rattle.plan_import.specs.Left.{left_of, IsLeft}
+use Rattle.plan_import.proofs.SpelledLaws.{exact}
 use Rattle.plan_import.specs.declared.ready.Ready.{Ready}
 use Rattle.plan_import.specs.Ready.{keys_of, key_of_row, record_keys}
 

@@ -4,3 +4,5 @@ pub mod Steps
 pub mod Loops
 pub mod Rows
 pub mod Plans
+pub mod SpelledLaws
+pub mod LeftLaws

@@ -8,9 +8,9 @@ use Rattle.ipam_data.specs.Checks.{first}
 use Rattle.ipam_data.specs.State.{State}
 use Rattle.import_rows.specs.declared.rows.ImportRow.{ImportRow}
 use Rattle.import_rows.specs.Imports.{draft_of, texts_of, Progress, begun, makes_one, with_draft, after_row, after_rows, at_row, row_verdict, row_verdicts}
-use Rattle.row_counts.specs.Keys.{key_of}
-use Rattle.row_counts.specs.declared.Leftovers.{Leftovers}
-use Rattle.row_counts.specs.Left.{IsLeft}
+use Rattle.plan_import.specs.Keys.{key_of}
+use Rattle.plan_import.specs.declared.leftovers.Leftovers.{Leftovers}
+use Rattle.plan_import.specs.Left.{IsLeft}
 use Rattle.plan_import.specs.declared.halt.Halt.{Halt}
 use Rattle.plan_import.specs.declared.halt.Halt.TheVariants.{Refused, Memory}
 use Rattle.plan_import.specs.declared.ready.Ready.{Ready}

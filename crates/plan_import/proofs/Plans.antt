@@ -15,12 +15,12 @@ use Rattle.ipam_data.specs.State.{State, verdict_of}
 use Rattle.ipam_data.specs.Updates.{updated, with_spent}
 use Rattle.ipam_data.specs.Lawful.{IsLawful}
 use Rattle.ipam_data.proofs.Sound.{log_from, spent_keeps}
-use Rattle.ipam_stored.specs.Stored.{next_of}
+use Rattle.stored_tables.specs.Stored.{next_of}
 use Rattle.import_rows.specs.declared.rows.ImportRow.{ImportRow}
 use Rattle.import_rows.specs.Imports.{most_rows, draft_of, Progress, begun, makes_one, record_of, with_draft, after_row, after_rows, row_verdicts, items_of, import_plan, AreOfKind}
 use Rattle.import_rows.proofs.ImportLaws.{import_leads, spent_all}
-use Rattle.register_shelves.specs.Held.{Held, state_of, next_in}
-use Rattle.register_shelves.proofs.Firsts.{head_refuses, head_passes}
+use Rattle.register_tables.specs.Held.{Held, state_of, next_in}
+use Rattle.register_tables.proofs.Firsts.{head_refuses, head_passes}
 use Rattle.plan_import.specs.declared.halt.Halt.{Halt}
 use Rattle.plan_import.specs.declared.halt.Halt.TheVariants.{Refused, Memory}
 use Rattle.plan_import.specs.declared.Imported.{Imported}

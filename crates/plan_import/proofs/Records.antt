@@ -40,7 +40,7 @@ use Rattle.import_rows.specs.declared.rows.ImportRow.TheVariants.{Vrf as VrfRow,
 use Rattle.import_rows.specs.Imports.{name_rules, value_rules, draft_of, record_of, with_record, create_checks}
 use Rattle.ipam_data.proofs.Verdicts.{none_left}
 use Rattle.import_rows.proofs.ImportLaws.{record_keeps}
-use Rattle.register_shelves.proofs.Firsts.{head_refuses, head_passes}
+use Rattle.register_tables.proofs.Firsts.{head_refuses, head_passes}
 use Rattle.register_plans.specs.Broken.{first_broken}
 use Rattle.plan_import.specs.Halts.{fault_of}
 

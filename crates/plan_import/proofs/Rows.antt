@@ -11,8 +11,8 @@ use Rattle.ipam_data.specs.Fields.{told_of_draft}
 use Rattle.ipam_data.specs.State.{State}
 use Rattle.import_rows.specs.declared.rows.ImportRow.{ImportRow}
 use Rattle.import_rows.specs.Imports.{create_checks}
-use Rattle.row_counts.specs.declared.Leftovers.{Leftovers}
-use Rattle.row_counts.specs.Left.{IsLeft}
+use Rattle.plan_import.specs.declared.leftovers.Leftovers.{Leftovers}
+use Rattle.plan_import.specs.Left.{IsLeft}
 use Rattle.plan_import.specs.declared.ready.Ready.{Ready}
 use Rattle.plan_import.specs.Ready.{ready_rows, keys_of, record_keys, IsTaken}
 use Rattle.plan_import.proofs.KeyLaws.{any_at}

@@ -1,3 +1,5 @@
 pub mod Halts
 pub mod Ready
 pub mod Plan
+pub mod Keys
+pub mod Left

@@ -9,10 +9,10 @@ use Rattle.ipam_data.specs.Checks.{first, breaks}
 use Rattle.ipam_data.specs.State.{State}
 use Rattle.ipam_data.specs.Plans.{KindRules}
 use Rattle.ipam_data.specs.ByKind.{by_kind}
-use Rattle.ipam_stored.specs.Stored.{stored_row}
+use Rattle.stored_tables.specs.Stored.{stored_row}
 use Rattle.import_rows.specs.declared.rows.ImportRow.{ImportRow}
 use Rattle.import_rows.specs.Imports.{texts_of, draft_of, with_draft, create_checks}
-use Rattle.row_counts.specs.Keys.{key_of}
+use Rattle.plan_import.specs.Keys.{key_of}
 use Rattle.plan_import.specs.declared.halt.Halt.{Halt}
 use Rattle.plan_import.specs.declared.ready.Ready.{Ready}
 use Rattle.plan_import.specs.Halts.{fault_of, IsHaltBy}

@@ -4,12 +4,12 @@ ghost use Rattle.std.specs.Prelude.{◌≡◌, []};
 ghost use Rattle.ipam_data.specs.ByKind.{by_view};
 ghost use Rattle.ipam_data.specs.Checks.{first, no_room};
 ghost use Rattle.ipam_data.specs.Plans.{creation};
-ghost use Rattle.register_shelves.specs.Held.{state_of};
+ghost use Rattle.register_tables.specs.Held.{state_of};
 
 use ipam_data::kinds::{Kind, LAST_ID};
 use ipam_data::replies::{Refusal, View, Which};
 use register_plans::{Registered, broken};
-use register_shelves::Shelves;
+use register_tables::Shelves;
 
 /// Why a kind takes no further row, if so: it would have more than `most`, or no id is left.
 fn no_room_for_one(kind: Kind, most: u32, count: u32, next: u32) -> Option<Refusal>

@@ -6,7 +6,7 @@ ghost use Rattle.ipam_data.specs.Checks.{first};
 ghost use Rattle.ipam_data.specs.Fields.{drafted, told_of_draft};
 ghost use Rattle.ipam_data.specs.State.{State};
 ghost use Rattle.import_rows.specs.Imports.{draft_of, kind_of_row};
-ghost use Rattle.register_shelves.specs.Held.{state_of};
+ghost use Rattle.register_tables.specs.Held.{state_of};
 ghost use Rattle.plan_import.specs.Halts.{fault_of};
 
 use crate::names::{name_fault, rir_id_of, role_id_of, vrf_id_of};
@@ -20,7 +20,7 @@ use ipam_data::replies::{Rule, View};
 use ipam_data::rir::Rir;
 use ipam_data::role::Role;
 use ipam_data::vrf::{Vrf, copy_distinguisher};
-use register_shelves::Shelves;
+use register_tables::Shelves;
 use std::alloc::AllocError;
 
 /// The draft that a row of a VRF stands for.

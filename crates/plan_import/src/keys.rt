@@ -1,12 +1,13 @@
 //! The keys of rows and records, and how many records are left that a row may stand for.
 
 ghost use Rattle.std.specs.Prelude.{◌≡◌, ℕ, ◌<◌, ◌++◌, [], List, IfOk, OnOk, Some, length, map, slice_get, string_bytes};
-ghost use Rattle.ipam_stored.specs.Stored.{stored_row};
-ghost use Rattle.row_counts.specs.Keys.{key_of};
-ghost use Rattle.row_counts.specs.Left.{IsLeft};
-ghost use Rattle.register_shelves.specs.Held.{state_of};
+ghost use Rattle.stored_tables.specs.Stored.{stored_row};
+ghost use Rattle.plan_import.specs.Keys.{key_of};
+ghost use Rattle.plan_import.specs.Left.{IsLeft};
+ghost use Rattle.register_tables.specs.Held.{state_of};
 ghost use Rattle.plan_import.specs.Ready.{keys_of, key_of_row, record_keys};
 
+use crate::leftovers::{Leftovers, put_text};
 use crate::ready::Ready;
 use ipam_data::address::IpAddress;
 use ipam_data::aggregate::Aggregate;
@@ -17,12 +18,11 @@ use ipam_data::replies::View;
 use ipam_data::rir::Rir;
 use ipam_data::role::Role;
 use ipam_data::vrf::Vrf;
-use ipam_stored::tables::Text;
-use ipam_stored::writing::write_row;
 use register_plans::Registered;
-use register_shelves::Shelves;
-use row_counts::{Leftovers, put_text};
+use register_tables::Shelves;
 use std::alloc::{AllocError, Global};
+use stored_tables::tables::Text;
+use stored_tables::writing::write_row;
 
 /// The key of texts.
 fn key_of_texts(alloc: Global, texts: &[Text]) -> Result<String, AllocError>

@@ -8,7 +8,7 @@ ghost use Rattle.ipam_data.specs.Lawful.{IsLawful};
 ghost use Rattle.ipam_data.specs.State.{verdict_of};
 ghost use Rattle.ipam_data.specs.Updates.{updated, with_spent};
 ghost use Rattle.import_rows.specs.Imports.{AreOfKind, import_plan};
-ghost use Rattle.register_shelves.specs.Held.{next_in, state_of};
+ghost use Rattle.register_tables.specs.Held.{next_in, state_of};
 ghost use Rattle.plan_import.specs.Halts.{IsHaltBy};
 ghost use Rattle.plan_import.specs.Plan.{IsImported, items_for};
 
@@ -16,6 +16,8 @@ mod checks;
 mod drafts;
 mod halt;
 mod keys;
+pub mod laws;
+mod leftovers;
 mod made;
 mod names;
 mod one;
@@ -27,7 +29,7 @@ use import_rows::rows::{ImportRow, MOST_ROWS};
 use ipam_data::kinds::{Kind, MOST_SPENT};
 use ipam_data::replies::{Refusal, View, Views, Which};
 use ipam_data::update::{Ids, Update};
-use register_shelves::Shelves;
+use register_tables::Shelves;
 use std::alloc::{AllocError, Global};
 
 /// An import that was made: what it did to the rows, and how many of its rows made a record and how many stand for one that was there.

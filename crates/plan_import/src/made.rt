@@ -6,21 +6,21 @@ ghost use Rattle.ipam_data.specs.Checks.{first};
 ghost use Rattle.ipam_data.specs.Fields.{told_of_draft};
 ghost use Rattle.ipam_data.specs.Lawful.{IsLawful};
 ghost use Rattle.import_rows.specs.Imports.{at_row, begun, row_verdicts};
-ghost use Rattle.row_counts.specs.Left.{IsLeft};
-ghost use Rattle.register_shelves.specs.Held.{state_of};
+ghost use Rattle.plan_import.specs.Left.{IsLeft};
+ghost use Rattle.register_tables.specs.Held.{state_of};
 ghost use Rattle.plan_import.specs.Halts.{IsHaltBy, halt_at};
 ghost use Rattle.plan_import.specs.Plan.{AreMade};
 ghost use Rattle.plan_import.specs.Ready.{IsTaken};
 
 use crate::halt::Halt;
 use crate::keys::leftovers;
+use crate::leftovers::Leftovers;
 use crate::one::make;
 use crate::ready::{Ready, ready_all};
 use import_rows::rows::ImportRow;
 use ipam_data::kinds::Kind;
 use ipam_data::replies::{Refusal, RowFault, View};
-use register_shelves::Shelves;
-use row_counts::Leftovers;
+use register_tables::Shelves;
 use std::alloc::AllocError;
 
 /// Keeps a record behind those that were made before.

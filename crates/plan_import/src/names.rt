@@ -6,7 +6,7 @@ ghost use Rattle.ipam_data.specs.declared.role.Role.{Role};
 ghost use Rattle.ipam_data.specs.declared.rir.Rir.{Rir};
 ghost use Rattle.ipam_data.specs.Checks.{first};
 ghost use Rattle.import_rows.specs.Imports.{vrf_named, role_named, role_named_too, rir_named, one_of, vrf_rule, named_rule, role_rule, id_or_none, name_rules};
-ghost use Rattle.register_shelves.specs.Held.{state_of};
+ghost use Rattle.register_tables.specs.Held.{state_of};
 
 use import_rows::rows::ImportRow;
 use ipam_data::kinds::Kind;
@@ -14,7 +14,7 @@ use ipam_data::replies::Rule;
 use ipam_data::rir::Rir;
 use ipam_data::role::Role;
 use ipam_data::text::Name;
-use register_shelves::Shelves;
+use register_tables::Shelves;
 use vrf_table::VrfRules;
 
 /// The least id of a VRF with the name that is given.

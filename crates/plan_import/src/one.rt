@@ -7,7 +7,7 @@ ghost use Rattle.ipam_data.specs.Lawful.{IsLawful};
 ghost use Rattle.ipam_data.specs.Steps.{next_for};
 ghost use Rattle.ipam_data.specs.Updates.{IsFit, with_next, with_view};
 ghost use Rattle.import_rows.specs.Imports.{create_checks, record_of, with_record};
-ghost use Rattle.register_shelves.specs.Held.{state_of};
+ghost use Rattle.register_tables.specs.Held.{state_of};
 ghost use Rattle.plan_import.specs.Halts.{IsHaltBy};
 
 use crate::checks::check_view;
@@ -16,7 +16,7 @@ use crate::halt::Halt;
 use ipam_data::calls::Draft;
 use ipam_data::kinds::Kind;
 use ipam_data::replies::{Refusal, View};
-use register_shelves::Shelves;
+use register_tables::Shelves;
 use std::alloc::AllocError;
 
 /// The kind of the record that a draft makes.

@@ -4,8 +4,8 @@ ghost use Rattle.std.specs.Prelude.{◌≡◌, None, IfOk, string_bytes};
 ghost use Rattle.ipam_data.specs.Checks.{first};
 ghost use Rattle.ipam_data.specs.Fields.{told_of_draft};
 ghost use Rattle.import_rows.specs.Imports.{texts_of};
-ghost use Rattle.row_counts.specs.Keys.{key_of};
-ghost use Rattle.register_shelves.specs.Held.{state_of};
+ghost use Rattle.plan_import.specs.Keys.{key_of};
+ghost use Rattle.register_tables.specs.Held.{state_of};
 ghost use Rattle.plan_import.specs.Ready.{key_where, ready_of, ready_rows};
 
 use crate::drafts::{draft, fault, view_under};
@@ -14,7 +14,7 @@ use import_rows::rows::ImportRow;
 use ipam_data::calls::Draft;
 use ipam_data::replies::Rule;
 use ipam_data::text::Text;
-use register_shelves::Shelves;
+use register_tables::Shelves;
 use std::alloc::{AllocError, Global};
 
 /// A row made ready: its draft, the rule that it breaks by its names or its values, and, where it breaks none, the key of its texts.

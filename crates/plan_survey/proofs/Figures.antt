@@ -13,9 +13,9 @@ use Rattle.ipam_data.specs.Plans.{with_found}
 use Rattle.ipam_data.specs.Prefixes.{prefix_rules}
 use Rattle.ipam_data.specs.Claims.{prefix_figure, utilization_plan}
 use Rattle.ipam_data.proofs.Shelves.{eq_true, eq_false, contains_cases, rises_above}
-use Rattle.register_shelves.specs.declared.planned.Planned.{Planned}
-use Rattle.register_shelves.specs.declared.planned.Planned.TheVariants.{Refused, Read, Change}
-use Rattle.register_shelves.specs.Planned.{IsPlanned}
+use Rattle.register_tables.specs.declared.planned.Planned.{Planned}
+use Rattle.register_tables.specs.declared.planned.Planned.TheVariants.{Refused, Read, Change}
+use Rattle.register_tables.specs.Planned.{IsPlanned}
 
 -- a row that is there is found under its id
 pub found : {T : Type 0} (id : T → ℕ) (low : ℕ) (rows : List T) (row : T) → Rises id low rows → Contains rows row → row_at id rows (id row) ≡ Some row

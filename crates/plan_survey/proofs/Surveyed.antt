@@ -13,8 +13,8 @@ use Rattle.ipam_data.specs.Rows.{prefix_id}
 use Rattle.ipam_data.specs.State.{State}
 use Rattle.ipam_data.specs.Lawful.{IsLawful, IsPrefix}
 use Rattle.ipam_data.proofs.Shelves.{contains_cases}
-use Rattle.survey_lines.specs.Survey.{survey_place, surveyed, line_of, survey_of}
-use Rattle.survey_lines.proofs.Whole.{whole}
+use Rattle.ipam_data.specs.Survey.{survey_place, surveyed, line_of, survey_of}
+use Rattle.ipam_data.proofs.SurveyWhole.{whole}
 use Rattle.plan_survey.specs.declared.line.Placed.{Placed}
 use Rattle.plan_survey.specs.Digits.{digits_cmp, place_digits, placed_row}
 use Rattle.plan_survey.proofs.OneOrder.{one_order}

@@ -4,7 +4,7 @@ use Rattle.std.specs.declared.cmp.Ordering.{Ordering}
 use Rattle.std.specs.Ordering.{ordering_then, nat_cmp}
 use Rattle.ipam_data.specs.declared.prefix.Prefix.{Prefix}
 use Rattle.ipam_data.specs.State.{State}
-use Rattle.survey_lines.specs.Survey.{table_place, family_place, line_of}
+use Rattle.ipam_data.specs.Survey.{table_place, family_place, line_of}
 use Rattle.plan_survey.specs.declared.line.Placed.{Placed}
 
 abbrev pub Digits : Type 0

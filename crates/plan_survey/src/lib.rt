@@ -4,8 +4,8 @@
 ghost use Rattle.std.specs.Prelude.{◌≡◌, ◌<◌, Some, IfOk, IsPermutation, length, map, slice_get};
 ghost use Rattle.std.specs.List.Sorted.{IsSortedByKey};
 ghost use Rattle.ipam_data.specs.Lawful.{IsLawful};
-ghost use Rattle.register_shelves.specs.Held.{state_of};
-ghost use Rattle.survey_lines.specs.Survey.{survey_of};
+ghost use Rattle.register_tables.specs.Held.{state_of};
+ghost use Rattle.ipam_data.specs.Survey.{survey_of};
 ghost use Rattle.plan_survey.specs.declared.line.Placed.{Placed as SeenPlaced};
 ghost use Rattle.plan_survey.specs.Digits.{digits_cmp, placed_row};
 
@@ -14,10 +14,10 @@ mod place;
 
 use crate::line::{Placed, placed_line};
 use ipam_data::prefix::Prefix;
-use register_shelves::Shelves;
-use row_book::Book;
+use ipam_data::survey::PrefixLine;
+use placed_book::Book;
+use register_tables::Shelves;
 use std::alloc::{AllocError, Global};
-use survey_lines::PrefixLine;
 
 /// The prefix at an index that is there.
 fn prefix_at(shelves: &Shelves, index: u32) -> &Prefix

@@ -4,19 +4,19 @@ ghost use Rattle.std.specs.Prelude.{◌≡◌, ℕ, Contains};
 ghost use Rattle.ipam_data.specs.declared.replies.Reply.TheVariants.{Percent};
 ghost use Rattle.ipam_data.specs.Claims.{prefix_figure};
 ghost use Rattle.ipam_data.specs.Lawful.{IsLawful};
-ghost use Rattle.register_shelves.specs.declared.planned.Planned.TheVariants.{Read};
-ghost use Rattle.register_shelves.specs.Held.{state_of};
-ghost use Rattle.survey_lines.specs.Survey.{line_of};
+ghost use Rattle.register_tables.specs.declared.planned.Planned.TheVariants.{Read};
+ghost use Rattle.register_tables.specs.Held.{state_of};
+ghost use Rattle.ipam_data.specs.Survey.{line_of};
 ghost use Rattle.plan_survey.specs.Digits.{placed_row};
 
 use crate::place::{Place, place_of};
 use ipam_data::kinds::{Kind, Table};
 use ipam_data::prefix::Prefix;
 use ipam_data::replies::Reply;
+use ipam_data::survey::PrefixLine;
 use prefix_rules::PrefixRules;
 use register_claims::plan_utilization;
-use register_shelves::{Planned, Shelves};
-use survey_lines::PrefixLine;
+use register_tables::{Planned, Shelves};
 
 /// A line with the place of its prefix.
 #[derive(Clone, Copy, Debug)]

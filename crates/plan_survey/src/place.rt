@@ -1,7 +1,7 @@
 //! The place of a prefix among all.
 
 ghost use Rattle.std.specs.Prelude.{◌≡◌, ◌+◌, ◌*◌, ◌<◌, ◌≤◌, ◌^◌};
-ghost use Rattle.survey_lines.specs.Survey.{table_place, family_place};
+ghost use Rattle.ipam_data.specs.Survey.{table_place, family_place};
 ghost use Rattle.plan_survey.specs.Digits.{place_digits};
 
 use inet_num::Family;

@@ -30,10 +30,10 @@ use Rattle.ipam_data.specs.Replays.{is_accepted}
 use Rattle.ipam_data.specs.Prefixes.{prefix_rules}
 use Rattle.ipam_data.specs.Claims.{most_items, no_space, served, claim, wanted_length, told_of_block, lengths_of, claimed_prefixes}
 use Rattle.ipam_data.proofs.Verdicts.{none_head, none_left, none_right, none_broken, test_holds}
-use Rattle.register_shelves.specs.declared.planned.Planned.{Planned}
-use Rattle.register_shelves.specs.declared.planned.Planned.TheVariants.{Refused, Read, Change}
-use Rattle.register_shelves.specs.Planned.{IsPlanned}
-use Rattle.register_shelves.proofs.Firsts.{head_refuses, head_passes}
+use Rattle.register_tables.specs.declared.planned.Planned.{Planned}
+use Rattle.register_tables.specs.declared.planned.Planned.TheVariants.{Refused, Read, Change}
+use Rattle.register_tables.specs.Planned.{IsPlanned}
+use Rattle.register_tables.proofs.Firsts.{head_refuses, head_passes}
 use Rattle.register_claims.specs.Claimed.{claimed_prefix}
 
 -- ---- the row of an id

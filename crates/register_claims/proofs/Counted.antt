@@ -27,7 +27,7 @@ use Rattle.placed_book.specs.Kinds.{placed_prefix}
 use Rattle.placed_book.proofs.Inside.{counts_strictly}
 use Rattle.placed_book.proofs.Places.{places_at}
 use Rattle.placed_book.proofs.Rows.{found_row}
-use Rattle.register_shelves.specs.Beside.{blocks_in_table, blocks_in_all}
+use Rattle.register_tables.specs.Beside.{blocks_in_table, blocks_in_all}
 use Rattle.register_claims.specs.Children.{IsThere, own_table_blocks, blocks_beside}
 
 -- ---- a prefix that is there is lawful, and has its table

@@ -25,10 +25,10 @@ use Rattle.ipam_data.specs.State.{State, Plan, verdict_of}
 use Rattle.ipam_data.specs.Plans.{no_place}
 use Rattle.ipam_data.specs.Replays.{is_accepted}
 use Rattle.ipam_data.specs.Addresses.{address_rules}
-use Rattle.register_shelves.specs.declared.planned.Planned.{Planned}
-use Rattle.register_shelves.specs.declared.planned.Planned.TheVariants.{Refused, Read, Change}
-use Rattle.register_shelves.specs.Planned.{IsPlanned, IsChange}
-use Rattle.register_shelves.proofs.Firsts.{head_refuses, head_passes}
+use Rattle.register_tables.specs.declared.planned.Planned.{Planned}
+use Rattle.register_tables.specs.declared.planned.Planned.TheVariants.{Refused, Read, Change}
+use Rattle.register_tables.specs.Planned.{IsPlanned, IsChange}
+use Rattle.register_tables.proofs.Firsts.{head_refuses, head_passes}
 use Rattle.ipam_data.specs.declared.calls.AddrItem.{AddrItem}
 use Rattle.ipam_data.specs.declared.calls.Answered.{Answered}
 use Rattle.ipam_data.specs.declared.calls.Answered.TheVariants.{AsOne, AsList}

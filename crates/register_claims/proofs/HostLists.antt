@@ -18,9 +18,9 @@ use Rattle.ipam_data.specs.declared.range.IpRange.{IpRange}
 use Rattle.ipam_data.specs.State.{State}
 use Rattle.ipam_data.specs.Tables.{table_of}
 use Rattle.ipam_data.specs.Claims.{is_container, is_hosted, is_ranged, is_marked, is_host_beside, numbers_in, usable_in, usable_of_range, own_blocks, prefix_figure, range_figure}
-use Rattle.range_rules.specs.declared.Which.TheVariants.{All, Marked}
+use Rattle.ip_ranges.specs.declared.Which.TheVariants.{All, Marked}
 use Rattle.register_claims.specs.Hosts.{HasHosts, HasJust}
-use Rattle.range_rules.specs.Spans.{AreSpansOf}
+use Rattle.ip_ranges.specs.Spans.{AreSpansOf}
 use Rattle.register_claims.proofs.HostSpans.{ranged_in_spans, marked_in_spans}
 use Rattle.free_space.proofs.Passing.{same_between}
 use Rattle.utilisation.proofs.Counted.{counted_same, counted_block}

@@ -10,10 +10,10 @@ use Rattle.ipam_data.specs.declared.kinds.Table.{Table}
 use Rattle.ipam_data.specs.declared.prefix.Prefix.{Prefix}
 use Rattle.ipam_data.specs.declared.range.IpRange.{IpRange}
 use Rattle.ipam_data.specs.Tables.{table_of, same_table}
-use Rattle.range_rules.specs.declared.Which.{Which}
-use Rattle.range_rules.specs.declared.Which.TheVariants.{All, Marked}
+use Rattle.ip_ranges.specs.declared.Which.{Which}
+use Rattle.ip_ranges.specs.declared.Which.TheVariants.{All, Marked}
 use Rattle.ipam_data.specs.Claims.{has_number, is_beside, is_ranged, is_marked}
-use Rattle.range_rules.specs.Spans.{is_spanned, span_of, spans_of_rows, AreSpansOf}
+use Rattle.ip_ranges.specs.Spans.{is_spanned, span_of, spans_of_rows, AreSpansOf}
 use Rattle.register_claims.proofs.HostTests.{any_same, any_made}
 
 -- some span has the number where some row that the spans are of has it

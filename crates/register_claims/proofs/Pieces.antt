@@ -3,7 +3,7 @@ use Rattle.std.proofs.Common.{◌≡◌, ℕ, List, Option, Some, Result, Ok, Er
 use Rattle.std.specs.List.{AllByRecursion}
 use Rattle.inet_num.specs.Net.{Cidr}
 use Rattle.ipam_data.specs.declared.range.IpRange.{IpRange}
-use Rattle.range_rules.specs.Pieces.{ArePieces}
+use Rattle.ip_ranges.specs.Pieces.{ArePieces}
 
 -- each of them is of the range's family
 pub of_family : {V E : Type 0} (blocks_of : V → List Cidr) (r : Result V E) (found : Option IpRange) (range : IpRange) → found ≡ Some range → IfOk r (λ v. (row : IpRange) → found ≡ Some row → ArePieces row (blocks_of v))

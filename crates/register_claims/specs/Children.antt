@@ -6,7 +6,7 @@ use Rattle.ipam_data.specs.Tables.{table_of}
 use Rattle.ipam_data.specs.Rows.{prefix_id}
 use Rattle.ipam_data.specs.Shelf.{row_at}
 use Rattle.ipam_data.specs.Claims.{sees_all}
-use Rattle.register_shelves.specs.Beside.{blocks_in_table, blocks_in_all}
+use Rattle.register_tables.specs.Beside.{blocks_in_table, blocks_in_all}
 
 -- the prefix is there, under its id
 abbrev pub IsThere : List Prefix → Prefix → Type 0

@@ -9,8 +9,8 @@ ghost use Rattle.ipam_data.specs.Shelf.{row_at};
 ghost use Rattle.ipam_data.specs.Rows.{prefix_id};
 ghost use Rattle.ipam_data.specs.Prefixes.{prefix_rules};
 ghost use Rattle.ipam_data.specs.Claims.{most_items, child_blocks, claimed_prefixes, claim, claim_blocks_of, blocks_plan, claim_blocks_plan};
-ghost use Rattle.register_shelves.specs.Held.{state_of};
-ghost use Rattle.register_shelves.specs.Planned.{IsPlanned};
+ghost use Rattle.register_tables.specs.Held.{state_of};
+ghost use Rattle.register_tables.specs.Planned.{IsPlanned};
 ghost use Rattle.register_claims.specs.Children.{IsThere};
 
 use crate::checks::{changed, no_place, served, stopped};
@@ -23,7 +23,7 @@ use ipam_data::calls::{Answered, BlockItem};
 use ipam_data::kinds::{Kind, Table};
 use ipam_data::prefix::{MOST_PREFIXES, Prefix};
 use ipam_data::replies::{Blocks, Refusal, Reply};
-use register_shelves::{Planned, Shelves};
+use register_tables::{Planned, Shelves};
 use std::alloc::AllocError;
 
 /// The first available blocks of a prefix that is there, at most `limit`: the largest free ones, in order. `Err` is want of memory.

@@ -13,7 +13,7 @@ use ipam_data::calls::{Answered, MOST_ITEMS};
 use ipam_data::kinds::{Kind, LAST_ID, MOST_SPENT};
 use ipam_data::replies::{Refusal, Reply, View, Views, Which};
 use ipam_data::update::{Ids, Update};
-use register_shelves::Planned;
+use register_tables::Planned;
 use std::alloc::{AllocError, Global};
 
 /// Why a claim may not have so many items, if so.

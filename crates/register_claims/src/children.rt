@@ -3,7 +3,7 @@
 ghost use Rattle.std.specs.Prelude.{◌≡◌, IsPermutation, map};
 ghost use Rattle.ipam_data.specs.Claims.{is_container, sees_all};
 ghost use Rattle.prefix_rules.specs.Book.{IsInOrder};
-ghost use Rattle.register_shelves.specs.Beside.{blocks_in_all};
+ghost use Rattle.register_tables.specs.Beside.{blocks_in_all};
 ghost use Rattle.register_claims.specs.Children.{IsThere, own_table_blocks, blocks_beside};
 
 use block_space::Space;

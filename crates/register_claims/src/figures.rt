@@ -10,8 +10,8 @@ ghost use Rattle.ipam_data.specs.Rows.{aggregate_id};
 ghost use Rattle.ipam_data.specs.Aggregates.{aggregate_rules};
 ghost use Rattle.ipam_data.specs.Prefixes.{prefix_rules};
 ghost use Rattle.ipam_data.specs.Claims.{is_container, own_blocks, prefix_figure, aggregate_figure, figure_plan, utilization_plan};
-ghost use Rattle.register_shelves.specs.Held.{state_of};
-ghost use Rattle.register_shelves.specs.Planned.{IsPlanned};
+ghost use Rattle.register_tables.specs.Held.{state_of};
+ghost use Rattle.register_tables.specs.Planned.{IsPlanned};
 ghost use Rattle.register_claims.specs.Children.{IsThere};
 
 use crate::children::{is_container, own_space};
@@ -20,8 +20,8 @@ use ipam_data::aggregate::Aggregate;
 use ipam_data::kinds::Kind;
 use ipam_data::prefix::Prefix;
 use ipam_data::replies::{Refusal, Reply};
-use register_shelves::{Planned, Shelves};
-use row_book::Book;
+use placed_book::Book;
+use register_tables::{Planned, Shelves};
 use utilisation::{of_aggregate, of_container};
 
 /// How much of a prefix that is there the prefixes of its table inside it cover.
@@ -69,7 +69,7 @@ fn plan_aggregate_figure(shelves: &Shelves, id: u32) -> Planned
 }
 
 /// How much of a prefix that is there is used, in whole percent. It takes no memory.
-pub fn figure_of_prefix(shelves: &Shelves, row: &Prefix) -> u8
+fn figure_of_prefix(shelves: &Shelves, row: &Prefix) -> u8
     requires lawful { IsLawful (state_of shelves.now) }
     requires there { IsThere shelves.now.prefixes.rows row.now }
     ensures { result ≡ prefix_figure (state_of shelves.now) row.now }

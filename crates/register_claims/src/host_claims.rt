@@ -16,17 +16,18 @@ ghost use Rattle.ipam_data.specs.Tables.{table_of};
 ghost use Rattle.ipam_data.specs.Plans.{no_place};
 ghost use Rattle.ipam_data.specs.Addresses.{address_rules, is_slaac_of_v4};
 ghost use Rattle.ipam_data.specs.Lawful.{IsLawful};
-ghost use Rattle.register_shelves.specs.Held.{state_of};
-ghost use Rattle.register_shelves.specs.Planned.{IsPlanned};
+ghost use Rattle.register_tables.specs.Held.{state_of};
+ghost use Rattle.register_tables.specs.Planned.{IsPlanned};
 ghost use Rattle.ipam_data.specs.Claims.{most_items, told_of_address, claimed_addresses, served, numbers_in, usable_in, usable_of_range, claim_addresses_of, claim_prefix_addrs_plan, claim_range_addrs_plan};
-ghost use Rattle.range_rules.specs.declared.Which.TheVariants.{All as AllRanges};
-ghost use Rattle.range_rules.specs.Spans.{AreSpansOf};
+ghost use Rattle.ip_ranges.specs.declared.Which.TheVariants.{All as AllRanges};
+ghost use Rattle.ip_ranges.specs.Spans.{AreSpansOf};
 
 use crate::checks::{changed, no_place, served, stopped, too_many_items};
 use crate::hosts::{claimed_of_prefix, claimed_of_range};
 use crate::ranges::{pieces_of, spans_of};
 use block_claim::ClaimFault;
 use inet_num::{Addr, Block, Family, Span};
+use ip_ranges::Which as Wanted;
 use ipam_data::address::{AddressStatus, IpAddress, MOST_ADDRESSES};
 use ipam_data::calls::{AddrItem, Answered};
 use ipam_data::host::Host;
@@ -35,9 +36,8 @@ use ipam_data::kinds::{Kind, Table};
 use ipam_data::prefix::Prefix;
 use ipam_data::range::IpRange;
 use ipam_data::replies::{Refusal, Rule, View};
-use range_rules::Which as Wanted;
-use register_shelves::{Planned, Shelves};
-use row_book::Book;
+use placed_book::Book;
+use register_tables::{Planned, Shelves};
 use std::alloc::{AllocError, Global};
 
 // ---- what is told of the items

@@ -5,14 +5,14 @@ ghost use Rattle.inet_num.specs.declared.Family.{Family};
 ghost use Rattle.block_space.specs.Usable.{AreSingles};
 ghost use Rattle.placed_book.specs.Book.{blocks_of_rows};
 ghost use Rattle.placed_book.specs.Kinds.{placed_address};
-ghost use Rattle.address_rules.specs.Book.{IsInOrder};
+ghost use Rattle.ip_addresses.specs.Book.{IsInOrder};
 ghost use Rattle.ipam_data.specs.Claims.{sees_all, is_hosted, is_host_beside};
 ghost use Rattle.register_claims.specs.Hosts.{HasHosts, HasJust};
 
 use crate::children::sees_all;
-use address_rules::AddressBook;
 use block_space::Space;
 use inet_num::Family;
+use ip_addresses::AddressBook;
 use ipam_data::kinds::Table;
 use ipam_data::prefix::Prefix;
 use ipam_data::range::IpRange;

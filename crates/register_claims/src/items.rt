@@ -7,7 +7,7 @@ ghost use Rattle.ipam_data.specs.declared.replies.View.TheVariants.{Prefix as Pr
 ghost use Rattle.ipam_data.specs.Checks.{first, too_many};
 ghost use Rattle.ipam_data.specs.Prefixes.{prefix_rules};
 ghost use Rattle.ipam_data.specs.Claims.{most_items, told_of_block, lengths_of, claimed_prefixes};
-ghost use Rattle.register_shelves.specs.Held.{state_of};
+ghost use Rattle.register_tables.specs.Held.{state_of};
 ghost use Rattle.register_claims.specs.Claimed.{claimed_prefix};
 
 use crate::checks::too_many_items;
@@ -15,7 +15,7 @@ use inet_num::Block;
 use ipam_data::calls::BlockItem;
 use ipam_data::prefix::Prefix;
 use ipam_data::replies::{Refusal, Rule, View};
-use register_shelves::{Shelves, missing_role};
+use register_tables::{Shelves, missing_role};
 use std::alloc::{AllocError, Global};
 
 /// Why an item can't be served whatever is free, if so: its length does not fit the prefix, or its role is not there.

@@ -13,6 +13,6 @@ mod items;
 mod ranges;
 
 pub use blocks::{available_in, plan_available_blocks, plan_claim_blocks};
-pub use figures::{figure_of_prefix, plan_utilization};
+pub use figures::plan_utilization;
 pub use host_claims::{plan_claim_prefix_addrs, plan_claim_range_addrs};
 pub use hosts::{plan_prefix_addrs, plan_range_addrs};

@@ -6,15 +6,15 @@ ghost use Rattle.inet_num.specs.Count.{addresses_of};
 ghost use Rattle.ipam_data.specs.Lawful.{IsLawful};
 ghost use Rattle.ipam_data.specs.Shelf.{row_at};
 ghost use Rattle.ipam_data.specs.Rows.{range_id};
-ghost use Rattle.register_shelves.specs.Held.{state_of};
+ghost use Rattle.register_tables.specs.Held.{state_of};
 ghost use Rattle.ipam_data.specs.Claims.{numbers_in};
-ghost use Rattle.range_rules.specs.Spans.{AreSpansOf};
+ghost use Rattle.ip_ranges.specs.Spans.{AreSpansOf};
 
 use inet_num::{Block, Family, Span};
+use ip_ranges::Which;
 use ipam_data::kinds::Table;
 use ipam_data::range::IpRange;
-use range_rules::Which;
-use register_shelves::Shelves;
+use register_tables::Shelves;
 use std::alloc::AllocError;
 
 /// The spans of the ranges of a table and family, in order.

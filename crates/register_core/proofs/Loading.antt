@@ -7,15 +7,15 @@ use Rattle.ipam_data.specs.declared.replies.View.{View}
 use Rattle.ipam_data.specs.Shelf.{Rises}
 use Rattle.ipam_data.specs.State.{State}
 use Rattle.ipam_data.specs.Updates.{with_view, AreFit}
-use Rattle.ipam_stored.specs.declared.tables.Row.{Row}
-use Rattle.ipam_stored.specs.declared.tables.Tables.{Tables}
-use Rattle.ipam_stored.specs.declared.opening.Breach.{Breach}
-use Rattle.ipam_stored.specs.Stored.{stored_row, row_place, kinds}
-use Rattle.ipam_stored.specs.Order.{AreTables}
-use Rattle.ipam_stored.proofs.OpenLaws.{read_fit, accepted_are_opened}
-use Rattle.ipam_stored.specs.Reading.{IsBare, IsRead}
-use Rattle.ipam_stored.specs.Opening.{first_breach, AllBare, IsUnread, bare_state, loaded, is_overfull, is_bad_next, AreNextIds, IsAccepted, IsOpening}
-use Rattle.register_shelves.specs.Held.{Held, state_of}
+use Rattle.stored_tables.specs.declared.tables.Row.{Row}
+use Rattle.stored_tables.specs.declared.tables.Tables.{Tables}
+use Rattle.stored_tables.specs.declared.opening.Breach.{Breach}
+use Rattle.stored_tables.specs.Stored.{stored_row, row_place, kinds}
+use Rattle.stored_tables.specs.Order.{AreTables}
+use Rattle.stored_tables.proofs.OpenLaws.{read_fit, accepted_are_opened}
+use Rattle.stored_tables.specs.Reading.{IsBare, IsRead}
+use Rattle.stored_tables.specs.Opening.{first_breach, AllBare, IsUnread, bare_state, loaded, is_overfull, is_bad_next, AreNextIds, IsAccepted, IsOpening}
+use Rattle.register_tables.specs.Held.{Held, state_of}
 use Rattle.register_core.specs.Opened.{AreOf, AreRead}
 
 -- the rows that are left have the first breach of all of them, and lead where all lead; they fit

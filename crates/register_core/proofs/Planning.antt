@@ -1,7 +1,7 @@
 -- What is known where a call was planned as a change.
 use Rattle.std.proofs.Common.{◌≡◌, ◌≢◌, true, Option, Some, None, refl, ap, sym, ◌∙◌, subst}
 use Rattle.ipam_data.specs.declared.calls.Call.{Call}
-use Rattle.ipam_stored.specs.declared.tables.Change.{Change as StoredChange}
+use Rattle.stored_tables.specs.declared.tables.Change.{Change as StoredChange}
 use Rattle.ipam_data.specs.declared.update.Update.{Update}
 use Rattle.ipam_data.specs.declared.replies.Reply.{Reply}
 use Rattle.ipam_data.specs.declared.replies.Reply.TheVariants.{Made, MadeMany, Changed, Gone, Imported, One, Page, Blocks, Addrs, Percent, Refused}
@@ -9,20 +9,20 @@ use Rattle.ipam_data.specs.State.{State, Plan, verdict_of}
 use Rattle.ipam_data.specs.Steps.{plan_of, plain_step, HasCallBounds}
 use Rattle.ipam_data.specs.Updates.{updated, answered, outcome}
 use Rattle.ipam_data.specs.Updates.{CanUpdate}
-use Rattle.ipam_stored.specs.Stored.{tables_of, changed, change_of}
+use Rattle.stored_tables.specs.Stored.{tables_of, changed, change_of}
 use Rattle.ipam_data.specs.Replays.{is_accepted}
 use Rattle.ipam_data.specs.Lawful.{IsLawful}
 use Rattle.ipam_data.proofs.AllCalls.{steps_keep, calls_can}
 use Rattle.ipam_data.proofs.Sound.{nothing_done}
-use Rattle.ipam_stored.proofs.StoredLaws.{change_told, lawful_ordered}
-use Rattle.register_shelves.specs.declared.planned.Planned.{Planned}
-use Rattle.register_shelves.specs.declared.planned.Planned.TheVariants.{Read, Change}
+use Rattle.stored_tables.proofs.StoredLaws.{change_told, lawful_ordered}
+use Rattle.register_tables.specs.declared.planned.Planned.{Planned}
+use Rattle.register_tables.specs.declared.planned.Planned.TheVariants.{Read, Change}
 use Rattle.ipam_data.specs.declared.replies.Refusal.{Refusal}
 use Rattle.ipam_data.specs.declared.replies.Refusal.TheVariants.{Memory, Keeper}
 use Rattle.register_core.specs.declared.stop.Stop.{Stop}
 use Rattle.register_core.specs.declared.stop.Stop.TheVariants.{Memory as NoMemory, Keeper as KeeperStop}
 use Rattle.register_core.specs.Stops.{refusal_of}
-use Rattle.register_shelves.specs.Planned.{IsPlanned, IsRead, IsChange}
+use Rattle.register_tables.specs.Planned.{IsPlanned, IsRead, IsChange}
 use Rattle.register_core.specs.Kept.{Kept, Leads, IsLastChange}
 
 -- a change that was planned is that of the plan

@@ -1,14 +1,14 @@
 -- What a keeper tells after an update, by the names that a caller has.
 use Rattle.std.proofs.Common.{◌≡◌, ◌↔◌, IsSome, Option, Some, None, option_map, sym, subst}
-use Rattle.ipam_stored.specs.declared.tables.Tables.{Tables}
-use Rattle.ipam_stored.specs.declared.tables.Change.{Change}
+use Rattle.stored_tables.specs.declared.tables.Tables.{Tables}
+use Rattle.stored_tables.specs.declared.tables.Change.{Change}
 use Rattle.ipam_data.specs.declared.update.Update.{Update}
 use Rattle.ipam_data.specs.State.{State}
 use Rattle.ipam_data.specs.Updates.{updated}
 use Rattle.ipam_data.specs.Updates.{CanUpdate}
-use Rattle.ipam_stored.specs.Stored.{changed, change_of, Tells}
+use Rattle.stored_tables.specs.Stored.{changed, change_of, Tells}
 use Rattle.ipam_data.specs.Lawful.{IsLawful}
-use Rattle.ipam_stored.proofs.StoredLaws.{told_after}
+use Rattle.stored_tables.proofs.StoredLaws.{told_after}
 
 pub told_at : (old inner new : State) (u : Update) (change : Change) (told after : Option Tables) → inner ≡ old → IsLawful inner → CanUpdate old u → new ≡ updated old u
     → change ≡ change_of u → after ≡ option_map (changed change) told → Tells told old → Tells after new

@@ -3,13 +3,13 @@ use Rattle.std.specs.Prelude.{◌≡◌, ℕ, Bool, List, Option, Some, None, Re
 use Rattle.ipam_data.specs.declared.kinds.Kind.{Kind}
 use Rattle.ipam_data.specs.declared.replies.View.{View}
 use Rattle.ipam_data.specs.State.{State}
-use Rattle.ipam_stored.specs.declared.tables.Row.{Row}
-use Rattle.ipam_stored.specs.declared.tables.Tables.{Tables}
-use Rattle.ipam_stored.specs.declared.opening.OpenFault.{OpenFault}
-use Rattle.ipam_stored.specs.Stored.{stored_row}
-use Rattle.ipam_stored.specs.Opening.{AllBare, IsUnread, IsOfTables, IsRefused, IsOpening}
+use Rattle.stored_tables.specs.declared.tables.Row.{Row}
+use Rattle.stored_tables.specs.declared.tables.Tables.{Tables}
+use Rattle.stored_tables.specs.declared.opening.OpenFault.{OpenFault}
+use Rattle.stored_tables.specs.Stored.{stored_row}
+use Rattle.stored_tables.specs.Opening.{AllBare, IsUnread, IsOfTables, IsRefused, IsOpening}
 use Rattle.ipam_keeper.specs.Keeping.{IsTold}
-use Rattle.register_shelves.specs.Held.{Held, state_of}
+use Rattle.register_tables.specs.Held.{Held, state_of}
 
 -- these views are those of the rows, one for each
 pub record AreOf (rows : List Row) (views : List View) : Type 0 where

@@ -3,8 +3,8 @@
 ghost use Rattle.std.specs.Prelude.{◌≡◌, IfOk};
 ghost use Rattle.ipam_data.specs.Lawful.{IsLawful};
 ghost use Rattle.ipam_data.specs.Steps.{plan_of};
-ghost use Rattle.register_shelves.specs.Held.{state_of};
-ghost use Rattle.register_shelves.specs.Planned.{IsPlanned};
+ghost use Rattle.register_tables.specs.Held.{state_of};
+ghost use Rattle.register_tables.specs.Planned.{IsPlanned};
 
 use ipam_data::calls::Call;
 use register_claims::{
@@ -12,7 +12,7 @@ use register_claims::{
     plan_prefix_addrs, plan_range_addrs, plan_utilization,
 };
 use register_plans::{plan_draft, plan_edit, plan_gone, plan_one, plan_page};
-use register_shelves::{Planned, Shelves};
+use register_tables::{Planned, Shelves};
 use std::alloc::AllocError;
 
 /// What a call comes to. The state stays: a claim of blocks takes a space out of its book and puts it back, and all others change

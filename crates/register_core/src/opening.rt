@@ -2,11 +2,11 @@
 
 ghost use Rattle.std.specs.Prelude.{◌≡◌, ℕ, ◌≤◌, [], None, IfOk, IfErr};
 ghost use Rattle.ipam_data.specs.Lawful.{IsLawful};
-ghost use Rattle.ipam_stored.specs.Order.{AreTables};
-ghost use Rattle.ipam_stored.specs.Stored.{Tells};
-ghost use Rattle.ipam_stored.specs.Opening.{IsOfTables};
+ghost use Rattle.stored_tables.specs.Order.{AreTables};
+ghost use Rattle.stored_tables.specs.Stored.{Tells};
+ghost use Rattle.stored_tables.specs.Opening.{IsOfTables};
 ghost use Rattle.ipam_keeper.specs.Keeping.{Rose};
-ghost use Rattle.register_shelves.specs.Held.{state_of};
+ghost use Rattle.register_tables.specs.Held.{state_of};
 ghost use Rattle.register_core.specs.Opened.{IsChecked, IsOpened, IsUnopened};
 
 use crate::books::Books;
@@ -14,10 +14,10 @@ use crate::passes::{bare, fill, first_bad_next, first_overfull, most_of, read_al
 use crate::register::{Register, Settings};
 use ipam_data::replies::Which;
 use ipam_keeper::keeper::{KeepFault, Keeper};
-use ipam_stored::opening::OpenFault;
-use ipam_stored::tables::Tables;
-use register_shelves::Shelves;
+use register_tables::Shelves;
 use std::alloc::{AllocError, Global};
+use stored_tables::opening::OpenFault;
+use stored_tables::tables::Tables;
 
 /// The shelves of the rows of stored tables, or what is first found wrong with the tables. `Err` is want of memory.
 fn check(

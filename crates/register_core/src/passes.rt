@@ -3,9 +3,9 @@
 ghost use Rattle.std.specs.Prelude.{◌≡◌, ℕ, ◌<◌, ◌≤◌, ◌==◌, IfOk, OnOk, Some, None, [], find, fold, map, count_by, take, length};
 ghost use Rattle.std.specs.List.{list_any};
 ghost use Rattle.ipam_data.specs.Updates.{with_view, AreFit};
-ghost use Rattle.ipam_stored.specs.Stored.{kind_number, kinds, stored_row};
-ghost use Rattle.ipam_stored.specs.Opening.{breach_of, first_breach, told_next, bare_state, most_of, is_of_kind, is_overfull, is_past, is_bad_next, AreNextIds};
-ghost use Rattle.register_shelves.specs.Held.{state_of};
+ghost use Rattle.stored_tables.specs.Stored.{kind_number, kinds, stored_row};
+ghost use Rattle.stored_tables.specs.Opening.{breach_of, first_breach, told_next, bare_state, most_of, is_of_kind, is_overfull, is_past, is_bad_next, AreNextIds};
+ghost use Rattle.register_tables.specs.Held.{state_of};
 ghost use Rattle.register_core.specs.Opened.{AreRead};
 
 use ipam_data::address::MOST_ADDRESSES;
@@ -17,12 +17,12 @@ use ipam_data::replies::View;
 use ipam_data::rir::MOST_RIRS;
 use ipam_data::role::MOST_ROLES;
 use ipam_data::vrf::MOST_VRFS;
-use ipam_stored::opening::Breach;
-use ipam_stored::reading::read_row;
-use ipam_stored::tables::Row;
 use register_plans::broken_by_view;
-use register_shelves::Shelves;
+use register_tables::Shelves;
 use std::alloc::{AllocError, Global};
+use stored_tables::opening::Breach;
+use stored_tables::reading::read_row;
+use stored_tables::tables::Row;
 
 // ---- the rows are read
 

@@ -25,8 +25,8 @@ use Rattle.ipam_data.specs.Ranges.{range_rules}
 use Rattle.ipam_data.specs.Addresses.{address_rules}
 use Rattle.ipam_data.specs.Fields.{drafted, told_of_draft, kind_of_draft, edited_range, told_of_change}
 use Rattle.ipam_data.specs.Steps.{next_for, create_plan}
-use Rattle.register_shelves.specs.declared.planned.Planned.{Planned}
-use Rattle.register_shelves.specs.Planned.{IsPlanned}
+use Rattle.register_tables.specs.declared.planned.Planned.{Planned}
+use Rattle.register_tables.specs.Planned.{IsPlanned}
 use Rattle.register_plans.specs.Broken.{own_row}
 use Rattle.ipam_data.proofs.DraftLaws.{range_stays}
 use Rattle.register_plans.proofs.Verdicts.{create_named, create_told, all_create_untold, all_replace_untold}

@@ -4,9 +4,9 @@ use Rattle.std.specs.declared.alloc.AllocError.{AllocError}
 use Rattle.ipam_data.specs.declared.kinds.Kind.{Kind}
 use Rattle.ipam_data.specs.declared.replies.Reply.TheVariants.{Gone}
 use Rattle.ipam_data.specs.declared.replies.View.{View}
-use Rattle.register_shelves.specs.declared.planned.Planned.{Planned}
-use Rattle.register_shelves.specs.declared.planned.Planned.TheVariants.{Refused, Read, Change}
-use Rattle.register_shelves.specs.Planned.{IsPlanned}
+use Rattle.register_tables.specs.declared.planned.Planned.{Planned}
+use Rattle.register_tables.specs.declared.planned.Planned.TheVariants.{Refused, Read, Change}
+use Rattle.register_tables.specs.Planned.{IsPlanned}
 use Rattle.ipam_data.specs.declared.kinds.TheConstants.{LAST_ID}
 use Rattle.ipam_data.specs.declared.replies.Rule.{Rule}
 use Rattle.ipam_data.specs.declared.replies.Refusal.{Refusal}
@@ -17,7 +17,7 @@ use Rattle.ipam_data.specs.State.{State, Plan, verdict_of}
 use Rattle.ipam_data.specs.Plans.{KindRules, broken, no_seats, creation, create, replace, take_out, delete, change, with_found, nothing_told}
 use Rattle.ipam_data.proofs.Verdicts.{none_left, none_right, room_from}
 use Rattle.ipam_data.proofs.Kept.{found_there}
-use Rattle.register_shelves.proofs.Firsts.{head_refuses, head_passes}
+use Rattle.register_tables.proofs.Firsts.{head_refuses, head_passes}
 use Rattle.register_plans.specs.Broken.{first_broken, own_row}
 
 -- the first rule of a list, as a refusal

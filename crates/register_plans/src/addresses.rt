@@ -7,20 +7,20 @@ ghost use Rattle.ipam_data.specs.Checks.{asks};
 ghost use Rattle.ipam_data.specs.Plans.{change, nothing_told};
 ghost use Rattle.ipam_data.specs.Fields.{edited_address};
 ghost use Rattle.ipam_data.specs.Addresses.{address_rules, address_fault, has_role};
-ghost use Rattle.register_shelves.specs.Held.{state_of};
-ghost use Rattle.register_shelves.specs.Planned.{IsPlanned};
+ghost use Rattle.register_tables.specs.Held.{state_of};
+ghost use Rattle.register_tables.specs.Planned.{IsPlanned};
 ghost use Rattle.register_plans.specs.Meets.{address_meets};
 
 use crate::calls::plan_replace;
 use crate::candidates::{area_of, ids_asked};
 use crate::filters::{asks_family, asks_name, asks_parent, asks_text};
 use crate::registered::Registered;
-use address_rules::AddressRules;
+use ip_addresses::AddressRules;
 use ipam_data::address::{AddressRole, AddressStatus, IpAddress, MOST_ADDRESSES};
 use ipam_data::calls::{Edit, Filter};
 use ipam_data::kinds::{Kind, Table};
 use ipam_data::replies::{Refusal, Rule, View};
-use register_shelves::{Planned, Shelves, missing_vrf};
+use register_tables::{Planned, Shelves, missing_vrf};
 use std::alloc::AllocError;
 use vrf_table::VrfRules;
 

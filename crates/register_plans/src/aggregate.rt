@@ -4,8 +4,8 @@ ghost use Rattle.std.specs.Prelude.{IfOk};
 ghost use Rattle.ipam_data.specs.Plans.{change, nothing_told};
 ghost use Rattle.ipam_data.specs.Fields.{edited_aggregate};
 ghost use Rattle.ipam_data.specs.Aggregates.{aggregate_rules};
-ghost use Rattle.register_shelves.specs.Held.{state_of};
-ghost use Rattle.register_shelves.specs.Planned.{IsPlanned};
+ghost use Rattle.register_tables.specs.Held.{state_of};
+ghost use Rattle.register_tables.specs.Planned.{IsPlanned};
 ghost use Rattle.register_plans.specs.Meets.{aggregate_meets};
 
 use crate::calls::plan_replace;
@@ -16,8 +16,8 @@ use ipam_data::aggregate::{Aggregate, MOST_AGGREGATES};
 use ipam_data::calls::{Edit, Filter};
 use ipam_data::kinds::Kind;
 use ipam_data::replies::{Refusal, Rule, View};
-use register_shelves::{Planned, Shelves, missing_rir};
-use row_book::Book;
+use placed_book::Book;
+use register_tables::{Planned, Shelves, missing_rir};
 use std::alloc::AllocError;
 
 impl Registered for Aggregate {

@@ -7,8 +7,8 @@ ghost use Rattle.ipam_data.specs.Lawful.{IsLawful};
 ghost use Rattle.ipam_data.specs.Shelf.{row_at};
 ghost use Rattle.ipam_data.specs.State.{verdict_of};
 ghost use Rattle.ipam_data.specs.Plans.{create, replace, delete, get, list};
-ghost use Rattle.register_shelves.specs.Held.{state_of};
-ghost use Rattle.register_shelves.specs.Planned.{IsPlanned};
+ghost use Rattle.register_tables.specs.Held.{state_of};
+ghost use Rattle.register_tables.specs.Planned.{IsPlanned};
 ghost use Rattle.register_plans.specs.Pages.{is_paged, one_if, only_if, one_of, only_of, page_of};
 ghost use Rattle.register_plans.specs.Candidates.{AreCandidates};
 ghost use Rattle.register_plans.specs.Broken.{first_broken, own_row};
@@ -18,7 +18,7 @@ use ipam_data::calls::Filter;
 use ipam_data::kinds::{Kind, LAST_ID, MOST_SPENT};
 use ipam_data::replies::{Refusal, Reply, Rule, View, Views, Which};
 use ipam_data::update::{Ids, Update};
-use register_shelves::{Planned, Shelves};
+use register_tables::{Planned, Shelves};
 use std::alloc::{AllocError, Global};
 
 /// Why a kind takes no further row, if so: it would have more than `most`, or no id is left.

@@ -17,7 +17,7 @@ use ipam_data::kinds::Table;
 use place_search::{Area, ids_in};
 use placed_book::{Located, PlacedBook};
 use radix_tree::Tree;
-use register_shelves::Shelves;
+use register_tables::Shelves;
 use std::alloc::AllocError;
 
 /// The global table and those of the VRFs. `Err` is want of memory.

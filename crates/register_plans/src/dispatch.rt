@@ -3,8 +3,8 @@
 ghost use Rattle.std.specs.Prelude.{◌≡◌, IfOk};
 ghost use Rattle.ipam_data.specs.Lawful.{IsLawful};
 ghost use Rattle.ipam_data.specs.Steps.{create_plan, change_plan, delete_plan, get_plan, list_plan};
-ghost use Rattle.register_shelves.specs.Held.{state_of};
-ghost use Rattle.register_shelves.specs.Planned.{IsPlanned};
+ghost use Rattle.register_tables.specs.Held.{state_of};
+ghost use Rattle.register_tables.specs.Planned.{IsPlanned};
 ghost use Rattle.register_plans.specs.Broken.{broken_new};
 
 use crate::calls::{broken, plan_create, plan_delete, plan_get, plan_list};
@@ -19,7 +19,7 @@ use ipam_data::replies::{Rule, View};
 use ipam_data::rir::Rir;
 use ipam_data::role::Role;
 use ipam_data::vrf::Vrf;
-use register_shelves::{Planned, Shelves};
+use register_tables::{Planned, Shelves};
 use std::alloc::AllocError;
 
 /// The first rule that a row breaks as a new one beside the rows that are there, the rows that it names first.

@@ -7,8 +7,8 @@ ghost use Rattle.ipam_data.specs.Fields.{edited_prefix};
 ghost use Rattle.ipam_data.specs.Prefixes.{prefix_rules, prefix_fault};
 ghost use Rattle.ipam_data.specs.Rows.{prefix_status_number};
 ghost use Rattle.ipam_data.specs.Checks.{asks};
-ghost use Rattle.register_shelves.specs.Held.{state_of};
-ghost use Rattle.register_shelves.specs.Planned.{IsPlanned};
+ghost use Rattle.register_tables.specs.Held.{state_of};
+ghost use Rattle.register_tables.specs.Planned.{IsPlanned};
 ghost use Rattle.register_plans.specs.Meets.{prefix_meets};
 
 use crate::calls::plan_replace;
@@ -20,7 +20,7 @@ use ipam_data::kinds::{Kind, Table};
 use ipam_data::prefix::{MOST_PREFIXES, Prefix, PrefixStatus};
 use ipam_data::replies::{Refusal, Rule, View};
 use prefix_rules::PrefixRules;
-use register_shelves::{Planned, Shelves, missing_role, missing_vrf};
+use register_tables::{Planned, Shelves, missing_role, missing_vrf};
 use std::alloc::AllocError;
 use vrf_table::VrfRules;
 

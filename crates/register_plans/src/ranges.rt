@@ -12,8 +12,8 @@ ghost use Rattle.ipam_data.specs.ByKind.{by_view};
 ghost use Rattle.ipam_data.specs.Fields.{drafted, told_of_draft, kind_of_draft, edited_range, told_of_change};
 ghost use Rattle.ipam_data.specs.Steps.{next_for, create_plan};
 ghost use Rattle.ipam_data.specs.Ranges.{range_rules, range_told, range_family};
-ghost use Rattle.register_shelves.specs.Held.{state_of};
-ghost use Rattle.register_shelves.specs.Planned.{IsPlanned};
+ghost use Rattle.register_tables.specs.Held.{state_of};
+ghost use Rattle.register_tables.specs.Planned.{IsPlanned};
 ghost use Rattle.register_plans.specs.Meets.{range_meets};
 
 use crate::calls::{plan_create, plan_replace};
@@ -26,8 +26,8 @@ use ipam_data::host::Host;
 use ipam_data::kinds::Kind;
 use ipam_data::range::{IpRange, MOST_RANGES, RangeStatus};
 use ipam_data::replies::{Refusal, Rule, View};
-use register_shelves::{Planned, Shelves, missing_role, missing_vrf};
-use row_book::Book;
+use placed_book::Book;
+use register_tables::{Planned, Shelves, missing_role, missing_vrf};
 use std::alloc::AllocError;
 
 /// Why start and end make no range, by their families.

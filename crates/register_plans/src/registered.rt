@@ -7,14 +7,14 @@ ghost use Rattle.ipam_data.specs.Shelf.{Shelf, row_at, Rises};
 ghost use Rattle.ipam_data.specs.State.{State};
 ghost use Rattle.ipam_data.specs.Plans.{KindRules};
 ghost use Rattle.ipam_data.specs.Lawful.{IsLawful};
-ghost use Rattle.register_shelves.specs.Held.{state_of};
+ghost use Rattle.register_tables.specs.Held.{state_of};
 ghost use Rattle.register_plans.specs.Broken.{own_row};
 ghost use Rattle.register_plans.specs.Candidates.{AreCandidates};
 
 use ipam_data::calls::Filter;
 use ipam_data::kinds::{HasId, Kind};
 use ipam_data::replies::{Refusal, Rule, View};
-use register_shelves::Shelves;
+use register_tables::Shelves;
 use std::alloc::AllocError;
 
 /// A kind of row: its rules, and the few functions that look at them.

@@ -8,8 +8,8 @@ ghost use Rattle.ipam_data.specs.Fields.{edited_role};
 ghost use Rattle.ipam_data.specs.Roles.{role_rules};
 ghost use Rattle.ipam_data.specs.Prefixes.{prefix_rules, prefixes_without_role};
 ghost use Rattle.ipam_data.specs.Ranges.{range_rules, ranges_without_role};
-ghost use Rattle.register_shelves.specs.Held.{state_of};
-ghost use Rattle.register_shelves.specs.Planned.{IsPlanned};
+ghost use Rattle.register_tables.specs.Held.{state_of};
+ghost use Rattle.register_tables.specs.Planned.{IsPlanned};
 ghost use Rattle.register_plans.specs.Meets.{role_meets};
 
 use crate::calls::plan_replace;
@@ -23,8 +23,8 @@ use ipam_data::prefix::Prefix;
 use ipam_data::range::IpRange;
 use ipam_data::replies::{Refusal, Rule, View};
 use ipam_data::role::{MOST_ROLES, Role};
-use register_shelves::{Planned, Prefixes, Shelves};
-use row_book::Book;
+use placed_book::Book;
+use register_tables::{Planned, Prefixes, Shelves};
 use std::alloc::AllocError;
 
 /// Adds a prefix without the role, where it has it. `Err` is want of memory.

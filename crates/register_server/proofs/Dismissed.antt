@@ -4,7 +4,7 @@ use Rattle.std.proofs.lemmas.List.Elements.{All-push}
 use Rattle.std.proofs.lemmas.List.Sums.{sum_by_push}
 use mathlib.Core.List.{IsPrefix, map-append}
 use Rattle.history_lock.specs.Seats.{IsJoined}
-use Rattle.ipam_doors.specs.Connections.{Connection, Returned}
+use Rattle.ipam_listen.specs.Connections.{Connection, Returned}
 use Rattle.ipam_data.specs.State.{State}
 use Rattle.shared_session.specs.Told.{Caller, Made, newcomer, standing_of}
 use Rattle.shared_workers.specs.Served.{AreServed}

@@ -3,7 +3,7 @@ use Rattle.std.proofs.Common.{◌≡◌, ℕ, List, [], length, Option, Some, If
 use Rattle.atomic_table.specs.Seated.{TableId}
 use Rattle.history_lock.specs.Replay.{own_entries}
 use Rattle.history_lock.specs.Seats.{IsSplit}
-use Rattle.ipam_doors.specs.Connections.{Connection}
+use Rattle.ipam_listen.specs.Connections.{Connection}
 use Rattle.ipam_data.specs.State.{State}
 use Rattle.shared_session.specs.Told.{Caller, newcomer, standing_of}
 use Rattle.shared_workers.specs.declared.workers.Worker.{Worker}

@@ -1,7 +1,7 @@
 -- Numbers of seats that were split off one at a time, and joined again from the last to the first.
 use Rattle.std.proofs.Common.{◌≡◌, ◌+◌, ◌-◌, ℕ, suc, List, [], ◌∷◌, ◌++◌, length, Option, Some, IfSome, sym, ap, ◌∙◌, subst, arith}
 use Rattle.std.specs.Option.{option_to_list}
-use Rattle.ipam_doors.specs.Connections.{Connection}
+use Rattle.ipam_listen.specs.Connections.{Connection}
 use Rattle.shared_session.specs.Told.{Caller}
 use Rattle.shared_workers.specs.Workers.{AllHaveWorked, HasWorked}
 use Rattle.shared_workers.specs.declared.workers.Worker.{Worker}

@@ -1,13 +1,13 @@
 -- What came of a keeper whose tables were opened, by what came of the register over it.
 use Rattle.std.proofs.Common.{◌≡◌, ◌≤◌, ◌+◌, ℕ, Bool, List, Option, Some, None, Result, Ok, Err, IfSome, sym, ◌∙◌, subst, arith, inl, inr}
 use Rattle.history_lock.specs.Machines.{Reaches}
-use Rattle.ipam_doors.specs.Connections.{Returned}
+use Rattle.ipam_listen.specs.Connections.{Returned}
 use Rattle.ipam_data.specs.State.{State}
-use Rattle.ipam_stored.specs.declared.tables.Tables.{Tables}
-use Rattle.ipam_stored.specs.declared.opening.OpenFault.{OpenFault}
-use Rattle.ipam_stored.specs.declared.opening.OpenFault.TheVariants.{Keeper as KeeperFailed, Memory as NoMemory}
-use Rattle.ipam_stored.specs.Stored.{Tells}
-use Rattle.ipam_stored.specs.Opening.{IsOfTables}
+use Rattle.stored_tables.specs.declared.tables.Tables.{Tables}
+use Rattle.stored_tables.specs.declared.opening.OpenFault.{OpenFault}
+use Rattle.stored_tables.specs.declared.opening.OpenFault.TheVariants.{Keeper as KeeperFailed, Memory as NoMemory}
+use Rattle.stored_tables.specs.Stored.{Tells}
+use Rattle.stored_tables.specs.Opening.{IsOfTables}
 use Rattle.ipam_keeper.specs.Keeping.{IsTold}
 use Rattle.register_core.specs.Opened.{IsOpened}
 use Rattle.register_server.specs.declared.ending.Served.{Served}

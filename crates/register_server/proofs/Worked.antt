@@ -1,7 +1,7 @@
 -- Hired workers after their work.
 use Rattle.std.proofs.Common.{◌≡◌, ◌<◌, ℕ, List, All, length, get_or, Option, Some, None, sym, ap, ◌∙◌, subst}
 use Rattle.atomic_table.specs.Seated.{TableId}
-use Rattle.ipam_doors.specs.Connections.{Connection}
+use Rattle.ipam_listen.specs.Connections.{Connection}
 use Rattle.ipam_data.specs.State.{State}
 use Rattle.shared_session.specs.Told.{Caller, Standing, newcomer, standing_of}
 use Rattle.shared_workers.specs.Served.{AreServed}

@@ -1,7 +1,7 @@
 -- What a hired worker has, before and after its work.
 use Rattle.std.specs.Prelude.{◌≡◌, ◌+◌, ◌++◌, ◌-◌, ℕ, length, List, [], ◌∷◌, All, Option, Some, IfSome, map}
 use Rattle.atomic_table.specs.Seated.{TableId}
-use Rattle.ipam_doors.specs.Connections.{Connection, Returned}
+use Rattle.ipam_listen.specs.Connections.{Connection, Returned}
 use Rattle.ipam_data.specs.State.{State}
 use Rattle.shared_session.specs.Told.{Caller, newcomer, standing_of}
 use Rattle.shared_workers.specs.Served.{AreServed}

@@ -2,14 +2,14 @@
 use Rattle.std.specs.Prelude.{◌≡◌, ◌≢◌, ◌+◌, ◌++◌, ◌⊎◌, ℕ, Bool, List, length, Option, Some, All, IfSome, Result, Ok, Err}
 use Rattle.history_lock.specs.Machines.{Reaches}
 use Rattle.history_lock.specs.Replay.{replay}
-use Rattle.ipam_doors.specs.Connections.{Returned}
+use Rattle.ipam_listen.specs.Connections.{Returned}
 use Rattle.ipam_data.specs.State.{State}
 use Rattle.ipam_data.specs.Steps.{plain_step}
 use Rattle.ipam_edge.specs.Faults.{Rose}
-use Rattle.ipam_stored.specs.declared.tables.Tables.{Tables}
-use Rattle.ipam_stored.specs.declared.opening.OpenFault.TheVariants.{Keeper as KeeperFailed, Memory as NoMemory}
-use Rattle.ipam_stored.specs.Stored.{Tells}
-use Rattle.ipam_stored.specs.Opening.{IsOfTables}
+use Rattle.stored_tables.specs.declared.tables.Tables.{Tables}
+use Rattle.stored_tables.specs.declared.opening.OpenFault.TheVariants.{Keeper as KeeperFailed, Memory as NoMemory}
+use Rattle.stored_tables.specs.Stored.{Tells}
+use Rattle.stored_tables.specs.Opening.{IsOfTables}
 use Rattle.ipam_keeper.specs.Keeping.{IsReturned, IsTold, started}
 use Rattle.register_core.specs.Opened.{IsOpened, IsUnopened}
 use Rattle.shared_session.specs.Told.{Made}

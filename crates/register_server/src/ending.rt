@@ -1,7 +1,7 @@
 //! How serving a register ends.
 ghost use Rattle.std.specs.Prelude.{◌≡◌, ◌⊎◌};
 
-use ipam_stored::opening::OpenFault;
+use stored_tables::opening::OpenFault;
 
 /// How the listening ended.
 #[derive(Clone, Copy, Debug)]

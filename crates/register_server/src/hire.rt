@@ -8,8 +8,8 @@ ghost use Rattle.register_server.specs.Serving.{IsListening};
 use crate::ending::Listening;
 use crate::watched::Watched;
 use history_lock::{Seat, Shared};
-use ipam_doors::Listener;
 use ipam_keeper::keeper::Keeper;
+use ipam_listen::Listener;
 use register_core::Register;
 use shared_workers::Worker;
 

@@ -1,22 +1,22 @@
 //! A register over a keeper from its opening to the end of its service.
 ghost use Rattle.std.specs.Prelude.{◌≡◌, ◌≤◌, ◌+◌, [], length, vec_capacity};
 ghost use Rattle.ipam_edge.specs.Faults.{Rose};
-ghost use Rattle.ipam_stored.specs.Stored.{Tells};
+ghost use Rattle.stored_tables.specs.Stored.{Tells};
 ghost use Rattle.register_server.specs.Serving.{IsKeeperOutcome, IsListened, IsListening, IsOutcome, IsServedWhole};
 
 use crate::ending::{Listening, Served, Unserved};
 use crate::service::serve_all;
 use crate::watched::Watched;
 use history_lock::{Seat, Shared};
-use ipam_doors::Listener;
 use ipam_keeper::keeper::Keeper;
-use ipam_stored::opening::OpenFault;
+use ipam_listen::Listener;
 use register_core::{Register, Settings, open};
 use shared_workers::Worker;
 use std::alloc::Global;
 use std::marker::{Send, Sync};
 use std::sync::Wait;
 use std::thread::Threads;
+use stored_tables::opening::OpenFault;
 
 /// What is said of a register that was served, in which all lanes came and no accept failed, or not.
 fn said_of<K: Keeper>(register: &Register<K>, listening: Listening) -> Served

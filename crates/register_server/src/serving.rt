@@ -1,20 +1,20 @@
 //! A register served from a path.
 ghost use Rattle.std.specs.Prelude.{◌≡◌, ◌≤◌, ◌+◌, length, option_copied};
 ghost use Rattle.ipam_edge.specs.Faults.{Rose};
-ghost use Rattle.ipam_stored.specs.Opening.{IsOfTables};
+ghost use Rattle.stored_tables.specs.Opening.{IsOfTables};
 ghost use Rattle.register_server.specs.Serving.{IsListened, IsServing};
 
 use crate::ending::{Served, Unserved};
 use crate::keeping::serve_keeper;
-use ipam_doors::Listener;
 use ipam_keeper::keeper::{KeepFault, KeeperOpener};
-use ipam_stored::opening::OpenFault;
-use ipam_stored::tables::Text;
+use ipam_listen::Listener;
 use register_core::Settings;
 use std::alloc::Global;
 use std::marker::Sync;
 use std::sync::Wait;
 use std::thread::Threads;
+use stored_tables::opening::OpenFault;
+use stored_tables::tables::Text;
 
 /// Why a keeper did not start, as what was found where tables were to be opened.
 fn fault_of(fault: KeepFault) -> OpenFault

@@ -2,11 +2,11 @@
 ghost use Rattle.std.specs.Prelude.{option_map, ◌≡◌, ◌<◌, ◌-◌, ℕ, List, Option, IfSome};
 ghost use Rattle.ipam_edge.specs.Faults.{HasCause};
 ghost use Rattle.register_server.specs.declared.ending.Listening.TheVariants.{Broken};
-ghost use Rattle.ipam_doors.specs.Connections.{IsLastOut, IsNoneExactly, ends_of, last_finished, told_after_accept};
+ghost use Rattle.ipam_listen.specs.Connections.{IsLastOut, IsNoneExactly, ends_of, last_finished, told_after_accept};
 
 use crate::ending::Listening;
-use ipam_doors::Lane;
 use ipam_edge::Failed;
+use ipam_listen::Lane;
 
 /// A lane, and how its listening went so far: it broke where an accept failed.
 pub struct Watched<A: Lane> {

@@ -1,12 +1,12 @@
 //! Two workers of the command claim addresses of one prefix that a store holds.
 ghost use Rattle.std.specs.Prelude.{◌≡◌, ◌≤◌, [], IfOk, length};
-ghost use Rattle.ipam_doors.specs.ListLanes.{lane_told};
-ghost use Rattle.ipam_doors.specs.ListListeners.{listener_returned, listener_lanes};
+ghost use Rattle.ipam_listen.specs.ListLanes.{lane_told};
+ghost use Rattle.ipam_listen.specs.ListListeners.{listener_returned, listener_lanes};
 
 use ipam_command::run;
-use ipam_doors::{ListLane, ListListener};
 use ipam_edge::{BytesSink, BytesSource};
 use ipam_keeper::opener::MemoryOpener;
+use ipam_listen::{ListLane, ListListener};
 use std::alloc::{AllocError, Global};
 use std::marker::Sync;
 use std::str;

@@ -1,7 +1,7 @@
 //! The lines of a few loads, whatever the number of workers.
 
+use command_load::run_load;
 use ipam_edge::BytesSink;
-use register_load::run_load;
 use std::alloc::{AllocError, Global};
 use std::marker::Sync;
 use std::sync::Wait;

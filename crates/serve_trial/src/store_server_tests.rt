@@ -1,22 +1,22 @@
 //! `serve` over connections and a store in memory, over a listener without lanes, and over tables that are refused.
 ghost use Rattle.std.specs.Prelude.{◌≡◌, ◌≤◌, [], IfOk, length};
-ghost use Rattle.ipam_doors.specs.ListLanes.{lane_told};
-ghost use Rattle.ipam_doors.specs.ListListeners.{listener_returned, listener_lanes};
+ghost use Rattle.ipam_listen.specs.ListLanes.{lane_told};
+ghost use Rattle.ipam_listen.specs.ListListeners.{listener_returned, listener_lanes};
 
+use command_serve::run_serve;
 use command_words::{Command, Serving, read_words};
-use ipam_doors::{ListLane, ListListener, Listener};
 use ipam_edge::{BytesSink, BytesSource};
 use ipam_keeper::empty::empty_tables;
 use ipam_keeper::memory::MemoryKeeper;
 use ipam_keeper::opener::MemoryOpener;
-use ipam_stored::tables::{Tables, Text};
+use ipam_listen::{ListLane, ListListener, Listener};
 use std::alloc::{AllocError, Global};
 use std::marker::Sync;
 use std::str;
 use std::sync::Wait;
 use std::test::Fail;
 use std::thread::Threads;
-use store_server::run_serve;
+use stored_tables::tables::{Tables, Text};
 
 /// What the clients ask, a line each: three prefixes are made.
 const CLIENTS: [&str; 2] = [

@@ -2,8 +2,8 @@
 use Rattle.std.specs.Prelude.{option_map}
 use Rattle.std.proofs.Common.{◌≡◌, ℕ, List, [], ◌∷◌, ◌++◌, Option, Some, None, IfSome, refl, sym, ap, ◌∙◌, subst}
 use mathlib.Core.List.{IsPrefix}
-use Rattle.ipam_doors.specs.Connections.{Connection, Ends, finished, handed_out, last_finished}
-use Rattle.ipam_doors.proofs.Told.{last_finished_push, with_one_out}
+use Rattle.ipam_listen.specs.Connections.{Connection, Ends, finished, handed_out, last_finished}
+use Rattle.ipam_listen.proofs.Told.{last_finished_push, with_one_out}
 use Rattle.ipam_data.specs.State.{State}
 use Rattle.shared_session.specs.Told.{Caller, IsLater, Made, Standing, standing_of}
 use Rattle.shared_session.proofs.Talks.{later_refl, later_trans, talk_longer}

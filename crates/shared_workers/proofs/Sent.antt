@@ -16,8 +16,8 @@ use Rattle.std.specs.contracts.option.Option as Option
 use Rattle.std.specs.contracts.alloc.Global as Heap
 use Rattle.std.specs.contracts.impls.GlobalAllocator.TheImpl.{ghosts}
 use Rattle.ipam_keeper.specs.declared.keeper.Keeper as keeper
-use Rattle.ipam_stored.specs.contracts.tables.Change as Change
-use Rattle.ipam_stored.proofs.tables.Change.TheSendSync as change
+use Rattle.stored_tables.specs.contracts.tables.Change as Change
+use Rattle.stored_tables.proofs.tables.Change.TheSendSync as change
 use Rattle.register_core.specs.contracts.log.Entry as Entry
 use Rattle.register_core.specs.contracts.register.Register as Register
 use Rattle.register_core.specs.contracts.register.Register.TheInside as inside

@@ -1,7 +1,7 @@
 -- What a worker has before and after its work.
 use Rattle.std.specs.Prelude.{◌≡◌, ◌≤◌, ◌<◌, ℕ, List, [], length, Option, Some, IfSome, slice_index_or}
 use Rattle.atomic_table.specs.Seated.{TableId}
-use Rattle.ipam_doors.specs.Connections.{Connection}
+use Rattle.ipam_listen.specs.Connections.{Connection}
 use Rattle.shared_session.specs.Told.{Caller}
 use Rattle.shared_workers.specs.Served.{HasServed}
 use Rattle.shared_workers.specs.declared.workers.Worker.{Worker}

@@ -1,16 +1,16 @@
 //! One worker over the connections of its lane.
 ghost use Rattle.std.specs.Prelude.{option_map, ◌≡◌, ◌≤◌, ◌<◌, ℕ, [], IfSome};
 ghost use Rattle.ipam_edge.specs.Faults.{Rose};
-ghost use Rattle.ipam_doors.specs.Connections.{Ends, IsLastOut, ends_of, last_finished};
+ghost use Rattle.ipam_listen.specs.Connections.{Ends, IsLastOut, ends_of, last_finished};
 ghost use Rattle.shared_session.specs.Told.{IsLater, standing_of};
 ghost use Rattle.shared_session.specs.Sessions.{IsSharedSession};
 ghost use Rattle.shared_workers.specs.Served.{HasServed, IsServed};
 
 use history_lock::{Seat, Shared};
 use http_session::SessionEnd;
-use ipam_doors::{Gate, Lane};
 use ipam_edge::{Failed, Sink, Source};
 use ipam_keeper::keeper::Keeper;
+use ipam_listen::{Gate, Lane};
 use register_core::Register;
 use rest_routes::Routes;
 use shared_session::{serve_session, serve_session_by};

@@ -4,8 +4,8 @@ ghost use Rattle.shared_workers.specs.Workers.{AllHaveWorked, HasWorked, IsReady
 
 use crate::lanes::serve_lane;
 use history_lock::{Seat, Shared};
-use ipam_doors::{Gate, Lane};
 use ipam_keeper::keeper::Keeper;
+use ipam_listen::{Gate, Lane};
 use register_core::Register;
 use rest_routes::Routes;
 use std::alloc::Global;

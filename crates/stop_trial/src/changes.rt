@@ -3,8 +3,8 @@
 use ipam_data::kinds::Kind;
 use ipam_data::update::Ids;
 use ipam_keeper::keeper::{KeepFault, Keeper};
-use ipam_stored::tables::{Change, Row, Rows, Tables, Text, Texts};
 use std::alloc::{AllocError, Global};
+use stored_tables::tables::{Change, Row, Rows, Tables, Text, Texts};
 
 /// How many changes there are: an import of ten prefixes, ten creations and a deletion.
 pub const CHANGES: u32 = 12;

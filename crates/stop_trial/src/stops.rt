@@ -7,9 +7,9 @@ use crate::changes::{loaded, store};
 use crate::files::{Stop, found_files, stopping_files};
 use ipam_keeper::empty::empty_tables;
 use ipam_keeper::memory::MemoryKeeper;
-use ipam_store::SqliteKeeper;
 use sqlite::{Alter, Connection, Files, Options};
 use sqlite_disk::{Fuse, Memory};
+use sqlite_keeper::SqliteKeeper;
 use std::alloc::{AllocError, Global};
 
 /// What came of a stop.

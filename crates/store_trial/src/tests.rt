@@ -3,11 +3,11 @@
 use ipam_data::kinds::Kind;
 use ipam_data::update::Ids;
 use ipam_keeper::keeper::{KeepFault, Keeper};
-use ipam_store::SqliteKeeper;
-use ipam_stored::tables::{Change, Row, Rows, Tables, Text, Texts};
 use sqlite::{Connection, MemStore};
+use sqlite_keeper::SqliteKeeper;
 use std::alloc::{AllocError, Global};
 use std::test::Fail;
+use stored_tables::tables::{Change, Row, Rows, Tables, Text, Texts};
 
 /// What makes a database, a bar, and what its keeper then loads.
 const LOADS: &str = "\

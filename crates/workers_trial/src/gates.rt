@@ -1,13 +1,13 @@
 //! Sessions of two workers at once, and one after another, as a gate sees them.
 ghost use Rattle.std.specs.Prelude.{◌≡◌, [], IfOk};
-ghost use Rattle.ipam_doors.specs.ListLanes.{lane_told};
+ghost use Rattle.ipam_listen.specs.ListLanes.{lane_told};
 
 use crate::registers::locked;
 use crate::serving::{serve_alone, serve_at_once};
 use history_lock::{Seat, Shared};
-use ipam_doors::{Gate, ListLane};
 use ipam_edge::{BytesSink, BytesSource};
 use ipam_keeper::memory::MemoryKeeper;
+use ipam_listen::{Gate, ListLane};
 use register_core::Register;
 use std::alloc::{AllocError, Global};
 use std::marker::Sync;

@@ -3,7 +3,7 @@ ghost use Rattle.std.specs.Prelude.{◌≡◌, [], IfSome};
 
 use crate::registers::locked;
 use crate::serving::serve_alone;
-use ipam_doors::{Lane, Listener, OpenGate, TcpDoor, TcpDoors};
+use ipam_listen::{Lane, Listener, OpenGate, TcpDoor, TcpDoors};
 use std::alloc::{AllocError, Global};
 use std::io::{Read, Write};
 use std::marker::{Send, Sync};

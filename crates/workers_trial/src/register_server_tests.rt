@@ -1,10 +1,10 @@
 //! A register in memory, served to connections in memory.
 ghost use Rattle.std.specs.Prelude.{◌≡◌, [], IfOk};
-ghost use Rattle.ipam_doors.specs.ListLanes.{lane_told};
+ghost use Rattle.ipam_listen.specs.ListLanes.{lane_told};
 
-use ipam_doors::{ListLane, ListListener};
 use ipam_edge::{BytesSink, BytesSource};
 use ipam_keeper::opener::MemoryOpener;
+use ipam_listen::{ListLane, ListListener};
 use register_core::Settings;
 use register_server::{Listening, Served, serve};
 use std::alloc::{AllocError, Global};

@@ -1,10 +1,10 @@
 //! Workers over a register in memory.
 ghost use Rattle.std.specs.Prelude.{◌≡◌, [], IfSome};
-ghost use Rattle.ipam_doors.specs.ListLanes.{lane_told};
+ghost use Rattle.ipam_listen.specs.ListLanes.{lane_told};
 
 use history_lock::{Seat, Shared};
-use ipam_doors::{Gate, Lane, ListLane};
 use ipam_keeper::memory::MemoryKeeper;
+use ipam_listen::{Gate, Lane, ListLane};
 use register_core::Register;
 use shared_workers::{Worker, serve_workers};
 use std::alloc::{AllocError, Global};

@@ -1,14 +1,14 @@
 //! Two workers over one register in memory.
 ghost use Rattle.std.specs.Prelude.{◌≡◌, [], IfOk};
-ghost use Rattle.ipam_doors.specs.ListLanes.{lane_told};
+ghost use Rattle.ipam_listen.specs.ListLanes.{lane_told};
 
 use history_lock::{Seat, Shared};
 use ipam_data::calls::Call;
 use ipam_data::kinds::Kind;
-use ipam_doors::{ListLane, OpenGate};
 use ipam_edge::{BytesSink, BytesSource};
 use ipam_keeper::empty::empty_tables;
 use ipam_keeper::memory::MemoryKeeper;
+use ipam_listen::{ListLane, OpenGate};
 use register_core::{Register, Settings, open};
 use shared_workers::{Worker, serve_workers};
 use std::alloc::{AllocError, Global};

@@ -2,8 +2,8 @@ use denote.Exit.{no}
 use denote.Param.Send.{param_send, arg_send, param_sync}
 use Rattle.std.proofs.Common.{ℕ, ◌≤◌, subst, sym, rules}
 use Rattle.std.proofs.lemmas.List.{length-map}
-use Rattle.ipam_doors.proofs.tcp.TcpDoor.TheSendSync as door
-use Rattle.ipam_doors.proofs.tcp.TcpIn.TheSendSync as source
+use Rattle.ipam_listen.proofs.tcp.TcpDoor.TheSendSync as door
+use Rattle.ipam_listen.proofs.tcp.TcpIn.TheSendSync as source
 use Rattle.ipam_edge.proofs.streams.StdSink.TheSendSync as sink
 use Rattle.std.proofs.net.tcp.TcpStream.TheSendSync as stream
 use Rattle.ipamd.proofs.run_over.Goals as goal

@@ -1,5 +1,5 @@
 use Rattle.std.proofs.Common.{◌≡◌, map, take}
-use Rattle.register_shelves.specs.Held.{state_of}
+use Rattle.register_tables.specs.Held.{state_of}
 use Rattle.plan_export.proofs.all_rows.Given as goal
 
 abbrev pub invariant-records : goal.invariant-records

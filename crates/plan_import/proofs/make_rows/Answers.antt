@@ -1,5 +1,5 @@
 use Rattle.std.proofs.Common.{arith}
-use Rattle.register_shelves.specs.Held.{state_of}
+use Rattle.register_tables.specs.Held.{state_of}
 use Rattle.plan_import.proofs.Plans.{few_made, halt_by_row, ok_imported, ok_state, err_halted}
 use Rattle.plan_import.proofs.make_rows.Goals as goal
 

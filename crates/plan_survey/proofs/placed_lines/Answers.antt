@@ -1,5 +1,5 @@
 use Rattle.std.proofs.Common.{◌∙◌}
-use Rattle.register_shelves.specs.Held.{state_of}
+use Rattle.register_tables.specs.Held.{state_of}
 use Rattle.plan_survey.specs.Digits.{placed_row}
 use Rattle.plan_survey.proofs.Surveyed.{found_is_there, one_more_made}
 use Rattle.plan_survey.proofs.placed_lines.Goals as goal

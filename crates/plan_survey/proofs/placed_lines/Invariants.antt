@@ -1,5 +1,5 @@
 use Rattle.std.proofs.Common.{◌≡◌, map, take}
-use Rattle.register_shelves.specs.Held.{state_of}
+use Rattle.register_tables.specs.Held.{state_of}
 use Rattle.plan_survey.specs.Digits.{placed_row}
 use Rattle.plan_survey.proofs.placed_lines.Given as goal
 

@@ -1,5 +1,5 @@
 use Rattle.std.proofs.Common.{◌≡◌, List, map, ap, subst, ◌∙◌, IsPermutation}
-use Rattle.register_shelves.specs.Held.{state_of}
+use Rattle.register_tables.specs.Held.{state_of}
 use Rattle.plan_survey.specs.declared.line.Placed.{Placed}
 use Rattle.plan_survey.specs.Digits.{placed_row}
 use Rattle.plan_survey.proofs.Surveyed.{survey_is}

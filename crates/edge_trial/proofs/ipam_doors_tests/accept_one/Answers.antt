@@ -1,6 +1,6 @@
 use Rattle.std.proofs.Common.{IfSome, List, Option, sym, subst}
-use Rattle.ipam_doors.specs.Connections.{Connection, Ends, IsLastOut, ends_of}
-use Rattle.ipam_doors.proofs.Told.{out_after}
+use Rattle.ipam_listen.specs.Connections.{Connection, Ends, IsLastOut, ends_of}
+use Rattle.ipam_listen.proofs.Told.{out_after}
 use Rattle.edge_trial.proofs.ipam_doors_tests.accept_one.Goals as goal
 
 pub finish-requires : goal.finish-requires

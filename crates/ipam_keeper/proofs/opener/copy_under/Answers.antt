@@ -1,5 +1,5 @@
 use Rattle.std.proofs.Common.{◌≡◌, IfOk, get_or, sym, subst, ◌∙◌}
-use Rattle.ipam_stored.specs.declared.tables.Tables.{Tables}
+use Rattle.stored_tables.specs.declared.tables.Tables.{Tables}
 use Rattle.ipam_keeper.proofs.Paths.{at_index, nowhere, ordered_at, same_order}
 use Rattle.ipam_keeper.proofs.opener.copy_under.Goals as goal
 

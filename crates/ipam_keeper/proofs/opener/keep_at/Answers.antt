@@ -1,5 +1,5 @@
 use Rattle.std.proofs.Common.{sym, ◌∙◌, subst, List, ℕ}
-use Rattle.ipam_stored.specs.declared.tables.Tables.{Tables}
+use Rattle.stored_tables.specs.declared.tables.Tables.{Tables}
 use Rattle.ipam_keeper.specs.Opener.{AllTables}
 use Rattle.ipam_keeper.proofs.Paths.{at_index, nowhere, ordered_kept}
 use Rattle.ipam_keeper.proofs.opener.keep_at.Goals as goal

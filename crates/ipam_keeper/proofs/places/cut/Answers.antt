@@ -1,5 +1,5 @@
 use Rattle.std.proofs.Common.{sym, ◌∙◌}
-use Rattle.row_book.proofs.Places.{remove_at, rises_without, without_none}
+use Rattle.placed_book.proofs.RowPlaces.{remove_at, rises_without, without_none}
 use Rattle.ipam_keeper.proofs.places.cut.Goals as goal
 
 pub returns-in-Some-clause-items : goal.returns-in-Some-clause-items

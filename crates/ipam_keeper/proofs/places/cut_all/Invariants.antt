@@ -1,6 +1,6 @@
 use Rattle.std.proofs.Common.{◌≡◌, fold, take}
 use Rattle.ipam_data.specs.Shelf.{Rises}
-use Rattle.ipam_stored.specs.Stored.{row_place, without_stored}
+use Rattle.stored_tables.specs.Stored.{row_place, without_stored}
 use Rattle.ipam_keeper.proofs.places.cut_all.Given as goal
 
 abbrev pub invariant-loop-cut_id : goal.invariant-loop-cut_id

@@ -1,5 +1,5 @@
 use Rattle.std.proofs.Common.{◌≢◌, arith, ap, sym, ◌∙◌}
-use Rattle.row_book.proofs.Places.{place_short, place_from, none_at_place, nothing_from, is_at}
+use Rattle.placed_book.proofs.RowPlaces.{place_short, place_from, none_at_place, nothing_from, is_at}
 use Rattle.ipam_keeper.proofs.places.found.Goals as goal
 
 pub returns-then-at-items-clause-none : goal.returns-then-at-items-clause-none

@@ -1,5 +1,5 @@
 use Rattle.std.proofs.Common.{arith, sym}
-use Rattle.row_book.proofs.Places.{place_short}
+use Rattle.placed_book.proofs.RowPlaces.{place_short}
 use Rattle.ipam_keeper.proofs.Placing.{placed_here, inserted, rises_placed}
 use Rattle.ipam_keeper.proofs.places.put.Goals as goal
 

@@ -1,5 +1,5 @@
 use Rattle.std.proofs.Common.{ℕ, ◌+◌, ◌-◌, ◌<◌, ◌/◌, length, arith, ap}
-use Rattle.row_book.proofs.Places.{place_short, place_past, place_upto}
+use Rattle.placed_book.proofs.RowPlaces.{place_short, place_past, place_upto}
 use Rattle.ipam_keeper.proofs.places.seek.Goals as goal
 
 pub loop-low-init : goal.loop-low-init

@@ -1,5 +1,5 @@
 use Rattle.std.proofs.Common.{◌-◌, ◌≤◌, length}
-use Rattle.row_book.specs.Book.{place}
+use Rattle.placed_book.specs.RowBook.{place}
 use Rattle.ipam_keeper.proofs.places.seek.Given as goal
 
 abbrev pub invariant-loop-low : goal.invariant-loop-low

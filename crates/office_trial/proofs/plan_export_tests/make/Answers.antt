@@ -8,10 +8,10 @@ use Rattle.ipam_data.specs.State.{State, Plan, verdict_of}
 use Rattle.ipam_data.specs.Steps.{create_plan, HasDraftBounds}
 use Rattle.ipam_data.specs.Updates.{updated, outcome, CanUpdate}
 use Rattle.ipam_data.proofs.AllCalls.{steps_keep, calls_can}
-use Rattle.register_shelves.specs.declared.planned.Planned.{Planned}
-use Rattle.register_shelves.specs.declared.planned.Planned.TheVariants.{Change}
-use Rattle.register_shelves.specs.Held.{state_of}
-use Rattle.register_shelves.specs.Planned.{IsPlanned}
+use Rattle.register_tables.specs.declared.planned.Planned.{Planned}
+use Rattle.register_tables.specs.declared.planned.Planned.TheVariants.{Change}
+use Rattle.register_tables.specs.Held.{state_of}
+use Rattle.register_tables.specs.Planned.{IsPlanned}
 use Rattle.office_trial.proofs.plan_export_tests.make.Goals as goal
 
 can : (s : State) (draft : Draft) (u : Update) (reply : Reply) → IsPlanned (create_plan s draft) (Change u reply) → IsLawful s → HasDraftBounds draft → CanUpdate s u

@@ -5,7 +5,7 @@ use Rattle.ipam_data.specs.declared.kinds.Table.{Table}
 use Rattle.ipam_data.specs.Shelf.{without}
 use Rattle.ipam_data.specs.Tables.{table_of}
 use Rattle.placed_book.specs.Book.{Placed, TabledRows, spare_of, IsInOrder, AreInOrder, AreAll}
-use Rattle.row_book.specs.Book.{IsFitting}
+use Rattle.placed_book.specs.RowBook.{IsFitting}
 use Rattle.placed_book.specs.Firsts.{spot_of, HasFirsts}
 use Rattle.placed_book.specs.Rivals.{stays_among}
 use Rattle.placed_book.proofs.Leasts.{put_row_firsts}

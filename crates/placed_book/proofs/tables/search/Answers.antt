@@ -1,6 +1,6 @@
 use Rattle.std.proofs.Common.{◌≡◌, ◌≢◌, ℕ, ◌+◌, ◌-◌, ◌<◌, ◌/◌, ◌∙◌, length, arith, ap, sym, subst}
-use Rattle.row_book.specs.Book.{place}
-use Rattle.row_book.proofs.Places.{place_short, place_past, place_upto, place_from, none_at_place, nothing_from, is_at}
+use Rattle.placed_book.specs.RowBook.{place}
+use Rattle.placed_book.proofs.RowPlaces.{place_short, place_past, place_upto, place_from, none_at_place, nothing_from, is_at}
 use Rattle.placed_book.specs.Keys.{number_of, key_of, IsGapFor}
 use Rattle.placed_book.proofs.tables.search.Goals as goal
 

@@ -2,7 +2,7 @@ use Rattle.std.proofs.Common.{◌≡◌, sym, ◌∙◌}
 use Rattle.ipam_data.specs.Checks.{first}
 use Rattle.ipam_data.specs.Plans.{no_seats}
 use Rattle.plan_import.proofs.Records.{creation_broken, creation_free}
-use Rattle.register_shelves.specs.Held.{state_of}
+use Rattle.register_tables.specs.Held.{state_of}
 use Rattle.plan_import.proofs.checks.check_row.Goals as goal
 
 pub returns-in-Some : goal.returns-in-Some

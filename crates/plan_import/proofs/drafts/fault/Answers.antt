@@ -1,5 +1,5 @@
 use Rattle.std.proofs.Common.{sym, ◌∙◌}
-use Rattle.register_shelves.specs.Held.{state_of}
+use Rattle.register_tables.specs.Held.{state_of}
 use Rattle.plan_import.proofs.Records.{fault_named, fault_valued}
 use Rattle.plan_import.proofs.drafts.fault.Goals as goal
 

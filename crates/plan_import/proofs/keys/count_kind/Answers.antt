@@ -1,5 +1,5 @@
 use Rattle.std.proofs.Common.{◌∙◌, ℕ, ◌<◌, ◌≤◌, ◌^◌, List, length, map, take, sym, arith}
-use Rattle.register_shelves.specs.Held.{state_of}
+use Rattle.register_tables.specs.Held.{state_of}
 use Rattle.plan_import.specs.Ready.{key_of_row}
 use Rattle.plan_import.proofs.KeyLaws.{left_small, few_taken, count_next}
 use Rattle.plan_import.proofs.keys.count_kind.Goals as goal

@@ -1,6 +1,6 @@
 use Rattle.std.proofs.Common.{ℕ, List, [], map, take}
-use Rattle.row_counts.specs.Left.{IsLeft}
-use Rattle.register_shelves.specs.Held.{state_of}
+use Rattle.plan_import.specs.Left.{IsLeft}
+use Rattle.register_tables.specs.Held.{state_of}
 use Rattle.plan_import.specs.Ready.{key_of_row}
 use Rattle.plan_import.proofs.keys.count_kind.Given as goal
 

@@ -1,5 +1,5 @@
 use Rattle.std.proofs.Common.{[], take}
-use Rattle.row_counts.specs.Left.{IsLeft}
+use Rattle.plan_import.specs.Left.{IsLeft}
 use Rattle.plan_import.specs.Ready.{keys_of}
 use Rattle.plan_import.proofs.keys.expect_all.Given as goal
 

@@ -1,6 +1,6 @@
 use Rattle.std.proofs.Common.{◌≡◌, ◌∙◌, ℕ, ◌+◌, ◌<◌, List, [], ◌∷◌, ◌++◌, length, take, ap, ap₂, sym, arith}
 use Rattle.std.proofs.lemmas.List.{take_more}
-use Rattle.row_counts.specs.Keys.{spelled, key_of}
+use Rattle.plan_import.specs.Keys.{spelled, key_of}
 use Rattle.plan_import.proofs.KeyLaws.{key_next}
 use Rattle.plan_import.proofs.keys.key_of_texts.Goals as goal
 

@@ -1,5 +1,5 @@
 use Rattle.std.proofs.Common.{◌≡◌, take, string_bytes}
-use Rattle.row_counts.specs.Keys.{key_of}
+use Rattle.plan_import.specs.Keys.{key_of}
 use Rattle.plan_import.proofs.keys.key_of_texts.Given as goal
 
 abbrev pub invariant-loop-text : goal.invariant-loop-text

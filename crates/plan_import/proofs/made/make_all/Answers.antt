@@ -4,8 +4,8 @@ use Rattle.ipam_data.specs.Checks.{first}
 use Rattle.ipam_data.specs.State.{State}
 use Rattle.import_rows.specs.declared.rows.ImportRow.{ImportRow}
 use Rattle.import_rows.specs.Imports.{begun, row_verdicts}
-use Rattle.row_counts.specs.Left.{IsLeft}
-use Rattle.register_shelves.specs.Held.{state_of}
+use Rattle.plan_import.specs.Left.{IsLeft}
+use Rattle.register_tables.specs.Held.{state_of}
 use Rattle.plan_import.specs.declared.halt.Halt.{Halt}
 use Rattle.plan_import.specs.declared.ready.Ready.{Ready}
 use Rattle.plan_import.specs.Halts.{IsHaltBy, halt_at}

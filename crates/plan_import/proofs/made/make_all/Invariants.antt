@@ -1,6 +1,6 @@
 use Rattle.std.proofs.Common.{◌≡◌}
 use Rattle.ipam_data.specs.Lawful.{IsLawful}
-use Rattle.register_shelves.specs.Held.{state_of}
+use Rattle.register_tables.specs.Held.{state_of}
 use Rattle.plan_import.proofs.Loops.{HasComeTo}
 use Rattle.plan_import.proofs.made.make_all.Given as goal
 

@@ -2,9 +2,9 @@ use Rattle.std.proofs.Common.{◌≡◌, ◌∙◌, ℕ, Bool, true, false, not,
 use Rattle.std.specs.Prelude.{bytes_eq}
 use Rattle.std.specs.List.{list_any}
 use Rattle.ipam_data.specs.declared.replies.View.{View}
-use Rattle.row_counts.specs.declared.Leftovers.{Leftovers}
-use Rattle.row_counts.specs.Left.{IsLeft}
-use Rattle.register_shelves.specs.Held.{state_of}
+use Rattle.plan_import.specs.declared.leftovers.Leftovers.{Leftovers}
+use Rattle.plan_import.specs.Left.{IsLeft}
+use Rattle.register_tables.specs.Held.{state_of}
 use Rattle.plan_import.proofs.Steps.{taken_made, taken_halt}
 use Rattle.plan_import.proofs.made.take_row.Goals as goal
 

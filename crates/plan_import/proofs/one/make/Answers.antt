@@ -1,6 +1,6 @@
 use Rattle.std.proofs.Common.{◌∙◌, ◌+◌, ◌≤◌, sym, arith}
 use Rattle.ipam_data.specs.Steps.{next_for}
-use Rattle.register_shelves.specs.Held.{state_of}
+use Rattle.register_tables.specs.Held.{state_of}
 use Rattle.plan_import.proofs.Records.{next_room, put_leads, made_lawful}
 use Rattle.plan_import.proofs.one.make.Goals as goal
 

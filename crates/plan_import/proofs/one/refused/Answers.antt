@@ -1,4 +1,4 @@
-use Rattle.register_shelves.specs.Held.{state_of}
+use Rattle.register_tables.specs.Held.{state_of}
 use Rattle.plan_import.proofs.Records.{checks_are}
 use Rattle.plan_import.proofs.one.refused.Goals as goal
 

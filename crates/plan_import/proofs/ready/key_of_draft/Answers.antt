@@ -1,8 +1,8 @@
 use Rattle.std.proofs.Common.{◌≡◌, subst, string_bytes, IfOk}
 use Rattle.ipam_data.specs.declared.replies.View.{View}
-use Rattle.ipam_stored.specs.Stored.{stored_row}
+use Rattle.stored_tables.specs.Stored.{stored_row}
 use Rattle.import_rows.specs.Imports.{texts_of}
-use Rattle.row_counts.specs.Keys.{key_of}
+use Rattle.plan_import.specs.Keys.{key_of}
 use Rattle.plan_import.proofs.ready.key_of_draft.Goals as goal
 
 pub returns : goal.returns

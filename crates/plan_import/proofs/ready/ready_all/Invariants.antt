@@ -1,5 +1,5 @@
 use Rattle.std.proofs.Common.{◌≡◌, take}
-use Rattle.register_shelves.specs.Held.{state_of}
+use Rattle.register_tables.specs.Held.{state_of}
 use Rattle.plan_import.specs.Ready.{ready_rows}
 use Rattle.plan_import.proofs.ready.ready_all.Given as goal
 

@@ -1,5 +1,5 @@
 use Rattle.ipam_data.specs.Claims.{prefix_figure}
-use Rattle.register_shelves.specs.Held.{state_of}
+use Rattle.register_tables.specs.Held.{state_of}
 use Rattle.plan_survey.proofs.Figures.{figure_read, same_figure}
 use Rattle.plan_survey.proofs.line.figure_of.Goals as goal
 

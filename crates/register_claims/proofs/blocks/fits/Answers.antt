@@ -5,7 +5,7 @@ use Rattle.block_space.specs.Fit.{fits_of}
 use Rattle.block_claim.specs.Claims.{IsShort}
 use Rattle.ipam_data.specs.declared.kinds.Table.{Table}
 use Rattle.placed_book.specs.Book.{is_there}
-use Rattle.register_shelves.specs.Beside.{blocks_in_table}
+use Rattle.register_tables.specs.Beside.{blocks_in_table}
 use Rattle.register_claims.proofs.Counted.{table_there, lawful_there, all_counted, table_counted}
 use Rattle.register_claims.proofs.blocks.fits.Goals as goal
 

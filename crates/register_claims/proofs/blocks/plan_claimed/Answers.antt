@@ -10,7 +10,7 @@ use Rattle.ipam_data.specs.Checks.{first, too_many}
 use Rattle.ipam_data.specs.Prefixes.{prefix_rules}
 use Rattle.ipam_data.specs.Claims.{most_items, told_of_block, lengths_of, claimed_prefixes, child_blocks}
 use Rattle.ipam_data.proofs.Verdicts.{none_rest}
-use Rattle.register_shelves.specs.Held.{state_of}
+use Rattle.register_tables.specs.Held.{state_of}
 use Rattle.register_claims.proofs.Claiming.{claim_told, fit_inside, blocks_planned, short_of_blocks}
 use Rattle.register_claims.proofs.blocks.plan_claimed.Goals as goal
 

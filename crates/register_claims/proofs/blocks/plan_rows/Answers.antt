@@ -5,7 +5,7 @@ use Rattle.ipam_data.specs.Checks.{first}
 use Rattle.ipam_data.specs.Plans.{no_place}
 use Rattle.ipam_data.specs.Prefixes.{prefix_rules}
 use Rattle.ipam_data.specs.Claims.{served, claimed_prefixes}
-use Rattle.register_shelves.specs.Held.{state_of}
+use Rattle.register_tables.specs.Held.{state_of}
 use Rattle.register_claims.proofs.Claiming.{untold_placed, rows_planned, claimed_length}
 use Rattle.register_claims.proofs.blocks.plan_rows.Goals as goal
 

@@ -7,7 +7,7 @@ use Rattle.ipam_data.specs.Rows.{aggregate_id}
 use Rattle.ipam_data.specs.Claims.{aggregated_blocks}
 use Rattle.ipam_data.proofs.Kept.{found_there}
 use Rattle.placed_book.specs.Book.{TabledRows}
-use Rattle.register_shelves.specs.Beside.{blocks_in_all}
+use Rattle.register_tables.specs.Beside.{blocks_in_all}
 use Rattle.register_claims.proofs.Counted.{aggregate_counted, all_in, covered_beside}
 use Rattle.register_claims.proofs.figures.figure_of_aggregate.Goals as goal
 

@@ -3,7 +3,7 @@ use Rattle.inet_num.specs.Net.{Address}
 use Rattle.block_space.specs.Usable.{addressed}
 use Rattle.block_claim.specs.Claims.{IsServed}
 use Rattle.ipam_data.specs.Claims.{usable_of_range}
-use Rattle.register_shelves.specs.Held.{state_of}
+use Rattle.register_tables.specs.Held.{state_of}
 use Rattle.register_claims.proofs.HostClaims.{mask_of, told_planned, short_planned, served_planned}
 use Rattle.register_claims.proofs.host_claims.claim_in_range.Goals as goal
 

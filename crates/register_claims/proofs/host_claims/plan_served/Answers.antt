@@ -1,7 +1,7 @@
 use Rattle.std.proofs.Common.{◌≡◌, ap, ◌∙◌, length}
 use Rattle.ipam_data.specs.declared.address.IpAddress.{IpAddress}
 use Rattle.placed_book.specs.Book.{TabledRows}
-use Rattle.register_shelves.specs.Held.{state_of}
+use Rattle.register_tables.specs.Held.{state_of}
 use Rattle.register_claims.proofs.HostClaims.{place_is, claim_full, made_planned}
 use Rattle.register_claims.proofs.host_claims.plan_served.Goals as goal
 

@@ -5,7 +5,7 @@ use Rattle.block_space.specs.Usable.{addressed}
 use Rattle.block_claim.specs.Claims.{IsServed, IsShort}
 use Rattle.ipam_data.specs.declared.address.IpAddress.{IpAddress}
 use Rattle.placed_book.specs.Book.{TabledRows}
-use Rattle.register_shelves.specs.Held.{state_of}
+use Rattle.register_tables.specs.Held.{state_of}
 use Rattle.register_claims.proofs.HostLists.{usable_of_rows}
 use Rattle.register_claims.proofs.HostClaims.{served_mask, served_count}
 use Rattle.register_claims.proofs.hosts.claimed_of_prefix.Goals as goal

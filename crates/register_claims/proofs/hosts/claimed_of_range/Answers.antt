@@ -2,7 +2,7 @@ use Rattle.std.proofs.Common.{List, ℕ, ap, subst, length, IfErr}
 use Rattle.block_claim.specs.Claims.{IsShort}
 use Rattle.ipam_data.specs.declared.address.IpAddress.{IpAddress}
 use Rattle.placed_book.specs.Book.{TabledRows}
-use Rattle.register_shelves.specs.Held.{state_of}
+use Rattle.register_tables.specs.Held.{state_of}
 use Rattle.register_claims.proofs.HostLists.{untaken_of_rows, served_in_range}
 use Rattle.register_claims.proofs.HostClaims.{served_mask, served_count}
 use Rattle.ipam_data.specs.Claims.{usable_of_range}

@@ -1,7 +1,7 @@
 use Rattle.std.proofs.Common.{ap}
 use Rattle.ipam_data.specs.declared.address.IpAddress.{IpAddress}
 use Rattle.placed_book.specs.Book.{TabledRows}
-use Rattle.register_shelves.specs.Held.{state_of}
+use Rattle.register_tables.specs.Held.{state_of}
 use Rattle.register_claims.proofs.HostLists.{listed_in_range}
 use Rattle.register_claims.proofs.hosts.usable_of_pieces.Goals as goal
 

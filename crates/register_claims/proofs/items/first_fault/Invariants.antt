@@ -2,7 +2,7 @@ use Rattle.std.proofs.Common.{◌≡◌, drop}
 use Rattle.std.specs.List.{flat_map}
 use Rattle.ipam_data.specs.Checks.{first}
 use Rattle.ipam_data.specs.Claims.{told_of_block}
-use Rattle.register_shelves.specs.Held.{state_of}
+use Rattle.register_tables.specs.Held.{state_of}
 use Rattle.register_claims.proofs.items.first_fault.Given as goal
 
 abbrev pub invariant-items : goal.invariant-items

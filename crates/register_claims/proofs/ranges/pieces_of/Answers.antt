@@ -3,7 +3,7 @@ use Rattle.ipam_data.specs.declared.range.IpRange.{IpRange}
 use Rattle.ipam_data.specs.Shelf.{AllAre, row_at}
 use Rattle.ipam_data.specs.Rows.{range_id}
 use Rattle.ipam_data.specs.Lawful.{IsRange}
-use Rattle.row_book.specs.Book.{Book}
+use Rattle.placed_book.specs.RowBook.{Book}
 use Rattle.register_claims.proofs.Pieces.{of_family}
 use Rattle.register_claims.proofs.ranges.pieces_of.Goals as goal
 

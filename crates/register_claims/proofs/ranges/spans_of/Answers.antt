@@ -4,7 +4,7 @@ use Rattle.ipam_data.specs.Shelf.{AllAre, IsApart}
 use Rattle.ipam_data.specs.Rows.{range_id}
 use Rattle.ipam_data.specs.Ranges.{ShareAddress}
 use Rattle.ipam_data.specs.Lawful.{IsRange}
-use Rattle.row_book.specs.Book.{Book}
+use Rattle.placed_book.specs.RowBook.{Book}
 use Rattle.register_claims.proofs.ranges.spans_of.Goals as goal
 
 pub spans-requires-clause-each : goal.spans-requires-clause-each

@@ -1,4 +1,4 @@
-use Rattle.register_shelves.specs.Held.{state_of}
+use Rattle.register_tables.specs.Held.{state_of}
 use Rattle.register_core.proofs.Loading.{fit, opened}
 use Rattle.register_core.proofs.opening.check.Goals as goal
 

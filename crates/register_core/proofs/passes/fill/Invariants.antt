@@ -1,5 +1,5 @@
 use Rattle.std.specs.Vec.Iter.{into_iter_items, into_iter_len}
-use Rattle.register_shelves.specs.Held.{state_of}
+use Rattle.register_tables.specs.Held.{state_of}
 use Rattle.register_core.proofs.Loading.{IsFilling}
 use Rattle.register_core.proofs.passes.fill.Given as goal
 

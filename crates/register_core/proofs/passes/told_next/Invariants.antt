@@ -1,5 +1,5 @@
 use Rattle.std.proofs.Common.{◌≡◌, drop}
-use Rattle.ipam_stored.specs.Opening.{told_next}
+use Rattle.stored_tables.specs.Opening.{told_next}
 use Rattle.register_core.proofs.passes.told_next.Given as goal
 
 abbrev pub invariant-loop-next : goal.invariant-loop-next

@@ -1,6 +1,6 @@
 use Rattle.std.proofs.Common.{sym, ◌∙◌, None}
 use Rattle.register_plans.proofs.Verdicts.{names_none, names_all}
-use Rattle.register_shelves.specs.Held.{state_of}
+use Rattle.register_tables.specs.Held.{state_of}
 use Rattle.register_plans.proofs.calls.broken.Goals as goal
 
 pub returns-in-Some : goal.returns-in-Some

@@ -1,7 +1,7 @@
 use Rattle.std.proofs.Common.{sym, ◌∙◌}
 use Rattle.register_plans.specs.Broken.{own_row}
 use Rattle.register_plans.proofs.Verdicts.{names_none, names_all}
-use Rattle.register_shelves.specs.Held.{state_of}
+use Rattle.register_tables.specs.Held.{state_of}
 use Rattle.register_plans.proofs.calls.broken_changed.Goals as goal
 
 pub returns-in-Some : goal.returns-in-Some

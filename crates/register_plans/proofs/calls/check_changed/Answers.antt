@@ -1,7 +1,7 @@
 use Rattle.std.proofs.Common.{sym, ◌∙◌, ap, Option}
 use Rattle.register_plans.specs.Broken.{first_broken}
 use Rattle.register_plans.proofs.Verdicts.{changed_broken, changed_logged}
-use Rattle.register_shelves.specs.Held.{state_of}
+use Rattle.register_tables.specs.Held.{state_of}
 use Rattle.register_plans.proofs.calls.check_changed.Goals as goal
 
 pub returns-in-Some : goal.returns-in-Some

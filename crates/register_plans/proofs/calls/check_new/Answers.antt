@@ -2,7 +2,7 @@ use Rattle.std.proofs.Common.{◌≡◌, sym, ◌∙◌}
 use Rattle.ipam_data.specs.Checks.{first}
 use Rattle.ipam_data.specs.Plans.{no_seats}
 use Rattle.register_plans.proofs.Verdicts.{new_broken, new_full, new_logged}
-use Rattle.register_shelves.specs.Held.{state_of}
+use Rattle.register_tables.specs.Held.{state_of}
 use Rattle.register_plans.proofs.calls.check_new.Goals as goal
 
 pub returns-in-Some : goal.returns-in-Some

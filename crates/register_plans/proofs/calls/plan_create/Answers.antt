@@ -1,6 +1,6 @@
 use Rattle.std.proofs.Common.{sym, ◌∙◌, arith}
 use Rattle.register_plans.proofs.Verdicts.{next_fits}
-use Rattle.register_shelves.specs.Held.{state_of}
+use Rattle.register_tables.specs.Held.{state_of}
 use Rattle.register_plans.proofs.calls.plan_create.Goals as goal
 
 pub overflow_add-next : goal.overflow_add-next

@@ -1,7 +1,7 @@
 use Rattle.std.proofs.Common.{sym, ◌∙◌, ap, refl}
 use Rattle.ipam_data.specs.State.{Plan, verdict_of}
 use Rattle.register_plans.proofs.Verdicts.{deletes, out_used, out_logged, delete_planned}
-use Rattle.register_shelves.specs.Held.{state_of}
+use Rattle.register_tables.specs.Held.{state_of}
 use Rattle.register_plans.proofs.calls.plan_delete.Goals as goal
 
 pub returns-in-Some-user : goal.returns-in-Some-user

@@ -1,6 +1,6 @@
 use Rattle.std.proofs.Common.{◌≡◌, take, count_by}
 use Rattle.register_plans.specs.Pages.{page_of}
-use Rattle.register_shelves.specs.Held.{state_of}
+use Rattle.register_tables.specs.Held.{state_of}
 use Rattle.register_plans.proofs.calls.take_all.Given as goal
 
 abbrev pub invariant-rows : goal.invariant-rows

@@ -1,7 +1,7 @@
 use Rattle.std.proofs.Common.{◌≡◌, take, count_by}
 use Rattle.register_plans.specs.Pages.{page_of}
 use Rattle.register_plans.specs.Candidates.{rows_of}
-use Rattle.register_shelves.specs.Held.{state_of}
+use Rattle.register_tables.specs.Held.{state_of}
 use Rattle.register_plans.proofs.calls.take_found.Given as goal
 
 abbrev pub invariant-found : goal.invariant-found

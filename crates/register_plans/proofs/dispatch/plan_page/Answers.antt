@@ -9,8 +9,8 @@ use Rattle.ipam_data.specs.Ranges.{range_rules}
 use Rattle.ipam_data.specs.Addresses.{address_rules}
 use Rattle.ipam_data.specs.Plans.{list}
 use Rattle.ipam_data.specs.Steps.{list_plan}
-use Rattle.register_shelves.specs.Held.{state_of}
-use Rattle.register_shelves.specs.Planned.{IsPlanned}
+use Rattle.register_tables.specs.Held.{state_of}
+use Rattle.register_tables.specs.Planned.{IsPlanned}
 use Rattle.register_plans.specs.Meets.{vrf_meets, rir_meets, role_meets, aggregate_meets, prefix_meets, range_meets, address_meets}
 use Rattle.register_plans.proofs.dispatch.plan_page.Goals as goal
 

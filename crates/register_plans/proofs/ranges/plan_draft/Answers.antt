@@ -1,7 +1,7 @@
 use Rattle.std.proofs.Common.{ℕ, sym, ap, ◌∙◌}
 use Rattle.ipam_data.specs.Fields.{drafted, told_of_draft}
 use Rattle.ipam_data.specs.Steps.{next_for}
-use Rattle.register_shelves.specs.Held.{state_of}
+use Rattle.register_tables.specs.Held.{state_of}
 use Rattle.register_plans.proofs.Drafted.{view_named, view_told, range_drafted}
 use Rattle.register_plans.proofs.ranges.plan_draft.Goals as goal
 

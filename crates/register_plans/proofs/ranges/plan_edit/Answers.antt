@@ -1,6 +1,6 @@
 use Rattle.std.proofs.Common.{sym, ◌∙◌, refl}
 use Rattle.ipam_data.specs.Ranges.{range_rules}
-use Rattle.register_shelves.specs.Held.{state_of}
+use Rattle.register_tables.specs.Held.{state_of}
 use Rattle.register_plans.proofs.Verdicts.{own_found}
 use Rattle.register_plans.proofs.ranges.plan_edit.Goals as goal
 

@@ -2,7 +2,7 @@ use Rattle.std.proofs.Common.{sym, ◌∙◌, Some, [], ◌∷◌}
 use Rattle.ipam_data.specs.Checks.{no_log}
 use Rattle.ipam_data.specs.Fields.{edited_range, told_of_change}
 use Rattle.ipam_data.specs.Ranges.{range_rules}
-use Rattle.register_shelves.specs.Held.{state_of}
+use Rattle.register_tables.specs.Held.{state_of}
 use Rattle.register_plans.proofs.Drafted.{range_edited}
 use Rattle.register_plans.proofs.Verdicts.{told_named, told_refuses}
 use Rattle.register_plans.proofs.ranges.plan_edited.Goals as goal

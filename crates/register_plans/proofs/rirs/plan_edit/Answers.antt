@@ -2,7 +2,7 @@ use Rattle.std.proofs.Common.{sym, ◌∙◌, refl}
 use Rattle.ipam_data.specs.Rirs.{rir_rules}
 use Rattle.ipam_data.specs.Fields.{edited_rir}
 use Rattle.ipam_data.proofs.DraftLaws.{rir_stays}
-use Rattle.register_shelves.specs.Held.{state_of}
+use Rattle.register_tables.specs.Held.{state_of}
 use Rattle.register_plans.proofs.Verdicts.{change_planned}
 use Rattle.register_plans.proofs.rirs.plan_edit.Goals as goal
 

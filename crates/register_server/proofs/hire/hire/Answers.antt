@@ -1,5 +1,5 @@
 use Rattle.std.proofs.Common.{◌≡◌, ◌+◌, ◌-◌, List, Option, [], IfSome, length, length-append, ap, sym, subst, ◌∙◌, refl, arith}
-use Rattle.ipam_doors.specs.Connections.{Connection}
+use Rattle.ipam_listen.specs.Connections.{Connection}
 use Rattle.shared_session.specs.Told.{Caller}
 use Rattle.register_server.specs.Hired.{AreNumberedDown, IsFresh, IsHired, top_number}
 use Rattle.register_server.proofs.Hired.{newly_fresh, newly_hired}

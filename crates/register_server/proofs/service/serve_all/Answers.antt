@@ -1,7 +1,7 @@
 use Rattle.std.proofs.Common.{rules, ◌≡◌, ◌+◌, ◌++◌, ℕ, List, All, length, ap, sym, subst, ◌∙◌, arith}
 use Rattle.history_lock.specs.Replay.{own_entries, replay}
 use Rattle.history_lock.specs.Machines.{Reaches}
-use Rattle.ipam_doors.specs.Connections.{Returned}
+use Rattle.ipam_listen.specs.Connections.{Returned}
 use Rattle.ipam_data.specs.State.{State}
 use Rattle.ipam_data.specs.Steps.{plain_step}
 use Rattle.shared_workers.specs.Workers.{IsReady}

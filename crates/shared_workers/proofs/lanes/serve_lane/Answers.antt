@@ -1,7 +1,7 @@
 use Rattle.std.proofs.Common.{◌≡◌, IfSome, List, Option, arith, sym, ap, ◌∙◌, subst}
-use Rattle.ipam_doors.specs.Connections.{Connection, Ends, IsLastOut, ends_of}
+use Rattle.ipam_listen.specs.Connections.{Connection, Ends, IsLastOut, ends_of}
 use Rattle.shared_workers.specs.Served.{HasServed}
-use Rattle.ipam_doors.proofs.Told.{out_after, with_one_out}
+use Rattle.ipam_listen.proofs.Told.{out_after, with_one_out}
 use Rattle.shared_workers.proofs.Connections.{none_yet, one_more, with_last_finished}
 use Rattle.shared_workers.proofs.lanes.serve_lane.Goals as goal
 

@@ -1,6 +1,6 @@
 use Rattle.std.proofs.Common.{refl, Some, [], ◌∷◌}
 use Rattle.std.proofs.lemmas.List.Elements.{All-from_recursion}
-use Rattle.ipam_doors.specs.ListLanes.{lane_told}
+use Rattle.ipam_listen.specs.ListLanes.{lane_told}
 use Rattle.shared_workers.specs.Workers.{IsReady}
 use Rattle.workers_trial.proofs.serving.serve_at_once.Goals as goal
 

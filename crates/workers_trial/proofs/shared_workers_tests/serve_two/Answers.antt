@@ -1,6 +1,6 @@
 use Rattle.std.proofs.Common.{ap, ◌∙◌, refl, Some, [], ◌∷◌}
 use Rattle.std.proofs.lemmas.List.Elements.{All-from_recursion}
-use Rattle.ipam_doors.specs.ListLanes.{lane_told}
+use Rattle.ipam_listen.specs.ListLanes.{lane_told}
 use Rattle.shared_session.specs.Told.{Caller}
 use Rattle.shared_workers.specs.Workers.{IsReady}
 use Rattle.workers_trial.proofs.shared_workers_tests.serve_two.Goals as goal

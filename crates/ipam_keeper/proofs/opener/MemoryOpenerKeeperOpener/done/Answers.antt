@@ -1,5 +1,5 @@
 use Rattle.std.proofs.Common.{◌≡◌, List, ℕ, Option, Some, sym, ap, ◌∙◌, subst}
-use Rattle.ipam_stored.specs.declared.tables.Tables.{Tables}
+use Rattle.stored_tables.specs.declared.tables.Tables.{Tables}
 use Rattle.ipam_keeper.specs.Keeping.{IsReturned}
 use Rattle.ipam_keeper.specs.Opener.{Opened, kept_at, returned}
 use Rattle.ipam_keeper.proofs.Paths.{is_returned}

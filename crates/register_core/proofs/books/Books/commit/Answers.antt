@@ -1,8 +1,8 @@
 use Rattle.std.proofs.Common.{◌∙◌, ap}
 use Rattle.ipam_data.specs.State.{State}
 use Rattle.ipam_data.specs.Updates.{updated}
-use Rattle.register_shelves.specs.Held.{state_of}
-use Rattle.ipam_stored.specs.Stored.{changed}
+use Rattle.register_tables.specs.Held.{state_of}
+use Rattle.stored_tables.specs.Stored.{changed}
 use Rattle.register_core.proofs.Told.{told_at, goes_on}
 use Rattle.register_core.proofs.books.Books.commit.Goals as goal
 

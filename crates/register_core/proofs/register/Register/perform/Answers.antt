@@ -1,6 +1,6 @@
 use Rattle.std.proofs.Common.{Some, subst, refl}
 use Rattle.ipam_data.specs.State.{State}
-use Rattle.register_shelves.specs.declared.planned.Planned.TheVariants.{Change}
+use Rattle.register_tables.specs.declared.planned.Planned.TheVariants.{Change}
 use Rattle.register_core.specs.Kept.{Leads}
 use Rattle.register_core.proofs.Planning.{state_same, plan_same, change_can, change_lawful, change_leads, change_steps}
 use Rattle.register_core.proofs.History.{whole_grows}

@@ -1,0 +1,60 @@
+# Names of crates as they were before 2026-11-29, for texts from before that day (notes, sketches, old branches):
+#     sed -E -i -f bench/renamed.sed FILE..
+# Crates that were merged into another one come first, with the paths that moved.
+
+# row_book and indexed_book are in placed_book
+s/Rattle\.row_book\.specs\.Book\b/Rattle.placed_book.specs.RowBook/g
+s/Rattle\.row_book\.proofs\.Places\b/Rattle.placed_book.proofs.RowPlaces/g
+s/Rattle\.row_book\.proofs\.(seek|found|RowBookBook)\b/Rattle.placed_book.proofs.rows.\1/g
+s/Rattle\.indexed_book\.specs\.declared\./Rattle.placed_book.specs.declared.indexed./g
+s/Rattle\.indexed_book\.proofs\.(resettle|IndexedBookBook)\b/Rattle.placed_book.proofs.indexed.\1/g
+s/Rattle\.indexed_book\./Rattle.placed_book./g
+s/\b(row_book|indexed_book)::/placed_book::/g
+
+# row_counts is in plan_import
+s/Rattle\.row_counts\.specs\.declared\./Rattle.plan_import.specs.declared.leftovers./g
+s/Rattle\.row_counts\.proofs\.KeyLaws\b/Rattle.plan_import.proofs.SpelledLaws/g
+s/Rattle\.row_counts\.proofs\.(Leftovers|put_text)\b/Rattle.plan_import.proofs.leftovers.\1/g
+s/Rattle\.row_counts\./Rattle.plan_import./g
+s/\brow_counts::/plan_import::/g
+
+# load_text, load_claims and register_load are command_load
+s/Rattle\.load_text\.specs\.Load\b/Rattle.command_load.specs.LoadText/g
+s/Rattle\.load_text\./Rattle.command_load./g
+s/\bload_text::/command_load::/g
+s/Rattle\.load_claims\.proofs\.(claims_in_order|claims_of_many|tallies_of_many|notes_of_one|load_has_room)\b/Rattle.command_load.proofs.laws.\1/g
+s/Rattle\.load_claims\./Rattle.command_load./g
+s/\bload_claims\b/command_load/g
+s/\bregister_load\b/command_load/g
+
+# whole_input is in ipam_edge
+s/Rattle\.whole_input\.specs\.declared\./Rattle.ipam_edge.specs.declared.whole./g
+s/Rattle\.whole_input\.proofs\./Rattle.ipam_edge.proofs.whole./g
+s/Rattle\.whole_input\./Rattle.ipam_edge./g
+s/\bwhole_input::/ipam_edge::/g
+
+# survey_lines is in ipam_data
+s/Rattle\.survey_lines\.specs\.declared\./Rattle.ipam_data.specs.declared.survey./g
+s/Rattle\.survey_lines\.proofs\.(Insertion|Whole|Examples)\b/Rattle.ipam_data.proofs.Survey\1/g
+s/Rattle\.survey_lines\./Rattle.ipam_data./g
+s/\bsurvey_lines::/ipam_data::survey::/g
+
+# crates that have another name
+s/\bfree_lines\b/command_free/g
+s/\bstore_session\b/command_session/g
+s/\bstore_server\b/command_serve/g
+s/\bstore_office\b/command_files/g
+s/\bipam_doors\b/ipam_listen/g
+s/\bregister_shelves\b/register_tables/g
+s/\bipam_stored\b/stored_tables/g
+s/\bipam_store\b/sqlite_keeper/g
+
+# range_rules and address_rules are definitions too: only where the crate is meant
+s/Rattle\.range_rules\./Rattle.ip_ranges./g
+s/Rattle\.address_rules\./Rattle.ip_addresses./g
+s/\brange_rules::/ip_ranges::/g
+s/\baddress_rules::/ip_addresses::/g
+s/\buse range_rules\b/use ip_ranges/g
+s/\buse address_rules\b/use ip_addresses/g
+s/crates\/range_rules\b/crates\/ip_ranges/g
+s/crates\/address_rules\b/crates\/ip_addresses/g

@@ -1,5 +1,0 @@
-use Rattle.address_rules.proofs.Sharing.{alone_none}
-use Rattle.address_rules.proofs.clashes.clash_behind.Goals as goal
-
-pub returns-then-is_alone : goal.returns-then-is_alone
-returns-then-is_alone g c = alone_none c.args.book.now.rows c.args.row.now c.args.from c.is_alone.result c.if-is_alone.true c.is_alone.ensures

@@ -1,6 +1,0 @@
-use Rattle.std.proofs.Common.{◌∙◌, sym}
-use Rattle.address_rules.proofs.Sharing.{unshared_least}
-use Rattle.address_rules.proofs.clashes.least_clash.Goals as goal
-
-pub returns : goal.returns
-returns g c = c.rival.ensures ∙ unshared_least c.args.book.now.rows c.args.row.now (sym c.shares.ensures ∙ c.if-shares.false)

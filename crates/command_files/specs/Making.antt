@@ -1,0 +1,98 @@
+-- What is known of an import on its way into a store: while it is made, when it is stored, and where it stops.
+use Rattle.std.specs.Prelude.{◌≡◌, ℕ, List, Option, Some, None, IsSome}
+use Rattle.ipam_data.specs.declared.kinds.Kind.{Kind}
+use Rattle.ipam_data.specs.declared.replies.Reply.TheVariants.{Imported}
+use Rattle.ipam_data.specs.declared.replies.Refusal.TheVariants.{Keeper as NotWritten}
+use Rattle.ipam_data.specs.State.{State, Plan, verdict_of}
+use Rattle.ipam_data.specs.Updates.{updated}
+use Rattle.stored_tables.specs.declared.tables.Tables.{Tables}
+use Rattle.stored_tables.specs.declared.opening.OpenFault.{OpenFault}
+use Rattle.stored_tables.specs.declared.opening.OpenFault.TheVariants.{Keeper as NotRead}
+use Rattle.stored_tables.specs.Stored.{Tells}
+use Rattle.stored_tables.specs.Opening.{IsOfTables}
+use Rattle.ipam_keeper.specs.declared.keeper.KeepFault.{KeepFault}
+use Rattle.ipam_keeper.specs.declared.keeper.KeepFault.TheVariants.{Failed as KeeperFailed, Memory as KeeperMemory}
+use Rattle.ipam_keeper.specs.Keeping.{Rose, started, IsReturned}
+use Rattle.import_rows.specs.declared.rows.ImportRow.{ImportRow}
+use Rattle.import_rows.specs.Imports.{import_plan}
+use Rattle.register_core.specs.Opened.{IsOpened, IsUnopened}
+use Rattle.command_words.specs.declared.asked.Store.{Store}
+use Rattle.command_streams.specs.Streams.{Told}
+use Rattle.command_session.specs.Outside.{Stores, AreSame}
+use Rattle.command_session.specs.FaultWords.{IsSaid}
+use Rattle.plan_import.specs.declared.halt.Halt.{Halt}
+use Rattle.plan_import.specs.declared.halt.Halt.TheVariants.{Refused as Halted, Memory as NoMemory}
+use Rattle.command_files.specs.declared.import.MakeStop.{MakeStop}
+use Rattle.command_files.specs.declared.import.MakeStop.TheVariants.{Refused, Keeper, Memory}
+use Rattle.command_files.specs.declared.import.ImportStop.{ImportStop}
+use Rattle.command_files.specs.declared.import.ImportStop.TheVariants.{Opening, Making}
+use Rattle.command_files.specs.Files.{NamesIt}
+use Rattle.command_files.specs.Import.{counts_text}
+
+-- what stops an import where its keeper refuses
+abbrev pub stop_by : KeepFault → MakeStop
+stop_by KeeperFailed = Keeper
+stop_by KeeperMemory = Memory
+
+-- what stops an import where its rows are halted
+abbrev pub stop_of : Halt → MakeStop
+stop_of (Halted refusal) = Refused refusal
+stop_of NoMemory = Memory
+
+-- no check of the plan refuses, and this text has the counts of its answer
+abbrev pub IsCounted : Plan → List ℕ → Type 0
+IsCounted plan text = (verdict_of plan ≡ None) × (created present : ℕ) × (plan.reply ≡ Imported created present) × (text ≡ counts_text created present)
+
+-- it is no refusal that stops it
+abbrev pub IsNoRefusal : MakeStop → Type 0
+IsNoRefusal (Refused refusal) = ⊥
+IsNoRefusal Keeper = Unit {0}
+IsNoRefusal Memory = Unit {0}
+
+-- it stops by the plan's refusal, or by the keeper, or for want of memory
+abbrev pub IsMakeStop : Plan → MakeStop → Type 0
+IsMakeStop plan (Refused refusal) = verdict_of plan ≡ Some refusal
+IsMakeStop plan Keeper = Unit {0}
+IsMakeStop plan Memory = Unit {0}
+
+-- the state is the one that the store's tables stand for
+abbrev pub IsFound : Store → Stores → State → Type 0
+IsFound store old state = IsOpened (started old.stored store.db) store.global_unique state
+
+-- the rows came into the store, and this text has the counts
+pub record HasImported (kind : Kind) (store : Store) (rows : List ImportRow) (old new : Stores) (text : List ℕ) : Type 0 where
+  pub state : State
+  pub found : IsFound store old state
+  pub counted : IsCounted (import_plan state kind rows) text
+  pub told : Option Tables
+  pub telling : IsSome (started old.stored store.db) → IsSome told
+  pub tells : Tells told (updated state (import_plan state kind rows).update)
+  pub returned : IsReturned (Some store.db) told old.stored new.stored
+
+-- the opening was refused so
+pub record IsOpenStop (store : Store) (old new : Stores) (fault : OpenFault) : Type 0 where
+  pub tables : IsOfTables fault → IsUnopened (started old.stored store.db) store.global_unique fault
+  pub failed : fault ≡ NotRead → Rose old.faults new.faults
+
+-- why the rows did not come into the store
+abbrev pub IsStop : Kind → Store → List ImportRow → Stores → Stores → ImportStop → Type 0
+IsStop kind store rows old new (Opening fault) = IsOpenStop store old new fault
+IsStop kind store rows old new (Making (Refused refusal)) = (state : State) × IsFound store old state × (verdict_of (import_plan state kind rows) ≡ Some refusal)
+IsStop kind store rows old new (Making Keeper) = Rose old.faults new.faults
+IsStop kind store rows old new (Making Memory) = Unit {0}
+
+-- and told tables are as they were
+pub record IsImportStop (kind : Kind) (store : Store) (rows : List ImportRow) (old new : Stores) (stop : ImportStop) : Type 0 where
+  pub cause : IsStop kind store rows old new stop
+  pub same : AreSame old.stored new.stored
+
+-- why the rows were not made was said, with its status
+abbrev pub IsMakingSaid : MakeStop → Told → Told → ℕ → Type 0
+IsMakingSaid (Refused refusal) old new status = NamesIt refusal 1 old new status
+IsMakingSaid Keeper old new status = NamesIt NotWritten 4 old new status
+IsMakingSaid Memory old new status = (status ≡ 5) × (new ≡ old)
+
+-- it was said, with its status
+abbrev pub IsStopSaid : ImportStop → Told → Told → ℕ → Type 0
+IsStopSaid (Opening fault) old new status = IsSaid fault old new status
+IsStopSaid (Making stop) old new status = IsMakingSaid stop old new status

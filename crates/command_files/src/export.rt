@@ -1,0 +1,69 @@
+//! The command `export`.
+
+ghost use Rattle.std.specs.Prelude.{◌≡◌, ◌≤◌, IfOk};
+ghost use Rattle.ipam_data.specs.Lawful.{IsLawful};
+ghost use Rattle.csv_import.specs.Exports.{rows_text};
+ghost use Rattle.plan_export.specs.Exported.{exported};
+ghost use Rattle.register_tables.specs.Held.{state_of};
+ghost use Rattle.command_streams.specs.Streams.{Told, streams, told};
+ghost use Rattle.command_session.specs.Outside.{outside, stores};
+ghost use Rattle.command_files.specs.Export.{IsExport};
+
+use crate::opened::open_store;
+use command_session::say_fault;
+use command_streams::{DONE, MEMORY, end_with};
+use command_words::Store;
+use csv_import::write_rows;
+use import_rows::rows::ImportRow;
+use ipam_data::kinds::Kind;
+use ipam_edge::Sink;
+use ipam_keeper::keeper::KeeperOpener;
+use plan_export::rows_of;
+use register_tables::Shelves;
+use std::alloc::{AllocError, Global};
+
+/// The text of a file of these rows. `Err` is want of memory.
+fn text_of(alloc: Global, kind: Kind, rows: &[ImportRow]) -> Result<Vec<u8>, AllocError>
+    ensures { IfOk result (λ v. v.items ≡ rows_text kind rows.now) }
+{
+    let mut text = Vec::new(alloc);
+    write_rows(alloc, kind, rows, &mut text)?;
+    Ok(text)
+}
+
+/// The text of an export of the records of a kind. The records are given away. `Err` is want of memory.
+fn export_text(alloc: Global, kind: Kind, shelves: Shelves) -> Result<Vec<u8>, AllocError>
+    requires { IsLawful (state_of shelves) }
+    ensures { IfOk result (λ v. v.items ≡ rows_text kind (exported (state_of shelves) kind)) }
+{
+    let rows = rows_of(&shelves, kind);
+    drop(shelves);
+    let rows = rows?;
+    text_of(alloc, kind, rows.as_slice())
+}
+
+/// Runs `export`: the records of a kind, as a file that `import` takes, from the register of the store, which stays as it is.
+pub fn run_export<Si: Sink, Se: Sink, O: KeeperOpener>(
+    alloc: Global,
+    kind: Kind,
+    store: &Store,
+    output: &mut Si,
+    errors: &mut Se,
+    opener: &mut O,
+) -> u8
+    ensures { (input : Told) → IsExport kind store.now
+        (outside (streams input (told Si.written Si.faults output.old) (told Se.written Se.faults errors.old)) (stores O.stored O.faults opener.old))
+        (outside (streams input (told Si.written Si.faults output.new) (told Se.written Se.faults errors.new)) (stores O.stored O.faults opener.new)) result }
+{
+    match open_store(alloc, store, opener) {
+        Ok((shelves, kept)) => {
+            let text = export_text(alloc, kind, shelves);
+            opener.done(kept);
+            match text {
+                Ok(text) => end_with(output, text.as_slice(), DONE),
+                Err(_) => MEMORY,
+            }
+        }
+        Err(fault) => say_fault(alloc, &fault, errors),
+    }
+}

@@ -1,0 +1,21 @@
+pub mod Called
+pub mod Hired
+pub mod Sent
+pub mod Dismissed
+pub mod Figure
+pub mod Loaded
+pub mod AllClaims
+pub mod Shares
+pub mod Ended
+pub mod Begun
+mod Examples
+pub mod Lengths
+pub mod Runs
+pub mod Hosts
+pub mod Steps
+pub mod Figures
+pub mod Histories
+pub mod Tallies
+pub mod Notes
+pub mod Room
+pub mod Others

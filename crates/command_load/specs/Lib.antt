@@ -1,0 +1,11 @@
+pub mod Load
+pub mod Hired
+pub mod Dismissed
+pub mod AllClaims
+pub mod LoadText
+pub mod Claims
+pub mod Histories
+pub mod Replies
+pub mod Tallies
+pub mod Notes
+pub mod Room

@@ -1,0 +1,14 @@
+//! The command `load`: many workers claim addresses of one prefix of a register in memory, one by one.
+#![tactic(auto)]
+
+mod calls;
+mod came;
+mod claims;
+mod figures;
+pub mod laws;
+mod length;
+mod run;
+mod tally;
+mod workers;
+
+pub use run::run_load;

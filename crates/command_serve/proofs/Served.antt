@@ -1,0 +1,91 @@
+-- What a run of `serve` leaves whose register was served, as the command's record has it.
+use Rattle.std.proofs.Common.{◌≡◌, ℕ, ◌⊎◌, List, inl, inr, Option, arith}
+use Rattle.stored_tables.specs.declared.tables.Tables.{Tables}
+use Rattle.register_server.specs.Serving.{IsListening, IsServedFrom}
+use Rattle.register_server.specs.declared.ending.Listening.{Listening}
+use Rattle.register_server.specs.declared.ending.Listening.TheVariants.{Whole, Broken}
+use Rattle.command_words.specs.declared.asked.Serving.{Serving}
+use Rattle.command_streams.specs.Streams.{Gains, GainsFront, Failed, EndsWith}
+use Rattle.command_session.specs.Outside.{Outside}
+use Rattle.command_serve.specs.Serve.{Doors, DoorsFailed, AllCame, ServesStore, entries_line, listening_status, IsServe}
+use Rattle.command_serve.proofs.Unserved.{Whatever}
+
+-- the count of the changes is on the output
+printed : (serving : Serving) (old new : Outside) (before after : Doors) (entries : ℕ) (listening : Listening) (status : ℕ)
+    → Whatever serving old new before after → ServesStore serving old new before after entries
+    → IsListening (AllCame serving before after) (DoorsFailed before after) listening
+    → status ≡ listening_status listening → Gains old.streams.output new.streams.output (entries_line entries)
+    → IsServe serving old new before after status
+printed serving old new before after entries Whole status all serves came zero said = record {
+  statuses = inl zero;
+  done = λ z. record { all_came = came; entries = entries; serves = serves; said = said };
+  refused = λ z. absurd (omega arith);
+  fault = λ z. absurd (omega arith);
+  store_fault = λ z. absurd (omega arith);
+  memory = λ z. absurd (omega arith);
+  unread = all.unread;
+  lanes_back = all.lanes_back;
+  bound = all.bound;
+  later = all.later;
+  listener_later = all.listener_later;
+}
+printed serving old new before after entries Broken status all serves failed three said = record {
+  statuses = inr (inr (inl three));
+  done = λ z. absurd (omega arith);
+  refused = λ z. absurd (omega arith);
+  fault = λ z. inl (record { failed = failed; entries = entries; serves = serves; said = said });
+  store_fault = λ z. absurd (omega arith);
+  memory = λ z. absurd (omega arith);
+  unread = all.unread;
+  lanes_back = all.lanes_back;
+  bound = all.bound;
+  later = all.later;
+  listener_later = all.listener_later;
+}
+
+-- the output failed
+not_printed : (serving : Serving) (old new : Outside) (before after : Doors) (entries status : ℕ)
+    → Whatever serving old new before after → ServesStore serving old new before after entries
+    → status ≡ 3 → Failed old.streams.output new.streams.output → GainsFront old.streams.output new.streams.output (entries_line entries)
+    → IsServe serving old new before after status
+not_printed serving old new before after entries status all serves three failed front = record {
+  statuses = inr (inr (inl three));
+  done = λ z. absurd (omega arith);
+  refused = λ z. absurd (omega arith);
+  fault = λ z. inr (inl (record { failed = failed; entries = entries; serves = serves; front = front }));
+  store_fault = λ z. absurd (omega arith);
+  memory = λ z. absurd (omega arith);
+  unread = all.unread;
+  lanes_back = all.lanes_back;
+  bound = all.bound;
+  later = all.later;
+  listener_later = all.listener_later;
+}
+
+-- the store was served, by the keeper that came back
+serves_store : {K : Type 0} (told : K → Option Tables) (serving : Serving) (old new : Outside) (before after : Doors) (entries : ℕ)
+    → IsServedFrom told serving.store.db serving.store.global_unique old.stores.stored new.stores.stored old.stores.faults new.stores.faults
+    before.returned after.returned (AllCame serving before after) entries
+    → new.streams.errors ≡ old.streams.errors → ServesStore serving old new before after entries
+serves_store told serving old new before after entries from silent = record {
+  state = from.opening;
+  loaded = from.opened;
+  history = from.whole.history;
+  served = from.whole.served;
+  entries_are = from.whole.length_is;
+  holds = (told from.kept, from.whole.told_are, from.returned);
+  silent = silent;
+}
+
+-- the register was served, and its count was said as far as that could be
+pub of_served : {K : Type 0} (told : K → Option Tables) (serving : Serving) (old new : Outside) (before after : Doors) (entries : ℕ) (listening : Listening) (status : ℕ)
+    → Whatever serving old new before after
+    → IsServedFrom told serving.store.db serving.store.global_unique old.stores.stored new.stores.stored old.stores.faults new.stores.faults
+    before.returned after.returned (AllCame serving before after) entries
+    → IsListening (AllCame serving before after) (DoorsFailed before after) listening → new.streams.errors ≡ old.streams.errors
+    → EndsWith old.streams.output new.streams.output (entries_line entries) (listening_status listening) status
+    → IsServe serving old new before after status
+of_served told serving old new before after entries listening status all from heard silent (inl said) =
+    printed serving old new before after entries listening status all (serves_store told serving old new before after entries from silent) heard said.0 said.1
+of_served told serving old new before after entries listening status all from heard silent (inr said) =
+    not_printed serving old new before after entries status all (serves_store told serving old new before after entries from silent) said.0 said.1 said.2

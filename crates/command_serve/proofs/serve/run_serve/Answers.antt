@@ -1,0 +1,28 @@
+use Rattle.std.proofs.Common.{refl, arith}
+use Rattle.command_serve.proofs.Served.{of_served}
+use Rattle.command_serve.proofs.Unserved.{of_unserved}
+use Rattle.command_serve.proofs.serve.run_serve.Goals as goal
+
+pub returns-in-Ok : goal.returns-in-Ok
+returns-in-Ok g c = λ input.
+    of_served g.O.Kept.Keeper.told c.args.serving.now _ _ _ _ c.in-Ok.served.entries c.in-Ok.served.listening _
+    (record {
+      unread = refl;
+      lanes_back = c.in-Ok.ensures.lanes_back;
+      bound = c.in-Ok.ensures.bound;
+      later = record { streams = record { input = omega arith; output = c.say_entries.ensures.later; errors = omega arith }; stores = c.in-Ok.ensures.opener_later };
+      listener_later = c.in-Ok.ensures.listener_later;
+    })
+    c.in-Ok.ensures.history c.in-Ok.ensures.listened refl c.say_entries.ensures.said
+
+pub returns-in-Err : goal.returns-in-Err
+returns-in-Err g c = λ input.
+    of_unserved g.O.Kept.Keeper.told c.args.serving.now _ _ _ _ _ c.in-Err.why
+    (record {
+      unread = refl;
+      lanes_back = c.in-Err.ensures.lanes_back;
+      bound = c.in-Err.ensures.bound;
+      later = record { streams = record { input = omega arith; output = omega arith; errors = c.say_unserved.ensures.later }; stores = c.in-Err.ensures.opener_later };
+      listener_later = c.in-Err.ensures.listener_later;
+    })
+    refl c.in-Err.ensures.history c.in-Err.ensures.listened c.say_unserved.ensures.said

@@ -1,0 +1,146 @@
+-- What a run of the command `serve` promises of each status: a register over the store that the words name, or else in memory, served to
+-- all that connect.
+use Rattle.std.specs.Prelude.{◌≡◌, ℕ, ◌+◌, ◌++◌, ◌≤◌, ◌⊎◌, List, [], ◌∷◌, Option, Some, length, codes, decimal}
+use Rattle.ipam_edge.specs.Faults.{Rose}
+use Rattle.history_lock.specs.Replay.{replay}
+use Rattle.ipam_data.specs.State.{State}
+use Rattle.ipam_data.specs.Steps.{plain_step}
+use Rattle.stored_tables.specs.declared.tables.Tables.{Tables}
+use Rattle.ipam_keeper.specs.Keeping.{IsReturned}
+use Rattle.ipam_listen.specs.Connections.{Returned}
+use Rattle.shared_session.specs.Told.{Made}
+use Rattle.register_server.specs.Serving.{AreAsBefore, IsServedBy}
+use Rattle.register_server.specs.declared.ending.Listening.{Listening}
+use Rattle.register_server.specs.declared.ending.Listening.TheVariants.{Whole, Broken}
+use Rattle.register_server.specs.declared.ending.Unserved.{Unserved}
+use Rattle.register_server.specs.declared.ending.Unserved.TheVariants.{Opening, Place}
+use Rattle.command_words.specs.declared.asked.Store.{Store}
+use Rattle.command_words.specs.declared.asked.Serving.{Serving}
+use Rattle.command_streams.specs.Streams.{Told, Gains, GainsFront, Failed}
+use Rattle.command_session.specs.Outside.{Outside, NoCountFalls}
+use Rattle.command_session.specs.FaultWords.{IsSaid}
+use Rattle.command_session.specs.Session.{found_tables, IsLoaded, Holds, NamesFault, NamesFailure, FailsToSay}
+
+-- ---- what is seen of a listener
+
+-- what it tells: how many connections each lane may accept, by the place that it was bound to last; how many lanes it handed out; the
+-- lanes that were given back; and its count of faults
+pub record Doors : Type 0 where
+  pub bound : ℕ
+  pub lanes : ℕ
+  pub returned : List Returned
+  pub faults : ℕ
+
+-- what a listener tells, by the members of its trait
+abbrev pub doors : {L : Type 0} → (L → ℕ) → (L → ℕ) → (L → List Returned) → (L → ℕ) → L → Doors
+doors bound lanes returned faults listener =
+    record { bound = bound listener; lanes = lanes listener; returned = returned listener; faults = faults listener }
+
+-- it failed meanwhile, or a lane that it took back had failed
+abbrev pub DoorsFailed : Doors → Doors → Type 0
+DoorsFailed before after = Rose before.faults after.faults
+
+-- as many lanes came as workers were asked for
+abbrev pub AllCame : Serving → Doors → Doors → Type 0
+AllCame serving before after = after.lanes ≡ before.lanes + serving.workers
+
+-- no lane was handed out, and none came back
+pub record NobodyCame (before after : Doors) : Type 0 where
+  pub lanes : after.lanes ≡ before.lanes
+  pub returned : after.returned ≡ before.returned
+
+-- ---- what came of it
+
+-- the line that says how many changes were accepted
+abbrev pub entries_line : ℕ → List ℕ
+entries_line entries = codes "entries " ++ decimal entries ++ 10 ∷ []
+
+-- the status of a listening that ended so, where nothing else fails
+abbrev pub listening_status : Listening → ℕ
+listening_status Whole = 0
+listening_status Broken = 3
+
+-- the register of the store was served: behind all that the lanes tell is one history of so many changes
+pub record ServesStore (serving : Serving) (old new : Outside) (before after : Doors) (entries : ℕ) : Type 0 where
+  pub state : State
+  pub loaded : IsLoaded serving.store old state
+  pub history : List Made
+  -- all answers of all connections are out of the one history, which has their changes, in order, and no others; each lane that came back
+  -- tells the connections that were served; where all lanes came none has an accept left; and no more answers tell that the keeper
+  -- failed than the opener's count rose, as far as that goes
+  pub served : IsServedBy state old.stores.faults new.stores.faults before.returned after.returned (AllCame serving before after) history
+  pub entries_are : entries ≡ length history
+  -- the store has the history's replay
+  pub holds : Holds serving.store old new (replay plain_step state history)
+  -- nothing is said
+  pub silent : new.streams.errors ≡ old.streams.errors
+
+-- the listening went whole, and the count of the changes is on the output
+pub record Counts (serving : Serving) (old new : Outside) (before after : Doors) : Type 0 where
+  pub all_came : AllCame serving before after
+  pub entries : ℕ
+  pub serves : ServesStore serving old new before after entries
+  pub said : Gains old.streams.output new.streams.output (entries_line entries)
+
+-- a lane did not come or an accept failed; the count of the changes is on the output all the same
+pub record BreaksOff (serving : Serving) (old new : Outside) (before after : Doors) : Type 0 where
+  pub failed : DoorsFailed before after
+  pub entries : ℕ
+  pub serves : ServesStore serving old new before after entries
+  pub said : Gains old.streams.output new.streams.output (entries_line entries)
+
+-- the output failed, with a front of the count on it
+pub record FailsToCount (serving : Serving) (old new : Outside) (before after : Doors) : Type 0 where
+  pub failed : Failed old.streams.output new.streams.output
+  pub entries : ℕ
+  pub serves : ServesStore serving old new before after entries
+  pub front : GainsFront old.streams.output new.streams.output (entries_line entries)
+
+-- told tables are as they were, but those of the store where the keeper that came back tells none: what it tells was there before
+abbrev pub IsLeft : Store → Outside → Outside → Unserved → Type 0
+IsLeft store old new why =
+    (new.stores.stored ≡ old.stores.stored)
+    ⊎ ((told : Option Tables) × AreAsBefore (found_tables store old) told why × IsReturned (Some store.db) told old.stores.stored new.stores.stored)
+
+-- nobody was served, nothing was read and nothing written
+pub record IsUnserved (store : Store) (old new : Outside) (before after : Doors) : Type 0 where
+  pub streams : new.streams ≡ old.streams
+  pub why : Unserved
+  pub left : IsLeft store old new why
+  pub nobody : NobodyCame before after
+
+-- the listener could not be bound to the place: nothing is said, and nobody was served
+pub record HasNoPlace (store : Store) (old new : Outside) (before after : Doors) : Type 0 where
+  pub failed : DoorsFailed before after
+  pub unserved : IsUnserved store old new before after
+
+-- what is said where nobody was served: why the opening was refused, and of a place that could not be had nothing
+abbrev pub IsUnservedSaid : Unserved → Told → Told → ℕ → Type 0
+IsUnservedSaid (Opening fault) old new status = IsSaid fault old new status
+IsUnservedSaid Place old new status = (status ≡ 3) × (new ≡ old)
+
+-- a run of `serve` with these words
+pub record IsServe (serving : Serving) (old new : Outside) (before after : Doors) (status : ℕ) : Type 0 where
+  -- the status is one of these
+  pub statuses : (status ≡ 0) ⊎ (status ≡ 1) ⊎ (status ≡ 3) ⊎ (status ≡ 4) ⊎ (status ≡ 5)
+  -- 0: all lanes came and were served to their end, and the count of the changes is on the output
+  pub done : status ≡ 0 → Counts serving old new before after
+  -- 1: the opening was refused for what the store holds; no lane was taken
+  pub refused : status ≡ 1 → NamesFault serving.store old new × NobodyCame before after
+  -- 3: the listener failed, and the count was printed; or the output failed; or the place could not be had; or what was to be said of the
+  -- opening could not be
+  pub fault : status ≡ 3 → BreaksOff serving old new before after ⊎ FailsToCount serving old new before after
+      ⊎ HasNoPlace serving.store old new before after ⊎ (FailsToSay serving.store old new × NobodyCame before after)
+  -- 4: the opening was refused since the store failed; no lane was taken
+  pub store_fault : status ≡ 4 → NamesFailure old new × NobodyCame before after
+  -- 5: nobody was served, and nothing was said
+  pub memory : status ≡ 5 → IsUnserved serving.store old new before after
+  -- the input is not read
+  pub unread : new.streams.input ≡ old.streams.input
+  -- every lane that was handed out was given back
+  pub lanes_back : length after.returned + before.lanes ≡ length before.returned + after.lanes
+  -- where all lanes came, the listener was bound with the number of connections
+  pub bound : AllCame serving before after → after.bound ≡ serving.connections
+  -- no count of faults falls
+  pub later : NoCountFalls old new
+  pub listener_later : before.faults ≤ after.faults

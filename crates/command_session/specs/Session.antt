@@ -1,0 +1,135 @@
+-- What a run of the command `session` promises of each status: one connection over the input and the output, with a register of
+-- its own, over the store that the words name, or else in memory.
+use Rattle.std.specs.Prelude.{◌≡◌, ℕ, ◌+◌, ◌≤◌, ◌⊎◌, List, [], IfSome, IsSome, Option, Some}
+use Rattle.ipam_data.specs.State.{State}
+use Rattle.stored_tables.specs.declared.opening.OpenFault.{OpenFault}
+use Rattle.stored_tables.specs.declared.opening.OpenFault.TheVariants.{Keeper}
+use Rattle.stored_tables.specs.declared.tables.Tables.{Tables}
+use Rattle.stored_tables.specs.Stored.{Tells}
+use Rattle.stored_tables.specs.Opening.{IsOfTables}
+use Rattle.ipam_keeper.specs.Keeping.{started, IsReturned, last_count}
+use Rattle.register_core.specs.Opened.{IsOpened, IsUnopened}
+use Rattle.http_session.specs.Requests.{AreAllItems, Item}
+use Rattle.http_session.specs.Steps.{Grown}
+use Rattle.http_session.specs.Talk.{Answer, May, Run, texts}
+use Rattle.http_session.specs.Ends.{IsEnd, IsReadAsNeeded}
+use Rattle.http_session.specs.declared.session.SessionEnd.{SessionEnd}
+use Rattle.http_session.specs.declared.session.SessionEnd.TheVariants.{Closed, SourceFault, SinkFault, Memory}
+use Rattle.rest_ipam.specs.Answered.{answers_plainly}
+use Rattle.kept_session.specs.Answered.{Standing, fresh, answers_kept}
+use Rattle.command_words.specs.declared.asked.Store.{Store}
+use Rattle.command_streams.specs.Streams.{Gains, GainsFront, Failed}
+use Rattle.command_session.specs.Outside.{Outside, StoreFailed, IsUnused, NoCountFalls}
+use Rattle.command_session.specs.FaultWords.{fault_line}
+
+-- the tables with which the store begins, where they are told: without a file the empty ones
+abbrev pub found_tables : Store → Outside → Option Tables
+found_tables store old = started old.stores.stored store.db
+
+-- the state is one for which the tables of the store stand
+abbrev pub IsLoaded : Store → Outside → State → Type 0
+IsLoaded store old state = IsOpened (found_tables store old) store.global_unique state
+
+-- told tables of the store are those of this state, and all others are as they were
+abbrev pub Holds : Store → Outside → Outside → State → Type 0
+Holds store old new state = (told : Option Tables) × Tells told state × IsReturned (Some store.db) told old.stores.stored new.stores.stored
+
+-- the same, and they are told at the end where the tables of the store were told at the start
+abbrev pub HoldsTold : Store → Outside → Outside → State → Type 0
+HoldsTold store old new state = (told : Option Tables) × (IsSome (found_tables store old) → IsSome told)
+    × Tells told state × IsReturned (Some store.db) told old.stores.stored new.stores.stored
+
+-- what was read is what a session of the loaded register served, and the output gained what this end says
+pub record Serves (store : Store) (old new : Outside) (end : SessionEnd) : Type 0 where
+  pub state : State
+  pub loaded : IsLoaded store old state
+  pub bytes : List ℕ
+  pub last : Standing
+  pub grown : Grown old.streams.input.bytes new.streams.input.bytes [] bytes
+  -- the answers are the plain register's, from the loaded state, but where the keeper failed or memory was wanting in the register ..
+  pub ends : IsEnd answers_kept (fresh state) last old.streams.output.bytes new.streams.output.bytes bytes new.streams.input.bytes end
+  -- .. of which the first is told at most as often as the opener's count rose, as far as that goes ..
+  pub bounded : (old.stores.faults + last.failed ≤ new.stores.faults) ⊎ (last_count ≤ new.stores.faults)
+  -- .. and where it did not rise they are all the plain register's, want of memory aside
+  pub plain : (¬ StoreFailed old new)
+      → IsEnd answers_plainly (fresh state).seen last.seen old.streams.output.bytes new.streams.output.bytes bytes new.streams.input.bytes end
+  pub needed : IsReadAsNeeded bytes
+  -- the store has what was accepted, and tells it where its tables were told
+  pub holds : HoldsTold store old new last.seen.state
+  -- nothing is said
+  pub silent : new.streams.errors ≡ old.streams.errors
+
+-- the output gained the texts of the answers that may be given, one after another, to all requests of the input, up to the first that
+-- closes
+abbrev pub Prints : {S : Type 0} → May S → S → Outside → Outside → Type 0
+Prints {S} may first old new =
+    IfSome old.streams.input.bytes (λ bytes. (items : List Item) × (answers : List Answer) × (last : S)
+    × AreAllItems bytes (Unit {0}) items × Run may first items answers last
+    × Gains old.streams.output new.streams.output (texts items answers))
+
+-- the session closed, with its answers to all requests
+pub record Closes (store : Store) (old new : Outside) : Type 0 where
+  pub count : ℕ
+  pub serves : Serves store old new (Closed count)
+  pub prints : Prints answers_kept (fresh serves.state) old new
+  pub plain : (¬ StoreFailed old new) → Prints answers_plainly (fresh serves.state).seen old new
+
+-- the input failed, with the answers to all requests that lay whole in the bytes read on the output
+pub record Starves (store : Store) (old new : Outside) : Type 0 where
+  pub failed : Failed old.streams.input new.streams.input
+  pub serves : Serves store old new SourceFault
+
+-- the output failed, with a front of the last answer on it
+pub record Breaks (store : Store) (old new : Outside) : Type 0 where
+  pub failed : Failed old.streams.output new.streams.output
+  pub serves : Serves store old new SinkFault
+
+-- the tables of the store have this fault
+pub record IsBadStore (store : Store) (old : Outside) (fault : OpenFault) : Type 0 where
+  pub of_tables : IsOfTables fault
+  pub refused : IsUnopened (found_tables store old) store.global_unique fault
+
+-- a fault of the store's tables was said, and nothing else was used
+pub record NamesFault (store : Store) (old new : Outside) : Type 0 where
+  pub fault : OpenFault
+  pub bad : IsBadStore store old fault
+  pub said : Gains old.streams.errors new.streams.errors (fault_line fault)
+  pub unused : IsUnused old new
+
+-- the store failed, which was said, and nothing else was used
+pub record NamesFailure (old new : Outside) : Type 0 where
+  pub failed : StoreFailed old new
+  pub said : Gains old.streams.errors new.streams.errors (fault_line Keeper)
+  pub unused : IsUnused old new
+
+-- what was to be said of the opening could not be, and nothing else was used
+pub record FailsToSay (store : Store) (old new : Outside) : Type 0 where
+  pub failed : Failed old.streams.errors new.streams.errors
+  pub fault : OpenFault
+  pub cause : IsBadStore store old fault ⊎ ((fault ≡ Keeper) × StoreFailed old new)
+  pub front : GainsFront old.streams.errors new.streams.errors (fault_line fault)
+  pub unused : IsUnused old new
+
+-- the status of a session by its end
+abbrev pub end_status : SessionEnd → ℕ
+end_status (Closed n) = 0
+end_status SourceFault = 3
+end_status SinkFault = 3
+end_status Memory = 5
+
+-- a run of `session` over this store
+pub record IsSession (store : Store) (old new : Outside) (status : ℕ) : Type 0 where
+  -- the status is one of these
+  pub statuses : (status ≡ 0) ⊎ (status ≡ 1) ⊎ (status ≡ 3) ⊎ (status ≡ 4) ⊎ (status ≡ 5)
+  -- 0: the answers to all requests are on the output
+  pub done : status ≡ 0 → Closes store old new
+  -- 1: the opening was refused for what the store holds
+  pub refused : status ≡ 1 → NamesFault store old new
+  -- 3: the input failed, and each answer was written; or the output failed; or what was to be said of the opening could not be
+  pub fault : status ≡ 3 → Starves store old new ⊎ Breaks store old new ⊎ FailsToSay store old new
+  -- 4: the opening was refused since the store failed
+  pub store_fault : status ≡ 4 → NamesFailure old new
+  -- 5: nothing was used; or before a request reached the register, or after its reply was made. Nothing was said
+  pub memory : status ≡ 5 → (new.streams.errors ≡ old.streams.errors) × (IsUnused old new ⊎ Serves store old new Memory)
+  -- no count of faults falls
+  pub later : NoCountFalls old new

@@ -1,0 +1,18 @@
+use Rattle.std.proofs.Common.{arith}
+use Rattle.ip_ranges.specs.declared.Which.TheVariants.{All, Marked}
+use Rattle.ip_ranges.proofs.Spanned.{cut_track}
+use Rattle.ip_ranges.proofs.RangeBookBook.cut.Goals as goal
+
+pub invariant_of-self : goal.invariant_of-self
+invariant_of-self c =
+    let held = c.self.invariant in
+    let rows = c.self.inside.rows.rows in
+    let spare = c.forget.ensures.spare in
+    let spare_too = c.forget-2.ensures.spare in
+    let room = c.cut.ensures.spare in (
+      omega (arith, held.0),
+      omega (arith, held.1),
+      omega (arith, held.2),
+      cut_track All rows c.cut.new.self.rows c.self.inside.all.entries c.forget.new.track.entries c.args.id c.in_order.ensures.ordered held.3 c.forget.ensures.counts c.cut.ensures.rows,
+      cut_track Marked rows c.cut.new.self.rows c.self.inside.marked.entries c.forget-2.new.track.entries c.args.id c.in_order.ensures.ordered held.4 c.forget-2.ensures.counts c.cut.ensures.rows,
+    )

@@ -1,4 +1,0 @@
-use Rattle.ipam_doors.proofs.tcp.TcpIn.let_go.Given as goal
-
-abbrev pub decreases-loop-left : goal.decreases-loop-left
-decreases-loop-left g l = l.left

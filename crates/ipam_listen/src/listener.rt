@@ -1,0 +1,49 @@
+//! Where lanes come from.
+ghost use Rattle.std.specs.Prelude.{◌≡◌, ◌+◌, ◌<◌, ◌++◌, ◌∷◌, [], ℕ, List, length, IfOk, IfSome, MatchResult};
+ghost use Rattle.ipam_edge.specs.Faults.{HasCause};
+ghost use Rattle.ipam_listen.specs.Connections.{Returned, RisesExactly};
+
+use crate::lane::Lane;
+use ipam_edge::Failed;
+use std::marker::Send;
+
+/// What is bound to a place, hands out lanes for the connections that come there, and takes the lanes back.
+pub trait Listener {
+    /// What one worker takes its connections from.
+    type Door: Lane + Send;
+
+    /// How many connections each lane may accept, by the last `bind` that answered Ok.
+    ghost bound: { Self → ℕ };
+
+    /// How many lanes it handed out.
+    ghost lanes: { Self → ℕ };
+
+    /// The lanes that were given back, in that order.
+    ghost returned: { Self → List Returned };
+
+    /// How often it has failed so far: a count that never falls.
+    ghost faults: { Self → ℕ };
+
+    /// Binds it to a place; each lane from now on accepts so many connections.
+    fn bind(&mut self, at: &[u8], connections: u32) -> Result<(), Failed>
+        ensures bound { MatchResult result (λ _. bound self.new ≡ connections) (λ _. bound self.new ≡ bound self.old) }
+        ensures lanes { lanes self.new ≡ lanes self.old }
+        ensures returned { returned self.new ≡ returned self.old }
+        ensures cause { HasCause (faults self.old) (faults self.new) result };
+
+    /// Hands out a lane, which has handed out no connection yet.
+    fn lane(&mut self) -> Result<Self::Door, Failed>
+        ensures fresh { IfOk result (λ lane. (Self.Door.accepts lane ≡ bound self.old) × IfSome (Self.Door.told lane) (λ connections. connections ≡ [])) }
+        ensures lanes { MatchResult result (λ _. lanes self.new ≡ lanes self.old + 1) (λ _. lanes self.new ≡ lanes self.old) }
+        ensures bound { bound self.new ≡ bound self.old }
+        ensures returned { returned self.new ≡ returned self.old }
+        ensures cause { HasCause (faults self.old) (faults self.new) result };
+
+    /// Takes a lane back. It takes no memory. The count of faults rises exactly where the lane failed.
+    fn give_back(&mut self, lane: Self::Door)
+        requires out { length (returned self.old) < lanes self.old }
+        ensures returned { returned self.new ≡ returned self.old ++ record { told = Self.Door.told lane; accepts = Self.Door.accepts lane } ∷ [] }
+        ensures lanes { lanes self.new ≡ lanes self.old }
+        ensures bound { bound self.new ≡ bound self.old }
+        ensures cause { RisesExactly (0 < Self.Door.faults lane) (faults self.old) (faults self.new) };
+}

@@ -1,5 +1,0 @@
-use Rattle.ipam_stored.proofs.ReadBack.{written_is_read}
-use Rattle.ipam_stored.proofs.laws.written_rows_are_read.Goals as goal
-
-pub returns : goal.returns
-returns c = written_is_read

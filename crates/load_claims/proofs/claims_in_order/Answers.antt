@@ -1,6 +1,0 @@
-use Rattle.load_claims.proofs.Steps.{made_first, claim_next, claims_lead}
-use Rattle.load_claims.proofs.Figures.{figure_of_claims}
-use Rattle.load_claims.proofs.claims_in_order.Goals as goal
-
-pub returns : goal.returns
-returns c = record { made = made_first; next = claim_next; behind = claims_lead; figure = figure_of_claims }

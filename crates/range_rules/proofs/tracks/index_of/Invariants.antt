@@ -1,7 +1,0 @@
-use Rattle.std.proofs.Common.{◌≡◌, take}
-use Rattle.std.specs.List.{count_by}
-use Rattle.range_rules.specs.Tracks.{is_same}
-use Rattle.range_rules.proofs.tracks.index_of.Given as goal
-
-abbrev pub invariant-scan : goal.invariant-scan
-invariant-scan l = record { none : count_by (is_same l.entry) (take l.at l.entries) ≡ 0 }

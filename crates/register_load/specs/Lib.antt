@@ -1,4 +1,0 @@
-pub mod Load
-pub mod Hired
-pub mod Dismissed
-pub mod AllClaims

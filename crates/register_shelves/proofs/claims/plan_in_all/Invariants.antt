@@ -1,4 +1,0 @@
-use Rattle.register_shelves.proofs.claims.plan_in_all.Given as goal
-
-abbrev pub ghosts-plan_counted : goal.ghosts-plan_counted
-ghosts-plan_counted g a = record { name = a.blank.name; parts = a.blank.parts }

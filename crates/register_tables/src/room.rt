@@ -1,0 +1,192 @@
+//! Room for the rows of an update.
+
+ghost use Rattle.std.specs.Prelude.{◌≡◌, ℕ, ◌<◌, ◌≤◌, ◌+◌, ◌^◌, ◌==◌, ◌∷◌, [], true, false, OnOk, OnErr, length, count_by};
+ghost use Rattle.ipam_data.specs.Updates.{with_view, IsFit};
+ghost use Rattle.ipam_data.specs.declared.kinds.Table.{Table as SeenTable};
+ghost use Rattle.placed_book.specs.Book.{spare_of, IsInOrder};
+ghost use Rattle.register_tables.specs.Counts.{counted};
+ghost use Rattle.register_tables.specs.Held.{state_of, place_of_kind, kind_of, is_of, table_in, is_in, HasRoom, HasAtMost};
+
+use crate::Shelves;
+use crate::counts::{Counts, counted, counts_of};
+use ipam_data::kinds::{Kind, Table};
+use ipam_data::replies::View;
+use placed_book::{Book, Located, PlacedBook};
+use radix_tree::Tree;
+use std::alloc::{AllocError, Global};
+
+/// How many rows an update may put: more of them want more memory than there is.
+const MOST_PUTS: usize = 500_000_000;
+
+/// The place of a kind among the kinds.
+fn place(kind: Kind) -> u32
+    ensures { result ≡ place_of_kind kind }
+{
+    match kind {
+        Kind::Vrfs => 0,
+        Kind::Rirs => 1,
+        Kind::Roles => 2,
+        Kind::Aggregates => 3,
+        Kind::Prefixes => 4,
+        Kind::Ranges => 5,
+        Kind::Addresses => 6,
+    }
+}
+
+/// The kind of a row.
+fn kind_of_view(view: &View) -> Kind
+    ensures { result ≡ kind_of view.now }
+{
+    match view {
+        View::Vrf(_) => Kind::Vrfs,
+        View::Rir(_) => Kind::Rirs,
+        View::Role(_) => Kind::Roles,
+        View::Aggregate(_) => Kind::Aggregates,
+        View::Prefix {
+            row: _,
+            depth: _,
+            children: _,
+        } => Kind::Prefixes,
+        View::IpRange(_) => Kind::Ranges,
+        View::IpAddress(_) => Kind::Addresses,
+    }
+}
+
+/// Whether the row is of the kind.
+fn is_of_kind(view: &View, kind: Kind) -> bool
+    ensures { result ≡ is_of kind view.now }
+{
+    place(kind_of_view(view)) == place(kind)
+}
+
+/// The table of a row, where it is of the kind and the rows of that have places in tables.
+pub(crate) fn table_of_view(view: &View, kind: Kind) -> Option<Table>
+    ensures { result ≡ table_in kind view.now }
+{
+    match (kind, view) {
+        (Kind::Aggregates, View::Aggregate(_)) => Some(Table::Global),
+        (
+            Kind::Prefixes,
+            View::Prefix {
+                row,
+                depth: _,
+                children: _,
+            },
+        ) => Some(Table::of(row.vrf)),
+        (Kind::Addresses, View::IpAddress(row)) => Some(Table::of(row.vrf)),
+        _ => None,
+    }
+}
+
+/// How many of the rows are of the kind.
+fn count_of_kind(views: &[View], kind: Kind) -> usize
+    ensures { result ≡ count_by (is_of kind) views.now }
+{
+    views.iter().filter(|view| is_of_kind(view, kind)).count()
+}
+
+/// Makes room in the table of a row, where it is of the kind, for all rows that are counted for that table.
+fn reserve_table_of<T: Located + Drop>(
+    book: &mut PlacedBook<T, Tree>,
+    kind: Kind,
+    counts: &Counts,
+    view: &View,
+) -> Result<(), AllocError>
+    requires order { IsInOrder T.placed book.old }
+    requires few { (t : SeenTable) → length book.old.rows + counted counts.now t < 2 ^ 30 }
+    ensures order { IsInOrder T.placed book.new }
+    ensures rows { book.new.rows ≡ book.old.rows }
+    ensures spare { book.new.spare ≡ book.old.spare }
+    ensures kept { (t : SeenTable) → spare_of book.old.tables t ≤ spare_of book.new.tables t }
+    ensures ok { OnOk result ((t : SeenTable) → is_in kind t view.now ≡ true → counted counts.now t ≤ spare_of book.new.tables t) }
+{
+    match table_of_view(view, kind) {
+        Some(table) => book.reserve_table(table, counted(counts, table)),
+        None => Ok(()),
+    }
+}
+
+/// Makes room in the tables of all rows of the kind: each table is asked for all its rows, which are counted in one pass.
+fn reserve_tables<T: Located + Drop>(
+    alloc: Global,
+    book: &mut PlacedBook<T, Tree>,
+    kind: Kind,
+    views: &[View],
+) -> Result<(), AllocError>
+    requires order { IsInOrder T.placed book.old }
+    requires few { length book.old.rows + length views.now < 2 ^ 30 }
+    ensures order { IsInOrder T.placed book.new }
+    ensures rows { book.new.rows ≡ book.old.rows }
+    ensures spare { book.new.spare ≡ book.old.spare }
+    ensures ok { OnOk result ((t : SeenTable) → count_by (is_in kind t) views.now ≤ spare_of book.new.tables t) }
+{
+    let counts = counts_of(alloc, views, kind)?;
+    for view in views {
+        reserve_table_of(book, kind, &counts, view)?;
+    }
+    Ok(())
+}
+
+impl Shelves {
+    /// Makes room for rows that are to be put. `Err` is want of memory, and leaves the rows.
+    pub fn reserve(&mut self, views: &[View]) -> Result<(), AllocError>
+        requires few { HasAtMost 500000000 self.old }
+        ensures state { state_of self.new ≡ state_of self.old }
+        ensures ok { OnOk result (HasRoom self.new views.now) }
+    {
+        if views.len() > MOST_PUTS {
+            return Err(AllocError);
+        }
+        self.vrfs.reserve(count_of_kind(views, Kind::Vrfs) as u32)?;
+        self.rirs.reserve(count_of_kind(views, Kind::Rirs) as u32)?;
+        self.roles
+            .reserve(count_of_kind(views, Kind::Roles) as u32)?;
+        self.aggregates
+            .reserve(count_of_kind(views, Kind::Aggregates) as u32)?;
+        self.prefixes
+            .reserve(count_of_kind(views, Kind::Prefixes) as u32)?;
+        self.ranges
+            .reserve(count_of_kind(views, Kind::Ranges) as u32)?;
+        self.addresses
+            .reserve(count_of_kind(views, Kind::Addresses) as u32)?;
+        reserve_tables(self.alloc, &mut self.aggregates, Kind::Aggregates, views)?;
+        reserve_tables(self.alloc, &mut self.prefixes, Kind::Prefixes, views)?;
+        reserve_tables(self.alloc, &mut self.addresses, Kind::Addresses, views)
+    }
+
+    /// Whether a kind has so many rows that one more wants more memory than there is.
+    fn is_huge(&self) -> bool
+        ensures { result ≡ false → HasAtMost 500000000 self.now }
+    {
+        self.vrfs.len() > 500_000_000
+            || self.rirs.len() > 500_000_000
+            || self.roles.len() > 500_000_000
+            || self.aggregates.len() > 500_000_000
+            || self.prefixes.len() > 500_000_000
+            || self.ranges.len() > 500_000_000
+            || self.addresses.len() > 500_000_000
+    }
+
+    /// Makes room for a row.
+    fn reserve_one(&mut self, view: &View) -> Result<(), AllocError>
+        requires few { HasAtMost 500000000 self.old }
+        ensures state { state_of self.new ≡ state_of self.old }
+        ensures ok { OnOk result (HasRoom self.new (view.now ∷ [])) }
+    {
+        self.reserve(std::slice::from_ref(view))
+    }
+
+    /// Takes room for a row, and puts it. `Err` is want of memory, and the state is then as it was.
+    pub fn admit(&mut self, view: View) -> Result<(), AllocError>
+        requires fits { IsFit (state_of self.old) view }
+        ensures ok { OnOk result (state_of self.new ≡ with_view (state_of self.old) view) }
+        ensures err { OnErr result (state_of self.new ≡ state_of self.old) }
+    {
+        if self.is_huge() {
+            return Err(AllocError);
+        }
+        self.reserve_one(&view)?;
+        self.put(view);
+        Ok(())
+    }
+}

@@ -1,9 +1,0 @@
-use Rattle.std.proofs.Common.{sym, ap}
-use Rattle.row_book.specs.Book.{Book}
-use Rattle.row_book.proofs.Places.{look_at}
-use Rattle.row_book.proofs.RowBookBook.get.Goals as goal
-
-pub returns-in-Some : goal.returns-in-Some
-returns-in-Some g c =
-    rw (← ap (λ (b : Book g.row.T.Denot). b.rows) c.self.view_is)
-    (sym (look_at g.T.HasId.id_of c.self.inside.items.items c.args.id c.in-Some.at c.index.result.now c.self.invariant.0 (rw c.as_slice.ensures.value at c.in-Some.ensures.at) c.index.ensures))

@@ -1,0 +1,35 @@
+//! What opens files of tables.
+
+ghost use Rattle.std.specs.Prelude.{◌≡◌, None, IfOk};
+
+use crate::keeper::SqliteKeeper;
+use ipam_keeper::keeper::Keeper;
+use sqlite::{Alter, Error};
+use stored_tables::tables::Text;
+
+/// A keeper that says how often it failed.
+pub trait CountedKeeper: Keeper + Drop {
+    /// How often it failed, as far as the count goes.
+    fn failures(&self) -> u64
+        ensures { result ≡ Self.Keeper.faults self.now };
+}
+
+impl<S: Alter + Drop> CountedKeeper for SqliteKeeper<S> {
+    fn failures(&self) -> u64 {
+        self.faults()
+    }
+}
+
+/// What opens and closes the files that paths name.
+pub trait Connects {
+    /// The keeper over a file. It is named as a whole, since a program can't hand a connection to a store of this trait's choice.
+    type Kept: CountedKeeper;
+
+    /// A keeper over the file of this path. A file that something else has open is refused, and nothing of it is changed. The
+    /// keeper does not tell what the file holds.
+    fn connect(&mut self, path: &Text) -> Result<Self::Kept, Error>
+        ensures { IfOk result (λ kept. Self.Kept.Keeper.told kept ≡ None) };
+
+    /// Closes the file of a keeper. What was committed stays, also where this could not put it all into one file.
+    fn close(&mut self, kept: Self::Kept);
+}

@@ -1,0 +1,121 @@
+//! A keeper of tables in a SQLite file.
+
+ghost use Rattle.std.specs.Prelude.{◌≡◌, ℕ, ◌≤◌, None, option_map, IfOk, OnOk, OnErr, IsErrOf};
+ghost use Rattle.stored_tables.specs.Stored.{changed};
+ghost use Rattle.stored_tables.specs.Order.{AreTables};
+ghost use Rattle.ipam_keeper.specs.Keeping.{Rose, IsTold, IsRaised};
+ghost use Rattle.sqlite_keeper.specs.Counting.{IsCounted};
+
+use crate::fault::StoreFault;
+use crate::loading::load_tables;
+use crate::storing::{Statements, prepare, store};
+use ipam_keeper::keeper::{KeepFault, Keeper};
+use sqlite::{Alter, Connection};
+use std::alloc::Global;
+use std::marker::Model;
+use stored_tables::tables::{Change, Tables};
+
+/// A keeper of tables in a SQLite file, each change one transaction, which stands before it is answered. It tells nothing of what
+/// the file holds. A contract sees how often it failed, as far as the count goes.
+#[derive(Drop)]
+pub struct SqliteKeeper<S: Alter> {
+    alloc: Global,
+    conn: Connection<S>,
+    statements: Option<Statements>,
+    faults: u64,
+}
+
+impl<S: Alter> Model for SqliteKeeper<S> {
+    ghost use Rattle.std.specs.Prelude.{ℕ};
+
+    ghost Value = { ℕ };
+
+    ghost view = { λ k. k.faults };
+}
+
+impl<S: Alter> SqliteKeeper<S> {
+    /// A keeper over a connection that is open. It takes no memory, and reads and writes nothing.
+    pub fn adopt(alloc: Global, conn: Connection<S>) -> SqliteKeeper<S>
+        ensures { result ≡ 0 }
+    {
+        SqliteKeeper {
+            alloc,
+            conn,
+            statements: None,
+            faults: 0,
+        }
+    }
+
+    /// How often it failed, as far as the count goes.
+    pub fn faults(&self) -> u64
+        ensures { result ≡ self.now }
+    {
+        self.faults
+    }
+
+    /// The connection again.
+    pub fn into_connection(self) -> Connection<S> {
+        self.conn
+    }
+
+    /// What a stop is to the caller. It is counted, unless it is want of memory.
+    fn refused(&mut self, fault: StoreFault) -> KeepFault
+        ensures memory { fault ≡ StoreFault.Memory → (result ≡ KeepFault.Memory) × (self.new ≡ self.old) }
+        ensures failed { fault ≡ StoreFault.Failed → (result ≡ KeepFault.Failed) × IsRaised self.old 1 self.new }
+    {
+        match fault {
+            StoreFault::Memory => KeepFault::Memory,
+            StoreFault::Failed => {
+                self.faults = self.faults.saturating_add(1);
+                KeepFault::Failed
+            }
+        }
+    }
+
+    /// Stores a change; before the first one the statements are prepared.
+    fn change(&mut self, change: &Change) -> Result<(), StoreFault>
+        ensures { self.new ≡ self.old }
+    {
+        let statements = match self.statements.take() {
+            Some(statements) => statements,
+            None => prepare(self.alloc, &mut self.conn)?,
+        };
+        let stored = store(self.alloc, &mut self.conn, &statements, change);
+        self.statements = Some(statements);
+        stored
+    }
+}
+
+impl<S: Alter> Keeper for SqliteKeeper<S> {
+    ghost told = { λ k. None };
+
+    ghost faults = { λ k. k };
+
+    /// The tables of the file, which are made where it has none. `Failed` comes where the file can't be read or written, has tables
+    /// and no version, has an id or a next id that is not from 0 to 4,294,967,295, or rows out of order; each time it comes the
+    /// count rises by one.
+    fn load(&mut self) -> Result<Tables, KeepFault>
+        ensures order { IfOk result (λ tables. AreTables tables) }
+        ensures later { self.old ≤ self.new }
+        ensures failed { IsErrOf result KeepFault.Failed → Rose self.old self.new }
+        ensures counted { IsCounted result self.old self.new }
+    {
+        match load_tables(self.alloc, &mut self.conn) {
+            Ok(tables) => Ok(tables),
+            Err(fault) => Err(self.refused(fault)),
+        }
+    }
+
+    /// Stores a change in one transaction. `Failed` comes where the file can't be written; each time it comes the count rises by
+    /// one.
+    fn apply(&mut self, change: &Change) -> Result<(), KeepFault>
+        ensures later { self.old ≤ self.new }
+        ensures failed { IsErrOf result KeepFault.Failed → Rose self.old self.new }
+        ensures counted { IsCounted result self.old self.new }
+    {
+        match self.change(change) {
+            Ok(()) => Ok(()),
+            Err(fault) => Err(self.refused(fault)),
+        }
+    }
+}

@@ -1,0 +1,133 @@
+//! An opener of keepers over files.
+
+ghost use Rattle.std.specs.Prelude.{◌≡◌, ℕ, ◌≤◌, Some, None, option_map, option_copied, IfOk, OnOk, OnErr, IsErrOf};
+ghost use Rattle.stored_tables.specs.Stored.{changed};
+ghost use Rattle.stored_tables.specs.Order.{AreTables, empty_tables as no_rows};
+ghost use Rattle.ipam_keeper.specs.Keeping.{Rose, IsRaised, IsTold, started, IsReturned};
+ghost use Rattle.sqlite_keeper.specs.Either.{told_of, faults_of};
+
+use crate::connects::{Connects, CountedKeeper};
+use crate::fault::StoreFault;
+use ipam_keeper::empty::empty_tables;
+use ipam_keeper::keeper::{KeepFault, Keeper, KeeperOpener};
+use ipam_keeper::memory::MemoryKeeper;
+use std::alloc::{AllocError, Global};
+use stored_tables::tables::{Change, Tables, Text};
+
+/// A keeper that was started with a path, over its file, or without one, in memory.
+#[derive(Drop)]
+pub enum StoreKeeper<F> {
+    File(F),
+    Memory(MemoryKeeper),
+}
+
+impl<F: Keeper> Keeper for StoreKeeper<F> {
+    ghost told = { λ k. told_of (F.told) k };
+
+    ghost faults = { λ k. faults_of (F.faults) k };
+
+    fn load(&mut self) -> Result<Tables, KeepFault> {
+        match self {
+            StoreKeeper::File(keeper) => keeper.load(),
+            StoreKeeper::Memory(keeper) => keeper.load(),
+        }
+    }
+
+    fn apply(&mut self, change: &Change) -> Result<(), KeepFault> {
+        match self {
+            StoreKeeper::File(keeper) => keeper.apply(change),
+            StoreKeeper::Memory(keeper) => keeper.apply(change),
+        }
+    }
+}
+
+/// An opener of keepers over the files that paths name. It does not tell what they hold.
+#[derive(Drop)]
+pub struct SqliteOpener<C: Connects> {
+    alloc: Global,
+    connects: C,
+    lent: Option<Option<Text>>,
+    faults: u64,
+}
+
+/// A keeper of empty tables in memory, none of whose calls fails.
+fn empty_keeper(alloc: Global) -> Result<MemoryKeeper, AllocError>
+    ensures { IfOk result (λ k. k.tables ≡ no_rows) }
+{
+    let tables = empty_tables(alloc)?;
+    Ok(MemoryKeeper::new(tables, Vec::new(alloc)))
+}
+
+impl<C: Connects> SqliteOpener<C> {
+    /// An opener that nothing was started with. It takes no memory, and opens nothing.
+    pub fn new(alloc: Global, connects: C) -> SqliteOpener<C>
+        ensures { (result.faults ≡ 0) × (result.lent ≡ None) }
+    {
+        SqliteOpener {
+            alloc,
+            connects,
+            lent: None,
+            faults: 0,
+        }
+    }
+
+    /// A keeper over the file of a path, and the path again.
+    fn start_at(&mut self, path: &Text) -> Result<(C::Kept, Text), StoreFault>
+        ensures path { IfOk result (λ pair. pair.1 ≡ path.now) }
+        ensures told { IfOk result (λ pair. C.Kept.Keeper.told pair.0 ≡ None) }
+        ensures lent { self.new.lent ≡ self.old.lent }
+        ensures faults { self.new.faults ≡ self.old.faults }
+    {
+        let copy = path.copy()?;
+        let kept = self.connects.connect(path)?;
+        Ok((kept, copy))
+    }
+}
+
+impl<C: Connects> KeeperOpener for SqliteOpener<C>
+where
+    C::Kept: Send,
+{
+    type Kept = StoreKeeper<C::Kept>;
+
+    ghost stored = { λ o. None };
+
+    ghost lent = { λ o. o.lent };
+
+    ghost faults = { λ o. o.faults };
+
+    /// A keeper over the file of this path, or without one in memory. `Failed` comes where the file can't be opened or something
+    /// else has it open; each time it comes the count rises by one.
+    fn start(&mut self, path: Option<&Text>) -> Result<StoreKeeper<C::Kept>, KeepFault> {
+        let Some(path) = path else {
+            let keeper = empty_keeper(self.alloc)?;
+            self.lent = Some(None);
+            return Ok(StoreKeeper::Memory(keeper));
+        };
+        match self.start_at(path) {
+            Ok((keeper, path)) => {
+                self.lent = Some(Some(path));
+                Ok(StoreKeeper::File(keeper))
+            }
+            Err(StoreFault::Memory) => Err(KeepFault::Memory),
+            Err(StoreFault::Failed) => {
+                self.faults = self.faults.saturating_add(1);
+                Err(KeepFault::Failed)
+            }
+        }
+    }
+
+    /// Takes back a keeper, and closes its file. It takes no memory. The count rises by the keeper's, or up to its last value.
+    fn done(&mut self, kept: StoreKeeper<C::Kept>) {
+        self.lent = None;
+        match kept {
+            StoreKeeper::File(keeper) => {
+                self.faults = self.faults.saturating_add(keeper.failures());
+                self.connects.close(keeper);
+            }
+            StoreKeeper::Memory(keeper) => {
+                self.faults = self.faults.saturating_add(keeper.faults());
+            }
+        }
+    }
+}

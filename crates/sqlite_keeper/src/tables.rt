@@ -1,0 +1,108 @@
+//! The tables of a file: one for each kind, and one of numbers with the version and the next ids.
+
+use ipam_data::kinds::Kind;
+use std::alloc::{AllocError, Global};
+use stored_tables::writing::columns_of;
+
+/// The version of the tables that this program writes.
+pub(crate) const VERSION: u32 = 1;
+
+/// The name of the row with the version.
+pub(crate) const VERSION_NAME: &str = "version";
+
+/// Says how many tables a file has.
+pub(crate) const COUNT_TABLES: &str = "SELECT count(*) FROM sqlite_schema WHERE type = 'table'";
+
+/// Makes the table of numbers.
+pub(crate) const CREATE_META: &str =
+    "CREATE TABLE meta (name TEXT PRIMARY KEY, value INTEGER NOT NULL) STRICT";
+
+/// Reads the numbers.
+pub(crate) const SELECT_META: &str = "SELECT name, value FROM meta";
+
+/// Sets a number.
+pub(crate) const PUT_META: &str =
+    "INSERT INTO meta (name, value) VALUES (?, ?) ON CONFLICT (name) DO UPDATE SET value = excluded.value";
+
+/// The name of the table of a kind.
+fn name_of(kind: Kind) -> &'static str {
+    match kind {
+        Kind::Vrfs => "vrfs",
+        Kind::Rirs => "rirs",
+        Kind::Roles => "roles",
+        Kind::Aggregates => "aggregates",
+        Kind::Prefixes => "prefixes",
+        Kind::Ranges => "ip_ranges",
+        Kind::Addresses => "ip_addresses",
+    }
+}
+
+/// The name of the row with the next id of a kind.
+pub(crate) fn next_name_of(alloc: Global, kind: Kind) -> Result<String, AllocError> {
+    let mut text = String::new(alloc);
+    text.push_str("next_")?;
+    text.push_str(name_of(kind))?;
+    Ok(text)
+}
+
+/// Adds a text for each column.
+fn push_columns(text: &mut String, kind: Kind, front: &str, back: &str) -> Result<(), AllocError> {
+    for column in columns_of(kind) {
+        text.push_str(front)?;
+        text.push_str(column)?;
+        text.push_str(back)?;
+    }
+    Ok(())
+}
+
+/// Makes the table of a kind.
+pub(crate) fn create_text(alloc: Global, kind: Kind) -> Result<String, AllocError> {
+    let mut text = String::new(alloc);
+    text.push_str("CREATE TABLE ")?;
+    text.push_str(name_of(kind))?;
+    text.push_str(" (id INTEGER PRIMARY KEY")?;
+    push_columns(&mut text, kind, ", ", " TEXT NOT NULL")?;
+    text.push_str(") STRICT")?;
+    Ok(text)
+}
+
+/// Reads all rows of a kind by id.
+pub(crate) fn select_text(alloc: Global, kind: Kind) -> Result<String, AllocError> {
+    let mut text = String::new(alloc);
+    text.push_str("SELECT id")?;
+    push_columns(&mut text, kind, ", ", "")?;
+    text.push_str(" FROM ")?;
+    text.push_str(name_of(kind))?;
+    text.push_str(" ORDER BY id")?;
+    Ok(text)
+}
+
+/// Puts a row of a kind, or replaces the one of its id.
+pub(crate) fn put_text(alloc: Global, kind: Kind) -> Result<String, AllocError> {
+    let mut text = String::new(alloc);
+    text.push_str("INSERT INTO ")?;
+    text.push_str(name_of(kind))?;
+    text.push_str(" (id")?;
+    push_columns(&mut text, kind, ", ", "")?;
+    text.push_str(") VALUES (?")?;
+    for _ in columns_of(kind) {
+        text.push_str(", ?")?;
+    }
+    text.push_str(") ON CONFLICT (id) DO UPDATE SET id = excluded.id")?;
+    for column in columns_of(kind) {
+        text.push_str(", ")?;
+        text.push_str(column)?;
+        text.push_str(" = excluded.")?;
+        text.push_str(column)?;
+    }
+    Ok(text)
+}
+
+/// Deletes a row of a kind.
+pub(crate) fn cut_text(alloc: Global, kind: Kind) -> Result<String, AllocError> {
+    let mut text = String::new(alloc);
+    text.push_str("DELETE FROM ")?;
+    text.push_str(name_of(kind))?;
+    text.push_str(" WHERE id = ?")?;
+    Ok(text)
+}

@@ -1,0 +1,195 @@
+//! Stored tables: rows as texts, the next ids, and changes of them.
+
+ghost use Rattle.std.specs.Prelude.{◌≡◌, IfOk, string_bytes};
+
+use ipam_data::kinds::Kind;
+use ipam_data::update::Ids;
+use std::alloc::{AllocError, Global};
+use std::marker::Model;
+
+/// A text. A contract sees its bytes.
+#[derive(Debug, Drop)]
+pub struct Text {
+    string: String,
+}
+
+impl Model for Text {
+    ghost use Rattle.std.specs.Prelude.{List, ℕ, string_bytes};
+
+    ghost Value = { List ℕ };
+
+    ghost view = { λ t. string_bytes t.string };
+}
+
+impl Text {
+    /// The text of these characters. It takes no memory.
+    pub fn of(string: String) -> Text
+        ensures { result ≡ string_bytes string }
+    {
+        Text { string }
+    }
+
+    /// The text as it is printed.
+    pub fn as_str(&self) -> &str
+        ensures { result.now ≡ self.now }
+    {
+        self.string.as_str()
+    }
+
+    /// The characters again. It takes no memory.
+    pub fn into_string(self) -> String
+        ensures { string_bytes result ≡ self }
+    {
+        self.string
+    }
+
+    /// The same text again. `Err` is want of memory.
+    pub fn copy(&self) -> Result<Text, AllocError>
+        ensures { IfOk result (λ t. t ≡ self.now) }
+    {
+        Ok(Text {
+            string: self.string.clone()?,
+        })
+    }
+}
+
+/// The texts of a row in the order of its columns. A contract sees the list.
+#[derive(Debug, Drop)]
+pub struct Texts {
+    items: Vec<Text>,
+}
+
+impl Model for Texts {
+    ghost use Rattle.std.specs.Prelude.{List, ℕ};
+
+    ghost Value = { List (List ℕ) };
+
+    ghost view = { λ t. t.items.items };
+}
+
+impl Texts {
+    /// The list of these. It takes no memory.
+    pub fn of(items: Vec<Text>) -> Texts
+        ensures { result ≡ items.items }
+    {
+        Texts { items }
+    }
+
+    /// The list as a slice, to be read.
+    pub fn as_slice(&self) -> &[Text]
+        ensures { result.now ≡ self.now }
+    {
+        self.items.as_slice()
+    }
+
+    /// The same texts again. `Err` is want of memory.
+    pub fn copy(&self) -> Result<Texts, AllocError>
+        ensures { IfOk result (λ t. t ≡ self.now) }
+    {
+        let mut items = Vec::with_capacity(*self.items.allocator(), self.items.len())?;
+        for text in &self.items {
+            items.push(text.copy()?)?;
+        }
+        Ok(Texts { items })
+    }
+}
+
+/// A stored row: its kind, its id and the texts of its other columns.
+#[derive(Debug, Drop)]
+pub struct Row {
+    pub kind: Kind,
+    pub id: u32,
+    pub fields: Texts,
+}
+
+impl Row {
+    /// The same row again. `Err` is want of memory.
+    pub fn copy(&self) -> Result<Row, AllocError>
+        ensures { IfOk result (λ r. r ≡ self.now) }
+    {
+        Ok(Row {
+            kind: self.kind,
+            id: self.id,
+            fields: self.fields.copy()?,
+        })
+    }
+}
+
+/// Stored rows in order. A contract sees the list.
+#[derive(Debug, Drop)]
+pub struct Rows {
+    items: Vec<Row>,
+}
+
+impl Model for Rows {
+    ghost use Rattle.std.specs.Prelude.{List};
+    ghost use Rattle.stored_tables.specs.declared.tables.Row.{Row};
+
+    ghost Value = { List Row };
+
+    ghost view = { λ r. r.items.items };
+}
+
+impl Rows {
+    /// The list of these. It takes no memory.
+    pub fn of(items: Vec<Row>) -> Rows
+        ensures { result ≡ items.items }
+    {
+        Rows { items }
+    }
+
+    /// The list as a slice, to be read.
+    pub fn as_slice(&self) -> &[Row]
+        ensures { result.now ≡ self.now }
+    {
+        self.items.as_slice()
+    }
+
+    /// The vector again. It takes no memory.
+    pub fn into_vec(self) -> Vec<Row>
+        ensures { result.items ≡ self }
+    {
+        self.items
+    }
+
+    /// The same rows again. `Err` is want of memory.
+    pub fn copy(&self) -> Result<Rows, AllocError>
+        ensures { IfOk result (λ r. r ≡ self.now) }
+    {
+        let mut items = Vec::with_capacity(*self.items.allocator(), self.items.len())?;
+        for row in &self.items {
+            items.push(row.copy()?)?;
+        }
+        Ok(Rows { items })
+    }
+}
+
+/// What a keeper holds: a version, the next id of each kind in the order of the kinds, and the rows in the order of their kinds
+/// and ids.
+#[derive(Debug, Drop)]
+pub struct Tables {
+    pub version: u32,
+    pub next: Ids,
+    pub rows: Rows,
+}
+
+impl Tables {
+    /// The same tables again. `Err` is want of memory.
+    pub fn copy(&self, alloc: Global) -> Result<Tables, AllocError>
+        ensures { IfOk result (λ t. t ≡ self.now) }
+    {
+        Ok(Tables {
+            version: self.version,
+            next: self.next.copy(alloc)?,
+            rows: self.rows.copy()?,
+        })
+    }
+}
+
+/// An edit of stored tables: the rows that come or are replaced, those that go, and next ids.
+#[derive(Debug, Drop)]
+pub struct Change {
+    pub puts: Rows,
+    pub cuts: Ids,
+    pub next: Ids,
+}

@@ -1,0 +1,225 @@
+//! Rows and updates as they are stored.
+
+ghost use Rattle.std.specs.Prelude.{◌≡◌, IfOk, string_bytes, decimal, codes, map};
+ghost use Rattle.inet_num.specs.Net.{IsAddress};
+ghost use Rattle.inet_num.specs.Text.{block_text_of, canonical_text_of};
+ghost use Rattle.stored_tables.specs.Stored.{flag_text, optional_text, reference_text, host_text, prefix_status_text, range_status_text, address_status_text, address_role_text, stored_row, change_of};
+
+use crate::address::{address_columns, write_address};
+use crate::aggregate::{aggregate_columns, write_aggregate};
+use crate::prefix::{prefix_columns, write_prefix};
+use crate::range::{range_columns, write_range};
+use crate::rir::{rir_columns, write_rir};
+use crate::role::{role_columns, write_role};
+use crate::tables::{Change, Row, Rows, Text};
+use crate::vrf::{vrf_columns, write_vrf};
+use inet_num::{Addr, Block, write_addr, write_block};
+use ipam_data::address::{AddressRole, AddressStatus};
+use ipam_data::kinds::Kind;
+use ipam_data::prefix::PrefixStatus;
+use ipam_data::range::RangeStatus;
+use ipam_data::replies::View;
+use ipam_data::text::Distinguisher;
+use ipam_data::update::Update;
+use std::alloc::{AllocError, Global};
+
+/// A text of these characters.
+pub(crate) fn words(alloc: Global, text: &str) -> Result<Text, AllocError>
+    ensures { IfOk result (λ t. t ≡ text.now) }
+{
+    Ok(Text::of(String::from_str(alloc, text)?))
+}
+
+/// The text of a block.
+pub(crate) fn block_text(alloc: Global, block: Block) -> Result<String, AllocError>
+    ensures { IfOk result (λ s. string_bytes s ≡ block_text_of block) }
+{
+    block.bounds();
+    let mut text = Vec::new(alloc);
+    write_block(block, &mut text)?;
+    match std::str::from_utf8(text.as_slice()) {
+        Ok(text) => String::from_str(alloc, text),
+        Err(_) => unreachable!(),
+    }
+}
+
+/// A block.
+pub(crate) fn block_words(alloc: Global, block: Block) -> Result<Text, AllocError>
+    ensures { IfOk result (λ t. t ≡ block_text_of block) }
+{
+    Ok(Text::of(block_text(alloc, block)?))
+}
+
+/// The text of an address.
+fn addr_text(alloc: Global, addr: Addr) -> Result<String, AllocError>
+    requires { IsAddress addr }
+    ensures { IfOk result (λ s. string_bytes s ≡ canonical_text_of addr.family addr.value) }
+{
+    let mut text = Vec::new(alloc);
+    write_addr(addr, &mut text)?;
+    match std::str::from_utf8(text.as_slice()) {
+        Ok(text) => String::from_str(alloc, text),
+        Err(_) => unreachable!(),
+    }
+}
+
+/// An address with its mask.
+pub(crate) fn host_words(alloc: Global, addr: Addr, len: u8) -> Result<Text, AllocError>
+    requires { IsAddress addr }
+    ensures { IfOk result (λ t. t ≡ host_text addr len) }
+{
+    let text = addr_text(alloc, addr)?;
+    let addr = text.as_str();
+    Ok(Text::of(format!(in alloc; "{addr}/{len}")?))
+}
+
+/// A number.
+pub(crate) fn number_words(alloc: Global, number: u32) -> Result<Text, AllocError>
+    ensures { IfOk result (λ t. t ≡ decimal number) }
+{
+    Ok(Text::of(format!(in alloc; "{number}")?))
+}
+
+/// A truth value.
+pub(crate) fn flag_words(alloc: Global, flag: bool) -> Result<Text, AllocError>
+    ensures { IfOk result (λ t. t ≡ flag_text flag) }
+{
+    if flag {
+        words(alloc, "true")
+    } else {
+        words(alloc, "false")
+    }
+}
+
+/// An id that may be absent.
+pub(crate) fn reference_words(alloc: Global, id: Option<u32>) -> Result<Text, AllocError>
+    ensures { IfOk result (λ t. t ≡ reference_text id) }
+{
+    match id {
+        None => words(alloc, ""),
+        Some(id) => Ok(Text::of(format!(in alloc; "{id}")?)),
+    }
+}
+
+/// A route distinguisher that may be absent.
+pub(crate) fn distinguisher_words(
+    alloc: Global,
+    rd: &Option<Distinguisher>,
+) -> Result<Text, AllocError>
+    ensures { IfOk result (λ t. t ≡ optional_text rd.now) }
+{
+    match rd {
+        None => words(alloc, ""),
+        Some(rd) => words(alloc, rd.as_str()),
+    }
+}
+
+/// The status of a prefix.
+pub(crate) fn status_words(alloc: Global, status: PrefixStatus) -> Result<Text, AllocError>
+    ensures { IfOk result (λ t. t ≡ prefix_status_text status) }
+{
+    match status {
+        PrefixStatus::Container => words(alloc, "container"),
+        PrefixStatus::Active => words(alloc, "active"),
+        PrefixStatus::Reserved => words(alloc, "reserved"),
+        PrefixStatus::Deprecated => words(alloc, "deprecated"),
+    }
+}
+
+/// The status of a range.
+pub(crate) fn range_status_words(alloc: Global, status: RangeStatus) -> Result<Text, AllocError>
+    ensures { IfOk result (λ t. t ≡ range_status_text status) }
+{
+    match status {
+        RangeStatus::Active => words(alloc, "active"),
+        RangeStatus::Reserved => words(alloc, "reserved"),
+        RangeStatus::Deprecated => words(alloc, "deprecated"),
+    }
+}
+
+/// The status of an address.
+pub(crate) fn address_status_words(alloc: Global, status: AddressStatus) -> Result<Text, AllocError>
+    ensures { IfOk result (λ t. t ≡ address_status_text status) }
+{
+    match status {
+        AddressStatus::Active => words(alloc, "active"),
+        AddressStatus::Reserved => words(alloc, "reserved"),
+        AddressStatus::Deprecated => words(alloc, "deprecated"),
+        AddressStatus::Dhcp => words(alloc, "dhcp"),
+        AddressStatus::Slaac => words(alloc, "slaac"),
+    }
+}
+
+/// The role of an address, that may be absent.
+pub(crate) fn address_role_words(
+    alloc: Global,
+    role: Option<AddressRole>,
+) -> Result<Text, AllocError>
+    ensures { IfOk result (λ t. t ≡ address_role_text role) }
+{
+    match role {
+        None => words(alloc, ""),
+        Some(AddressRole::Loopback) => words(alloc, "loopback"),
+        Some(AddressRole::Secondary) => words(alloc, "secondary"),
+        Some(AddressRole::Anycast) => words(alloc, "anycast"),
+        Some(AddressRole::Vip) => words(alloc, "vip"),
+        Some(AddressRole::Vrrp) => words(alloc, "vrrp"),
+        Some(AddressRole::Hsrp) => words(alloc, "hsrp"),
+        Some(AddressRole::Glbp) => words(alloc, "glbp"),
+        Some(AddressRole::Carp) => words(alloc, "carp"),
+    }
+}
+
+/// The columns of the stored rows of a kind past the id, in the order of their texts: the names under which a file keeps them.
+pub fn columns_of(kind: Kind) -> &'static [&'static str] {
+    match kind {
+        Kind::Vrfs => vrf_columns(),
+        Kind::Rirs => rir_columns(),
+        Kind::Roles => role_columns(),
+        Kind::Aggregates => aggregate_columns(),
+        Kind::Prefixes => prefix_columns(),
+        Kind::Ranges => range_columns(),
+        Kind::Addresses => address_columns(),
+    }
+}
+
+/// The stored row of a row as it is answered, whose figures are not stored. `Err` is want of memory.
+pub fn write_row(alloc: Global, view: &View) -> Result<Row, AllocError>
+    ensures { IfOk result (λ r. r ≡ stored_row view.now) }
+{
+    match view {
+        View::Vrf(row) => write_vrf(alloc, row),
+        View::Rir(row) => write_rir(alloc, row),
+        View::Role(row) => write_role(alloc, row),
+        View::Aggregate(row) => write_aggregate(alloc, row),
+        View::Prefix {
+            row,
+            depth: _,
+            children: _,
+        } => write_prefix(alloc, row),
+        View::IpRange(row) => write_range(alloc, row),
+        View::IpAddress(row) => write_address(alloc, row),
+    }
+}
+
+/// The stored rows of rows as they are answered.
+fn write_rows(alloc: Global, views: &[View]) -> Result<Rows, AllocError>
+    ensures { IfOk result (λ r. r ≡ map stored_row views.now) }
+{
+    let mut rows = Vec::with_capacity(alloc, views.len())?;
+    for view in views {
+        rows.push(write_row(alloc, view)?)?;
+    }
+    Ok(Rows::of(rows))
+}
+
+/// The change of stored tables that an update makes. `Err` is want of memory.
+pub fn write_change(alloc: Global, update: &Update) -> Result<Change, AllocError>
+    ensures { IfOk result (λ c. c ≡ change_of update.now) }
+{
+    Ok(Change {
+        puts: write_rows(alloc, update.puts.as_slice())?,
+        cuts: update.cuts.copy(alloc)?,
+        next: update.next.copy(alloc)?,
+    })
+}
