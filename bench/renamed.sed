@@ -58,3 +58,32 @@ s/\buse range_rules\b/use ip_ranges/g
 s/\buse address_rules\b/use ip_addresses/g
 s/crates\/range_rules\b/crates\/ip_ranges/g
 s/crates\/address_rules\b/crates\/ip_addresses/g
+
+# words in the code
+s/\bempty_shelf\b/empty_row_list/g
+s/\bbare_shelf\b/bare_row_list/g
+s/\bwith_shelf\b/with_row_list/g
+s/\bshelf_ordered\b/row_list_ordered/g
+s/\bshelf_joined\b/row_list_joined/g
+s/\bIsShelf\b/IsRowList/g
+s/\bShelf\b/RowList/g
+s/\bshelf\b/row_list/g
+s/Rattle\.ipam_data\.proofs\.Shelves\b/Rattle.ipam_data.proofs.RowLists/g
+s/\bopen_shelves\b/open_row_tables/g
+s/\b_shelves\b/_row_tables/g
+s/\bShelves\b/RowTables/g
+s/\bshelves\b/row_tables/g
+s/\bPen\b/AnswerWriter/g
+s/\bpen\b/answer_writer/g
+s/\bDoorsFailed\b/ListeningFailed/g
+s/\bDoors\b/ListenerView/g
+s/\bsame_doors\b/same_listener/g
+s/\bCame\b/LoadOutcome/g
+s/\bcame_of\b/load_outcome_of/g
+s/\bDeed\b/Recorded/g
+s/\bGlue\b/JoinSeats/g
+s/\bRing\b/RingBell/g
+s/\bPenLemmas\b/AnswerWriterLemmas/g
+s/\bdeclared\.came\.LoadOutcome\b/declared.load_outcome.LoadOutcome/g
+s/\bcrate::came::/crate::load_outcome::/g
+s/\bproofs\.came\b/proofs.load_outcome/g

@@ -15,11 +15,11 @@ use Rattle.inet_num.proofs.Numbers.{inside_by_ends}
 use Rattle.inet_num.proofs.Nested.{same_by_len}
 use Rattle.ipam_data.specs.declared.aggregate.Aggregate.{Aggregate}
 use Rattle.ipam_data.specs.declared.kinds.Table.TheVariants.{Global}
-use Rattle.ipam_data.specs.Shelf.{least, least_rival, is_rival}
+use Rattle.ipam_data.specs.RowList.{least, least_rival, is_rival}
 use Rattle.ipam_data.specs.Rows.{aggregate_id}
 use Rattle.ipam_data.specs.Aggregates.{overlaps}
 use Rattle.ipam_data.proofs.Kept.{none_from_map}
-use Rattle.ipam_data.proofs.Shelves.{contains_head, contains_rest, contains_cases, find_none}
+use Rattle.ipam_data.proofs.RowLists.{contains_head, contains_rest, contains_cases, find_none}
 use Rattle.placed_book.specs.Book.{Placed, blocks_of_rows, is_of}
 use Rattle.placed_book.proofs.Orders.{is_block}
 use Rattle.placed_book.proofs.Searches.{none_counted}

@@ -4,7 +4,7 @@ ghost use Rattle.std.specs.Prelude.{◌≡◌, ◌==◌, true, false, List, Cont
 ghost use Rattle.inet_num.specs.Net.{Cidr, IsBlock};
 ghost use Rattle.inet_num.specs.Blocks.{is_strictly_inside};
 ghost use Rattle.ipam_data.specs.declared.aggregate.Aggregate.{Aggregate as SeenAggregate};
-ghost use Rattle.ipam_data.specs.Shelf.{is_rival, least, least_rival};
+ghost use Rattle.ipam_data.specs.RowList.{is_rival, least, least_rival};
 ghost use Rattle.ipam_data.specs.Rows.{aggregate_id};
 ghost use Rattle.ipam_data.specs.Aggregates.{aggregate_fault, overlaps};
 ghost use Rattle.aggregates.specs.Book.{IsInOrder};

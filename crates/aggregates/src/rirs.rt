@@ -2,7 +2,7 @@
 
 ghost use Rattle.std.specs.Prelude.{◌≡◌, List, find, option_copied};
 ghost use Rattle.ipam_data.specs.declared.rir.Rir.{Rir as SeenRir};
-ghost use Rattle.ipam_data.specs.Shelf.{is_rival};
+ghost use Rattle.ipam_data.specs.RowList.{is_rival};
 ghost use Rattle.ipam_data.specs.Rows.{rir_id};
 ghost use Rattle.ipam_data.specs.Rirs.{rir_fault, same_rir_name, same_rir_slug};
 

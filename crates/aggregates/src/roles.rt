@@ -2,7 +2,7 @@
 
 ghost use Rattle.std.specs.Prelude.{◌≡◌, List, find, option_copied};
 ghost use Rattle.ipam_data.specs.declared.role.Role.{Role as SeenRole};
-ghost use Rattle.ipam_data.specs.Shelf.{is_rival};
+ghost use Rattle.ipam_data.specs.RowList.{is_rival};
 ghost use Rattle.ipam_data.specs.Rows.{role_id};
 ghost use Rattle.ipam_data.specs.Roles.{role_fault, same_role_name, same_role_slug};
 

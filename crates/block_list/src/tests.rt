@@ -26,7 +26,7 @@ fn put(space: &mut BlockList, block: Block)
     }
 }
 
-/// A space with these blocks, each a first address and a length. What is no block fails, as for want of memory.
+/// A space with these blocks, each a first address and a length. What is no block fails, as for lack of memory.
 fn space_of(alloc: Global, family: Family, blocks: &[(u128, u8)]) -> Result<BlockList, AllocError>
     ensures { IfOk result (λ s. s.family ≡ family) }
 {

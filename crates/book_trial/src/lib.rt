@@ -2,7 +2,7 @@
 #![tactic(auto)]
 
 #[cfg(test)]
-mod address_rules_tests;
+mod ip_addresses_tests;
 #[cfg(test)]
 mod prefix_rules_tests;
 #[cfg(test)]

@@ -1,7 +1,7 @@
 //! Five prefixes in two tables, and what the book answers of them.
 
 ghost use Rattle.std.specs.Prelude.{◌≡◌, ℕ, ◌+◌, ◌≤◌, IfSome, OnOk};
-ghost use Rattle.ipam_data.specs.Shelf.{AllBelow};
+ghost use Rattle.ipam_data.specs.RowList.{AllBelow};
 ghost use Rattle.ipam_data.specs.Prefixes.{prefix_id};
 ghost use Rattle.prefix_rules.specs.Book.{IsInOrder};
 

@@ -25,7 +25,7 @@ module _ (report : Report) (store : Store) (old new : Outside) (status : ℕ) wh
     later = p.later;
   }
 
-  -- memory was wanting
+  -- memory ran out
   of_memory : status ≡ 5 → new.streams.errors ≡ old.streams.errors → IsUnused old new → NoCountFalls old new → IsReport report store old new status
   of_memory five silent unused later = record {
     statuses = inr (inr (inr (inr five)));

@@ -38,7 +38,7 @@ pub record IsPrinting (IsText : List ℕ → Type 0) (store : Store) (old new : 
   pub fault : status ≡ 3 → PrintsFront IsText old new ⊎ FailsToSay store old new
   -- 4: the opening was refused since the store failed
   pub store_fault : status ≡ 4 → NamesFailure old new
-  -- 5: want of memory. Nothing was printed, and nothing said
+  -- 5: out of memory. Nothing was printed, and nothing said
   pub memory : status ≡ 5 → LeavesInput old new × (new.streams.output ≡ old.streams.output)
   pub later : NoCountFalls old new
 

@@ -31,7 +31,7 @@ GivesRows kind old new rows = IfSome old.bytes (λ bytes. IsFileOf kind bytes (O
 abbrev pub RefusesFile : Kind → Told → Refusal → Type 0
 RefusesFile kind old refusal = IfSome old.bytes (λ bytes. IsFileOf kind bytes (Err refusal))
 
--- a refusal as a stop: want of memory stands by itself
+-- a refusal as a stop: out of memory stands by itself
 abbrev pub IsStopOf : Refusal → FileStop → Type 0
 IsStopOf refusal Unread = ⊥
 IsStopOf refusal (Refused other) = (other ≡ refusal) × ¬ (refusal ≡ NoMemory)
@@ -47,7 +47,7 @@ IsFileStop kind old new Memory = Unit {0}
 abbrev pub refusal_text : Refusal → List ℕ
 refusal_text refusal = refusal_line refusal ++ 10 ∷ []
 
--- it was said and the status is this one, or it could not be; or memory was wanting, and nothing was said
+-- it was said and the status is this one, or it could not be; or memory ran out, and nothing was said
 abbrev pub NamesIt : Refusal → ℕ → Told → Told → ℕ → Type 0
 NamesIt refusal wanted old new status = EndsWith old new (refusal_text refusal) wanted status ⊎ ((status ≡ 5) × (new ≡ old))
 

@@ -114,7 +114,7 @@ pub record IsImport (kind : Kind) (store : Store) (old new : Outside) (status : 
   pub refused : status ≡ 1 → NamesRefusal kind store old new ⊎ NamesTables store old new
   pub fault : status ≡ 3 → FailsToRead old new ⊎ FailsToPrint kind store old new ⊎ FailsToSay kind store old new
   pub store_fault : status ≡ 4 → NamesStore old new
-  -- 5: want of memory. Nothing was said
+  -- 5: out of memory. Nothing was said
   pub memory : status ≡ 5 → LeavesAll old new × (new.streams.errors ≡ old.streams.errors)
   -- no count of faults falls
   pub later : NoCountFalls old new

@@ -49,7 +49,7 @@ IsNoRefusal (Refused refusal) = ⊥
 IsNoRefusal Keeper = Unit {0}
 IsNoRefusal Memory = Unit {0}
 
--- it stops by the plan's refusal, or by the keeper, or for want of memory
+-- it stops by the plan's refusal, or by the keeper, or for lack of memory
 abbrev pub IsMakeStop : Plan → MakeStop → Type 0
 IsMakeStop plan (Refused refusal) = verdict_of plan ≡ Some refusal
 IsMakeStop plan Keeper = Unit {0}

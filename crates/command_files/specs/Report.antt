@@ -6,7 +6,7 @@ use Rattle.ipam_data.specs.declared.prefix.Prefix.{Prefix}
 use Rattle.ipam_data.specs.declared.replies.Refusal.{Refusal}
 use Rattle.ipam_data.specs.declared.replies.Refusal.TheVariants.{NotFound}
 use Rattle.ipam_data.specs.Rows.{prefix_id}
-use Rattle.ipam_data.specs.Shelf.{row_at}
+use Rattle.ipam_data.specs.RowList.{row_at}
 use Rattle.ipam_data.specs.Claims.{child_blocks}
 use Rattle.ipam_data.specs.State.{State}
 use Rattle.ipam_data.specs.Survey.{survey_of}
@@ -89,6 +89,6 @@ pub record IsReport (report : Report) (store : Store) (old new : Outside) (statu
   pub fault : status ≡ 3 → PrintsFront (IsReportText report store old) old new ⊎ FailsToSay store old new ⊎ FailsToSayAbsent report store old new
   -- 4: the opening was refused since the store failed
   pub store_fault : status ≡ 4 → NamesFailure old new
-  -- 5: want of memory. Nothing was printed, and nothing said
+  -- 5: out of memory. Nothing was printed, and nothing said
   pub memory : status ≡ 5 → LeavesInput old new × (new.streams.output ≡ old.streams.output)
   pub later : NoCountFalls old new

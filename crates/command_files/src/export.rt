@@ -19,10 +19,10 @@ use ipam_data::kinds::Kind;
 use ipam_edge::Sink;
 use ipam_keeper::keeper::KeeperOpener;
 use plan_export::rows_of;
-use register_tables::Shelves;
+use register_tables::RowTables;
 use std::alloc::{AllocError, Global};
 
-/// The text of a file of these rows. `Err` is want of memory.
+/// The text of a file of these rows. `Err` means out of memory.
 fn text_of(alloc: Global, kind: Kind, rows: &[ImportRow]) -> Result<Vec<u8>, AllocError>
     ensures { IfOk result (λ v. v.items ≡ rows_text kind rows.now) }
 {
@@ -31,13 +31,13 @@ fn text_of(alloc: Global, kind: Kind, rows: &[ImportRow]) -> Result<Vec<u8>, All
     Ok(text)
 }
 
-/// The text of an export of the records of a kind. The records are given away. `Err` is want of memory.
-fn export_text(alloc: Global, kind: Kind, shelves: Shelves) -> Result<Vec<u8>, AllocError>
-    requires { IsLawful (state_of shelves) }
-    ensures { IfOk result (λ v. v.items ≡ rows_text kind (exported (state_of shelves) kind)) }
+/// The text of an export of the records of a kind. The records are given away. `Err` means out of memory.
+fn export_text(alloc: Global, kind: Kind, row_tables: RowTables) -> Result<Vec<u8>, AllocError>
+    requires { IsLawful (state_of row_tables) }
+    ensures { IfOk result (λ v. v.items ≡ rows_text kind (exported (state_of row_tables) kind)) }
 {
-    let rows = rows_of(&shelves, kind);
-    drop(shelves);
+    let rows = rows_of(&row_tables, kind);
+    drop(row_tables);
     let rows = rows?;
     text_of(alloc, kind, rows.as_slice())
 }
@@ -56,8 +56,8 @@ pub fn run_export<Si: Sink, Se: Sink, O: KeeperOpener>(
         (outside (streams input (told Si.written Si.faults output.new) (told Se.written Se.faults errors.new)) (stores O.stored O.faults opener.new)) result }
 {
     match open_store(alloc, store, opener) {
-        Ok((shelves, kept)) => {
-            let text = export_text(alloc, kind, shelves);
+        Ok((row_tables, kept)) => {
+            let text = export_text(alloc, kind, row_tables);
             opener.done(kept);
             match text {
                 Ok(text) => end_with(output, text.as_slice(), DONE),

@@ -38,7 +38,7 @@ pub enum FileStop {
     Unread,
     /// The file, or a row of it, is refused.
     Refused(Refusal),
-    /// Want of memory.
+    /// Out of memory.
     Memory,
 }
 
@@ -75,7 +75,7 @@ pub(crate) fn read_file<So: Source>(
     }
 }
 
-/// The line that names a refusal. `Err` is want of memory.
+/// The line that names a refusal. `Err` means out of memory.
 fn refusal_words(alloc: Global, refusal: &Refusal) -> Result<String, AllocError>
     ensures { IfOk result (λ s. string_bytes s ≡ refusal_text refusal.now) }
 {
@@ -84,7 +84,7 @@ fn refusal_words(alloc: Global, refusal: &Refusal) -> Result<String, AllocError>
     Ok(line)
 }
 
-/// Says a refusal, and gives this status; or that of a fault where it can't be said, or of want of memory.
+/// Says a refusal, and gives this status; or that of a fault where it can't be said, or of out of memory.
 pub(crate) fn say_refusal<Se: Sink>(
     alloc: Global,
     refusal: &Refusal,
@@ -100,7 +100,7 @@ pub(crate) fn say_refusal<Se: Sink>(
     }
 }
 
-/// Says why the input gives no rows, and gives the status of that: 1 for a refusal, 3 where the input failed and 5 for want of memory, of
+/// Says why the input gives no rows, and gives the status of that: 1 for a refusal, 3 where the input failed and 5 for lack of memory, of
 /// which nothing is said.
 pub(crate) fn say_file_stop<Se: Sink>(alloc: Global, stop: &FileStop, errors: &mut Se) -> u8
     ensures said { IsFileStopSaid stop.now (told Se.written Se.faults errors.old) (told Se.written Se.faults errors.new) result }

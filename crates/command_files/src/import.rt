@@ -25,7 +25,7 @@ use ipam_data::replies::Refusal;
 use ipam_edge::{Sink, Source};
 use ipam_keeper::keeper::{KeepFault, Keeper, KeeperOpener};
 use plan_import::{Halt, Imported, make_rows};
-use register_tables::Shelves;
+use register_tables::RowTables;
 use std::alloc::{AllocError, Global};
 use stored_tables::opening::OpenFault;
 use stored_tables::writing::write_change;
@@ -37,7 +37,7 @@ pub enum MakeStop {
     Refused(Refusal),
     /// The keeper failed, and counted it.
     Keeper,
-    /// Want of memory.
+    /// Out of memory.
     Memory,
 }
 
@@ -104,23 +104,23 @@ fn import_over<K: Keeper>(
     alloc: Global,
     kind: Kind,
     rows: &ImportRows,
-    mut shelves: Shelves,
+    mut row_tables: RowTables,
     keeper: &mut K,
 ) -> Result<String, MakeStop>
-    requires lawful { IsLawful (state_of shelves) }
+    requires lawful { IsLawful (state_of row_tables) }
     requires kind { AreOfKind kind rows.now }
-    requires tells { Tells (K.told keeper.old) (state_of shelves) }
-    ensures ok { IfOk result (λ s. IsCounted (import_plan (state_of shelves) kind rows.now) (string_bytes s)) }
-    ensures told { OnOk result (Tells (K.told keeper.new) (updated (state_of shelves) (import_plan (state_of shelves) kind rows.now).update)) }
+    requires tells { Tells (K.told keeper.old) (state_of row_tables) }
+    ensures ok { IfOk result (λ s. IsCounted (import_plan (state_of row_tables) kind rows.now) (string_bytes s)) }
+    ensures told { OnOk result (Tells (K.told keeper.new) (updated (state_of row_tables) (import_plan (state_of row_tables) kind rows.now).update)) }
     ensures telling { OnOk result (IsSome (K.told keeper.old) → IsSome (K.told keeper.new)) }
     ensures err { OnErr result (K.told keeper.new ≡ K.told keeper.old) }
-    ensures stop { IfErr result (IsMakeStop (import_plan (state_of shelves) kind rows.now)) }
+    ensures stop { IfErr result (IsMakeStop (import_plan (state_of row_tables) kind rows.now)) }
     ensures failed { IsErrOf result stop.Keeper → Rose (K.faults keeper.old) (K.faults keeper.new) }
     ensures later { K.faults keeper.old ≤ K.faults keeper.new }
 {
     rows.bounds();
-    let made = make_rows(&mut shelves, kind, rows.as_slice());
-    drop(shelves);
+    let made = make_rows(&mut row_tables, kind, rows.as_slice());
+    drop(row_tables);
     match made {
         Ok(made) => store_made(alloc, &made, keeper),
         Err(halt) => Err(stop_at(halt)),
@@ -150,9 +150,9 @@ fn import_into<O: KeeperOpener>(
     ensures later { O.faults opener.old ≤ O.faults opener.new }
 {
     match open_store(alloc, store, opener) {
-        Ok((shelves, kept)) => {
+        Ok((row_tables, kept)) => {
             let mut kept = kept;
-            let made = import_over(alloc, kind, rows, shelves, &mut kept);
+            let made = import_over(alloc, kind, rows, row_tables, &mut kept);
             opener.done(kept);
             match made {
                 Ok(text) => Ok(text),
@@ -163,7 +163,7 @@ fn import_into<O: KeeperOpener>(
     }
 }
 
-/// Says why rows were not made, and gives the status of that: 1 for a refusal, 4 where the keeper failed, and 5 for want of memory, of which
+/// Says why rows were not made, and gives the status of that: 1 for a refusal, 4 where the keeper failed, and 5 for lack of memory, of which
 /// nothing is said.
 fn say_making<Se: Sink>(alloc: Global, stop: &MakeStop, errors: &mut Se) -> u8
     ensures said { IsMakingSaid stop.now (told Se.written Se.faults errors.old) (told Se.written Se.faults errors.new) result }

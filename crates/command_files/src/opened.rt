@@ -12,8 +12,8 @@ ghost use Rattle.command_session.specs.Outside.{AreSame};
 use command_session::start_keeper;
 use command_words::Store;
 use ipam_keeper::keeper::KeeperOpener;
-use register_core::{Settings, open_shelves};
-use register_tables::Shelves;
+use register_core::{Settings, open_row_tables};
+use register_tables::RowTables;
 use std::alloc::Global;
 use stored_tables::opening::OpenFault;
 
@@ -23,7 +23,7 @@ pub(crate) fn open_store<O: KeeperOpener>(
     alloc: Global,
     store: &Store,
     opener: &mut O,
-) -> Result<(Shelves, O::Kept), OpenFault>
+) -> Result<(RowTables, O::Kept), OpenFault>
     ensures state { IfOk result (λ r. IsOpened (started (O.stored opener.old) store.now.db) store.now.global_unique (state_of r.0)) }
     ensures lawful { IfOk result (λ r. IsLawful (state_of r.0)) }
     ensures told { IfOk result (λ r. O.Kept.told r.1 ≡ started (O.stored opener.old) store.now.db) }
@@ -42,7 +42,7 @@ pub(crate) fn open_store<O: KeeperOpener>(
     let settings = Settings {
         global_unique: store.global_unique,
     };
-    match open_shelves(alloc, kept, settings) {
+    match open_row_tables(alloc, kept, settings) {
         Ok(opened) => Ok(opened),
         Err((kept, fault)) => {
             opener.done(kept);

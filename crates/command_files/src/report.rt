@@ -23,7 +23,7 @@ use ipam_report::{free, table, tree};
 use placed_book::Book;
 use plan_survey::survey;
 use register_claims::available_in;
-use register_tables::Shelves;
+use register_tables::RowTables;
 use std::alloc::{AllocError, Global};
 
 /// Most blocks that a report of what is free has.
@@ -34,7 +34,7 @@ const MOST_BLOCKS: u32 = 1_000;
 pub enum ReportStop {
     /// The prefix that it is of is not there: what is to be said.
     Absent(Refusal),
-    /// Want of memory.
+    /// Out of memory.
     Memory,
 }
 
@@ -50,63 +50,67 @@ impl From<AllocError> for ReportStop {
 }
 
 /// The tree of the prefixes.
-fn tree_text(alloc: Global, shelves: &Shelves) -> Result<Vec<u8>, AllocError>
-    requires { IsLawful (state_of shelves.now) }
-    ensures { IfOk result (λ v. v.items ≡ tree_lines (survey_of (state_of shelves.now))) }
+fn tree_text(alloc: Global, row_tables: &RowTables) -> Result<Vec<u8>, AllocError>
+    requires { IsLawful (state_of row_tables.now) }
+    ensures { IfOk result (λ v. v.items ≡ tree_lines (survey_of (state_of row_tables.now))) }
 {
-    let lines = survey(shelves)?;
+    let lines = survey(row_tables)?;
     let mut text = Vec::new(alloc);
     tree(alloc, lines.as_slice(), &mut text)?;
     Ok(text)
 }
 
 /// The table of the prefixes' utilisation.
-fn table_text(alloc: Global, shelves: &Shelves) -> Result<Vec<u8>, AllocError>
-    requires { IsLawful (state_of shelves.now) }
-    ensures { IfOk result (λ v. v.items ≡ table_lines (survey_of (state_of shelves.now))) }
+fn table_text(alloc: Global, row_tables: &RowTables) -> Result<Vec<u8>, AllocError>
+    requires { IsLawful (state_of row_tables.now) }
+    ensures { IfOk result (λ v. v.items ≡ table_lines (survey_of (state_of row_tables.now))) }
 {
-    let lines = survey(shelves)?;
+    let lines = survey(row_tables)?;
     let mut text = Vec::new(alloc);
     table(alloc, lines.as_slice(), &mut text)?;
     Ok(text)
 }
 
 /// The first available blocks of the prefix of an id.
-fn free_text(alloc: Global, shelves: &Shelves, id: u32) -> Result<Vec<u8>, ReportStop>
-    requires { IsLawful (state_of shelves.now) }
-    ensures ok { IfOk result (λ v. text_of (state_of shelves.now) (Free id) ≡ Some v.items) }
-    ensures stop { IfErr result (IsReportStop (state_of shelves.now) (Free id)) }
+fn free_text(alloc: Global, row_tables: &RowTables, id: u32) -> Result<Vec<u8>, ReportStop>
+    requires { IsLawful (state_of row_tables.now) }
+    ensures ok { IfOk result (λ v. text_of (state_of row_tables.now) (Free id) ≡ Some v.items) }
+    ensures stop { IfErr result (IsReportStop (state_of row_tables.now) (Free id)) }
 {
-    let Some(row) = shelves.prefixes().get(id) else {
+    let Some(row) = row_tables.prefixes().get(id) else {
         return Err(ReportStop::Absent(Refusal::NotFound(Kind::Prefixes, id)));
     };
-    let blocks = available_in(shelves, row, MOST_BLOCKS)?;
+    let blocks = available_in(row_tables, row, MOST_BLOCKS)?;
     let mut text = Vec::new(alloc);
     free(alloc, blocks.as_slice(), &mut text)?;
     Ok(text)
 }
 
 /// The text of a report.
-fn report_text(alloc: Global, shelves: &Shelves, report: Report) -> Result<Vec<u8>, ReportStop>
-    requires { IsLawful (state_of shelves.now) }
-    ensures ok { IfOk result (λ v. text_of (state_of shelves.now) report ≡ Some v.items) }
-    ensures stop { IfErr result (IsReportStop (state_of shelves.now) report) }
+fn report_text(alloc: Global, row_tables: &RowTables, report: Report) -> Result<Vec<u8>, ReportStop>
+    requires { IsLawful (state_of row_tables.now) }
+    ensures ok { IfOk result (λ v. text_of (state_of row_tables.now) report ≡ Some v.items) }
+    ensures stop { IfErr result (IsReportStop (state_of row_tables.now) report) }
 {
     match report {
-        Report::Tree => Ok(tree_text(alloc, shelves)?),
-        Report::Utilization => Ok(table_text(alloc, shelves)?),
-        Report::Free(id) => free_text(alloc, shelves, id),
+        Report::Tree => Ok(tree_text(alloc, row_tables)?),
+        Report::Utilization => Ok(table_text(alloc, row_tables)?),
+        Report::Free(id) => free_text(alloc, row_tables, id),
     }
 }
 
 /// The text of a report of records that are given away.
-fn text_of_given(alloc: Global, report: Report, shelves: Shelves) -> Result<Vec<u8>, ReportStop>
-    requires { IsLawful (state_of shelves) }
-    ensures ok { IfOk result (λ v. text_of (state_of shelves) report ≡ Some v.items) }
-    ensures stop { IfErr result (IsReportStop (state_of shelves) report) }
+fn text_of_given(
+    alloc: Global,
+    report: Report,
+    row_tables: RowTables,
+) -> Result<Vec<u8>, ReportStop>
+    requires { IsLawful (state_of row_tables) }
+    ensures ok { IfOk result (λ v. text_of (state_of row_tables) report ≡ Some v.items) }
+    ensures stop { IfErr result (IsReportStop (state_of row_tables) report) }
 {
-    let text = report_text(alloc, &shelves, report);
-    drop(shelves);
+    let text = report_text(alloc, &row_tables, report);
+    drop(row_tables);
     text
 }
 
@@ -135,8 +139,8 @@ pub fn run_report<Si: Sink, Se: Sink, O: KeeperOpener>(
         (outside (streams input (told Si.written Si.faults output.new) (told Se.written Se.faults errors.new)) (stores O.stored O.faults opener.new)) result }
 {
     match open_store(alloc, store, opener) {
-        Ok((shelves, kept)) => {
-            let text = text_of_given(alloc, report, shelves);
+        Ok((row_tables, kept)) => {
+            let text = text_of_given(alloc, report, row_tables);
             opener.done(kept);
             match text {
                 Ok(text) => end_with(output, text.as_slice(), DONE),

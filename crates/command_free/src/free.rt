@@ -40,7 +40,7 @@ pub enum Stop {
     Unread,
     /// The output failed, and counted it.
     Unwritten,
-    /// Want of memory.
+    /// Out of memory.
     Memory,
 }
 
@@ -116,7 +116,7 @@ fn free<So: Source, Si: Sink>(
     }
 }
 
-/// What is printed for a refused line. `Err` is want of memory.
+/// What is printed for a refused line. `Err` means out of memory.
 fn refusal_text(
     alloc: Global,
     within: &Block,
@@ -163,7 +163,7 @@ fn name_line<Se: Sink>(
 }
 
 /// Runs `free`: the blocks that are left of this one beside those that the lines name go to the output, or the first refused line
-/// is named on the messages. It gives the status: done, refused, a fault, or want of memory.
+/// is named on the messages. It gives the status: done, refused, a fault, or out of memory.
 pub fn run_free<So: Source, Si: Sink, Se: Sink>(
     alloc: Global,
     within: &Block,

@@ -19,7 +19,7 @@ use Rattle.command_load.proofs.Histories.{history_leads}
 use Rattle.command_load.proofs.Room.{room as room_for}
 use Rattle.command_load.specs.declared.figures.Figures.{Figures}
 use Rattle.command_load.specs.LoadText.{load_address, load_figures, load_len}
-use Rattle.command_load.specs.declared.came.Came.{Came}
+use Rattle.command_load.specs.declared.load_outcome.LoadOutcome.{LoadOutcome}
 use Rattle.command_load.specs.declared.tally.Tally.{Tally}
 use Rattle.command_load.specs.AllClaims.{HasAllClaimed, IsLoaded}
 use Rattle.command_load.specs.Dismissed.{HasDismissed, Part}
@@ -43,7 +43,7 @@ dismissed_still whole first many v w all k ended seen =
     }
 
 -- a seat h hired the workers and was v once they were joined, and is w once it asked for the figure
-pub all_claimed : (count workers many share : ℕ) (start h v w : Caller) (tally : Tally) (whole : Bool) (percent : Option ℕ) (o : Option Came)
+pub all_claimed : (count workers many share : ℕ) (start h v w : Caller) (tally : Tally) (whole : Bool) (percent : Option ℕ) (o : Option LoadOutcome)
     → IfSome o (λ came. (whole ≡ true) × (came.tally ≡ tally) × (percent ≡ Some came.percent))
     → IfSome percent (λ p. (w.seen ≡ v.seen) × ((plain_step (replay plain_step v.opening v.seen) figure_call).1 ≡ Percent p))
     → IsSameSeat v w → HasDismissed whole (top_number + 1 - many) many v tally → many ≡ workers → (whole ≡ true → tally.claimed ≡ share) → share ≡ count
@@ -84,7 +84,7 @@ percent_told count len p history h room long told =
     cc e
 
 -- the first seat was u when it was made, v once the prefix was made, and w when it closed the lock
-pub all_loaded : (count workers : ℕ) (u v w : Caller) (o : Option Came) (log : List (ℕ × Call)) (entries : ℕ) → (1 ≤ workers) × (workers ≤ 32) × (1 ≤ count) × (count ≤ 100000)
+pub all_loaded : (count workers : ℕ) (u v w : Caller) (o : Option LoadOutcome) (log : List (ℕ × Call)) (entries : ℕ) → (1 ≤ workers) × (workers ≤ 32) × (1 ≤ count) × (count ≤ 100000)
     → u.number ≡ 0 → v.seen ≡ (u.number, creation_of (load_len count)) ∷ [] → IfSome o (λ came. HasAllClaimed count workers v w came) → log ≡ w.seen → entries ≡ length log
     → ((e : ℕ × Call) → Contains w.seen e → (e.0 ≡ w.number) ⊎ ((es : List (ℕ × Call)) × Contains w.ended (e.0, es)))
     → ((e : ℕ × List (ℕ × Call)) → Contains w.ended e → own_entries e.0 w.seen ≡ e.1)
@@ -111,7 +111,7 @@ all_loaded count workers u v w (Some came) log entries few number made c is many
 -- ---- as figures
 
 -- the figures of what came are those of so many claims
-pub loaded_figures : (count : ℕ) (came : Came) (entries : ℕ) (o : Option Figures) → IsLoaded count came entries
+pub loaded_figures : (count : ℕ) (came : LoadOutcome) (entries : ℕ) (o : Option Figures) → IsLoaded count came entries
     → IfSome o (λ f. f ≡ record {
       claimed = came.tally.claimed;
       first = record { family = V4; value = came.tally.least };
@@ -131,7 +131,7 @@ loaded_figures count came entries (Some f) k is =
     })
 
 -- as the lock's closing and the figures tell it
-pub figures_told : (count : ℕ) (o : Option Came) (came : Came) (many entries : ℕ) (f : Option Figures) → IfSome o (λ c. IsLoaded count c many) → o ≡ Some came → entries ≡ many
+pub figures_told : (count : ℕ) (o : Option LoadOutcome) (came : LoadOutcome) (many entries : ℕ) (f : Option Figures) → IfSome o (λ c. IsLoaded count c many) → o ≡ Some came → entries ≡ many
     → IfSome f (λ f. f ≡ record {
       claimed = came.tally.claimed;
       first = record { family = V4; value = came.tally.least };
@@ -141,4 +141,4 @@ pub figures_told : (count : ℕ) (o : Option Came) (came : Came) (many entries :
     })
     → IfSome f (λ f. f ≡ load_figures count)
 figures_told count o came many entries f told is same figures =
-    loaded_figures count came entries f (subst (IsLoaded count came) (sym same) (subst (λ (x : Option Came). IfSome x (λ c. IsLoaded count c many)) is told)) figures
+    loaded_figures count came entries f (subst (IsLoaded count came) (sym same) (subst (λ (x : Option LoadOutcome). IfSome x (λ c. IsLoaded count c many)) is told)) figures

@@ -31,7 +31,7 @@ pub printed : (count workers : ℕ) (old new : Told) (status : ℕ) (f : Figures
 printed count workers old new status f text is lines ends later =
     said count workers old new status (subst (λ (t : List ℕ). EndsWith old new t 0 status) (lines ∙ (ap figures_text is ∙ text_is count)) ends) later
 
--- memory was wanting
+-- memory ran out
 pub unprinted : (count workers : ℕ) (old new : Told) (status : ℕ) → status ≡ 5 → new ≡ old → IsLoad count workers old new status
 unprinted count workers old new status five same = record {
   statuses = inr (inr five);

@@ -6,7 +6,7 @@ use Rattle.std.proofs.lemmas.List.Folds.{list_any-append}
 use Rattle.ipam_data.specs.declared.address.IpAddress.{IpAddress}
 use Rattle.ipam_data.specs.Claims.{is_child_address, is_hosted}
 use Rattle.ipam_data.specs.Rows.{address_id}
-use Rattle.ipam_data.specs.Shelf.{AllBelow}
+use Rattle.ipam_data.specs.RowList.{AllBelow}
 use Rattle.command_load.specs.LoadText.{load_first}
 use Rattle.command_load.specs.Claims.{prefix_row, address_row, address_rows}
 

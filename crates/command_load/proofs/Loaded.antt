@@ -7,7 +7,7 @@ use Rattle.std.proofs.lemmas.List.Sums.{sum_by-cons}
 use mathlib.Core.List.{IsPrefix}
 use Rattle.history_lock.specs.Replay.{own_entries}
 use Rattle.ipam_data.specs.declared.calls.Call.{Call}
-use Rattle.ipam_data.proofs.Shelves.{contains_cases, contains_head, contains_rest}
+use Rattle.ipam_data.proofs.RowLists.{contains_cases, contains_head, contains_rest}
 use Rattle.command_load.specs.Claims.{creation_of}
 use Rattle.command_load.specs.Histories.{AreClaims, AreShared, IsLoadHistory, HasRoomFor}
 use Rattle.command_load.proofs.Notes.{notes_tally}

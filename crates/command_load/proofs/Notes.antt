@@ -12,7 +12,7 @@ use Rattle.history_lock.proofs.Places.{IsLegalAt-longer}
 use Rattle.ipam_data.specs.declared.calls.Call.{Call}
 use Rattle.ipam_data.specs.State.{State, empty_state}
 use Rattle.ipam_data.specs.Steps.{plain_step}
-use Rattle.ipam_data.proofs.Shelves.{contains_cases}
+use Rattle.ipam_data.proofs.RowLists.{contains_cases}
 use Rattle.command_load.specs.LoadText.{load_first}
 use Rattle.command_load.specs.Claims.{claim_of_one, creation_of}
 use Rattle.command_load.specs.Histories.{IsLoadHistory, HasRoomFor, own_places}

@@ -16,7 +16,7 @@ use Rattle.ipam_data.specs.Replays.{replay}
 use Rattle.ipam_data.specs.Claims.{is_hosted, is_ranged, usable_in, claim_addresses_of}
 use Rattle.ipam_data.specs.declared.calls.Answered.TheVariants.{AsOne}
 use Rattle.inet_num.specs.declared.Family.TheVariants.{V4}
-use Rattle.ipam_data.proofs.Shelves.{with_row_above}
+use Rattle.ipam_data.proofs.RowLists.{with_row_above}
 use Rattle.command_load.specs.LoadText.{load_first}
 use Rattle.command_load.specs.Claims.{block_of, prefix_row, address_row, address_rows, claimed_state, one_address, PrefixIsMade, NextClaimGetsNextAddress, ClaimsLeadToState, claim_entry}
 use Rattle.command_load.proofs.Runs.{first_passes}

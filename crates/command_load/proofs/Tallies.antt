@@ -5,7 +5,7 @@ use Rattle.std.proofs.lemmas.Bool.Decides.{nat_tests}
 use Rattle.std.proofs.lemmas.List.Sums.{sum_by-cons, sum_by-append}
 use Rattle.history_lock.specs.Replay.{own_entries}
 use Rattle.ipam_data.specs.declared.calls.Call.{Call}
-use Rattle.ipam_data.proofs.Shelves.{contains_cases, contains_head, contains_rest}
+use Rattle.ipam_data.proofs.RowLists.{contains_cases, contains_head, contains_rest}
 use Rattle.command_load.specs.LoadText.{load_address}
 use Rattle.command_load.specs.Claims.{creation_of}
 use Rattle.command_load.specs.Histories.{own_places, AreShared}

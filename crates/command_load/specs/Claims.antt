@@ -17,7 +17,7 @@ use Rattle.ipam_data.specs.declared.kinds.Kind.TheVariants.{Prefixes}
 use Rattle.ipam_data.specs.declared.replies.Reply.TheVariants.{Made, Percent}
 use Rattle.ipam_data.specs.declared.replies.View.TheVariants.{Prefix as PrefixView, IpAddress as AddressView}
 use Rattle.ipam_data.specs.Rows.{most_addresses}
-use Rattle.ipam_data.specs.State.{State, empty_state, empty_shelf}
+use Rattle.ipam_data.specs.State.{State, empty_state, empty_row_list}
 use Rattle.ipam_data.specs.Steps.{plain_step}
 use Rattle.ipam_data.specs.Replays.{Entry, replay}
 use Rattle.command_load.specs.LoadText.{load_first, load_address}
@@ -61,12 +61,12 @@ address_rows len (suc k) = address_rows len k ++ address_row len (suc k) ∷ []
 -- the register behind the prefix and so many claims
 abbrev pub claimed_state : Bool → ℕ → ℕ → State
 claimed_state unique len k = record {
-  vrfs = empty_shelf;
-  rirs = empty_shelf;
-  roles = empty_shelf;
-  aggregates = empty_shelf;
+  vrfs = empty_row_list;
+  rirs = empty_row_list;
+  roles = empty_row_list;
+  aggregates = empty_row_list;
   prefixes = record { rows = prefix_row len ∷ []; next = 2 };
-  ranges = empty_shelf;
+  ranges = empty_row_list;
   addresses = record { rows = address_rows len k; next = suc k };
   global_unique = unique;
   spent = suc k;

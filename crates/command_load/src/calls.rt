@@ -45,7 +45,7 @@ pub fn creation(alloc: Global, count: u32) -> Option<Call>
     Some(Call::Create { draft })
 }
 
-/// A claim of one address of it. `None` is want of memory.
+/// A claim of one address of it. `None` means out of memory.
 pub fn claim(alloc: Global) -> Option<Call>
     ensures { IfSome result (λ c. c ≡ claim_of_one) }
 {

@@ -17,7 +17,7 @@ use register_core::Register;
 use std::alloc::Global;
 use std::sync::Wait;
 
-/// Makes the prefix for so many claims. It was not made where memory was wanting.
+/// Makes the prefix for so many claims. It was not made where memory ran out.
 pub fn create<R: Wait, K: Keeper>(
     rt: &R,
     alloc: Global,
@@ -49,7 +49,7 @@ fn of_v4(number: Option<u128>) -> Option<u128>
     }
 }
 
-/// Claims one address. It got none where memory was wanting.
+/// Claims one address. It got none where memory ran out.
 fn claim_one<R: Wait, K: Keeper>(
     rt: &R,
     alloc: Global,
@@ -70,7 +70,7 @@ fn claim_one<R: Wait, K: Keeper>(
     (seat, got)
 }
 
-/// Claims so many addresses, one by one, or fewer where memory is wanting.
+/// Claims so many addresses, one by one, or fewer where memory runs out.
 pub fn claim_share<R: Wait, K: Keeper>(
     rt: &R,
     alloc: Global,
@@ -96,7 +96,7 @@ pub fn claim_share<R: Wait, K: Keeper>(
     (seat, tally)
 }
 
-/// How much of the prefix is used. None where memory was wanting.
+/// How much of the prefix is used. None where memory ran out.
 pub fn ask_figure<R: Wait, K: Keeper>(
     rt: &R,
     shared: &Shared<Register<K>>,

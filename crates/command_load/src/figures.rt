@@ -44,7 +44,7 @@ fn write_address(word: &[u8], addr: Addr, out: &mut Vec<u8>) -> Result<(), Alloc
     Ok(())
 }
 
-/// Appends the five lines of the figures. `Err` is want of memory.
+/// Appends the five lines of the figures. `Err` means out of memory.
 pub fn write_figures(figures: &Figures, out: &mut Vec<u8>) -> Result<(), AllocError>
     ensures { OnOk result (out.new.items ≡ out.old.items ++ figures_text figures.now) }
 {

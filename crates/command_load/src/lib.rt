@@ -2,11 +2,11 @@
 #![tactic(auto)]
 
 mod calls;
-mod came;
 mod claims;
 mod figures;
 pub mod laws;
 mod length;
+mod load_outcome;
 mod run;
 mod tally;
 mod workers;

@@ -7,9 +7,9 @@ ghost use Rattle.command_load.specs.LoadText.{load_figures};
 ghost use Rattle.command_load.specs.AllClaims.{HasAllClaimed, IsLoaded};
 ghost use Rattle.command_load.specs.Load.{IsLoad};
 
-use crate::came::{Came, came_of, figures_of};
 use crate::claims::{ask_figure, create};
 use crate::figures::{Figures, write_figures};
+use crate::load_outcome::{LoadOutcome, figures_of, load_outcome_of};
 use crate::workers::{Claimer, dismiss, each_claims, hire};
 use command_streams::{DONE, MEMORY, end_with};
 use history_lock::{Seat, Shared};
@@ -23,7 +23,7 @@ use std::marker::{Send, Sync};
 use std::sync::Wait;
 use std::thread::Threads;
 
-/// A register in memory without rows, over a keeper that never fails. None for want of memory.
+/// A register in memory without rows, over a keeper that never fails. None for lack of memory.
 fn empty_register(alloc: Global) -> Option<Register<MemoryKeeper>>
     ensures { IfSome result (λ r. (r.log ≡ []) × (r.opening ≡ empty_state true)) }
 {
@@ -48,7 +48,7 @@ fn claim_all<R: Threads + Wait + Sync, K: Keeper + Send>(
     count: u32,
     workers: u32,
     claimers: Vec<Claimer<K>>,
-) -> (Seat<Register<K>>, Option<Came>)
+) -> (Seat<Register<K>>, Option<LoadOutcome>)
     requires seat { (seat.lock ≡ shared.now) × (seat.weight ≡ 65536) × (seat.spare ≡ 65536) }
     requires first { (seat.number ≡ 0) × (seat.ended ≡ []) × (seat.opening ≡ empty_state true) }
     requires none_yet { claimers.items ≡ [] }
@@ -62,7 +62,7 @@ fn claim_all<R: Threads + Wait + Sync, K: Keeper + Send>(
     each_claims(rt, alloc, shared, claimers.as_mut_slice());
     let (seat, tally, whole) = dismiss(shared, seat, claimers);
     let (seat, percent) = ask_figure(rt, shared, seat);
-    (seat, came_of(tally, whole, percent))
+    (seat, load_outcome_of(tally, whole, percent))
 }
 
 /// Makes the prefix and the claims, and closes the lock.
@@ -74,7 +74,7 @@ fn load_shared<R: Threads + Wait + Sync, K: Keeper + Send>(
     count: u32,
     workers: u32,
     claimers: Vec<Claimer<K>>,
-) -> (Register<K>, Option<Came>)
+) -> (Register<K>, Option<LoadOutcome>)
     requires seat { (seat.lock ≡ shared) × (seat.weight ≡ 65536) × (seat.spare ≡ 65536) }
     requires first { (seat.number ≡ 0) × (seat.ended ≡ []) × (seat.seen ≡ []) × (seat.opening ≡ empty_state true) }
     requires none_yet { claimers.items ≡ [] }
@@ -92,7 +92,7 @@ fn load_shared<R: Threads + Wait + Sync, K: Keeper + Send>(
     }
 }
 
-/// Makes the prefix and the claims on a register without rows, and says what came of it. None for want of memory.
+/// Makes the prefix and the claims on a register without rows, and says what came of it. None for lack of memory.
 fn load_register<R: Threads + Wait + Sync, K: Keeper + Send + Drop>(
     rt: &R,
     alloc: Global,
@@ -122,7 +122,7 @@ fn load_register<R: Threads + Wait + Sync, K: Keeper + Send + Drop>(
     }
 }
 
-/// What so many claims by so many workers come to. None for want of memory.
+/// What so many claims by so many workers come to. None for lack of memory.
 fn load<R: Threads + Wait + Sync>(
     rt: &R,
     alloc: Global,
@@ -145,7 +145,7 @@ fn load<R: Threads + Wait + Sync>(
 }
 
 /// Runs `load`: opens a register in memory, makes one prefix, lets so many workers claim so many addresses of it, one by one, and prints
-/// five lines of what came of it. Nothing is printed where memory is wanting.
+/// five lines of what came of it. Nothing is printed where memory runs out.
 pub fn run_load<R: Threads + Wait + Sync, Si: Sink>(
     rt: &R,
     alloc: Global,

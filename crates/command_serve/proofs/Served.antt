@@ -7,13 +7,13 @@ use Rattle.register_server.specs.declared.ending.Listening.TheVariants.{Whole, B
 use Rattle.command_words.specs.declared.asked.Serving.{Serving}
 use Rattle.command_streams.specs.Streams.{Gains, GainsFront, Failed, EndsWith}
 use Rattle.command_session.specs.Outside.{Outside}
-use Rattle.command_serve.specs.Serve.{Doors, DoorsFailed, AllCame, ServesStore, entries_line, listening_status, IsServe}
+use Rattle.command_serve.specs.Serve.{ListenerView, ListeningFailed, AllCame, ServesStore, entries_line, listening_status, IsServe}
 use Rattle.command_serve.proofs.Unserved.{Whatever}
 
 -- the count of the changes is on the output
-printed : (serving : Serving) (old new : Outside) (before after : Doors) (entries : ℕ) (listening : Listening) (status : ℕ)
+printed : (serving : Serving) (old new : Outside) (before after : ListenerView) (entries : ℕ) (listening : Listening) (status : ℕ)
     → Whatever serving old new before after → ServesStore serving old new before after entries
-    → IsListening (AllCame serving before after) (DoorsFailed before after) listening
+    → IsListening (AllCame serving before after) (ListeningFailed before after) listening
     → status ≡ listening_status listening → Gains old.streams.output new.streams.output (entries_line entries)
     → IsServe serving old new before after status
 printed serving old new before after entries Whole status all serves came zero said = record {
@@ -44,7 +44,7 @@ printed serving old new before after entries Broken status all serves failed thr
 }
 
 -- the output failed
-not_printed : (serving : Serving) (old new : Outside) (before after : Doors) (entries status : ℕ)
+not_printed : (serving : Serving) (old new : Outside) (before after : ListenerView) (entries status : ℕ)
     → Whatever serving old new before after → ServesStore serving old new before after entries
     → status ≡ 3 → Failed old.streams.output new.streams.output → GainsFront old.streams.output new.streams.output (entries_line entries)
     → IsServe serving old new before after status
@@ -63,7 +63,7 @@ not_printed serving old new before after entries status all serves three failed 
 }
 
 -- the store was served, by the keeper that came back
-serves_store : {K : Type 0} (told : K → Option Tables) (serving : Serving) (old new : Outside) (before after : Doors) (entries : ℕ)
+serves_store : {K : Type 0} (told : K → Option Tables) (serving : Serving) (old new : Outside) (before after : ListenerView) (entries : ℕ)
     → IsServedFrom told serving.store.db serving.store.global_unique old.stores.stored new.stores.stored old.stores.faults new.stores.faults
     before.returned after.returned (AllCame serving before after) entries
     → new.streams.errors ≡ old.streams.errors → ServesStore serving old new before after entries
@@ -78,11 +78,11 @@ serves_store told serving old new before after entries from silent = record {
 }
 
 -- the register was served, and its count was said as far as that could be
-pub of_served : {K : Type 0} (told : K → Option Tables) (serving : Serving) (old new : Outside) (before after : Doors) (entries : ℕ) (listening : Listening) (status : ℕ)
+pub of_served : {K : Type 0} (told : K → Option Tables) (serving : Serving) (old new : Outside) (before after : ListenerView) (entries : ℕ) (listening : Listening) (status : ℕ)
     → Whatever serving old new before after
     → IsServedFrom told serving.store.db serving.store.global_unique old.stores.stored new.stores.stored old.stores.faults new.stores.faults
     before.returned after.returned (AllCame serving before after) entries
-    → IsListening (AllCame serving before after) (DoorsFailed before after) listening → new.streams.errors ≡ old.streams.errors
+    → IsListening (AllCame serving before after) (ListeningFailed before after) listening → new.streams.errors ≡ old.streams.errors
     → EndsWith old.streams.output new.streams.output (entries_line entries) (listening_status listening) status
     → IsServe serving old new before after status
 of_served told serving old new before after entries listening status all from heard silent (inl said) =

@@ -18,10 +18,10 @@ use Rattle.command_session.specs.Outside.{Outside, StoreFailed, AreSame, IsUnuse
 use Rattle.command_session.specs.FaultWords.{IsSaid, fault_line}
 use Rattle.command_session.specs.Session.{found_tables, IsBadStore}
 use Rattle.command_session.proofs.Refused.{back_again, unchanged}
-use Rattle.command_serve.specs.Serve.{Doors, DoorsFailed, AllCame, NobodyCame, IsLeft, IsUnserved, IsUnservedSaid, IsServe}
+use Rattle.command_serve.specs.Serve.{ListenerView, ListeningFailed, AllCame, NobodyCame, IsLeft, IsUnserved, IsUnservedSaid, IsServe}
 
 -- what holds of a run whatever its status
-pub record Whatever (serving : Serving) (old new : Outside) (before after : Doors) : Type 0 where
+pub record Whatever (serving : Serving) (old new : Outside) (before after : ListenerView) : Type 0 where
   pub unread : new.streams.input ≡ old.streams.input
   pub lanes_back : length after.returned + before.lanes ≡ length before.returned + after.lanes
   pub bound : AllCame serving before after → after.bound ≡ serving.connections
@@ -36,7 +36,7 @@ same_streams a b i o e =
     ∙ ap (λ (t : Told). record { input = a.input; output = a.output; errors = t }) e
 
 -- where no lane came back and as many came back as were handed out, none was handed out
-nobody : (before after : Doors) → after.returned ≡ before.returned → length after.returned + before.lanes ≡ length before.returned + after.lanes
+nobody : (before after : ListenerView) → after.returned ≡ before.returned → length after.returned + before.lanes ≡ length before.returned + after.lanes
     → NobodyCame before after
 nobody before after same back =
     let e = ap (λ (l : List Returned). length l) same in
@@ -47,8 +47,8 @@ left_same : (store : Store) (old new : Outside) (why : Unserved) → IsRefusal w
 left_same store old new why refusal (inl same) = unchanged old.stores.stored new.stores.stored same
 left_same store old new why refusal (inr (told, before, returned)) = back_again store.db told old.stores.stored new.stores.stored (before.refused refusal) returned
 
--- for want of memory
-of_memory : (serving : Serving) (old new : Outside) (before after : Doors) (status : ℕ) (why : Unserved) → Whatever serving old new before after
+-- for lack of memory
+of_memory : (serving : Serving) (old new : Outside) (before after : ListenerView) (status : ℕ) (why : Unserved) → Whatever serving old new before after
     → new.streams.output ≡ old.streams.output → IsLeft serving.store old new why → NobodyCame before after
     → status ≡ 5 → new.streams.errors ≡ old.streams.errors → IsServe serving old new before after status
 of_memory serving old new before after status why all output left none five silent = record {
@@ -66,7 +66,7 @@ of_memory serving old new before after status why all output left none five sile
 }
 
 -- since the store failed
-of_keeper : (serving : Serving) (old new : Outside) (before after : Doors) (status : ℕ) → Whatever serving old new before after
+of_keeper : (serving : Serving) (old new : Outside) (before after : ListenerView) (status : ℕ) → Whatever serving old new before after
     → StoreFailed old new → IsUnused old new → NobodyCame before after
     → EndsWith old.streams.errors new.streams.errors (fault_line Keeper) 4 status → IsServe serving old new before after status
 of_keeper serving old new before after status all failed unused none (inl said) = let four = said.0 in record {
@@ -97,7 +97,7 @@ of_keeper serving old new before after status all failed unused none (inr said) 
 }
 
 -- for what the store holds
-of_bad : (serving : Serving) (old new : Outside) (before after : Doors) (status : ℕ) (fault : OpenFault) → Whatever serving old new before after
+of_bad : (serving : Serving) (old new : Outside) (before after : ListenerView) (status : ℕ) (fault : OpenFault) → Whatever serving old new before after
     → IsBadStore serving.store old fault → IsUnused old new → NobodyCame before after
     → EndsWith old.streams.errors new.streams.errors (fault_line fault) 1 status → IsServe serving old new before after status
 of_bad serving old new before after status fault all bad unused none (inl said) = let one = said.0 in record {
@@ -127,8 +127,8 @@ of_bad serving old new before after status fault all bad unused none (inr said) 
   listener_later = all.listener_later;
 }
 
--- the tables of the store have a fault, which was said, or memory was wanting to say it
-of_tables : (serving : Serving) (old new : Outside) (before after : Doors) (status : ℕ) (fault : OpenFault) → Whatever serving old new before after
+-- the tables of the store have a fault, which was said, or memory ran out to say it
+of_tables : (serving : Serving) (old new : Outside) (before after : ListenerView) (status : ℕ) (fault : OpenFault) → Whatever serving old new before after
     → new.streams.output ≡ old.streams.output → IsLeft serving.store old new (Opening fault) → NobodyCame before after
     → IsBadStore serving.store old fault → IsUnused old new
     → EndsWith old.streams.errors new.streams.errors (fault_line fault) 1 status ⊎ ((status ≡ 5) × (new.streams.errors ≡ old.streams.errors))
@@ -138,8 +138,8 @@ of_tables serving old new before after status fault all output left none bad unu
     of_memory serving old new before after status (Opening fault) all output left none said.0 said.1
 
 -- the place could not be had
-of_place : (serving : Serving) (old new : Outside) (before after : Doors) (status : ℕ) → Whatever serving old new before after
-    → new.streams.output ≡ old.streams.output → IsLeft serving.store old new Place → NobodyCame before after → DoorsFailed before after
+of_place : (serving : Serving) (old new : Outside) (before after : ListenerView) (status : ℕ) → Whatever serving old new before after
+    → new.streams.output ≡ old.streams.output → IsLeft serving.store old new Place → NobodyCame before after → ListeningFailed before after
     → status ≡ 3 → new.streams.errors ≡ old.streams.errors → IsServe serving old new before after status
 of_place serving old new before after status all output left none failed three silent = record {
   statuses = inr (inr (inl three));
@@ -159,15 +159,15 @@ of_place serving old new before after status all output left none failed three s
 }
 
 -- nothing was used, where the tables were refused
-unused : (serving : Serving) (old new : Outside) (before after : Doors) (why : Unserved) → Whatever serving old new before after
+unused : (serving : Serving) (old new : Outside) (before after : ListenerView) (why : Unserved) → Whatever serving old new before after
     → new.streams.output ≡ old.streams.output → IsLeft serving.store old new why → IsRefusal why → IsUnused old new
 unused serving old new before after why all output left refusal =
     record { input = all.unread; output = output; stored = left_same serving.store old new why refusal left }
 
-of_why : (serving : Serving) (old new : Outside) (before after : Doors) (status : ℕ) (why : Unserved) → Whatever serving old new before after
+of_why : (serving : Serving) (old new : Outside) (before after : ListenerView) (status : ℕ) (why : Unserved) → Whatever serving old new before after
     → new.streams.output ≡ old.streams.output → IsLeft serving.store old new why → NobodyCame before after
     → IsFaultOf (found_tables serving.store old) serving.store.global_unique old.stores.faults new.stores.faults why
-    → IsListened (AllCame serving before after) (DoorsFailed before after) (Err why)
+    → IsListened (AllCame serving before after) (ListeningFailed before after) (Err why)
     → IsUnservedSaid why old.streams.errors new.streams.errors status → IsServe serving old new before after status
 of_why serving old new before after status (Opening Keeper) all output left none of heard said =
     of_keeper serving old new before after status all (of.1 refl) (unused serving old new before after (Opening Keeper) all output left (λ same. absurd (cc))) none said
@@ -198,21 +198,21 @@ left_of told store old new why (inl same) = inl same
 left_of told store old new why (inr (kept, before, returned)) = inr (told kept, before, returned)
 
 -- nobody was served
-pub of_unserved : {K : Type 0} (told : K → Option Tables) (serving : Serving) (old new : Outside) (before after : Doors) (status : ℕ) (why : Unserved)
+pub of_unserved : {K : Type 0} (told : K → Option Tables) (serving : Serving) (old new : Outside) (before after : ListenerView) (status : ℕ) (why : Unserved)
     → Whatever serving old new before after → new.streams.output ≡ old.streams.output
     → AreLeft told serving.store.db old.stores.stored new.stores.stored why × (after.returned ≡ before.returned)
     × IsFaultOf (found_tables serving.store old) serving.store.global_unique old.stores.faults new.stores.faults why
-    → IsListened (AllCame serving before after) (DoorsFailed before after) (Err why)
+    → IsListened (AllCame serving before after) (ListeningFailed before after) (Err why)
     → IsUnservedSaid why old.streams.errors new.streams.errors status → IsServe serving old new before after status
 of_unserved told serving old new before after status why all output (left, returned, of) heard said =
     of_why serving old new before after status why all output (left_of told serving.store old new why left) (nobody before after returned all.lanes_back) of heard said
 
--- where memory was wanting before anything was used
-pub not_begun : (serving : Serving) (old new : Outside) (before after : Doors) (status : ℕ) → 1 ≤ serving.workers → status ≡ 5 → new ≡ old → after ≡ before
+-- where memory ran out before anything was used
+pub not_begun : (serving : Serving) (old new : Outside) (before after : ListenerView) (status : ℕ) → 1 ≤ serving.workers → status ≡ 5 → new ≡ old → after ≡ before
     → IsServe serving old new before after status
-not_begun serving old new before after status some five same same_doors =
+not_begun serving old new before after status some five same same_listener =
     subst (λ (t : Outside). IsServe serving old t before after status) (sym same)
-    (subst (λ (d : Doors). IsServe serving old old before d status) (sym same_doors)
+    (subst (λ (d : ListenerView). IsServe serving old old before d status) (sym same_listener)
     (of_memory serving old old before before status (Opening Memory)
     (record {
       unread = refl;

@@ -25,27 +25,27 @@ use Rattle.command_session.specs.Session.{found_tables, IsLoaded, Holds, NamesFa
 
 -- what it tells: how many connections each lane may accept, by the place that it was bound to last; how many lanes it handed out; the
 -- lanes that were given back; and its count of faults
-pub record Doors : Type 0 where
+pub record ListenerView : Type 0 where
   pub bound : ℕ
   pub lanes : ℕ
   pub returned : List Returned
   pub faults : ℕ
 
 -- what a listener tells, by the members of its trait
-abbrev pub doors : {L : Type 0} → (L → ℕ) → (L → ℕ) → (L → List Returned) → (L → ℕ) → L → Doors
-doors bound lanes returned faults listener =
+abbrev pub listener_view : {L : Type 0} → (L → ℕ) → (L → ℕ) → (L → List Returned) → (L → ℕ) → L → ListenerView
+listener_view bound lanes returned faults listener =
     record { bound = bound listener; lanes = lanes listener; returned = returned listener; faults = faults listener }
 
 -- it failed meanwhile, or a lane that it took back had failed
-abbrev pub DoorsFailed : Doors → Doors → Type 0
-DoorsFailed before after = Rose before.faults after.faults
+abbrev pub ListeningFailed : ListenerView → ListenerView → Type 0
+ListeningFailed before after = Rose before.faults after.faults
 
 -- as many lanes came as workers were asked for
-abbrev pub AllCame : Serving → Doors → Doors → Type 0
+abbrev pub AllCame : Serving → ListenerView → ListenerView → Type 0
 AllCame serving before after = after.lanes ≡ before.lanes + serving.workers
 
 -- no lane was handed out, and none came back
-pub record NobodyCame (before after : Doors) : Type 0 where
+pub record NobodyCame (before after : ListenerView) : Type 0 where
   pub lanes : after.lanes ≡ before.lanes
   pub returned : after.returned ≡ before.returned
 
@@ -61,7 +61,7 @@ listening_status Whole = 0
 listening_status Broken = 3
 
 -- the register of the store was served: behind all that the lanes tell is one history of so many changes
-pub record ServesStore (serving : Serving) (old new : Outside) (before after : Doors) (entries : ℕ) : Type 0 where
+pub record ServesStore (serving : Serving) (old new : Outside) (before after : ListenerView) (entries : ℕ) : Type 0 where
   pub state : State
   pub loaded : IsLoaded serving.store old state
   pub history : List Made
@@ -76,21 +76,21 @@ pub record ServesStore (serving : Serving) (old new : Outside) (before after : D
   pub silent : new.streams.errors ≡ old.streams.errors
 
 -- the listening went whole, and the count of the changes is on the output
-pub record Counts (serving : Serving) (old new : Outside) (before after : Doors) : Type 0 where
+pub record Counts (serving : Serving) (old new : Outside) (before after : ListenerView) : Type 0 where
   pub all_came : AllCame serving before after
   pub entries : ℕ
   pub serves : ServesStore serving old new before after entries
   pub said : Gains old.streams.output new.streams.output (entries_line entries)
 
 -- a lane did not come or an accept failed; the count of the changes is on the output all the same
-pub record BreaksOff (serving : Serving) (old new : Outside) (before after : Doors) : Type 0 where
-  pub failed : DoorsFailed before after
+pub record BreaksOff (serving : Serving) (old new : Outside) (before after : ListenerView) : Type 0 where
+  pub failed : ListeningFailed before after
   pub entries : ℕ
   pub serves : ServesStore serving old new before after entries
   pub said : Gains old.streams.output new.streams.output (entries_line entries)
 
 -- the output failed, with a front of the count on it
-pub record FailsToCount (serving : Serving) (old new : Outside) (before after : Doors) : Type 0 where
+pub record FailsToCount (serving : Serving) (old new : Outside) (before after : ListenerView) : Type 0 where
   pub failed : Failed old.streams.output new.streams.output
   pub entries : ℕ
   pub serves : ServesStore serving old new before after entries
@@ -103,15 +103,15 @@ IsLeft store old new why =
     ⊎ ((told : Option Tables) × AreAsBefore (found_tables store old) told why × IsReturned (Some store.db) told old.stores.stored new.stores.stored)
 
 -- nobody was served, nothing was read and nothing written
-pub record IsUnserved (store : Store) (old new : Outside) (before after : Doors) : Type 0 where
+pub record IsUnserved (store : Store) (old new : Outside) (before after : ListenerView) : Type 0 where
   pub streams : new.streams ≡ old.streams
   pub why : Unserved
   pub left : IsLeft store old new why
   pub nobody : NobodyCame before after
 
 -- the listener could not be bound to the place: nothing is said, and nobody was served
-pub record HasNoPlace (store : Store) (old new : Outside) (before after : Doors) : Type 0 where
-  pub failed : DoorsFailed before after
+pub record HasNoPlace (store : Store) (old new : Outside) (before after : ListenerView) : Type 0 where
+  pub failed : ListeningFailed before after
   pub unserved : IsUnserved store old new before after
 
 -- what is said where nobody was served: why the opening was refused, and of a place that could not be had nothing
@@ -120,7 +120,7 @@ IsUnservedSaid (Opening fault) old new status = IsSaid fault old new status
 IsUnservedSaid Place old new status = (status ≡ 3) × (new ≡ old)
 
 -- a run of `serve` with these words
-pub record IsServe (serving : Serving) (old new : Outside) (before after : Doors) (status : ℕ) : Type 0 where
+pub record IsServe (serving : Serving) (old new : Outside) (before after : ListenerView) (status : ℕ) : Type 0 where
   -- the status is one of these
   pub statuses : (status ≡ 0) ⊎ (status ≡ 1) ⊎ (status ≡ 3) ⊎ (status ≡ 4) ⊎ (status ≡ 5)
   -- 0: all lanes came and were served to their end, and the count of the changes is on the output

@@ -5,7 +5,7 @@ ghost use Rattle.ipam_edge.specs.Faults.{Rose};
 ghost use Rattle.command_streams.specs.Streams.{Told, streams, told};
 ghost use Rattle.register_server.specs.Serving.{IsListened, IsServing};
 ghost use Rattle.command_session.specs.Outside.{outside, stores};
-ghost use Rattle.command_serve.specs.Serve.{IsServe, IsUnservedSaid, doors};
+ghost use Rattle.command_serve.specs.Serve.{IsServe, IsUnservedSaid, listener_view};
 
 use crate::count::say_entries;
 use command_session::{path_of, say_fault};
@@ -88,7 +88,7 @@ pub fn run_serve<R: Threads + Wait + Sync, Si: Sink, Se: Sink, L: Listener, O: K
     ensures { (input : Told) → IsServe serving.now
         (outside (streams input (told Si.written Si.faults output.old) (told Se.written Se.faults errors.old)) (stores O.stored O.faults opener.old))
         (outside (streams input (told Si.written Si.faults output.new) (told Se.written Se.faults errors.new)) (stores O.stored O.faults opener.new))
-        (doors L.bound L.lanes L.returned L.faults listener.old) (doors L.bound L.lanes L.returned L.faults listener.new) result }
+        (listener_view L.bound L.lanes L.returned L.faults listener.old) (listener_view L.bound L.lanes L.returned L.faults listener.new) result }
 {
     match serve_store(rt, alloc, serving, listener, opener) {
         Ok(served) => say_entries(served, output),

@@ -21,7 +21,7 @@ not_used (Some entries) = λ path. refl
 pub unchanged : (old new : Option (List (List ℕ × Tables))) → new ≡ old → AreSame old new
 unchanged old new same = subst (AreSame old) (sym same) (not_used old)
 
--- for want of memory
+-- for lack of memory
 of_memory : (store : Store) (old new : Outside) (status : ℕ) → status ≡ 5 → new.streams.errors ≡ old.streams.errors → IsUnused old new → NoCountFalls old new
     → IsSession store old new status
 of_memory store old new status five silent unused later = record {
@@ -96,7 +96,7 @@ of_refused store old new status (BadNext kind) bad cause said unused later =
 of_refused store old new status (Limit which n) bad cause said unused later =
     of_bad store old new status (Limit which n) (record { of_tables = tt; refused = bad tt }) said unused later
 
--- where memory was wanting before anything was used
+-- where memory ran out before anything was used
 pub not_begun : (store : Store) (old new : Outside) (status : ℕ) → status ≡ 5 → new ≡ old → IsSession store old new status
 not_begun store old new status five same = subst (λ (t : Outside). IsSession store old t status) (sym same)
     (of_memory store old old status five refl (record { input = refl; output = refl; stored = not_used old.stores.stored })

@@ -5,7 +5,7 @@ use Rattle.stored_tables.specs.declared.opening.OpenFault.{OpenFault}
 use Rattle.stored_tables.specs.declared.opening.OpenFault.TheVariants.{Keeper, BadTables, Memory, BadRow, Version, BadNext, Limit}
 use Rattle.command_streams.specs.Streams.{Told, EndsWith}
 
--- the fault of an opening in words; want of memory has none
+-- the fault of an opening in words; out of memory has none
 abbrev pub fault_words : OpenFault → List ℕ
 fault_words Keeper = unread_text
 fault_words (BadTables kind n rule) = breach_text kind n rule
@@ -19,7 +19,7 @@ fault_words (Limit which n) = excess_text which n
 abbrev pub fault_line : OpenFault → List ℕ
 fault_line fault = codes "store: " ++ fault_words fault ++ 10 ∷ []
 
--- the line was said and the status is that of the fault; or it could not be; or memory was wanting, and nothing was said
+-- the line was said and the status is that of the fault; or it could not be; or memory ran out, and nothing was said
 abbrev pub IsSaid : OpenFault → Told → Told → ℕ → Type 0
 IsSaid Memory old new status = (status ≡ 5) × (new ≡ old)
 IsSaid Keeper old new status = EndsWith old new (fault_line Keeper) 4 status

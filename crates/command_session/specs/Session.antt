@@ -46,11 +46,11 @@ pub record Serves (store : Store) (old new : Outside) (end : SessionEnd) : Type 
   pub bytes : List ℕ
   pub last : Standing
   pub grown : Grown old.streams.input.bytes new.streams.input.bytes [] bytes
-  -- the answers are the plain register's, from the loaded state, but where the keeper failed or memory was wanting in the register ..
+  -- the answers are the plain register's, from the loaded state, but where the keeper failed or memory ran out in the register ..
   pub ends : IsEnd answers_kept (fresh state) last old.streams.output.bytes new.streams.output.bytes bytes new.streams.input.bytes end
   -- .. of which the first is told at most as often as the opener's count rose, as far as that goes ..
   pub bounded : (old.stores.faults + last.failed ≤ new.stores.faults) ⊎ (last_count ≤ new.stores.faults)
-  -- .. and where it did not rise they are all the plain register's, want of memory aside
+  -- .. and where it did not rise they are all the plain register's, out of memory aside
   pub plain : (¬ StoreFailed old new)
       → IsEnd answers_plainly (fresh state).seen last.seen old.streams.output.bytes new.streams.output.bytes bytes new.streams.input.bytes end
   pub needed : IsReadAsNeeded bytes

@@ -27,7 +27,7 @@ use stored_tables::tables::Text;
 /// What is said where the store fails.
 const UNREAD: &[u8] = b"store: the store could not be read\n";
 
-/// The path that was given, if any. `Err` is want of memory.
+/// The path that was given, if any. `Err` means out of memory.
 pub fn path_of(alloc: Global, word: &Option<WordText>) -> Result<Option<Text>, AllocError>
     ensures { IfOk result (λ path. path ≡ word.now) }
 {

@@ -16,7 +16,7 @@ pub const USAGE: u8 = 2;
 pub const FAULT: u8 = 3;
 /// The store failed.
 pub const STORE: u8 = 4;
-/// Want of memory.
+/// Out of memory.
 pub const MEMORY: u8 = 5;
 
 /// Writes a message, after which a command ends with this status, or with that of a fault where it can't be written.

@@ -2,9 +2,9 @@
 #![tactic(auto)]
 
 #[cfg(test)]
-mod line_tests;
+mod command_files_tests;
 #[cfg(test)]
-mod office_tests;
+mod line_tests;
 #[cfg(test)]
 mod session_tests;
 #[cfg(test)]

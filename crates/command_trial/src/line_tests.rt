@@ -3,7 +3,7 @@ ghost use Rattle.std.specs.Prelude.{◌≡◌, ◌≤◌, [], IfOk, length};
 ghost use Rattle.ipam_listen.specs.ListLanes.{lane_told};
 ghost use Rattle.ipam_listen.specs.ListListeners.{listener_returned, listener_lanes};
 
-use crate::office_tests::bytes_of;
+use crate::command_files_tests::bytes_of;
 use crate::session_tests::part;
 use crate::store_tests::{number, opener_of};
 use crate::tests::{Left, run_with};

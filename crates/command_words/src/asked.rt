@@ -21,7 +21,7 @@ impl Model for WordText {
 impl WordText {
     ghost use Rattle.std.specs.Prelude.{◌≡◌, IfOk};
 
-    /// A copy of the text. `Err` is want of memory.
+    /// A copy of the text. `Err` means out of memory.
     pub(crate) fn of(alloc: Global, text: &str) -> Result<WordText, AllocError>
         ensures { IfOk result (λ n. n ≡ text.now) }
     {

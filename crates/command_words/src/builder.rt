@@ -43,7 +43,7 @@ fn plain_command<'a>(alloc: Global, name: &'a str) -> clap::Command<'a>
     clap::Command::new(alloc, name).disable_help_flag(true)
 }
 
-/// The command with one more place or option. `Err` is want of memory.
+/// The command with one more place or option. `Err` means out of memory.
 fn with<'a>(command: clap::Command<'a>, arg: Arg<'a>) -> Result<clap::Command<'a>, AllocError>
     requires { arg.global ≡ false }
     ensures { IfOk result (λ c. app_of c ≡ with_rule (app_of command.entry) (rule_of arg.entry)) }
@@ -51,7 +51,7 @@ fn with<'a>(command: clap::Command<'a>, arg: Arg<'a>) -> Result<clap::Command<'a
     command.arg(arg)
 }
 
-/// The command with the options of a store. `Err` is want of memory.
+/// The command with the options of a store. `Err` means out of memory.
 fn stored<'a>(alloc: Global, command: clap::Command<'a>) -> Result<clap::Command<'a>, AllocError>
     ensures { IfOk result (λ c. app_of c ≡ with_store (app_of command.entry)) }
 {
@@ -59,7 +59,7 @@ fn stored<'a>(alloc: Global, command: clap::Command<'a>) -> Result<clap::Command
     with(command, option(alloc, "global-unique"))
 }
 
-/// `free P`. `Err` is want of memory.
+/// `free P`. `Err` means out of memory.
 #[tactic(auto, unfolding(crate::specs::Grammar::free_app))]
 pub(crate) fn free_command<'a>(alloc: Global) -> Result<clap::Command<'a>, AllocError>
     ensures { IfOk result (λ c. app_of c ≡ free_app) }
@@ -67,7 +67,7 @@ pub(crate) fn free_command<'a>(alloc: Global) -> Result<clap::Command<'a>, Alloc
     with(plain_command(alloc, "free"), place(alloc, "block"))
 }
 
-/// `session`. `Err` is want of memory.
+/// `session`. `Err` means out of memory.
 #[tactic(auto, unfolding(crate::specs::Grammar::session_app))]
 pub(crate) fn session_command<'a>(alloc: Global) -> Result<clap::Command<'a>, AllocError>
     ensures { IfOk result (λ c. app_of c ≡ session_app) }
@@ -75,7 +75,7 @@ pub(crate) fn session_command<'a>(alloc: Global) -> Result<clap::Command<'a>, Al
     stored(alloc, plain_command(alloc, "session"))
 }
 
-/// `serve --bind HOST:PORT --workers N`. `Err` is want of memory.
+/// `serve --bind HOST:PORT --workers N`. `Err` means out of memory.
 #[tactic(auto, unfolding(crate::specs::Grammar::serve_app))]
 pub(crate) fn serve_command<'a>(alloc: Global) -> Result<clap::Command<'a>, AllocError>
     ensures { IfOk result (λ c. app_of c ≡ serve_app) }
@@ -86,7 +86,7 @@ pub(crate) fn serve_command<'a>(alloc: Global) -> Result<clap::Command<'a>, Allo
     stored(alloc, command)
 }
 
-/// `import KIND`. `Err` is want of memory.
+/// `import KIND`. `Err` means out of memory.
 #[tactic(auto, unfolding(crate::specs::Grammar::import_app))]
 pub(crate) fn import_command<'a>(alloc: Global) -> Result<clap::Command<'a>, AllocError>
     ensures { IfOk result (λ c. app_of c ≡ import_app) }
@@ -95,7 +95,7 @@ pub(crate) fn import_command<'a>(alloc: Global) -> Result<clap::Command<'a>, All
     stored(alloc, command)
 }
 
-/// `export KIND`. `Err` is want of memory.
+/// `export KIND`. `Err` means out of memory.
 #[tactic(auto, unfolding(crate::specs::Grammar::export_app))]
 pub(crate) fn export_command<'a>(alloc: Global) -> Result<clap::Command<'a>, AllocError>
     ensures { IfOk result (λ c. app_of c ≡ export_app) }
@@ -104,7 +104,7 @@ pub(crate) fn export_command<'a>(alloc: Global) -> Result<clap::Command<'a>, All
     stored(alloc, command)
 }
 
-/// `report NAME`. `Err` is want of memory.
+/// `report NAME`. `Err` means out of memory.
 #[tactic(auto, unfolding(crate::specs::Grammar::report_app))]
 pub(crate) fn report_command<'a>(alloc: Global) -> Result<clap::Command<'a>, AllocError>
     ensures { IfOk result (λ c. app_of c ≡ report_app) }
@@ -114,7 +114,7 @@ pub(crate) fn report_command<'a>(alloc: Global) -> Result<clap::Command<'a>, All
     stored(alloc, command)
 }
 
-/// `load N`. `Err` is want of memory.
+/// `load N`. `Err` means out of memory.
 #[tactic(auto, unfolding(crate::specs::Grammar::load_app))]
 pub(crate) fn load_command<'a>(alloc: Global) -> Result<clap::Command<'a>, AllocError>
     ensures { IfOk result (λ c. app_of c ≡ load_app) }
@@ -123,14 +123,14 @@ pub(crate) fn load_command<'a>(alloc: Global) -> Result<clap::Command<'a>, Alloc
     with(command, option(alloc, "workers"))
 }
 
-/// Whether the error is want of memory; any other is that the words are not taken.
+/// Whether the error means out of memory; any other is that the words are not taken.
 fn is_memory(error: &Error) -> bool
     ensures { IsTrue result ↔ (kind_of error.now ≡ ErrorKind.OutOfMemory) }
 {
     matches!(error.kind(), ErrorKind::OutOfMemory)
 }
 
-/// What the words give, or none where the command does not take them. `Err` is want of memory.
+/// What the words give, or none where the command does not take them. `Err` means out of memory.
 #[tactic(auto, unfolding(crate::specs::Grammar::IsPlainCommand, crate::specs::Grammar::Takes, crate::specs::Grammar::given))]
 pub(crate) fn parse<'a>(
     command: clap::Command<'a>,

@@ -26,7 +26,7 @@ fn first_word<'a>(words: &'a [&'a str]) -> Option<&'a str>
     }
 }
 
-/// The command that the words ask for, or none where they are no command. `Err` is want of memory.
+/// The command that the words ask for, or none where they are no command. `Err` means out of memory.
 pub fn read_words<'a>(alloc: Global, words: &'a [&'a str]) -> Result<Option<Command>, AllocError>
     ensures { IfOk result (λ found. MatchOption found (IsNoCommand (map (λ w. w.now) words.entry.now)) (λ c. Asks (map (λ w. w.now) words.entry.now) c)) }
 {

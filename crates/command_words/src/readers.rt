@@ -22,7 +22,7 @@ const MOST_CONNECTIONS: u32 = 1_000_000_000;
 /// The most claims of a load.
 const MOST_CLAIMS: u32 = 100_000;
 
-/// Reads the words of `free`. `Err` is want of memory.
+/// Reads the words of `free`. `Err` means out of memory.
 #[tactic(auto, using(crate::proofs::Plain::free_is_plain))]
 pub(crate) fn read_free<'a>(
     alloc: Global,
@@ -40,7 +40,7 @@ pub(crate) fn read_free<'a>(
     Ok(Some(Command::Free(block)))
 }
 
-/// Reads the words of `session`. `Err` is want of memory.
+/// Reads the words of `session`. `Err` means out of memory.
 #[tactic(auto, using(crate::proofs::Plain::session_is_plain))]
 pub(crate) fn read_session<'a>(
     alloc: Global,
@@ -58,7 +58,7 @@ pub(crate) fn read_session<'a>(
     Ok(Some(Command::Session(store)))
 }
 
-/// The values of `serve`. `Err` is want of memory.
+/// The values of `serve`. `Err` means out of memory.
 fn serving_value<'a>(alloc: Global, matches: &ArgMatches<'a>) -> Result<Option<Serving>, AllocError>
     ensures { IfOk result (λ found. MatchOption found ((s : Serving) → ¬ IsServing (rows_of (found_of matches.now)) s) (λ s. IsServing (rows_of (found_of matches.now)) s)) }
 {
@@ -86,7 +86,7 @@ fn serving_value<'a>(alloc: Global, matches: &ArgMatches<'a>) -> Result<Option<S
     }))
 }
 
-/// Reads the words of `serve`. `Err` is want of memory.
+/// Reads the words of `serve`. `Err` means out of memory.
 #[tactic(auto, using(crate::proofs::Plain::serve_is_plain))]
 pub(crate) fn read_serve<'a>(
     alloc: Global,
@@ -104,7 +104,7 @@ pub(crate) fn read_serve<'a>(
     Ok(Some(Command::Serve(serving)))
 }
 
-/// Reads the words of `import`. `Err` is want of memory.
+/// Reads the words of `import`. `Err` means out of memory.
 #[tactic(auto, using(crate::proofs::Plain::import_is_plain))]
 pub(crate) fn read_import<'a>(
     alloc: Global,
@@ -125,7 +125,7 @@ pub(crate) fn read_import<'a>(
     Ok(Some(Command::Import(kind, store)))
 }
 
-/// Reads the words of `export`. `Err` is want of memory.
+/// Reads the words of `export`. `Err` means out of memory.
 #[tactic(auto, using(crate::proofs::Plain::export_is_plain))]
 pub(crate) fn read_export<'a>(
     alloc: Global,
@@ -146,7 +146,7 @@ pub(crate) fn read_export<'a>(
     Ok(Some(Command::Export(kind, store)))
 }
 
-/// Reads the words of `report`. `Err` is want of memory.
+/// Reads the words of `report`. `Err` means out of memory.
 #[tactic(auto, using(crate::proofs::Plain::report_is_plain))]
 pub(crate) fn read_report<'a>(
     alloc: Global,
@@ -167,7 +167,7 @@ pub(crate) fn read_report<'a>(
     Ok(Some(Command::Report(report, store)))
 }
 
-/// Reads the words of `load`. `Err` is want of memory.
+/// Reads the words of `load`. `Err` means out of memory.
 #[tactic(auto, using(crate::proofs::Plain::load_is_plain))]
 pub(crate) fn read_load<'a>(
     alloc: Global,

@@ -91,7 +91,7 @@ pub(crate) fn number_or(text: Option<&str>, usual: u32, most: u32) -> Option<u32
     }
 }
 
-/// The text that was given, if it is not empty. `Err` is want of memory.
+/// The text that was given, if it is not empty. `Err` means out of memory.
 pub(crate) fn text_value(alloc: Global, text: Option<&str>) -> Result<Option<WordText>, AllocError>
     ensures { IfOk result (λ found. MatchOption found ((t : List ℕ) → ¬ IsTextValue (option_map (λ t. t.now) text.entry) t) (λ t. IsTextValue (option_map (λ t. t.now) text.entry) t)) }
 {
@@ -114,7 +114,7 @@ fn is_empty_text(text: Option<&str>) -> bool
     }
 }
 
-/// The text that was given, if any. `Err` is want of memory.
+/// The text that was given, if any. `Err` means out of memory.
 fn text_or_none(alloc: Global, text: Option<&str>) -> Result<Option<WordText>, AllocError>
     ensures { IfOk result (λ found. found ≡ option_map (λ t. t.now) text.entry) }
 {
@@ -211,7 +211,7 @@ pub(crate) fn report_value(name: Option<&str>, prefix: Option<&str>) -> Option<R
     }
 }
 
-/// The store that was given. `Err` is want of memory.
+/// The store that was given. `Err` means out of memory.
 pub(crate) fn store_value<'a>(
     alloc: Global,
     matches: &ArgMatches<'a>,

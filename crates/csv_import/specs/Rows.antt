@@ -115,7 +115,7 @@ abbrev pub IsRowOf : Kind → List (List ℕ) → List (List ℕ) → Result Imp
 IsRowOf kind header fields row =
     (IsWhole header fields × IsCellsOf kind header fields row) ⊎ ((¬ IsWhole header fields) × (row ≡ Err (Field RowField)))
 
--- the answer is as it should be, or want of memory
+-- the answer is as it should be, or out of memory
 abbrev pub OrMemory : {A : Type 0} → (Result A RowFault → Type 0) → Result A Stop → Type 0
 OrMemory IsRight (Ok a) = IsRight (Ok a)
 OrMemory IsRight (Err (Fault fault)) = IsRight (Err fault)

@@ -59,7 +59,7 @@ pub(crate) fn malformed(name: FieldName) -> Stop
     Stop::Fault(RowFault::Field(name))
 }
 
-/// A text of the caller's, or want of memory.
+/// A text of the caller's, or out of memory.
 fn owned(alloc: Global, text: &str) -> Result<String, Stop>
     ensures ok { IfOk result (λ s. string_bytes s ≡ text.now) }
     ensures err { IfErr result (λ e. e ≡ Memory) }

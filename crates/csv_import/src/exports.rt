@@ -81,7 +81,7 @@ fn text_of(alloc: Global, kind: Kind, rows: &[ImportRow]) -> Result<Vec<u8>, All
 }
 
 /// Puts an export behind what the output has: the header of all columns of the kind, and a line for each row, as `csv` writes
-/// them. `Err` is want of memory, and leaves the output.
+/// them. `Err` means out of memory, and leaves the output.
 pub fn write_rows(
     alloc: Global,
     kind: Kind,

@@ -8,7 +8,7 @@ ghost use Rattle.csv.specs.declared.parser.State.TheVariants as st;
 use csv::{ByteRecord, ReaderBuilder};
 use std::alloc::{AllocError, Global};
 
-/// Every record of a file, the header first. The only error is want of memory.
+/// Every record of a file, the header first. The only error means out of memory.
 pub(crate) fn records(alloc: Global, text: &[u8]) -> Result<Vec<ByteRecord>, AllocError>
     ensures { IfOk result (λ v. AreRecords default_config st.StartRecord (strip_bom text.now) (map fields_of v.items)) }
 {

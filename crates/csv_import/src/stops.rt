@@ -7,7 +7,7 @@ use ipam_data::replies::RowFault;
 pub enum Stop {
     /// The row is refused.
     Fault(RowFault),
-    /// Want of memory.
+    /// Out of memory.
     Memory,
 }
 

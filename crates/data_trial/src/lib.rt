@@ -6,4 +6,4 @@ mod ipam_data_tests;
 #[cfg(test)]
 mod ipam_keeper_tests;
 #[cfg(test)]
-mod ipam_stored_tests;
+mod stored_tables_tests;

@@ -2,6 +2,6 @@
 #![tactic(auto)]
 
 #[cfg(test)]
-mod ipam_doors_tests;
-#[cfg(test)]
 mod ipam_edge_tests;
+#[cfg(test)]
+mod ipam_listen_tests;

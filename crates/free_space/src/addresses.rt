@@ -16,7 +16,7 @@ use std::alloc::{AllocError, Global};
 /// The first `limit` addresses of a block that can be given out, in order, or all of them where there are fewer: those that no
 /// host has, that no held span has, and that are not kept back (`usable_bounds` says which are). The space has the block's
 /// family, and each of its blocks is one address, as often as hosts have it. The spans are in order, and no two share an
-/// address; they may begin before the block and end behind it. The one error is want of memory.
+/// address; they may begin before the block and end behind it. The one error means out of memory.
 pub fn available_addrs<S: Space>(
     alloc: Global,
     hosts: &S,
@@ -56,7 +56,7 @@ pub fn available_addrs<S: Space>(
 
 /// The first `limit` addresses of a range that no host has, or all of them where there are fewer. The range is given by
 /// blocks, its pieces, whose addresses follow one another; a range keeps no address back. The pieces have the space's
-/// family, and each block of the space is one address. The one error is want of memory.
+/// family, and each block of the space is one address. The one error means out of memory.
 pub fn range_addrs<S: Space>(
     alloc: Global,
     hosts: &S,

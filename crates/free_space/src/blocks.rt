@@ -29,7 +29,7 @@ fn behind(within: &Block, block: &Block) -> Option<Addr>
 /// The first `limit` available blocks of a block, or all of them where there are fewer: the largest free blocks inside it, in
 /// address order (blocks as in RFC 4632 and RFC 4291, each aligned at its own size). The blocks of the space that lie strictly
 /// inside it are in the way; one that equals it is the block itself and is not. The block has the space's family. The one
-/// error is want of memory.
+/// error means out of memory.
 pub fn available_blocks<S: Space>(
     alloc: Global,
     kids: &S,

@@ -2,4 +2,4 @@
 #![tactic(auto)]
 
 #[cfg(test)]
-mod free_lines_tests;
+mod command_free_tests;

@@ -36,7 +36,7 @@ fn span(family: Family, first: u128, last: u128) -> Option<Span>
     Some(Span { first, last })
 }
 
-/// The empty set with these changes. What is no span of the family fails, as for want of memory.
+/// The empty set with these changes. What is no span of the family fails, as for lack of memory.
 fn changed(alloc: Global, family: Family, changes: &[Change]) -> Result<SpanSet, AllocError>
     ensures { IfOk result (λ set. set.family ≡ family) }
 {

@@ -27,7 +27,7 @@ own_of_nobody = refl
 second_is_legal : IsLegalAt add 0 three_calls 3 7 12 accepted 1
 second_is_legal = record { within = omega arith; right = refl; entry = λ _. refl }
 
--- a call that was refused for want of memory is legal at each place
+-- a call that was refused for lack of memory is legal at each place
 memory_is_legal : IsLegalAt add 0 three_calls 9 1 0 memory 3
 memory_is_legal = record { within = omega arith; right = tt; entry = λ is. absurd (cc (is)) }
 

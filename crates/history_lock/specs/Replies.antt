@@ -1,4 +1,4 @@
--- What a reply of a machine is to the history that a lock keeps: an accepted change, a fault, want of memory, or a plain answer.
+-- What a reply of a machine is to the history that a lock keeps: an accepted change, a fault, out of memory, or a plain answer.
 use Rattle.std.specs.Prelude.{◌≡◌, ℕ, List, [], ◌∷◌, ◌++◌}
 
 -- the four kinds of reply; only an accepted change has an entry in the history
@@ -29,7 +29,7 @@ failures_of fault = 1
 failures_of memory = 0
 failures_of plain = 0
 
--- the answer is the plain step's, but where the reply tells a fault or want of memory, of which nothing is said
+-- the answer is the plain step's, but where the reply tells a fault or out of memory, of which nothing is said
 abbrev pub AnswersAs : {A : Type 0} → ReplyKind → A → A → Type 0
 AnswersAs accepted answer plain_answer = answer ≡ plain_answer
 AnswersAs plain answer plain_answer = answer ≡ plain_answer

@@ -52,7 +52,7 @@ impl<M: Machine> Model for Seat<M> {
 impl<M: Machine> Shared<M> {
     /// A lock over this machine, which has accepted no change yet, and the first seat, with the number 0, a spare of 65,536 and a weight of 65,536.
     ///
-    /// For want of memory, and for nothing else, the machine comes back as it was.
+    /// For out of memory, and for nothing else, the machine comes back as it was.
     pub fn new(alloc: Global, machine: M) -> Result<(Shared<M>, Seat<M>), M>
         requires { M.log machine ≡ [] }
         ensures ok { IfOk result (λ r. r.1 ≡ first_seat r.0 (M.opening machine) (M.faults machine)) }

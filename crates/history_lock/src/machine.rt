@@ -29,7 +29,7 @@ pub trait Machine {
     /// A reply as contracts see it.
     ghost answer: { Self.Reply → Self.Answer };
 
-    /// Whether a reply is an accepted change, a fault, want of memory, or none of these.
+    /// Whether a reply is an accepted change, a fault, out of memory, or none of these.
     ghost kind: { Self.Reply → ReplyKind };
 
     /// The calls that the machine takes.
@@ -55,7 +55,7 @@ pub trait Machine {
 
     /// Answers a call of the caller with the number `who`.
     ///
-    /// The reply is the plain step's, and the call joins the accepted changes where it is an accepted change; or the reply is a fault, or want of memory, and state and accepted changes stay. A fault is told only where the count of faults rose in this call, or stands at the last value of a u64.
+    /// The reply is the plain step's, and the call joins the accepted changes where it is an accepted change; or the reply is a fault, or out of memory, and state and accepted changes stay. A fault is told only where the count of faults rose in this call, or stands at the last value of a u64.
     fn act(&mut self, who: u32, call: Self::Call) -> Self::Reply
         requires { takes call }
         ensures { IsAct (meaning opening state log faults step) self.old self.new who (said call) (answer result) (kind result) };

@@ -46,14 +46,14 @@ impl<M: Machine> Play<Option<M>, View<M::State, M::Said>> for Look {
 
 /// What the step that publishes is told: at most one call, and of which kind its reply was.
 /// A step has no parameters of its own, so this comes as a brand, which its caller picks.
-pub(crate) trait Deed<C> {
+pub(crate) trait Recorded<C> {
     ghost use Rattle.std.specs.Prelude.{List};
     ghost use Rattle.history_lock.specs.Replies.{ReplyKind};
 
     ghost done: { List (ReplyKind × C) };
 }
 
-impl<C> Deed<C> for Brand {
+impl<C> Recorded<C> for Brand {
     ghost use Rattle.std.specs.Prelude.{[]};
 
     ghost done = { [] };
@@ -64,7 +64,7 @@ pub(crate) struct Publish<B> {
     of: PhantomData<B>,
 }
 
-impl<M: Machine, B: Deed<M::Said>> Play<Option<M>, View<M::State, M::Said>> for Publish<B> {
+impl<M: Machine, B: Recorded<M::Said>> Play<Option<M>, View<M::State, M::Said>> for Publish<B> {
     ghost then = { HasPublished B.done };
 }
 
@@ -76,9 +76,9 @@ impl<M: Machine> Play<Option<M>, View<M::State, M::Said>> for Pass {
 }
 
 /// Sets a bell, on which a waiting seat sleeps, or takes it down.
-pub(crate) struct Ring;
+pub(crate) struct RingBell;
 
-impl<M: Machine> Play<Option<M>, View<M::State, M::Said>> for Ring {
+impl<M: Machine> Play<Option<M>, View<M::State, M::Said>> for RingBell {
     ghost then = { HasRung };
 }
 
@@ -106,11 +106,11 @@ impl<S, C> Split<View<S, C>> for Cut {
 }
 
 /// Puts two views together.
-pub(crate) struct Glue<M> {
+pub(crate) struct JoinSeats<M> {
     of: PhantomData<M>,
 }
 
-impl<M: Machine> Join<View<M::State, M::Said>> for Glue<M> {
+impl<M: Machine> Join<View<M::State, M::Said>> for JoinSeats<M> {
     ghost both = { joined };
 
     ghost spent = { spent_view M.blank };

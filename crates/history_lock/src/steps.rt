@@ -10,7 +10,9 @@ ghost use Rattle.history_lock.specs.Replies.{grown, rise_of, failures_of};
 ghost use Rattle.history_lock.specs.declared.views.Stage.TheVariants.{Idle, Turns};
 
 use crate::machine::Machine;
-use crate::plays::{Cut, Deed, Draw, Glue, Learn, Look, Offer, Pass, Place, Publish, Ring, Top};
+use crate::plays::{
+    Cut, Draw, JoinSeats, Learn, Look, Offer, Pass, Place, Publish, Recorded, RingBell, Top,
+};
 use crossbeam_utils::Backoff;
 use std::marker::Brand;
 use std::snapshot::Snapshot;
@@ -76,7 +78,7 @@ pub(crate) fn take_turn<M: Machine, R: Wait>(rt: &R, top: &Top<M>, place: &mut P
             told = false;
         } else {
             // Whoever passes the turn on sees the bell, or the next look sees the turn.
-            top.swap::<Ring>(place, bell, 1);
+            top.swap::<RingBell>(place, bell, 1);
             told = true;
         }
     }
@@ -90,13 +92,13 @@ fn wake<M: Machine>(top: &Top<M>, place: &mut Place<M>, ticket: u64)
     ensures view { place.new.me ≡ place.old.me }
 {
     let bell = bell_of(ticket);
-    if top.swap::<Ring>(place, bell, 0) != 0 {
+    if top.swap::<RingBell>(place, bell, 0) != 0 {
         top.wake_all(bell);
     }
 }
 
 /// Raises the count by what the machine accepted, which makes the call part of the history.
-fn publish<M: Machine, B: Deed<M::Said>>(
+fn publish<M: Machine, B: Recorded<M::Said>>(
     top: &Top<M>,
     place: &mut Place<M>,
     call: &Snapshot<M::Call>,
@@ -162,6 +164,6 @@ pub(crate) fn join<M: Machine>(top: &Top<M>, place: &mut Place<M>, other: Place<
     ensures table { (place.new.table_id ≡ place.old.table_id) × (place.new.id ≡ place.old.id) }
     ensures views { (place.new.me ≡ (joined place.old.me.0 other.me.0, [])) × IsSoundView place.new.me.0 }
 {
-    top.join_seat::<Glue<M>>(place, other);
+    top.join_seat::<JoinSeats<M>>(place, other);
     top.load::<Learn>(place, TICKET);
 }

@@ -6,7 +6,7 @@ pub mod ItemLemmas
 pub mod Items
 pub mod Lengths
 pub mod ListLemmas
-pub mod PenLemmas
+pub mod AnswerWriterLemmas
 pub mod Pieces
 pub mod Talks
 pub mod Texts

@@ -19,7 +19,7 @@ module _ {S : Type 0} (step : Step S) (P : List ℕ → Type 0) (s m t : S) (old
   pub the_fault : IsPieceRead step m t now new (Err short.SourceFault) → GrownByReads step P s t old new Failed
   the_fault (stepped, e) = read_then step P s m t old now new Failed so_far (read_fault step P m t now new here stepped e)
 
-  -- none, for want of memory
+  -- none, for lack of memory
   pub none_more : IsPieceRead step m t now new (Err short.Memory) → GrownByReads step P s t old new Open
   none_more (same, e) = read_then step P s m t old now new Open so_far (read_nothing step P m t now new same e)
 

@@ -151,11 +151,11 @@ module _ {S : Type 0} (may : May S) (s t : S) (old now : Option (List ℕ)) (byt
   pub cut_short : IsUnfinished all → IsCutShort may s t old now (bytes ++ got)
   cut_short u = record { items = so_far.items; rest = all; items_are = waiting ⊥; open_ = so_far.open_; unfinished = u; talk = so_far.talk }
 
-  -- memory was wanting
+  -- memory ran out
   pub starved : (u : S) → u ≡ t → IsStarved may s u old now (bytes ++ got)
   starved u e = record { items = so_far.items; rest = all; items_are = waiting ⊥; open_ = so_far.open_; talk = subst (λ x. IsTalk may s x old now so_far.items) (sym e) so_far.talk }
 
-  -- memory was wanting at a request
+  -- memory ran out at a request
   pub starved_at : (E : Type 0) (r : Framed) (kept : List ℕ) (u : S) → IsItem n all E (Asks r) kept → IsLeft may t r u → IsStarved may s u old now (bytes ++ got) ⊎ IsLost may s u old now (bytes ++ got) E
   starved_at E r kept u q (inl e) = inl (starved u e)
   starved_at E r kept u q (inr (a, h)) =

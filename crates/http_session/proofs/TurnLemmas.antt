@@ -143,11 +143,11 @@ module _ {S L : Type 0} (may : May S) (reads writes : Step L) (left written : L 
   session_waited u end_ said ended =
       line_session waited u end_ (write_nothing writes waited waited refl) said (subst (λ w. IsEnd may s u (written from) w (bytes ++ more.got) (left waited) end_) (sym same_written) ended)
 
-  -- memory was wanting at a request
+  -- memory ran out at a request
   pub line_starved_at : (u : S) (r : Framed) (kept : List ℕ) → last ≡ Open → IsItem n all (IsAtEnd (left waited)) (Asks r) kept → IsLeft may t r u → IsLineSession may reads writes left written s u from waited Memory
   line_starved_at u r kept said q h = session_waited u Memory said (starved_at may s t (written from) (written mid) bytes rest n so_far more.got all more.grown (IsAtEnd (left waited)) r kept u q h)
 
-  -- memory was wanting
+  -- memory ran out
   pub line_starved : last ≡ Open → IsLineSession may reads writes left written s t from waited Memory
   line_starved said = session_waited t Memory said (inl (starved may s t (written from) (written mid) bytes rest n so_far more.got all more.grown t refl))
 

@@ -112,7 +112,7 @@ pub record IsSession {S R : Type 0} (may : May S) (step : Step R) (s t : S) (fro
   pub last_is : IsLastRead end_ last
   pub reads : GrownByReads step HasNoNext from to [] bytes last
 
--- where memory is wanting, a request was not acted on, or it was and its answer is lost
+-- where memory runs out, a request was not acted on, or it was and its answer is lost
 abbrev pub IsLeft : {S : Type 0} → May S → S → Framed → S → Type 0
 IsLeft may s r t = (t ≡ s) ⊎ ((a : Answer) × may.answers s r a t)
 

@@ -6,7 +6,7 @@ ghost use Rattle.http_session.specs.Replies.{answer_of};
 ghost use Rattle.http_session.specs.Talk.{framed_text};
 
 use crate::Reply;
-use crate::pen::Pen;
+use crate::answer_writer::AnswerWriter;
 use http::StatusCode;
 use ipam_edge::Sink;
 use itoa::Buffer;
@@ -47,19 +47,19 @@ pub fn put_answer<S: Sink>(sink: &mut S, reply: &Reply, close: bool, bare: bool)
     ensures writes { ByWrites S.writes sink.old sink.new }
 {
     let mut room = Buffer::new();
-    let mut pen = Pen::new();
-    pen.put(sink, b"HTTP/1.1 ");
-    pen.put(sink, reply.status.as_str().as_bytes());
-    pen.put_line(sink, true, b" ", phrase(reply.status));
+    let mut answer_writer = AnswerWriter::new();
+    answer_writer.put(sink, b"HTTP/1.1 ");
+    answer_writer.put(sink, reply.status.as_str().as_bytes());
+    answer_writer.put_line(sink, true, b" ", phrase(reply.status));
     let body = reply.body.bytes();
     let there = !body.is_empty();
-    pen.put_line(sink, there, b"Content-Type: ", reply.media);
+    answer_writer.put_line(sink, there, b"Content-Type: ", reply.media);
     let length = room.format(body.len()).as_bytes();
-    pen.put_line(sink, there, b"Content-Length: ", length);
-    pen.put_line(sink, !reply.allow.is_empty(), b"Allow: ", reply.allow);
-    pen.put_field(sink, &reply.field);
-    pen.put_line(sink, close, b"Connection: ", b"close");
-    pen.put(sink, b"\r\n");
-    pen.put(sink, sent_body(bare, body));
-    pen.finish(sink)
+    answer_writer.put_line(sink, there, b"Content-Length: ", length);
+    answer_writer.put_line(sink, !reply.allow.is_empty(), b"Allow: ", reply.allow);
+    answer_writer.put_field(sink, &reply.field);
+    answer_writer.put_line(sink, close, b"Connection: ", b"close");
+    answer_writer.put(sink, b"\r\n");
+    answer_writer.put(sink, sent_body(bare, body));
+    answer_writer.finish(sink)
 }

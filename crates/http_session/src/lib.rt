@@ -4,10 +4,10 @@
 #![tactic(auto)]
 
 mod answer;
+mod answer_writer;
 mod fields;
 mod head;
 mod laws;
-mod pen;
 mod reply;
 mod request;
 mod session;

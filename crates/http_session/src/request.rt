@@ -170,7 +170,7 @@ fn ask<S: Source>(
 /// The next item of the bytes that the inbox has and the source has left, read in pieces of at most
 /// 4,096 bytes: a request, a refusal of the bytes that stand in its place, or the end of the input
 /// between two requests. `SourceFault` comes where a read failed while more bytes were needed,
-/// `Memory` where memory was wanting; after both no byte is lost, and the call may be made again.
+/// `Memory` where memory ran out; after both no byte is lost, and the call may be made again.
 pub fn next_request<S: Source>(alloc: Global, source: &mut S, inbox: &mut Inbox) -> Asked
     ensures item { (all : List ℕ) × Grown (S.left source.old) (S.left source.new) inbox.old.bytes all × IsAsked inbox.old.number all (S.left source.new) result inbox.new × IsReadWhile IsUnfinished inbox.old.bytes all
         × IsReadUntil S.reads IsUnfinished source.old source.new inbox.old.bytes all (λ last. IsAskedLast result last) }

@@ -124,7 +124,7 @@ fn serve_both<D: Desk, R: Source, W: Sink>(
 /// Serves one connection to its end: answers its requests in order, until one closes, or the bytes
 /// are refused, or the input ends. The answer to HEAD is the head alone. `SourceFault` comes where a read failed, with all requests that
 /// lay whole in the bytes read answered; `SinkFault` where a write failed, with a front of the last
-/// answer written; `Memory` where memory was wanting. It serves the two as one line, as `serve_line` does, which says which reads came
+/// answer written; `Memory` where memory ran out. It serves the two as one line, as `serve_line` does, which says which reads came
 /// before which writes.
 pub fn serve<D: Desk, R: Source, W: Sink>(
     alloc: Global,

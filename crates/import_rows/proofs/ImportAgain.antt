@@ -20,7 +20,7 @@ use Rattle.ipam_data.specs.declared.replies.Which.TheVariants.{Rows}
 use Rattle.ipam_data.specs.declared.replies.View.{View}
 use Rattle.stored_tables.specs.declared.tables.Row.{Row}
 use Rattle.ipam_data.specs.Rows.{vrf_id, rir_id, role_id, aggregate_id, prefix_id, range_id, address_id}
-use Rattle.ipam_data.specs.Shelf.{with_row, AllBelow}
+use Rattle.ipam_data.specs.RowList.{with_row, AllBelow}
 use Rattle.ipam_data.specs.Checks.{first, breaks, too_many, no_log, most_spent}
 use Rattle.ipam_data.specs.State.{State, Plan, verdict_of}
 use Rattle.ipam_data.specs.Plans.{KindRules}
@@ -36,7 +36,7 @@ use Rattle.stored_tables.specs.Stored.{stored_row, vrf_texts, rir_texts, role_te
 use Rattle.ipam_data.specs.Lawful.{IsLawful}
 use Rattle.import_rows.specs.Laws.{ImportAgainMakesNothing}
 use Rattle.import_rows.specs.Imports.{texts_of, times, records_of, kind_of_row, name_rules, value_rules, draft_of, Progress, begun, makes_one, record_of, with_record, with_draft, after_row, after_rows, at_row, create_checks, row_checks, row_verdict, row_verdicts, items_of, import_plan, most_rows, AreOfKind}
-use Rattle.ipam_data.proofs.Shelves.{with_row_above}
+use Rattle.ipam_data.proofs.RowLists.{with_row_above}
 use Rattle.ipam_data.proofs.Placed.{below_more, below_with}
 use Rattle.ipam_data.proofs.Verdicts.{none_head, none_rest, none_left, none_right}
 use Rattle.import_rows.proofs.ImportLaws.{import_leads, spent_all}
@@ -94,13 +94,13 @@ IsFresh s Addresses = AllBelow address_id s.addresses.next s.addresses.rows
 
 fresh_from : (kind : Kind) (s : State) → IsLawful s → IsFresh s kind
 unfolding IsFresh
-fresh_from Vrfs s h = h.vrfs.shelf.below
-fresh_from Rirs s h = h.rirs.shelf.below
-fresh_from Roles s h = h.roles.shelf.below
-fresh_from Aggregates s h = h.aggregates.shelf.below
-fresh_from Prefixes s h = h.prefixes.shelf.below
-fresh_from Ranges s h = h.ranges.shelf.below
-fresh_from Addresses s h = h.addresses.shelf.below
+fresh_from Vrfs s h = h.vrfs.row_list.below
+fresh_from Rirs s h = h.rirs.row_list.below
+fresh_from Roles s h = h.roles.row_list.below
+fresh_from Aggregates s h = h.aggregates.row_list.below
+fresh_from Prefixes s h = h.prefixes.row_list.below
+fresh_from Ranges s h = h.ranges.row_list.below
+fresh_from Addresses s h = h.addresses.row_list.below
 
 -- the rows that rows of a kind name are the same in both states
 pub IsRead : Kind → State → State → Type 0

@@ -8,7 +8,7 @@ use Rattle.import_rows.specs.declared.rows.ImportRow.TheVariants.{Vrf as VrfRow,
 use Rattle.ipam_data.specs.declared.replies.Rule.{Rule}
 use Rattle.ipam_data.specs.declared.replies.Refusal.{Refusal}
 use Rattle.ipam_data.specs.declared.replies.Which.TheVariants.{Rows}
-use Rattle.ipam_data.specs.Shelf.{Shelf, IsShelf, AllBelow}
+use Rattle.ipam_data.specs.RowList.{RowList, IsRowList, AllBelow}
 use Rattle.ipam_data.specs.Checks.{first, breaks, too_many, no_log}
 use Rattle.ipam_data.specs.State.{State, verdict_of}
 use Rattle.ipam_data.specs.Plans.{KindRules, broken, no_seats, creation}
@@ -29,31 +29,31 @@ use Rattle.ipam_data.proofs.Ties.{IsTied, fits_append, vrfs_tied, rirs_tied, rol
 use Rattle.import_rows.proofs.ImportLaws.{IsMade, made_more, begun_made, draft_bounds, none_mapped, rows_keep, record_keeps}
 
 -- one record more fits beside those that were made
-record_fits : {T : Type 0} (rules : KindRules T) → IsTied rules → (old : State) (so : Progress) (told : List (Option Rule)) (row : T) → next_of so.state rules.kind ≡ (rules.shelf so.state).next
-    → IsShelf rules.id rules.most (rules.shelf so.state) → rules.id row ≡ (rules.shelf so.state).next → first (creation rules so.state told row) ≡ None
+record_fits : {T : Type 0} (rules : KindRules T) → IsTied rules → (old : State) (so : Progress) (told : List (Option Rule)) (row : T) → next_of so.state rules.kind ≡ (rules.row_list so.state).next
+    → IsRowList rules.id rules.most (rules.row_list so.state) → rules.id row ≡ (rules.row_list so.state).next → first (creation rules so.state told row) ≡ None
     → IsMade old rules.kind so → AreFit old so.made → AreFit old (so.made ++ rules.view row ∷ [])
-record_fits {T} rules tied old so told row here shelf e v m f =
+record_fits {T} rules tied old so told row here row_list e v m f =
     let put : State = fold with_view old so.made in
-    let n = (rules.shelf so.state).next in
-    let room = room_from rules.kind rules.most (length (rules.shelf so.state).rows) n 1 (none_right (broken rules so.state None told row) (no_seats rules so.state 1) v) in
+    let n = (rules.row_list so.state).next in
+    let room = room_from rules.kind rules.most (length (rules.row_list so.state).rows) n 1 (none_right (broken rules so.state None told row) (no_seats rules so.state 1) v) in
     let top = room.ids in
-    let low = shelf.next_low in
+    let low = row_list.next_low in
     let leads : with_next put (rules.kind, n) ≡ so.state = ap (λ (k : ℕ). with_next put (rules.kind, k)) (sym here) ∙ m.leads in
-    let rows : (rules.shelf so.state).rows ≡ (rules.shelf put).rows =
-    ap (λ (t : State). (rules.shelf t).rows) (sym leads ∙ tied.next put n) ∙ ap (λ (kept : Shelf T). kept.rows) (tied.given put (record { rows = (rules.shelf put).rows; next = n })) in
-    let below : AllBelow rules.id (rules.id row) (rules.shelf put).rows =
-    subst (λ (xs : List T). AllBelow rules.id (rules.id row) xs) rows (subst (λ (k : ℕ). AllBelow rules.id k (rules.shelf so.state).rows) (sym e) shelf.below) in
+    let rows : (rules.row_list so.state).rows ≡ (rules.row_list put).rows =
+    ap (λ (t : State). (rules.row_list t).rows) (sym leads ∙ tied.next put n) ∙ ap (λ (kept : RowList T). kept.rows) (tied.given put (record { rows = (rules.row_list put).rows; next = n })) in
+    let below : AllBelow rules.id (rules.id row) (rules.row_list put).rows =
+    subst (λ (xs : List T). AllBelow rules.id (rules.id row) xs) rows (subst (λ (k : ℕ). AllBelow rules.id k (rules.row_list so.state).rows) (sym e) row_list.below) in
     fits_append old so.made (rules.view row ∷ []) f (tied.fit put row (record { low = omega arith; high = omega arith; place = inr below }), tt)
 
 row_fits : (old : State) (so : Progress) (row : ImportRow) → IsLawful so.state → first (create_checks true so.state (draft_of old row)) ≡ None
     → IsMade old (kind_of_row row) so → AreFit old so.made → AreFit old (with_draft true so (draft_of old row)).made
-row_fits old so (VrfRow name rd enforce_unique description) h v m f = record_fits vrf_rules vrfs_tied old so [] _ refl h.vrfs.shelf refl v m f
-row_fits old so (RirRow name slug is_private description) h v m f = record_fits rir_rules rirs_tied old so [] _ refl h.rirs.shelf refl v m f
-row_fits old so (RoleRow name slug weight description) h v m f = record_fits role_rules roles_tied old so [] _ refl h.roles.shelf refl v m f
-row_fits old so (AggregateRow block rir description) h v m f = record_fits aggregate_rules aggregates_tied old so [] _ refl h.aggregates.shelf refl v m f
-row_fits old so (PrefixRow block vrf status role is_pool mark_utilized description) h v m f = record_fits prefix_rules prefixes_tied old so [] _ refl h.prefixes.shelf refl v m f
-row_fits old so (RangeRow start end vrf status role mark_utilized description) h v m f = record_fits range_rules ranges_tied old so (range_told start end) _ refl h.ranges.shelf refl v m f
-row_fits old so (AddressRow host vrf status role dns_name description) h v m f = record_fits address_rules addresses_tied old so [] _ refl h.addresses.shelf refl v m f
+row_fits old so (VrfRow name rd enforce_unique description) h v m f = record_fits vrf_rules vrfs_tied old so [] _ refl h.vrfs.row_list refl v m f
+row_fits old so (RirRow name slug is_private description) h v m f = record_fits rir_rules rirs_tied old so [] _ refl h.rirs.row_list refl v m f
+row_fits old so (RoleRow name slug weight description) h v m f = record_fits role_rules roles_tied old so [] _ refl h.roles.row_list refl v m f
+row_fits old so (AggregateRow block rir description) h v m f = record_fits aggregate_rules aggregates_tied old so [] _ refl h.aggregates.row_list refl v m f
+row_fits old so (PrefixRow block vrf status role is_pool mark_utilized description) h v m f = record_fits prefix_rules prefixes_tied old so [] _ refl h.prefixes.row_list refl v m f
+row_fits old so (RangeRow start end vrf status role mark_utilized description) h v m f = record_fits range_rules ranges_tied old so (range_told start end) _ refl h.ranges.row_list refl v m f
+row_fits old so (AddressRow host vrf status role dns_name description) h v m f = record_fits address_rules addresses_tied old so [] _ refl h.addresses.row_list refl v m f
 
 rows_fit : (old : State) (kind : Kind) (so : Progress) (n : ℕ) (rows : List ImportRow) → AreOfKind kind rows → AllByRecursion HasRowBounds rows → IsLawful so.state → IsMade old kind so → AreFit old so.made
     → first (row_verdicts old kind so n rows) ≡ None → AreFit old (after_rows old kind so rows).made
@@ -78,13 +78,13 @@ rows_fit old kind so n (row ∷ rows) q b h m f v =
     fits false e = f
 
 next_low : (kind : Kind) (s : State) → IsLawful s → next_of s kind < 4294967296
-next_low Vrfs s h = let top = h.vrfs.shelf.next_fits in omega arith
-next_low Rirs s h = let top = h.rirs.shelf.next_fits in omega arith
-next_low Roles s h = let top = h.roles.shelf.next_fits in omega arith
-next_low Aggregates s h = let top = h.aggregates.shelf.next_fits in omega arith
-next_low Prefixes s h = let top = h.prefixes.shelf.next_fits in omega arith
-next_low Ranges s h = let top = h.ranges.shelf.next_fits in omega arith
-next_low Addresses s h = let top = h.addresses.shelf.next_fits in omega arith
+next_low Vrfs s h = let top = h.vrfs.row_list.next_fits in omega arith
+next_low Rirs s h = let top = h.rirs.row_list.next_fits in omega arith
+next_low Roles s h = let top = h.roles.row_list.next_fits in omega arith
+next_low Aggregates s h = let top = h.aggregates.row_list.next_fits in omega arith
+next_low Prefixes s h = let top = h.prefixes.row_list.next_fits in omega arith
+next_low Ranges s h = let top = h.ranges.row_list.next_fits in omega arith
+next_low Addresses s h = let top = h.addresses.row_list.next_fits in omega arith
 
 pub import_can : ImportsCanUpdate
 import_can s kind rows h q b v =

@@ -51,11 +51,11 @@ pub record IsMade (old : State) (kind : Kind) (so : Progress) : Type 0 where
 
 -- one record more
 step : {T : Type 0} (rules : KindRules T) → IsTied rules → (old : State) (so : Progress) (seen : List (List (List ℕ))) (row : T)
-    → next_of so.state rules.kind ≡ (rules.shelf so.state).next → next_of (add_row rules so.state row) rules.kind ≡ (rules.shelf so.state).next + 1
+    → next_of so.state rules.kind ≡ (rules.row_list so.state).next → next_of (add_row rules so.state row) rules.kind ≡ (rules.row_list so.state).next + 1
     → IsMade old rules.kind so → IsMade old rules.kind (record { state = add_row rules so.state row; seen = seen; made = so.made ++ rules.view row ∷ [] })
 step {T} rules tied old so seen row here then h =
     let put : State = fold with_view old so.made in
-    let n = (rules.shelf so.state).next in
+    let n = (rules.row_list so.state).next in
     let before : with_next put (rules.kind, n) ≡ so.state = ap (λ (m : ℕ). with_next put (rules.kind, m)) (sym here) ∙ h.leads in
     record {
       leads =
@@ -119,7 +119,7 @@ spent_all old kind so (row ∷ rows) = spent_all old kind (after_row old kind so
 -- ---- lawful states
 
 -- a record that no check of a creation refuses, but for the log, leaves a lawful state
-view_added : (s : State) (told : List (Option Rule)) (view : View) → IsLawful s → by_view view (λ T rules row. rules.id row) ≡ by_view view (λ T rules row. (rules.shelf s).next)
+view_added : (s : State) (told : List (Option Rule)) (view : View) → IsLawful s → by_view view (λ T rules row. rules.id row) ≡ by_view view (λ T rules row. (rules.row_list s).next)
     → (first told ≡ None → HasViewBounds view) → first (by_view view (λ T rules row. creation rules s told row)) ≡ None → IsLawful (by_view view (λ T rules row. add_row rules s row))
 view_added s told (VrfView row) h e b v = add_keeps vrf_rules HasVrfBounds vrfs_sound s told row h e b v
 view_added s told (RirView row) h e b v = add_keeps rir_rules HasRirBounds rirs_sound s told row h e b v

@@ -26,7 +26,7 @@ use Rattle.ipam_data.specs.Texts.{IsDescription, IsDnsText}
 use Rattle.ipam_data.specs.HostNames.{is_dns_name}
 use Rattle.ipam_data.specs.Hosts.{Masked, IsMasked}
 use Rattle.ipam_data.specs.Rows.{rir_id, role_id}
-use Rattle.ipam_data.specs.Shelf.{least}
+use Rattle.ipam_data.specs.RowList.{least}
 use Rattle.ipam_data.specs.Checks.{first, breaks, too_many, no_log}
 use Rattle.ipam_data.specs.State.{State, Plan}
 use Rattle.ipam_data.specs.Plans.{add_row, creation}

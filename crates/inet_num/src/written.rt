@@ -170,7 +170,7 @@ fn groups_block_text(value: u128, len: u8) -> ArrayVec<u8, 48>
 }
 
 /// Appends the canonical text of an address, as `10.0.0.1` or `2001:db8::1` (RFC 5952 4; an IPv6 address is always written
-/// in groups). After want of memory `out` is as before.
+/// in groups). After out of memory `out` is as before.
 pub fn write_addr(addr: Addr, out: &mut Vec<u8>) -> Result<(), AllocError>
     ensures ok { OnOk result (out.new.items ≡ out.old.items ++ canonical_text_of addr.family addr.value) }
     ensures err { OnErr result (out.new.items ≡ out.old.items) }
@@ -203,7 +203,7 @@ pub fn block_text(block: Block) -> ArrayVec<u8, 48>
 }
 
 /// Appends the canonical text of a block, as `10.0.0.0/8` or `2001:db8::/32` (RFC 5952 4; an IPv6 block is always written
-/// in groups). After want of memory `out` is as before.
+/// in groups). After out of memory `out` is as before.
 pub fn write_block(block: Block, out: &mut Vec<u8>) -> Result<(), AllocError>
     ensures ok { OnOk result (out.new.items ≡ out.old.items ++ block_text_of block) }
     ensures err { OnErr result (out.new.items ≡ out.old.items) }

@@ -7,7 +7,7 @@ use Rattle.inet_num.specs.Net.{Address, block_at, width_of}
 use Rattle.inet_num.specs.Blocks.{same_family, same_block, same_address}
 use Rattle.ipam_data.specs.declared.address.IpAddress.{IpAddress}
 use Rattle.ipam_data.specs.declared.kinds.Table.{Table}
-use Rattle.ipam_data.specs.Shelf.{least, least_pair, least_rival, is_rival, Rises}
+use Rattle.ipam_data.specs.RowList.{least, least_pair, least_rival, is_rival, Rises}
 use Rattle.ipam_data.specs.Rows.{address_id}
 use Rattle.ipam_data.specs.Tables.{table_of, same_table}
 use Rattle.ipam_data.specs.Addresses.{is_shared, clash, clashes, clash_in, clash_of}

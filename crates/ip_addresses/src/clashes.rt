@@ -2,7 +2,7 @@
 
 ghost use Rattle.std.specs.Prelude.{◌≡◌, ℕ, ◌+◌, ◌<◌, ◌≤◌, ◌&&◌, not, Some, drop, find, length, slice_get, option_map};
 ghost use Rattle.ipam_data.specs.declared.address.IpAddress.{IpAddress as SeenAddress};
-ghost use Rattle.ipam_data.specs.Shelf.{least, least_rival, is_rival};
+ghost use Rattle.ipam_data.specs.RowList.{least, least_rival, is_rival};
 ghost use Rattle.ipam_data.specs.Rows.{address_id};
 ghost use Rattle.ipam_data.specs.Addresses.{is_shared_role, is_shared, clashes, clash_in, is_slaac_of_v4};
 ghost use Rattle.ip_addresses.specs.Book.{IsInOrder};

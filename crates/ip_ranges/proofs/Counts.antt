@@ -4,7 +4,7 @@ use Rattle.std.specs.List.{count_by}
 use Rattle.std.proofs.lemmas.List.{get_or-take, length-take}
 use Rattle.std.proofs.lemmas.List.Sums.{sum_by-cons}
 use Rattle.std.proofs.lemmas.List.Sorted.{IsPermutation-refl, IsPermutation-sym, IsPermutation-trans, IsPermutation-cons, IsPermutation-remove, sum_by-IsPermutation}
-use Rattle.ipam_data.proofs.Shelves.{contains_head, contains_rest}
+use Rattle.ipam_data.proofs.RowLists.{contains_head, contains_rest}
 use Rattle.ip_ranges.specs.Tracks.{one}
 
 module _ {T : Type 0} where

@@ -4,8 +4,8 @@ use Rattle.std.specs.List.{count_by}
 use Rattle.std.proofs.lemmas.Bool.Decides.{nat_tests}
 use Rattle.ipam_data.specs.declared.range.IpRange.{IpRange}
 use Rattle.ipam_data.specs.Rows.{range_id}
-use Rattle.ipam_data.specs.Shelf.{row_at, with_row, without, Rises, AllBelow}
-use Rattle.ipam_data.proofs.Shelves.{contains_head, contains_rest}
+use Rattle.ipam_data.specs.RowList.{row_at, with_row, without, Rises, AllBelow}
+use Rattle.ipam_data.proofs.RowLists.{contains_head, contains_rest}
 use Rattle.placed_book.proofs.RowPlaces.{none_below, without_none, all_above}
 use Rattle.ip_ranges.specs.Tracks.{one, one_of}
 use Rattle.ip_ranges.proofs.Counts.{count_cons, count_yes, count_no, none_contained}

@@ -13,7 +13,7 @@ use Rattle.ipam_data.specs.declared.kinds.Table.TheVariants.{Global, Of}
 use Rattle.ipam_data.specs.declared.range.IpRange.{IpRange}
 use Rattle.ipam_data.specs.Rows.{range_id}
 use Rattle.ipam_data.specs.Tables.{table_of, same_table}
-use Rattle.ipam_data.specs.Shelf.{AllAre, IsApart, Rises, is_rival, least_rival, row_at, with_row, without}
+use Rattle.ipam_data.specs.RowList.{AllAre, IsApart, Rises, is_rival, least_rival, row_at, with_row, without}
 use Rattle.ipam_data.specs.Ranges.{crosses, ShareAddress}
 use Rattle.ipam_data.specs.Lawful.{IsRange}
 use Rattle.ip_ranges.specs.declared.Which.{Which}

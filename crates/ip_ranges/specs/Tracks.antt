@@ -10,7 +10,7 @@ use Rattle.ipam_data.specs.declared.kinds.Table.TheVariants.{Global, Of}
 use Rattle.ipam_data.specs.declared.range.IpRange.{IpRange}
 use Rattle.ipam_data.specs.Tables.{table_of}
 use Rattle.ipam_data.specs.Rows.{range_id}
-use Rattle.ipam_data.specs.Shelf.{row_at}
+use Rattle.ipam_data.specs.RowList.{row_at}
 use Rattle.ip_ranges.specs.declared.Which.{Which}
 use Rattle.ip_ranges.specs.declared.tracks.Entry.{Entry}
 use Rattle.ip_ranges.specs.Spans.{is_meant, span_of}

@@ -1,7 +1,7 @@
 //! Rules of one range, and the pass over all for those that it crosses.
 
 ghost use Rattle.std.specs.Prelude.{◌≡◌, ◌∷◌, [], find, option_copied};
-ghost use Rattle.ipam_data.specs.Shelf.{is_rival, least_rival};
+ghost use Rattle.ipam_data.specs.RowList.{is_rival, least_rival};
 ghost use Rattle.ipam_data.specs.Rows.{range_id};
 ghost use Rattle.ipam_data.specs.Checks.{first};
 ghost use Rattle.ipam_data.specs.Ranges.{crosses};

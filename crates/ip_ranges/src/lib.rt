@@ -2,7 +2,7 @@
 #![tactic(auto)]
 
 ghost use Rattle.std.specs.Prelude.{◌≡◌, ℕ, ◌+◌, ◌≤◌, ◌&&◌, [], Bool, Some, IfOk, IsSome, IsTrue, count_by};
-ghost use Rattle.ipam_data.specs.Shelf.{AllAre, IsApart, IsFitting, Rises, least_rival, row_at, with_row};
+ghost use Rattle.ipam_data.specs.RowList.{AllAre, IsApart, IsFitting, Rises, least_rival, row_at, with_row};
 ghost use Rattle.ipam_data.specs.Rows.{range_id};
 ghost use Rattle.ipam_data.specs.Ranges.{crosses, range_fault, ShareAddress};
 ghost use Rattle.ipam_data.specs.Lawful.{IsRange};

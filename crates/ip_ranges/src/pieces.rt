@@ -9,7 +9,7 @@ use ipam_data::range::IpRange;
 use span_set::SpanSet;
 use std::alloc::{AllocError, Global};
 
-/// The range as the fewest blocks, in address order. `Err` is want of memory.
+/// The range as the fewest blocks, in address order. `Err` means out of memory.
 pub fn pieces_of(alloc: Global, row: &IpRange) -> Result<Vec<Block>, AllocError>
     requires { IsRange row.now }
     ensures { IfOk result (λ v. ArePieces row.now v.items) }

@@ -3,7 +3,7 @@
 //! The addresses are of 10.0.0.0/24 (RFC 1918).
 
 ghost use Rattle.std.specs.Prelude.{◌≡◌, ◌+◌, ◌<◌, ◌≤◌, IfSome, OnOk};
-ghost use Rattle.ipam_data.specs.Shelf.{AllBelow};
+ghost use Rattle.ipam_data.specs.RowList.{AllBelow};
 ghost use Rattle.ipam_data.specs.Rows.{range_id};
 ghost use Rattle.ipam_data.specs.Lawful.{IsRange};
 

@@ -196,7 +196,7 @@ impl Track {
         }
     }
 
-    /// Makes room for `n` more entries. `Err` is want of memory, and leaves the track as it was.
+    /// Makes room for `n` more entries. `Err` means out of memory, and leaves the track as it was.
     pub fn reserve(&mut self, n: u32) -> Result<(), AllocError>
         ensures entries { self.new.entries ≡ self.old.entries }
         ensures ok { OnOk result (n ≤ self.new.spare) }

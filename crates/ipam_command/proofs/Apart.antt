@@ -9,7 +9,7 @@ use Rattle.command_words.specs.declared.asked.Command.TheVariants.{Free, Session
 use Rattle.command_words.specs.Asked.{Asks}
 use Rattle.command_words.proofs.Unique.{words_ask_for_one}
 use Rattle.command_session.specs.Outside.{Stores, Outside}
-use Rattle.command_serve.specs.Serve.{Doors, NobodyCame}
+use Rattle.command_serve.specs.Serve.{ListenerView, NobodyCame}
 
 -- the words of `free` are not those of `session`
 pub free_apart : (words : List (List ℕ)) (within : Cidr) (store : Store) → Asks words (Free within) → Asks words (Session store) → ⊥
@@ -54,14 +54,14 @@ pub unused : (old new : Outside) → new.stores ≡ old.stores → old.stores.fa
 unused old new same = let e = ap (λ (t : Stores). t.faults) same in omega arith
 
 -- no listener was used
-pub lanes_kept : (before after : Doors) → after ≡ before → length after.returned + before.lanes ≡ length before.returned + after.lanes
-lanes_kept before after same = subst (λ (d : Doors). length d.returned + before.lanes ≡ length before.returned + d.lanes) (sym same) refl
+pub lanes_kept : (before after : ListenerView) → after ≡ before → length after.returned + before.lanes ≡ length before.returned + after.lanes
+lanes_kept before after same = subst (λ (d : ListenerView). length d.returned + before.lanes ≡ length before.returned + d.lanes) (sym same) refl
 
-pub count_kept : (before after : Doors) → after ≡ before → before.faults ≤ after.faults
-count_kept before after same = let e = ap (λ (d : Doors). d.faults) same in omega arith
+pub count_kept : (before after : ListenerView) → after ≡ before → before.faults ≤ after.faults
+count_kept before after same = let e = ap (λ (d : ListenerView). d.faults) same in omega arith
 
-pub nobody : (before after : Doors) → after ≡ before → NobodyCame before after
-nobody before after same = record { lanes = ap (λ (d : Doors). d.lanes) same; returned = ap (λ (d : Doors). d.returned) same }
+pub nobody : (before after : ListenerView) → after ≡ before → NobodyCame before after
+nobody before after same = record { lanes = ap (λ (d : ListenerView). d.lanes) same; returned = ap (λ (d : ListenerView). d.returned) same }
 
 -- a promise on an import or an export, by the kind and the store that the words have
 pub same_import : (words : List (List ℕ)) (kind other_kind : KindName) (store other_store : Store) (P : KindName → Store → Type 0)

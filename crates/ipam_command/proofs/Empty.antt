@@ -10,8 +10,8 @@ use Rattle.ipam_data.specs.declared.aggregate.Aggregate.{Aggregate}
 use Rattle.ipam_data.specs.declared.prefix.Prefix.{Prefix}
 use Rattle.ipam_data.specs.declared.range.IpRange.{IpRange}
 use Rattle.ipam_data.specs.declared.address.IpAddress.{IpAddress}
-use Rattle.ipam_data.specs.Shelf.{Shelf}
-use Rattle.ipam_data.specs.State.{State, empty_shelf, empty_state}
+use Rattle.ipam_data.specs.RowList.{RowList}
+use Rattle.ipam_data.specs.State.{State, empty_row_list, empty_state}
 use Rattle.stored_tables.specs.declared.tables.Row.{Row}
 use Rattle.stored_tables.specs.declared.tables.Tables.{Tables}
 use Rattle.stored_tables.specs.Stored.{stored_rows, stored_vrf, stored_rir, stored_role, stored_aggregate, stored_prefix, stored_range, stored_address}
@@ -31,30 +31,30 @@ none_mapped f [] e = refl
 none_mapped f (x ∷ xs) e = absurd (cc)
 
 -- a kind without rows whose next id is 1
-is_empty : {T : Type 0} (shelf : Shelf T) (f : T → Row) → map f shelf.rows ≡ [] → shelf.next ≡ 1 → shelf ≡ empty_shelf
-is_empty {T} shelf f none one =
-    ap (λ (rows : List T). record { rows = rows; next = shelf.next }) (none_mapped f shelf.rows none) ∙ ap (λ (n : ℕ). record { rows = []; next = n }) one
+is_empty : {T : Type 0} (row_list : RowList T) (f : T → Row) → map f row_list.rows ≡ [] → row_list.next ≡ 1 → row_list ≡ empty_row_list
+is_empty {T} row_list f none one =
+    ap (λ (rows : List T). record { rows = rows; next = row_list.next }) (none_mapped f row_list.rows none) ∙ ap (λ (n : ℕ). record { rows = []; next = n }) one
 
 -- the next id that stands at an index
 abbrev next_at : List (Kind × ℕ) → ℕ → ℕ
 next_at nexts k = (get_or nexts k (Vrfs, 0)).1
 
-abbrev state : Shelf Vrf → Shelf Rir → Shelf Role → Shelf Aggregate → Shelf Prefix → Shelf IpRange → Shelf IpAddress → Bool → ℕ → State
+abbrev state : RowList Vrf → RowList Rir → RowList Role → RowList Aggregate → RowList Prefix → RowList IpRange → RowList IpAddress → Bool → ℕ → State
 state a b c d e f g unique spent =
     record { vrfs = a; rirs = b; roles = c; aggregates = d; prefixes = e; ranges = f; addresses = g; global_unique = unique; spent = spent }
 
-same_state : (s : State) (unique : Bool) → s.vrfs ≡ empty_shelf → s.rirs ≡ empty_shelf → s.roles ≡ empty_shelf → s.aggregates ≡ empty_shelf
-    → s.prefixes ≡ empty_shelf → s.ranges ≡ empty_shelf → s.addresses ≡ empty_shelf → s.global_unique ≡ unique → s.spent ≡ 0 → s ≡ empty_state unique
+same_state : (s : State) (unique : Bool) → s.vrfs ≡ empty_row_list → s.rirs ≡ empty_row_list → s.roles ≡ empty_row_list → s.aggregates ≡ empty_row_list
+    → s.prefixes ≡ empty_row_list → s.ranges ≡ empty_row_list → s.addresses ≡ empty_row_list → s.global_unique ≡ unique → s.spent ≡ 0 → s ≡ empty_state unique
 same_state s unique a b c d e f g u n =
     ap (λ x. state x s.rirs s.roles s.aggregates s.prefixes s.ranges s.addresses s.global_unique s.spent) a
-    ∙ ap (λ x. state empty_shelf x s.roles s.aggregates s.prefixes s.ranges s.addresses s.global_unique s.spent) b
-    ∙ ap (λ x. state empty_shelf empty_shelf x s.aggregates s.prefixes s.ranges s.addresses s.global_unique s.spent) c
-    ∙ ap (λ x. state empty_shelf empty_shelf empty_shelf x s.prefixes s.ranges s.addresses s.global_unique s.spent) d
-    ∙ ap (λ x. state empty_shelf empty_shelf empty_shelf empty_shelf x s.ranges s.addresses s.global_unique s.spent) e
-    ∙ ap (λ x. state empty_shelf empty_shelf empty_shelf empty_shelf empty_shelf x s.addresses s.global_unique s.spent) f
-    ∙ ap (λ x. state empty_shelf empty_shelf empty_shelf empty_shelf empty_shelf empty_shelf x s.global_unique s.spent) g
-    ∙ ap (λ x. state empty_shelf empty_shelf empty_shelf empty_shelf empty_shelf empty_shelf empty_shelf x s.spent) u
-    ∙ ap (λ x. state empty_shelf empty_shelf empty_shelf empty_shelf empty_shelf empty_shelf empty_shelf unique x) n
+    ∙ ap (λ x. state empty_row_list x s.roles s.aggregates s.prefixes s.ranges s.addresses s.global_unique s.spent) b
+    ∙ ap (λ x. state empty_row_list empty_row_list x s.aggregates s.prefixes s.ranges s.addresses s.global_unique s.spent) c
+    ∙ ap (λ x. state empty_row_list empty_row_list empty_row_list x s.prefixes s.ranges s.addresses s.global_unique s.spent) d
+    ∙ ap (λ x. state empty_row_list empty_row_list empty_row_list empty_row_list x s.ranges s.addresses s.global_unique s.spent) e
+    ∙ ap (λ x. state empty_row_list empty_row_list empty_row_list empty_row_list empty_row_list x s.addresses s.global_unique s.spent) f
+    ∙ ap (λ x. state empty_row_list empty_row_list empty_row_list empty_row_list empty_row_list empty_row_list x s.global_unique s.spent) g
+    ∙ ap (λ x. state empty_row_list empty_row_list empty_row_list empty_row_list empty_row_list empty_row_list empty_row_list x s.spent) u
+    ∙ ap (λ x. state empty_row_list empty_row_list empty_row_list empty_row_list empty_row_list empty_row_list empty_row_list unique x) n
 
 -- of rows kind after kind there are none of the first kind, and none of the others
 first_kind : (s : State) (kind : Kind) (rest : List Kind) → flat_map (stored_rows s) (kind ∷ rest) ≡ [] → stored_rows s kind ≡ []

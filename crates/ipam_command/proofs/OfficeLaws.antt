@@ -11,7 +11,7 @@ use Rattle.command_streams.specs.Streams.{Failed}
 use Rattle.ipam_data.specs.declared.kinds.Kind.{Kind}
 use Rattle.command_session.specs.Outside.{Stores, Outside, AreSame, NoCountFalls}
 use Rattle.command_session.proofs.Refused.{unchanged}
-use Rattle.command_serve.specs.Serve.{Doors}
+use Rattle.command_serve.specs.Serve.{ListenerView}
 use Rattle.command_files.specs.Files.{kind_named}
 use Rattle.command_files.specs.Import.{IsStored, IsImport}
 use Rattle.command_files.specs.Export.{IsExportText, IsPrinting, IsExport}
@@ -27,7 +27,7 @@ none_fell : (old new : Outside) → new ≡ old → NoCountFalls old new
 none_fell old new same = subst (λ (t : Outside). NoCountFalls old t) (sym same)
     (record { streams = record { input = omega arith; output = omega arith; errors = omega arith }; stores = omega arith })
 
--- where memory was wanting before anything was used
+-- where memory ran out before anything was used
 pub import_not_begun : (kind : Kind) (store : Store) (old new : Outside) (status : ℕ) → status ≡ 5 → new ≡ old → IsImport kind store old new status
 import_not_begun kind store old new status five same = record {
   statuses = inr (inr (inr (inr five)));
@@ -125,9 +125,9 @@ report_keeps report store old new status s = elim s.statuses [
 
 -- ---- a run of `import`
 
-pub of_import : (words : List (List ℕ)) (old new : Outside) (before after : Doors) (status : ℕ) (kind : KindName) (store : Store) → Asks words (Import kind store)
+pub of_import : (words : List (List ℕ)) (old new : Outside) (before after : ListenerView) (status : ℕ) (kind : KindName) (store : Store) → Asks words (Import kind store)
     → IsImport (kind_named kind) store old new status → after ≡ before → HasClauses words old new before after status
-of_import words old new before after status kind store asks s same_doors = record {
+of_import words old new before after status kind store asks s same_listener = record {
   status_ = elim s.statuses [ inl e ↦ omega arith | inr a ↦ elim a [ inl e ↦ omega arith | inr b ↦ elim b [ inl e ↦ omega arith | inr c ↦ elim c [ inl e ↦ omega arith | inr e ↦ omega arith ] ] ] ];
   done = λ z. (let t = s.done z in (inr (inr (inr (inr (inl (kind, store, asks, t))))), t.silent));
   refused = λ z. inr (inr (inr (inl (kind, store, asks, s.refused z))));
@@ -136,17 +136,17 @@ of_import words old new before after status kind store asks s same_doors = recor
   fault = λ z. elim (s.fault z) [ inl h ↦ inl h.failed | inr more ↦ elim more [ inl h ↦ inr (inl h.failed) | inr h ↦ inr (inr (inl h.failed)) ] ];
   free_fault = λ within a z. absurd (let e = words_ask_for_one words (Free within) (Import kind store) a asks in cc);
   starved = λ other a z output errors. absurd (let e = words_ask_for_one words (Session other) (Import kind store) a asks in cc);
-  store_fault = λ z. (nobody before after same_doors, inr (kind, store, asks, s.store_fault z));
+  store_fault = λ z. (nobody before after same_listener, inr (kind, store, asks, s.store_fault z));
   memory = λ z. ((s.memory z).1, inr (s.memory z).0.output);
   nothing_else = λ within a. absurd (let e = words_ask_for_one words (Free within) (Import kind store) a asks in cc);
   refuses = λ within number fault a. absurd (let e = words_ask_for_one words (Free within) (Import kind store) a asks in cc);
   no_store = λ within a. absurd (let e = words_ask_for_one words (Free within) (Import kind store) a asks in cc);
-  no_listener = λ none. same_doors;
-  lanes_back = lanes_kept before after same_doors;
+  no_listener = λ none. same_listener;
+  lanes_back = lanes_kept before after same_listener;
   session = λ other a. absurd (let e = words_ask_for_one words (Session other) (Import kind store) a asks in cc);
   serve = λ serving a. absurd (let e = words_ask_for_one words (Serve serving) (Import kind store) a asks in cc);
   load = λ count workers a. absurd (let e = words_ask_for_one words (Load count workers) (Import kind store) a asks in cc);
-  import = λ other_kind other a. (same_import words kind other_kind store other (λ k t. IsImport (kind_named k) t old new status) asks a s, same_doors);
+  import = λ other_kind other a. (same_import words kind other_kind store other (λ k t. IsImport (kind_named k) t old new status) asks a s, same_listener);
   import_whole = λ other_kind other a. import_whole (kind_named other_kind) other old new status
       (same_import words kind other_kind store other (λ k t. IsImport (kind_named k) t old new status) asks a s);
   export = λ other_kind other a. absurd (let e = words_ask_for_one words (Export other_kind other) (Import kind store) a asks in cc);
@@ -166,14 +166,14 @@ of_import words old new before after status kind store asks s same_doors = recor
   ];
   exact = λ within a well. absurd (let e = words_ask_for_one words (Free within) (Import kind store) a asks in cc);
   later = s.later;
-  listener_later = count_kept before after same_doors;
+  listener_later = count_kept before after same_listener;
 }
 
 -- ---- a run of `export`
 
-pub of_export : (words : List (List ℕ)) (old new : Outside) (before after : Doors) (status : ℕ) (kind : KindName) (store : Store) → Asks words (Export kind store)
+pub of_export : (words : List (List ℕ)) (old new : Outside) (before after : ListenerView) (status : ℕ) (kind : KindName) (store : Store) → Asks words (Export kind store)
     → IsExport (kind_named kind) store old new status → after ≡ before → HasClauses words old new before after status
-of_export words old new before after status kind store asks s same_doors = record {
+of_export words old new before after status kind store asks s same_listener = record {
   status_ = elim s.statuses [ inl e ↦ omega arith | inr a ↦ elim a [ inl e ↦ omega arith | inr b ↦ elim b [ inl e ↦ omega arith | inr c ↦ elim c [ inl e ↦ omega arith | inr e ↦ omega arith ] ] ] ];
   done = λ z. (let t = s.done z in (inr (inr (inr (inr (inr (inl (kind, store, asks, t)))))), t.3.errors));
   refused = λ z. inr (inr (inr (inr (inl (kind, store, asks, s.refused z)))));
@@ -182,17 +182,17 @@ of_export words old new before after status kind store asks s same_doors = recor
   fault = λ z. elim (s.fault z) [ inl h ↦ inr (inl h.2) | inr h ↦ inr (inr (inl h.failed)) ];
   free_fault = λ within a z. absurd (let e = words_ask_for_one words (Free within) (Export kind store) a asks in cc);
   starved = λ other a z output errors. absurd (let e = words_ask_for_one words (Session other) (Export kind store) a asks in cc);
-  store_fault = λ z. (nobody before after same_doors, inl (inr (inr (inl (kind, store, asks))), s.store_fault z));
+  store_fault = λ z. (nobody before after same_listener, inl (inr (inr (inl (kind, store, asks))), s.store_fault z));
   memory = λ z. ((s.memory z).0.errors, inr (s.memory z).1);
   nothing_else = λ within a. absurd (let e = words_ask_for_one words (Free within) (Export kind store) a asks in cc);
   refuses = λ within number fault a. absurd (let e = words_ask_for_one words (Free within) (Export kind store) a asks in cc);
   no_store = λ within a. absurd (let e = words_ask_for_one words (Free within) (Export kind store) a asks in cc);
-  no_listener = λ none. same_doors;
-  lanes_back = lanes_kept before after same_doors;
+  no_listener = λ none. same_listener;
+  lanes_back = lanes_kept before after same_listener;
   session = λ other a. absurd (let e = words_ask_for_one words (Session other) (Export kind store) a asks in cc);
   serve = λ serving a. absurd (let e = words_ask_for_one words (Serve serving) (Export kind store) a asks in cc);
   load = λ count workers a. absurd (let e = words_ask_for_one words (Load count workers) (Export kind store) a asks in cc);
-  export = λ other_kind other a. (same_export words kind other_kind store other (λ k t. IsExport (kind_named k) t old new status) asks a s, same_doors);
+  export = λ other_kind other a. (same_export words kind other_kind store other (λ k t. IsExport (kind_named k) t old new status) asks a s, same_listener);
   export_keeps = λ other_kind other a. printing_keeps (IsExportText (kind_named kind) store old) store old new status s;
   report = λ report other a. absurd (let e = words_ask_for_one words (Report report other) (Export kind store) a asks in cc);
   report_keeps = λ report other a. absurd (let e = words_ask_for_one words (Report report other) (Export kind store) a asks in cc);
@@ -211,14 +211,14 @@ of_export words old new before after status kind store asks s same_doors = recor
   ];
   exact = λ within a well. absurd (let e = words_ask_for_one words (Free within) (Export kind store) a asks in cc);
   later = s.later;
-  listener_later = count_kept before after same_doors;
+  listener_later = count_kept before after same_listener;
 }
 
 -- ---- a run of `report`
 
-pub of_report : (words : List (List ℕ)) (old new : Outside) (before after : Doors) (status : ℕ) (report : ReportName) (store : Store) → Asks words (Report report store)
+pub of_report : (words : List (List ℕ)) (old new : Outside) (before after : ListenerView) (status : ℕ) (report : ReportName) (store : Store) → Asks words (Report report store)
     → IsReport report store old new status → after ≡ before → HasClauses words old new before after status
-of_report words old new before after status report store asks s same_doors = record {
+of_report words old new before after status report store asks s same_listener = record {
   status_ = elim s.statuses [ inl e ↦ omega arith | inr a ↦ elim a [ inl e ↦ omega arith | inr b ↦ elim b [ inl e ↦ omega arith | inr c ↦ elim c [ inl e ↦ omega arith | inr e ↦ omega arith ] ] ] ];
   done = λ z. (let t = s.done z in (inr (inr (inr (inr (inr (inr (report, store, asks, t)))))), t.3.errors));
   refused = λ z. inr (inr (inr (inr (inr (report, store, asks, s.refused z)))));
@@ -227,17 +227,17 @@ of_report words old new before after status report store asks s same_doors = rec
   fault = λ z. elim (s.fault z) [ inl h ↦ inr (inl h.2) | inr more ↦ elim more [ inl h ↦ inr (inr (inl h.failed)) | inr h ↦ inr (inr (inl h.failed)) ] ];
   free_fault = λ within a z. absurd (let e = words_ask_for_one words (Free within) (Report report store) a asks in cc);
   starved = λ other a z output errors. absurd (let e = words_ask_for_one words (Session other) (Report report store) a asks in cc);
-  store_fault = λ z. (nobody before after same_doors, inl (inr (inr (inr (report, store, asks))), s.store_fault z));
+  store_fault = λ z. (nobody before after same_listener, inl (inr (inr (inr (report, store, asks))), s.store_fault z));
   memory = λ z. ((s.memory z).0.errors, inr (s.memory z).1);
   nothing_else = λ within a. absurd (let e = words_ask_for_one words (Free within) (Report report store) a asks in cc);
   refuses = λ within number fault a. absurd (let e = words_ask_for_one words (Free within) (Report report store) a asks in cc);
   no_store = λ within a. absurd (let e = words_ask_for_one words (Free within) (Report report store) a asks in cc);
-  no_listener = λ none. same_doors;
-  lanes_back = lanes_kept before after same_doors;
+  no_listener = λ none. same_listener;
+  lanes_back = lanes_kept before after same_listener;
   session = λ other a. absurd (let e = words_ask_for_one words (Session other) (Report report store) a asks in cc);
   serve = λ serving a. absurd (let e = words_ask_for_one words (Serve serving) (Report report store) a asks in cc);
   load = λ count workers a. absurd (let e = words_ask_for_one words (Load count workers) (Report report store) a asks in cc);
-  report = λ other_report other a. (same_report words report other_report store other (λ r t. IsReport r t old new status) asks a s, same_doors);
+  report = λ other_report other a. (same_report words report other_report store other (λ r t. IsReport r t old new status) asks a s, same_listener);
   report_keeps = λ other_report other a. report_keeps report store old new status s;
   export = λ other_kind other a. absurd (let e = words_ask_for_one words (Export other_kind other) (Report report store) a asks in cc);
   export_keeps = λ other_kind other a. absurd (let e = words_ask_for_one words (Export other_kind other) (Report report store) a asks in cc);
@@ -256,5 +256,5 @@ of_report words old new before after status report store asks s same_doors = rec
   ];
   exact = λ within a well. absurd (let e = words_ask_for_one words (Free within) (Report report store) a asks in cc);
   later = s.later;
-  listener_later = count_kept before after same_doors;
+  listener_later = count_kept before after same_listener;
 }

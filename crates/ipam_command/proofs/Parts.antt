@@ -6,17 +6,17 @@ use Rattle.command_words.specs.declared.asked.Command.TheVariants.{Serve, Load}
 use Rattle.command_words.specs.Asked.{Asks, IsNoCommand}
 use Rattle.command_words.specs.Values.{IsNumberOr, IsNumberValue, most_claims, most_workers}
 use Rattle.command_session.specs.Outside.{Outside}
-use Rattle.command_serve.specs.Serve.{Doors}
+use Rattle.command_serve.specs.Serve.{ListenerView}
 use Rattle.ipam_command.specs.Runs.{Answers, SaysUsage, Runs}
 
 -- a command that was read, and run
-pub runs_asked : (words : List (List ℕ)) (found : Option Command) (command : Command) (old new : Outside) (before after : Doors) (status : ℕ) → found ≡ Some command
+pub runs_asked : (words : List (List ℕ)) (found : Option Command) (command : Command) (old new : Outside) (before after : ListenerView) (status : ℕ) → found ≡ Some command
     → MatchOption found (IsNoCommand words) (λ c. Asks words c) → Answers command old new before after status → Runs words old new before after status
 runs_asked words found command old new before after status is read answers =
     inl (command, subst (λ (f : Option Command). MatchOption f (IsNoCommand words) (λ c. Asks words c)) is read, answers)
 
 -- words that ask for nothing
-pub runs_none : (words : List (List ℕ)) (found : Option Command) (old new : Outside) (before after : Doors) (status : ℕ) → found ≡ None
+pub runs_none : (words : List (List ℕ)) (found : Option Command) (old new : Outside) (before after : ListenerView) (status : ℕ) → found ≡ None
     → MatchOption found (IsNoCommand words) (λ c. Asks words c) → SaysUsage old new before after status → Runs words old new before after status
 runs_none words found old new before after status is read usage =
     inr (inl (subst (λ (f : Option Command). MatchOption f (IsNoCommand words) (λ c. Asks words c)) is read, usage))

@@ -19,7 +19,7 @@ use Rattle.rest_ipam.specs.Answered.{answers_plainly}
 use Rattle.kept_session.specs.Answered.{fresh}
 use Rattle.command_session.specs.Outside.{Stores, Outside, StoreFailed, AnyFailed, NoCountFalls}
 use Rattle.command_session.specs.Session.{Prints, Serves, IsSession}
-use Rattle.command_serve.specs.Serve.{Doors, DoorsFailed, IsServe}
+use Rattle.command_serve.specs.Serve.{ListenerView, ListeningFailed, IsServe}
 use Rattle.command_load.specs.Load.{IsLoad}
 use Rattle.command_load.proofs.Ended.{unprinted}
 use Rattle.ipam_command.specs.Runs.{SaysUsage}
@@ -46,9 +46,9 @@ exact_refused within (Some bytes) Said status one named = inr (inl (one, (named.
 
 -- ---- a run of `free`
 
-of_free : (words : List (List ℕ)) (old new : Outside) (before after : Doors) (status : ℕ) (within : Cidr) → Asks words (Free within) → IsFree within old.streams new.streams status
+of_free : (words : List (List ℕ)) (old new : Outside) (before after : ListenerView) (status : ℕ) (within : Cidr) → Asks words (Free within) → IsFree within old.streams new.streams status
     → new.stores ≡ old.stores → after ≡ before → HasClauses words old new before after status
-of_free words old new before after status within asks f same_stores same_doors = record {
+of_free words old new before after status within asks f same_stores same_listener = record {
   status_ = elim f.statuses [ inl e ↦ omega arith | inr more ↦ elim more [ inl e ↦ omega arith | inr rest ↦ elim rest [ inl e ↦ omega arith | inr e ↦ omega arith ] ] ];
   done = λ z. (inl (within, asks, (f.done z).0), (f.done z).1);
   refused = λ z. inl (within, asks, (f.refused z).0, (f.refused z).1);
@@ -71,8 +71,8 @@ of_free words old new before after status within asks f same_stores same_doors =
   ];
   refuses = λ other number fault a. (let same : within ≡ other = same_block words within other asks a in (subst (λ (b : Cidr). IsFree b old.streams new.streams status) same f).refuses number fault);
   no_store = λ other a. same_stores;
-  no_listener = λ none. same_doors;
-  lanes_back = lanes_kept before after same_doors;
+  no_listener = λ none. same_listener;
+  lanes_back = lanes_kept before after same_listener;
   session = λ store a. absurd (free_apart words within _ asks a);
   serve = λ serving a. absurd (serve_not_free words serving within a asks);
   load = λ count workers a. absurd (load_not_free words count workers within a asks);
@@ -106,7 +106,7 @@ of_free words old new before after status within asks f same_stores same_doors =
         ]
       ]));
   later = record { streams = f.later; stores = unused old new same_stores };
-  listener_later = count_kept before after same_doors;
+  listener_later = count_kept before after same_listener;
 }
 
 -- ---- a run of `session`
@@ -132,9 +132,9 @@ starved store old new status s z output errors = elim (s.fault z) [
   | inr more ↦ elim more [ inl h ↦ absurd (output h.failed) | inr h ↦ absurd (errors h.failed) ]
 ]
 
-of_session : (words : List (List ℕ)) (old new : Outside) (before after : Doors) (status : ℕ) (store : Store) → Asks words (Session store)
+of_session : (words : List (List ℕ)) (old new : Outside) (before after : ListenerView) (status : ℕ) (store : Store) → Asks words (Session store)
     → IsSession store old new status → after ≡ before → HasClauses words old new before after status
-of_session words old new before after status store asks s same_doors = record {
+of_session words old new before after status store asks s same_listener = record {
   status_ = elim s.statuses [ inl e ↦ omega arith | inr a ↦ elim a [ inl e ↦ omega arith | inr b ↦ elim b [ inl e ↦ omega arith | inr c ↦ elim c [ inl e ↦ omega arith | inr e ↦ omega arith ] ] ] ];
   done = λ z. (let t = s.done z in (inr (inl (store, asks, (t.serves.state, t.serves.loaded, t.prints, t.plain))), t.serves.silent));
   refused = λ z. inr (inl (store, asks, s.refused z));
@@ -143,13 +143,13 @@ of_session words old new before after status store asks s same_doors = record {
   fault = λ z. elim (s.fault z) [ inl h ↦ inl h.failed | inr more ↦ elim more [ inl h ↦ inr (inl h.failed) | inr h ↦ inr (inr (inl h.failed)) ] ];
   free_fault = λ within a z. absurd (free_apart words within store a asks);
   starved = λ other a z output errors. starved other old new status (subst (λ (t : Store). IsSession t old new status) (same_store words store other asks a) s) z output errors;
-  store_fault = λ z. (nobody before after same_doors, inl (inl (store, asks), s.store_fault z));
+  store_fault = λ z. (nobody before after same_listener, inl (inl (store, asks), s.store_fault z));
   memory = λ z. ((s.memory z).0, inl (store, asks));
   nothing_else = λ within a. absurd (free_apart words within store a asks);
   refuses = λ within number fault a. absurd (free_apart words within store a asks);
   no_store = λ within a. absurd (free_apart words within store a asks);
-  no_listener = λ none. same_doors;
-  lanes_back = lanes_kept before after same_doors;
+  no_listener = λ none. same_listener;
+  lanes_back = lanes_kept before after same_listener;
   serve = λ serving a. absurd (serve_not_session words serving store a asks);
   load = λ count workers a. absurd (load_not_session words count workers store a asks);
   session = λ other a. subst (λ (t : Store). IsSession t old new status) (same_store words store other asks a) s;
@@ -172,17 +172,17 @@ of_session words old new before after status store asks s same_doors = record {
   ];
   exact = λ within a well. absurd (free_apart words within store a asks);
   later = s.later;
-  listener_later = count_kept before after same_doors;
+  listener_later = count_kept before after same_listener;
 }
 
 -- ---- a run of `serve`
 
 -- it ends by itself where nothing fails
-served_complete : (words : List (List ℕ)) (old new : Outside) (before after : Doors) (status : ℕ) (serving : Serving) (command : Command)
+served_complete : (words : List (List ℕ)) (old new : Outside) (before after : ListenerView) (status : ℕ) (serving : Serving) (command : Command)
     → Asks words (Serve serving) → Asks words command → IsServe serving old new before after status
     → (¬ AnyFailed old new) → (¬ ListenerFailed command before after) → (status ≡ 0) ⊎ (status ≡ 1) ⊎ (status ≡ 5)
 served_complete words old new before after status serving command asks a s well heard =
-    let still : ¬ DoorsFailed before after = λ failed. heard (subst (λ (c : Command). ListenerFailed c before after) (words_ask_for_one words (Serve serving) command asks a) failed) in
+    let still : ¬ ListeningFailed before after = λ failed. heard (subst (λ (c : Command). ListenerFailed c before after) (words_ask_for_one words (Serve serving) command asks a) failed) in
     elim s.statuses [
       | inl e ↦ inl e
       | inr a ↦ elim a [
@@ -200,7 +200,7 @@ served_complete words old new before after status serving command asks a s well 
       ]
     ]
 
-of_serve : (words : List (List ℕ)) (old new : Outside) (before after : Doors) (status : ℕ) (serving : Serving) → Asks words (Serve serving)
+of_serve : (words : List (List ℕ)) (old new : Outside) (before after : ListenerView) (status : ℕ) (serving : Serving) → Asks words (Serve serving)
     → IsServe serving old new before after status → HasClauses words old new before after status
 of_serve words old new before after status serving asks s = record {
   status_ = elim s.statuses [ inl e ↦ omega arith | inr a ↦ elim a [ inl e ↦ omega arith | inr b ↦ elim b [ inl e ↦ omega arith | inr c ↦ elim c [ inl e ↦ omega arith | inr e ↦ omega arith ] ] ] ];
@@ -242,10 +242,10 @@ of_serve words old new before after status serving asks s = record {
 
 -- ---- a run of `load`
 
-of_load : (words : List (List ℕ)) (old new : Outside) (before after : Doors) (status : ℕ) (count workers : ℕ) → Asks words (Load count workers)
+of_load : (words : List (List ℕ)) (old new : Outside) (before after : ListenerView) (status : ℕ) (count workers : ℕ) → Asks words (Load count workers)
     → IsLoad count workers old.streams.output new.streams.output status → new.streams.input ≡ old.streams.input → new.streams.errors ≡ old.streams.errors
     → new.stores ≡ old.stores → after ≡ before → HasClauses words old new before after status
-of_load words old new before after status count workers asks l same_input same_errors same_stores same_doors = record {
+of_load words old new before after status count workers asks l same_input same_errors same_stores same_listener = record {
   status_ = elim l.statuses [ inl e ↦ omega arith | inr a ↦ elim a [ inl e ↦ omega arith | inr e ↦ omega arith ] ];
   done = λ z. (inr (inr (inr (inl (count, workers, asks, l.done z)))), same_errors);
   refused = λ z. absurd (elim l.statuses [ inl e ↦ omega arith | inr a ↦ elim a [ inl e ↦ omega arith | inr e ↦ omega arith ] ]);
@@ -259,8 +259,8 @@ of_load words old new before after status count workers asks l same_input same_e
   nothing_else = λ within a. absurd (load_not_free words count workers within asks a);
   refuses = λ within number fault a. absurd (load_not_free words count workers within asks a);
   no_store = λ within a. same_stores;
-  no_listener = λ none. same_doors;
-  lanes_back = lanes_kept before after same_doors;
+  no_listener = λ none. same_listener;
+  lanes_back = lanes_kept before after same_listener;
   session = λ store a. absurd (load_not_session words count workers store asks a);
   serve = λ serving a. absurd (load_not_serve words count workers serving asks a);
   load = λ n m a. (
@@ -268,7 +268,7 @@ of_load words old new before after status count workers asks l same_input same_e
     same_input,
     same_errors,
     same_stores,
-    same_doors,
+    same_listener,
   );
   empty = λ unique a well z. absurd (load_not_session words count workers _ asks a);
   import = λ kind kept a. absurd (let e = words_ask_for_one words (Import kind kept) (Load count workers) a asks in cc);
@@ -290,19 +290,19 @@ of_load words old new before after status count workers asks l same_input same_e
     };
     stores = unused old new same_stores;
   };
-  listener_later = count_kept before after same_doors;
+  listener_later = count_kept before after same_listener;
 }
 
 -- ---- a run whose words ask for no command
 
-of_none : (words : List (List ℕ)) (old new : Outside) (before after : Doors) (status : ℕ) → IsNoCommand words → SaysUsage old new before after status
+of_none : (words : List (List ℕ)) (old new : Outside) (before after : ListenerView) (status : ℕ) → IsNoCommand words → SaysUsage old new before after status
     → HasClauses words old new before after status
-of_none words old new before after status none (u, same_stores, same_doors) = record {
+of_none words old new before after status none (u, same_stores, same_listener) = record {
   status_ = elim u.said [ inl s ↦ (let e = s.0 in omega arith) | inr s ↦ (let e = s.0 in omega arith) ];
   done = λ z. absurd (elim u.said [ inl s ↦ (let e = s.0 in omega arith) | inr s ↦ (let e = s.0 in omega arith) ]);
   refused = λ z. absurd (elim u.said [ inl s ↦ (let e = s.0 in omega arith) | inr s ↦ (let e = s.0 in omega arith) ]);
   usage = λ z. (none, elim u.said [ inl s ↦ s.1 | inr s ↦ (let e = s.0 in absurd (omega arith)) ]);
-  usage_first = λ n. (u.input, u.output, same_stores, same_doors, elim u.said [ inl s ↦ inl s.0 | inr s ↦ inr (inl (s.0, s.1)) ]);
+  usage_first = λ n. (u.input, u.output, same_stores, same_listener, elim u.said [ inl s ↦ inl s.0 | inr s ↦ inr (inl (s.0, s.1)) ]);
   fault = λ z. elim u.said [ inl s ↦ (let e = s.0 in absurd (omega arith)) | inr s ↦ inr (inr (inl s.1)) ];
   free_fault = λ within a z. absurd (none (Free within) a);
   starved = λ store a z output errors. absurd (none (Session store) a);
@@ -311,8 +311,8 @@ of_none words old new before after status none (u, same_stores, same_doors) = re
   nothing_else = λ within a. absurd (none (Free within) a);
   refuses = λ within number fault a. absurd (none (Free within) a);
   no_store = λ within a. absurd (none (Free within) a);
-  no_listener = λ apart. same_doors;
-  lanes_back = lanes_kept before after same_doors;
+  no_listener = λ apart. same_listener;
+  lanes_back = lanes_kept before after same_listener;
   serve = λ serving a. absurd (none (Serve serving) a);
   load = λ count workers a. absurd (none (Load count workers) a);
   session = λ store a. absurd (none (Session store) a);
@@ -326,14 +326,14 @@ of_none words old new before after status none (u, same_stores, same_doors) = re
   complete = λ command a well heard. absurd (none command a);
   exact = λ within a well. absurd (none (Free within) a);
   later = record { streams = u.later; stores = unused old new same_stores };
-  listener_later = count_kept before after same_doors;
+  listener_later = count_kept before after same_listener;
 }
 
--- ---- a run whose words could not be read for want of memory
+-- ---- a run whose words could not be read for lack of memory
 
-of_memory : (words : List (List ℕ)) (old new : Outside) (before after : Doors) (status : ℕ) → status ≡ 5 → new ≡ old → after ≡ before
+of_memory : (words : List (List ℕ)) (old new : Outside) (before after : ListenerView) (status : ℕ) → status ≡ 5 → new ≡ old → after ≡ before
     → HasClauses words old new before after status
-of_memory words old new before after status five same same_doors =
+of_memory words old new before after status five same same_listener =
     let input = ap (λ (t : Outside). t.streams.input) same in
     let output = ap (λ (t : Outside). t.streams.output) same in
     let errors = ap (λ (t : Outside). t.streams.errors) same in
@@ -343,7 +343,7 @@ of_memory words old new before after status five same same_doors =
       done = λ z. absurd (omega arith);
       refused = λ z. absurd (omega arith);
       usage = λ z. absurd (omega arith);
-      usage_first = λ n. (input, output, same_stores, same_doors, inr (inr (five, errors)));
+      usage_first = λ n. (input, output, same_stores, same_listener, inr (inr (five, errors)));
       fault = λ z. absurd (omega arith);
       free_fault = λ within a z. absurd (omega arith);
       starved = λ store a z o e. absurd (omega arith);
@@ -352,23 +352,23 @@ of_memory words old new before after status five same same_doors =
       nothing_else = λ within a. inr (inl output);
       refuses = λ within number fault a. always old.streams.input.bytes _ (λ bytes h. inr (inr five));
       no_store = λ within a. same_stores;
-      no_listener = λ apart. same_doors;
-      lanes_back = lanes_kept before after same_doors;
-      load = λ count workers a. (unprinted count workers old.streams.output new.streams.output status five output, input, errors, same_stores, same_doors);
-      serve = λ serving a. none_served serving old new before after status (few_workers words serving a).0 five same same_doors;
+      no_listener = λ apart. same_listener;
+      lanes_back = lanes_kept before after same_listener;
+      load = λ count workers a. (unprinted count workers old.streams.output new.streams.output status five output, input, errors, same_stores, same_listener);
+      serve = λ serving a. none_served serving old new before after status (few_workers words serving a).0 five same same_listener;
       session = λ store a. not_begun store old new status five same;
       empty = λ unique a well z. absurd (omega arith);
-      import = λ kind store a. (import_not_begun (kind_named kind) store old new status five same, same_doors);
+      import = λ kind store a. (import_not_begun (kind_named kind) store old new status five same, same_listener);
       import_whole = λ kind store a. inl (tables_stay old new same_stores, (λ z. omega arith));
-      export = λ kind store a. (export_not_begun (kind_named kind) store old new status five same, same_doors);
+      export = λ kind store a. (export_not_begun (kind_named kind) store old new status five same, same_listener);
       export_keeps = λ kind store a. tables_stay old new same_stores;
-      report = λ report store a. (report_not_begun report store old new status five same, same_doors);
+      report = λ report store a. (report_not_begun report store old new status five same, same_listener);
       report_keeps = λ report store a. tables_stay old new same_stores;
       complete = λ command a well heard. inr (inr five);
       exact = λ within a well. always old.streams.input.bytes _ (λ bytes. inl five);
       later = subst (λ (t : Outside). NoCountFalls old t) (sym same)
           (record { streams = record { input = omega arith; output = omega arith; errors = omega arith }; stores = omega arith });
-      listener_later = count_kept before after same_doors;
+      listener_later = count_kept before after same_listener;
     }
 
 pub runs_have_clauses : RunsHaveClauses
@@ -380,4 +380,4 @@ runs_have_clauses words old new before after status (inl (Export kind store, ask
 runs_have_clauses words old new before after status (inl (Report report store, asks, s)) = of_report words old new before after status report store asks s.0 s.1
 runs_have_clauses words old new before after status (inl (Load count workers, asks, s)) = of_load words old new before after status count workers asks s.0 s.1 s.2 s.3 s.4
 runs_have_clauses words old new before after status (inr (inl (none, u))) = of_none words old new before after status none u
-runs_have_clauses words old new before after status (inr (inr (five, same, doors))) = of_memory words old new before after status five same doors
+runs_have_clauses words old new before after status (inr (inr (five, same, same_listener))) = of_memory words old new before after status five same same_listener

@@ -18,7 +18,7 @@ use Rattle.command_free.specs.Free.{IsRefusedLine}
 use Rattle.command_free.specs.Run.{PrintsFree, NamesLine, FailsToRead, FailsToPrint, FailsToSay}
 use Rattle.command_session.specs.Outside.{Outside, StoreFailed, AnyFailed, AreSame, NoCountFalls}
 use Rattle.command_session.specs.Session.{IsLoaded, Prints, Serves, NamesFault, NamesFailure, IsSession}
-use Rattle.command_serve.specs.Serve.{Doors, DoorsFailed, NobodyCame, Counts, IsServe}
+use Rattle.command_serve.specs.Serve.{ListenerView, ListeningFailed, NobodyCame, Counts, IsServe}
 use Rattle.command_load.specs.LoadText.{load_text}
 use Rattle.command_load.specs.Load.{IsLoad}
 use Rattle.command_files.specs.Files.{kind_named}
@@ -66,10 +66,10 @@ AsksRegister words =
     ⊎ ((report : ReportName) × (store : Store) × AsksReport words report store)
 
 -- the command is one that uses the listener, which failed meanwhile
-abbrev pub ListenerFailed : Command → Doors → Doors → Type 0
+abbrev pub ListenerFailed : Command → ListenerView → ListenerView → Type 0
 ListenerFailed (Free within) before after = ⊥
 ListenerFailed (Session store) before after = ⊥
-ListenerFailed (Serve serving) before after = DoorsFailed before after
+ListenerFailed (Serve serving) before after = ListeningFailed before after
 ListenerFailed (Import kind store) before after = ⊥
 ListenerFailed (Export kind store) before after = ⊥
 ListenerFailed (Report report store) before after = ⊥
@@ -81,7 +81,7 @@ IsServed store old new = (state : State) × IsLoaded store old state × Prints a
     × ((¬ StoreFailed old new) → Prints answers_plainly (fresh state).seen old new)
 
 -- what the words ask for is on the output; of `serve` that is the count of the changes, once all that connect were served
-abbrev pub IsDone : List (List ℕ) → Outside → Outside → Doors → Doors → Type 0
+abbrev pub IsDone : List (List ℕ) → Outside → Outside → ListenerView → ListenerView → Type 0
 IsDone words old new before after =
     ((within : Cidr) × AsksFree words within × PrintsFree within old.streams.input new.streams.input old.streams.output new.streams.output)
     ⊎ ((store : Store) × AsksStore words store × IsServed store old new)
@@ -101,7 +101,7 @@ IsNamed words old new =
     ⊎ ((kind : KindName) × (store : Store) × AsksExport words kind store × NamesFault store old new)
     ⊎ ((report : ReportName) × (store : Store) × AsksReport words report store × (NamesFault store old new ⊎ NamesAbsent report store old new))
 
--- the status says whether a line of these bytes is refused: 1 where one is, 0 where none is, and 5 for want of memory
+-- the status says whether a line of these bytes is refused: 1 where one is, 0 where none is, and 5 for lack of memory
 abbrev pub IsExact : Cidr → ℕ → List ℕ → Type 0
 IsExact within status bytes =
     (status ≡ 5)
@@ -109,7 +109,7 @@ IsExact within status bytes =
     ⊎ ((status ≡ 0) × ((number : ℕ) (fault : LineFault) → ¬ IsRefusedLine within bytes number fault))
 
 -- the clauses of a run
-pub record HasClauses (words : List (List ℕ)) (old new : Outside) (before after : Doors) (status : ℕ) : Type 0 where
+pub record HasClauses (words : List (List ℕ)) (old new : Outside) (before after : ListenerView) (status : ℕ) : Type 0 where
   -- the status is one of these
   pub status_ : status ≤ 5
   -- 0: what the words ask for is on the output, whole, and the messages were left alone
@@ -120,12 +120,12 @@ pub record HasClauses (words : List (List ℕ)) (old new : Outside) (before afte
   -- 2: the words ask for no command, and the usage line is on the messages
   pub usage : status ≡ 2 → IsNoCommand words × Gains old.streams.errors new.streams.errors usage_text
   -- where the words ask for no command nothing but the messages is used, and the status is 2, or 3 where they failed, or 5 where
-  -- memory was wanting to read the words and nothing was said
+  -- memory ran out to read the words and nothing was said
   pub usage_first : IsNoCommand words → (new.streams.input ≡ old.streams.input) × (new.streams.output ≡ old.streams.output) × (new.stores ≡ old.stores) × (after ≡ before)
       × ((status ≡ 2) ⊎ ((status ≡ 3) × Failed old.streams.errors new.streams.errors) ⊎ ((status ≡ 5) × (new.streams.errors ≡ old.streams.errors)))
   -- 3: the input, the output or the messages failed in this call, or, for `serve`, the listener did
   pub fault : status ≡ 3 → Failed old.streams.input new.streams.input ⊎ Failed old.streams.output new.streams.output ⊎ Failed old.streams.errors new.streams.errors
-      ⊎ ((serving : Serving) × AsksServe words serving × DoorsFailed before after)
+      ⊎ ((serving : Serving) × AsksServe words serving × ListeningFailed before after)
   -- 3, for `free`: the object that failed, with what was written
   pub free_fault : (within : Cidr) → AsksFree words within → status ≡ 3
       → FailsToRead old.streams new.streams ⊎ FailsToPrint within old.streams new.streams ⊎ FailsToSay within old.streams new.streams
@@ -136,7 +136,7 @@ pub record HasClauses (words : List (List ℕ)) (old new : Outside) (before afte
   -- store could not be read or not be written, which was said, and told tables are as they were
   pub store_fault : status ≡ 4 → NobodyCame before after
       × ((AsksRegister words × NamesFailure old new) ⊎ ((kind : KindName) × (store : Store) × AsksImport words kind store × NamesStore old new))
-  -- 5: want of memory. Nothing was said, and `free` and `serve` have nothing on the output
+  -- 5: out of memory. Nothing was said, and `free` and `serve` have nothing on the output
   pub memory : status ≡ 5 → (new.streams.errors ≡ old.streams.errors) × (((store : Store) × AsksStore words store) ⊎ (new.streams.output ≡ old.streams.output))
   -- `free` has nothing on the output unless the status is 0 or a write of it failed
   pub nothing_else : (within : Cidr) → AsksFree words within
@@ -174,7 +174,7 @@ pub record HasClauses (words : List (List ℕ)) (old new : Outside) (before afte
       × (new.streams.input ≡ old.streams.input) × (new.streams.errors ≡ old.streams.errors) × (new.stores ≡ old.stores) × (after ≡ before)
   -- `session` without a file, where the opener did not fail: the answers are those of an empty register
   pub empty : (unique : Bool) → AsksSession words unique → (¬ StoreFailed old new) → status ≡ 0 → Prints answers_plainly (opened unique) old new
-  -- a command ends by itself where nothing fails: done, refused, or for want of memory
+  -- a command ends by itself where nothing fails: done, refused, or for lack of memory
   pub complete : (command : Command) → Asks words command → (¬ AnyFailed old new) → (¬ ListenerFailed command before after)
       → (status ≡ 0) ⊎ (status ≡ 1) ⊎ (status ≡ 5)
   -- `free`: over a told input, where nothing fails, the status is 1 exactly where a line is refused, memory apart
@@ -185,5 +185,5 @@ pub record HasClauses (words : List (List ℕ)) (old new : Outside) (before afte
 
 -- a run has all of these
 abbrev pub RunsHaveClauses : Type 0
-RunsHaveClauses = (words : List (List ℕ)) (old new : Outside) (before after : Doors) (status : ℕ) → Runs words old new before after status
+RunsHaveClauses = (words : List (List ℕ)) (old new : Outside) (before after : ListenerView) (status : ℕ) → Runs words old new before after status
     → HasClauses words old new before after status

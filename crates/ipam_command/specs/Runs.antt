@@ -7,7 +7,7 @@ use Rattle.command_streams.specs.Streams.{Streams, EndsWith, NeverFalls}
 use Rattle.command_free.specs.Run.{IsFree}
 use Rattle.command_session.specs.Outside.{Outside}
 use Rattle.command_session.specs.Session.{IsSession}
-use Rattle.command_serve.specs.Serve.{Doors, IsServe}
+use Rattle.command_serve.specs.Serve.{ListenerView, IsServe}
 use Rattle.command_load.specs.Load.{IsLoad}
 use Rattle.command_files.specs.Files.{kind_named}
 use Rattle.command_files.specs.Import.{IsImport}
@@ -15,7 +15,7 @@ use Rattle.command_files.specs.Export.{IsExport}
 use Rattle.command_files.specs.Report.{IsReport}
 
 -- what a run of the command leaves, with its status: `before` and `after` are what the listener tells
-abbrev pub Answers : Command → Outside → Outside → Doors → Doors → ℕ → Type 0
+abbrev pub Answers : Command → Outside → Outside → ListenerView → ListenerView → ℕ → Type 0
 Answers (Free within) old new before after status = IsFree within old.streams new.streams status × (new.stores ≡ old.stores) × (after ≡ before)
 Answers (Session store) old new before after status = IsSession store old new status × (after ≡ before)
 Answers (Serve serving) old new before after status = IsServe serving old new before after status
@@ -37,12 +37,12 @@ pub record IsUsage (old new : Streams) (status : ℕ) : Type 0 where
   pub later : NeverFalls old new
 
 -- and the opener and the listener were not used
-abbrev pub SaysUsage : Outside → Outside → Doors → Doors → ℕ → Type 0
+abbrev pub SaysUsage : Outside → Outside → ListenerView → ListenerView → ℕ → Type 0
 SaysUsage old new before after status = IsUsage old.streams new.streams status × (new.stores ≡ old.stores) × (after ≡ before)
 
--- a run of the program: the words ask for a command, which was run; or they ask for none; or memory was wanting to
+-- a run of the program: the words ask for a command, which was run; or they ask for none; or memory ran out to
 -- read them, and nothing was used
-abbrev pub Runs : List (List ℕ) → Outside → Outside → Doors → Doors → ℕ → Type 0
+abbrev pub Runs : List (List ℕ) → Outside → Outside → ListenerView → ListenerView → ℕ → Type 0
 Runs words old new before after status =
     ((command : Command) × Asks words command × Answers command old new before after status)
     ⊎ (IsNoCommand words × SaysUsage old new before after status)

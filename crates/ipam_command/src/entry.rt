@@ -51,7 +51,7 @@ fn run_args<R: Threads + Wait + Sync, L: Listener, O: KeeperOpener>(
 enum NoArgs {
     /// One of them is no UTF-8.
     NoText,
-    /// Want of memory.
+    /// Out of memory.
     Memory,
 }
 
@@ -74,7 +74,7 @@ fn args_given(rt: &HostRuntime) -> Result<Vec<String>, NoArgs> {
 }
 
 /// Runs the program over its arguments, the standard streams, a listener and an opener of stores. Arguments that are no UTF-8 are no words of a
-/// command; where memory is wanting to read them the status is that of want of memory. `threads` is what workers are started by: the runtime
+/// command; where memory runs out to read them the status is that of out of memory. `threads` is what workers are started by: the runtime
 /// once more, which only `main` may hand out as such.
 pub fn program<R: Threads + Wait + Sync, L: Listener, O: KeeperOpener>(
     rt: &HostRuntime,

@@ -6,7 +6,7 @@ ghost use Rattle.command_words.specs.Asked.{Asks};
 ghost use Rattle.command_streams.specs.Streams.{Told, streams, told};
 ghost use Rattle.ipam_command.specs.Clauses.{RunsHaveClauses};
 ghost use Rattle.command_session.specs.Outside.{Stores, outside, stores};
-ghost use Rattle.command_serve.specs.Serve.{doors};
+ghost use Rattle.command_serve.specs.Serve.{listener_view};
 ghost use Rattle.ipam_command.specs.Runs.{Answers, IsUsage, Runs};
 
 mod entry;
@@ -61,7 +61,7 @@ fn run_command<
     ensures { Answers command.now
         (outside (streams (told So.left So.faults input.old) (told Si.written Si.faults output.old) (told Se.written Se.faults errors.old)) (stores O.stored O.faults opener.old))
         (outside (streams (told So.left So.faults input.new) (told Si.written Si.faults output.new) (told Se.written Se.faults errors.new)) (stores O.stored O.faults opener.new))
-        (doors L.bound L.lanes L.returned L.faults listener.old) (doors L.bound L.lanes L.returned L.faults listener.new) result }
+        (listener_view L.bound L.lanes L.returned L.faults listener.old) (listener_view L.bound L.lanes L.returned L.faults listener.new) result }
 {
     match command {
         Command::Free(within) => run_free(alloc, within, input, output, errors),
@@ -90,7 +90,7 @@ fn run_command<
 
 /// Runs the program: the words behind its name, the input, the output, where messages go, a listener, and what opens stores. The listener
 /// got back no more lanes than it handed out before. It gives the status: 0 done, 1 the input or a store breaks a stated rule, 2 the words
-/// are no command, 3 the input, the output, the messages or the listener failed, 4 the store failed, 5 want of memory.
+/// are no command, 3 the input, the output, the messages or the listener failed, 4 the store failed, 5 out of memory.
 pub fn run<R: Threads + Wait + Sync, So: Source, Si: Sink, Se: Sink, L: Listener, O: KeeperOpener>(
     rt: &R,
     alloc: Global,
@@ -105,7 +105,7 @@ pub fn run<R: Threads + Wait + Sync, So: Source, Si: Sink, Se: Sink, L: Listener
     ensures { Runs (map (λ w. w.now) words.now)
         (outside (streams (told So.left So.faults input.old) (told Si.written Si.faults output.old) (told Se.written Se.faults errors.old)) (stores O.stored O.faults opener.old))
         (outside (streams (told So.left So.faults input.new) (told Si.written Si.faults output.new) (told Se.written Se.faults errors.new)) (stores O.stored O.faults opener.new))
-        (doors L.bound L.lanes L.returned L.faults listener.old) (doors L.bound L.lanes L.returned L.faults listener.new) result }
+        (listener_view L.bound L.lanes L.returned L.faults listener.old) (listener_view L.bound L.lanes L.returned L.faults listener.new) result }
 {
     match read_words(alloc, words) {
         Ok(Some(command)) => run_command(

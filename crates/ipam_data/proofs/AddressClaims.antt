@@ -22,7 +22,7 @@ use Rattle.ipam_data.specs.HostNames.{is_dns_name}
 use Rattle.ipam_data.specs.Rows.{vrf_id, prefix_id, range_id, address_id, most_addresses}
 use Rattle.ipam_data.specs.Tables.{table_of, same_table, is_enforcing}
 use Rattle.inet_num.specs.Blocks.{same_address, same_family, block_holds}
-use Rattle.ipam_data.specs.Shelf.{row_at, with_row, appended, is_rival, least_rival, last_next}
+use Rattle.ipam_data.specs.RowList.{row_at, with_row, appended, is_rival, least_rival, last_next}
 use Rattle.ipam_data.specs.Checks.{first, no_such, breaks, too_many}
 use Rattle.ipam_data.specs.State.{State, verdict_of}
 use Rattle.ipam_data.specs.Updates.{updated, outcome}
@@ -35,7 +35,7 @@ use Rattle.ipam_data.specs.declared.replies.Which.TheVariants.{Claims}
 use Rattle.ipam_data.specs.Addresses.{clashes, clash, is_shared, is_slaac_of_v4, address_fault, address_rules}
 use Rattle.ipam_data.specs.Claims.{claimed_addresses, sees_all, is_child_address, is_hosted, is_ranged, usable_in, usable_of_range, is_host_beside, told_of_address, HasAddrItemBounds, most_items, no_space, claim_addresses_of, claim_prefix_addrs_plan, claim_range_addrs_plan}
 use Rattle.ipam_data.specs.Lawful.{IsRange, IsLawful}
-use Rattle.ipam_data.proofs.Shelves.{shelf-appended, with_row_above}
+use Rattle.ipam_data.proofs.RowLists.{row_list-appended, with_row_above}
 use Rattle.ipam_data.proofs.Kept.{none_above, found_there}
 use Rattle.ipam_data.proofs.AddressLaws.{addresses_sound}
 use Rattle.ipam_data.proofs.Ties.{addresses_tied, add_all}
@@ -117,13 +117,13 @@ module _ (counts : IpAddress → Bool) (Within : ℕ → Type 0) (vrf : Option �
   one_keeps : (s : State) (item : AddrItem) (a : ℕ) → IsLawful s → 1 ≤ len → len ≤ width_of family → IsFineAddress family item → ((n : ℕ) → vrf ≡ Some n → IsSome (row_at vrf_id s.vrfs.rows n)) → IsFree s.addresses.rows a
       → length s.addresses.rows + 1 ≤ most_addresses → s.addresses.next + 1 ≤ last_next → IsLawful (added s (row_of vrf family len s.addresses.next item a))
   one_keeps s item a h long short fine there free few ids =
-      let kept = h.addresses.shelf in
+      let kept = h.addresses.row_list in
       let fault = no_fault s.addresses.rows s.addresses.next item a (is_enforcing s.global_unique s.vrfs.rows (table_of vrf)) long fine free.within free.free in
       let references : first (no_such Vrfs (row_at vrf_id s.vrfs.rows) vrf ∷ []) ≡ None = rw (there_none Vrfs (row_at vrf_id s.vrfs.rows) vrf there) refl in
       let faults : first (address_fault s.addresses.rows (row_of vrf family len s.addresses.next item a) (is_enforcing s.global_unique s.vrfs.rows (table_of vrf)) ∷ []) ≡ None = rw fault refl in
       addresses_sound.put s None (row_of vrf family len s.addresses.next item a) (appended address_id s.addresses (row_of vrf family len s.addresses.next item a)) h
       (record { host = record { address = free.address; short = short }; dns_name = fine.lowered; description = fine.description })
-      (none_above address_id s.addresses.next s.addresses.next s.addresses.rows kept.below (omega arith)) refl (shelf-appended address_id most_addresses s.addresses (row_of vrf family len s.addresses.next item a) kept refl few ids) references faults
+      (none_above address_id s.addresses.next s.addresses.next s.addresses.rows kept.below (omega arith)) refl (row_list-appended address_id most_addresses s.addresses (row_of vrf family len s.addresses.next item a) kept refl few ids) references faults
 
   -- the numbers behind one that was given out stay free
   still_free : (rows : List IpAddress) (row : IpAddress) (low : ℕ) (us : List ℕ) → row.host.addr.value < low → Ups low us → AllByRecursion (IsFree rows) us → AllByRecursion (IsFree (rows ++ row ∷ [])) us
@@ -150,7 +150,7 @@ module _ (counts : IpAddress → Bool) (Within : ℕ → Type 0) (vrf : Option �
   addresses_keep (item ∷ items) [] low s long short fine ups = λ h there free few ids. h
   addresses_keep (item ∷ items) (u ∷ us) low s long short fine ups = λ h there free few ids. (
       let kept = one_keeps s item u h long short fine.0 there free.0 (omega arith) (omega arith) in
-      let pushed : with_row address_id s.addresses.rows (row_of vrf family len s.addresses.next item u) ≡ s.addresses.rows ++ row_of vrf family len s.addresses.next item u ∷ [] = with_row_above address_id s.addresses.rows (row_of vrf family len s.addresses.next item u) h.addresses.shelf.below in
+      let pushed : with_row address_id s.addresses.rows (row_of vrf family len s.addresses.next item u) ≡ s.addresses.rows ++ row_of vrf family len s.addresses.next item u ∷ [] = with_row_above address_id s.addresses.rows (row_of vrf family len s.addresses.next item u) h.addresses.row_list.below in
       let more = ap length pushed ∙ length-append s.addresses.rows (row_of vrf family len s.addresses.next item u ∷ []) in
       let rest = still_free s.addresses.rows (row_of vrf family len s.addresses.next item u) (u + 1) us (omega arith) ups.1 free.1 in
       addresses_keep items us (u + 1) (added s (row_of vrf family len s.addresses.next item u)) long short fine.1 ups.1 kept there

@@ -7,7 +7,7 @@ use Rattle.ipam_data.specs.declared.kinds.Kind.TheVariants.{Vrfs, Rirs, Roles, A
 use Rattle.ipam_data.specs.declared.calls.Call.TheVariants.{List as ListOf, Get, Create, Change, Delete, Blocks as BlocksOf, PrefixAddrs, RangeAddrs, ClaimBlocks, ClaimPrefixAddrs, ClaimRangeAddrs, Utilization}
 use Rattle.ipam_data.specs.declared.replies.Reply.{Reply}
 use Rattle.ipam_data.specs.declared.replies.Reply.TheVariants.{Blocks, Addrs, Percent}
-use Rattle.ipam_data.specs.Shelf.{row_at}
+use Rattle.ipam_data.specs.RowList.{row_at}
 use Rattle.ipam_data.specs.State.{State, reading}
 use Rattle.ipam_data.specs.Plans.{KindRules, with_found, with_row_at}
 use Rattle.ipam_data.specs.Updates.{outcome, CanUpdate}
@@ -26,14 +26,14 @@ use Rattle.ipam_data.proofs.Can.{nothing_can, create_all, change_all, delete_all
 module _ {T : Type 0} (rules : KindRules T) (s : State) (n : ℕ) (reply : T → Reply) where
   -- a row of which something is read
   read_keeps : IsLawful s → IsLawful (outcome s (with_row_at rules s n (λ row. reading (reply row)))).0
-  read_keeps h = go (row_at rules.id (rules.shelf s).rows n)
+  read_keeps h = go (row_at rules.id (rules.row_list s).rows n)
     where
       go : (found : Option T) → IsLawful (outcome s (with_found rules n (λ row. reading (reply row)) found)).0
       go None = h
       go (Some row) = reading_keeps s (reply row) h
 
   read_can : CanUpdate s (with_row_at rules s n (λ row. reading (reply row))).update
-  read_can = go (row_at rules.id (rules.shelf s).rows n)
+  read_can = go (row_at rules.id (rules.row_list s).rows n)
     where
       go : (found : Option T) → CanUpdate s (with_found rules n (λ row. reading (reply row)) found).update
       go None = nothing_can s

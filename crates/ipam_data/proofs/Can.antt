@@ -10,7 +10,7 @@ use Rattle.ipam_data.specs.declared.replies.Rule.{Rule}
 use Rattle.ipam_data.specs.declared.replies.View.{View}
 use Rattle.ipam_data.specs.declared.replies.View.TheVariants.{Vrf as VrfView, Rir as RirView, Role as RoleView, Aggregate as AggregateView, Prefix as PrefixView, IpRange as RangeView, IpAddress as AddressView}
 use Rattle.ipam_data.specs.Rows.{HasVrfBounds, HasRirBounds, HasRoleBounds, HasAggregateBounds, HasPrefixBounds, HasRangeBounds, HasAddressBounds}
-use Rattle.ipam_data.specs.Shelf.{row_at, AllBelow}
+use Rattle.ipam_data.specs.RowList.{row_at, AllBelow}
 use Rattle.ipam_data.specs.Checks.{no_log}
 use Rattle.ipam_data.specs.declared.replies.Reply.TheVariants.{One}
 use Rattle.ipam_data.specs.State.{State, verdict_of, no_update, reading}
@@ -27,7 +27,7 @@ use Rattle.ipam_data.specs.ByKind.{by_view}
 use Rattle.ipam_data.specs.Fields.{drafted, told_of_draft, kind_of_edit, edited_vrf, edited_rir, edited_role, edited_aggregate, edited_prefix, edited_range, edited_address, told_of_change}
 use Rattle.ipam_data.specs.Steps.{next_for, create_plan, change_of_kind, change_plan, delete_plan, get_plan, list_plan}
 use Rattle.ipam_data.specs.Lawful.{IsLawful}
-use Rattle.ipam_data.proofs.Shelves.{id_below}
+use Rattle.ipam_data.proofs.RowLists.{id_below}
 use Rattle.ipam_data.proofs.Kept.{found_there}
 use Rattle.ipam_data.proofs.Placed.{id_above}
 use Rattle.ipam_data.proofs.Verdicts.{none_left, none_right, room_from}
@@ -51,61 +51,61 @@ module _ {T : Type 0} (rules : KindRules T) (Bounds : T → Type 0) (sound : IsS
     low : 1 ≤ n
     high : n < 4294967296
 
-  id_of_found : (s : State) (n : ℕ) → IsLawful s → IsSome (row_at rules.id (rules.shelf s).rows n) → IsId n
+  id_of_found : (s : State) (n : ℕ) → IsLawful s → IsSome (row_at rules.id (rules.row_list s).rows n) → IsId n
   id_of_found s n h f =
-      let kept = sound.shelf s h in
-      let low = id_above rules.id 0 n (rules.shelf s).rows kept.ordered f in
-      let high = id_below rules.id (rules.shelf s).next n (rules.shelf s).rows kept.below f in
+      let kept = sound.row_list s h in
+      let low = id_above rules.id 0 n (rules.row_list s).rows kept.ordered f in
+      let high = id_below rules.id (rules.row_list s).next n (rules.row_list s).rows kept.below f in
       let top = kept.next_fits in
       record { low = omega arith; high = omega arith }
 
-  create_can : (s : State) (told : List (Option Rule)) (row : T) → IsLawful s → rules.id row ≡ (rules.shelf s).next → verdict_of (create rules s told row) ≡ None
+  create_can : (s : State) (told : List (Option Rule)) (row : T) → IsLawful s → rules.id row ≡ (rules.row_list s).next → verdict_of (create rules s told row) ≡ None
       → CanUpdate s (create rules s told row).update
   create_can s told row h e v =
       let c = none_left (creation rules s told row) (no_log s.spent 1 ∷ []) v in
-      let room = room_from rules.kind rules.most (length (rules.shelf s).rows) (rules.shelf s).next 1 (none_right (broken rules s None told row) (no_seats rules s 1) c) in
-      let kept = sound.shelf s h in
+      let room = room_from rules.kind rules.most (length (rules.row_list s).rows) (rules.row_list s).next 1 (none_right (broken rules s None told row) (no_seats rules s 1) c) in
+      let kept = sound.row_list s h in
       let low = kept.next_low in
       let top = room.ids in
       record {
-        puts = (sound.tied.fit s row (record { low = omega arith; high = omega arith; place = inr (subst (λ (n : ℕ). AllBelow rules.id n (rules.shelf s).rows) (sym e) kept.below) }), tt);
+        puts = (sound.tied.fit s row (record { low = omega arith; high = omega arith; place = inr (subst (λ (n : ℕ). AllBelow rules.id n (rules.row_list s).rows) (sym e) kept.below) }), tt);
         cuts = tt;
         next = (omega arith, tt);
       }
 
   change_can : (s : State) (n : ℕ) (told : T → List (Option Rule)) (edit : T → T) → IsLawful s → ((old : T) → rules.id (edit old) ≡ rules.id old) → CanUpdate s (change rules s n told edit).update
-  change_can s n told edit h same = go (row_at rules.id (rules.shelf s).rows n) refl
+  change_can s n told edit h same = go (row_at rules.id (rules.row_list s).rows n) refl
     where
-      go : (found : Option T) → row_at rules.id (rules.shelf s).rows n ≡ found → CanUpdate s (with_found rules n (λ old. replace rules s old (told old) (edit old)) found).update
+      go : (found : Option T) → row_at rules.id (rules.row_list s).rows n ≡ found → CanUpdate s (with_found rules n (λ old. replace rules s old (told old) (edit old)) found).update
       go None e = nothing_can s
       go (Some old) e =
-          let own : rules.id (edit old) ≡ n = same old ∙ (found_there rules.id (rules.shelf s).rows n old e).1 in
-          let there : IsSome (row_at rules.id (rules.shelf s).rows n) = rw e refl in
+          let own : rules.id (edit old) ≡ n = same old ∙ (found_there rules.id (rules.row_list s).rows n old e).1 in
+          let there : IsSome (row_at rules.id (rules.row_list s).rows n) = rw e refl in
           let i = id_of_found s n h there in
           let low = i.low in
           let high = i.high in
           record {
-            puts = (sound.tied.fit s (edit old) (record { low = omega arith; high = omega arith; place = inl (subst (λ (m : ℕ). IsSome (row_at rules.id (rules.shelf s).rows m)) (sym own) there) }), tt);
+            puts = (sound.tied.fit s (edit old) (record { low = omega arith; high = omega arith; place = inl (subst (λ (m : ℕ). IsSome (row_at rules.id (rules.row_list s).rows m)) (sym own) there) }), tt);
             cuts = tt;
             next = tt;
           }
 
   delete_can : (s : State) (n : ℕ) → IsLawful s → CanUpdate s (delete rules s n).update
-  delete_can s n h = go (row_at rules.id (rules.shelf s).rows n) refl
+  delete_can s n h = go (row_at rules.id (rules.row_list s).rows n) refl
     where
-      go : (found : Option T) → row_at rules.id (rules.shelf s).rows n ≡ found → CanUpdate s (with_found rules n (λ old. take_out rules s n) found).update
+      go : (found : Option T) → row_at rules.id (rules.row_list s).rows n ≡ found → CanUpdate s (with_found rules n (λ old. take_out rules s n) found).update
       go None e = nothing_can s
       go (Some old) e = record { puts = sound.fits s n h; cuts = ((id_of_found s n h (rw e refl)).high, tt); next = tt }
 
 module _ {T : Type 0} (rules : KindRules T) where
   get_can : (s : State) (n : ℕ) → CanUpdate s (get rules s n).update
-  get_can s n = go (row_at rules.id (rules.shelf s).rows n)
+  get_can s n = go (row_at rules.id (rules.row_list s).rows n)
     where
       go : (found : Option T) → CanUpdate s (with_found rules n (λ row. reading (One (rules.view row))) found).update
       go None = nothing_can s
       go (Some row) = nothing_can s
 
-view_can : (s : State) (told : List (Option Rule)) (view : View) → IsLawful s → by_view view (λ T rules row. rules.id row) ≡ by_view view (λ T rules row. (rules.shelf s).next)
+view_can : (s : State) (told : List (Option Rule)) (view : View) → IsLawful s → by_view view (λ T rules row. rules.id row) ≡ by_view view (λ T rules row. (rules.row_list s).next)
     → verdict_of (by_view view (λ T rules row. create rules s told row)) ≡ None → CanUpdate s (by_view view (λ T rules row. create rules s told row)).update
 view_can s told (VrfView row) h e v = create_can vrf_rules HasVrfBounds vrfs_sound s told row h e v
 view_can s told (RirView row) h e v = create_can rir_rules HasRirBounds rirs_sound s told row h e v

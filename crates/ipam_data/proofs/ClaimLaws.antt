@@ -23,7 +23,7 @@ use Rattle.ipam_data.specs.Texts.{IsDescription}
 use Rattle.ipam_data.specs.Rows.{vrf_id, role_id, prefix_id, most_prefixes}
 use Rattle.ipam_data.specs.Tables.{table_of, same_table, is_enforcing}
 use Rattle.inet_num.specs.Blocks.{same_family, same_block, is_strictly_inside}
-use Rattle.ipam_data.specs.Shelf.{row_at, with_row, appended, last_next}
+use Rattle.ipam_data.specs.RowList.{row_at, with_row, appended, last_next}
 use Rattle.ipam_data.specs.Checks.{first, most_spent, no_such, too_many, breaks}
 use Rattle.ipam_data.specs.State.{State, verdict_of}
 use Rattle.ipam_data.specs.Updates.{updated, with_view, with_next, with_spent, outcome}
@@ -31,7 +31,7 @@ use Rattle.ipam_data.specs.Plans.{KindRules, no_place, with_found}
 use Rattle.ipam_data.specs.Prefixes.{zero_mask, duplicate, coincides, in_one_table, prefix_fault, prefix_rules}
 use Rattle.ipam_data.specs.Claims.{sees_all, is_child_prefix, child_blocks, claimed_prefixes, lengths_of, wanted_length, told_of_block, no_space, most_items, HasBlockItemBounds, claim, claim_blocks_of, claim_blocks_plan}
 use Rattle.ipam_data.specs.Lawful.{IsLawful}
-use Rattle.ipam_data.proofs.Shelves.{shelf-appended, with_row_above}
+use Rattle.ipam_data.proofs.RowLists.{row_list-appended, with_row_above}
 use Rattle.ipam_data.proofs.Kept.{none_above, found_there}
 use Rattle.ipam_data.proofs.Verdicts.{none_head, none_rest, none_left, none_right, none_broken, there_from, test_holds}
 use Rattle.ipam_data.proofs.Ties.{IsTied, prefixes_tied, add_all, all_created, added_spent}
@@ -160,12 +160,12 @@ one_keeps s p item b h fine vrf fit few ids =
     let some = pow_pos (width_of b.family - b.len) in
     let alone = none_there p (row_of p s.prefixes.next item b) s.prefixes.rows refl inside (fit.free b.first (omega arith, omega arith)) in
     let fault = no_fault s.prefixes.rows (row_of p s.prefixes.next item b) (is_enforcing s.global_unique s.vrfs.rows (table_of p.vrf)) (omega arith) alone in
-    let kept = h.prefixes.shelf in
+    let kept = h.prefixes.row_list in
     let references : first (no_such Vrfs (row_at vrf_id s.vrfs.rows) p.vrf ∷ no_such Roles (row_at role_id s.roles.rows) item.role ∷ []) ≡ None =
     rw (there_none Vrfs (row_at vrf_id s.vrfs.rows) p.vrf vrf, there_none Roles (row_at role_id s.roles.rows) item.role fine.role) refl in
     let faults : first (prefix_fault s.prefixes.rows (row_of p s.prefixes.next item b) (is_enforcing s.global_unique s.vrfs.rows (table_of p.vrf)) ∷ []) ≡ None = rw fault refl in
     prefixes_sound.put s None (row_of p s.prefixes.next item b) (appended prefix_id s.prefixes (row_of p s.prefixes.next item b)) h (record { block = fit.lawful; description = fine.description })
-    (none_above prefix_id s.prefixes.next s.prefixes.next s.prefixes.rows kept.below (omega arith)) refl (shelf-appended prefix_id most_prefixes s.prefixes (row_of p s.prefixes.next item b) kept refl few ids) references faults
+    (none_above prefix_id s.prefixes.next s.prefixes.next s.prefixes.rows kept.below (omega arith)) refl (row_list-appended prefix_id most_prefixes s.prefixes (row_of p s.prefixes.next item b) kept refl few ids) references faults
 
 still_fine : (s : State) (p row : Prefix) (items : List BlockItem) → AreFine s p items → AreFine (added s row) p items
 still_fine s p row [] h = tt
@@ -186,7 +186,7 @@ next_keeps p item items s hp ih h fine vrf blocks is all few ids = go (first_fit
       let some = is ∙ fits_some p.block (child_blocks s.prefixes.rows p) item.len (lengths_of items) b e in
       let n = ap length some in
       let kept = one_keeps s p item b h fine.0 vrf k.0 (omega arith) (omega arith) in
-      let pushed : with_row prefix_id s.prefixes.rows (row_of p s.prefixes.next item b) ≡ s.prefixes.rows ++ row_of p s.prefixes.next item b ∷ [] = with_row_above prefix_id s.prefixes.rows (row_of p s.prefixes.next item b) h.prefixes.shelf.below in
+      let pushed : with_row prefix_id s.prefixes.rows (row_of p s.prefixes.next item b) ≡ s.prefixes.rows ++ row_of p s.prefixes.next item b ∷ [] = with_row_above prefix_id s.prefixes.rows (row_of p s.prefixes.next item b) h.prefixes.row_list.below in
       let more = ap (λ (rows : List Prefix). child_blocks rows p) pushed ∙ child_more s.prefixes.rows p (row_of p s.prefixes.next item b) refl (fit_inside p.block (child_blocks s.prefixes.rows p) item.len b fine.0.longer k.0) in
       let longer = ap length pushed ∙ length-append s.prefixes.rows (row_of p s.prefixes.next item b ∷ []) in
       let later = ih (added s (row_of p s.prefixes.next item b)) kept (still_fine s p (row_of p s.prefixes.next item b) items fine.1) vrf
@@ -244,8 +244,8 @@ pub claim_comes : {T : Type 0} (rules : KindRules T) → IsTied rules → (s : S
     → IsLawful (add_all rules s rows) → s.spent + wanted ≤ most_spent → IsLawful (updated s (claim rules s told wanted form rows).update)
 claim_comes {T} rules tied s told wanted form rows many k log =
     let after : IsLawful (with_spent (add_all rules s rows) wanted) = spent_keeps (add_all rules s rows) wanted k (rw (added_spent rules tied s rows) log) in
-    let came : with_next (fold with_view s (map rules.view rows)) (rules.kind, (rules.shelf s).next + wanted) ≡ add_all rules s rows =
-    ap (λ (n : ℕ). with_next (fold with_view s (map rules.view rows)) (rules.kind, (rules.shelf s).next + n)) many ∙ all_created rules tied s rows in
+    let came : with_next (fold with_view s (map rules.view rows)) (rules.kind, (rules.row_list s).next + wanted) ≡ add_all rules s rows =
+    ap (λ (n : ℕ). with_next (fold with_view s (map rules.view rows)) (rules.kind, (rules.row_list s).next + n)) many ∙ all_created rules tied s rows in
     subst (λ (t : State). IsLawful (with_spent t wanted)) (sym came) after
 
 claim_of_keeps : (s : State) (form : Answered) (items : List BlockItem) (p : Prefix) → IsLawful s → AllByRecursion HasBlockItemBounds items → Contains s.prefixes.rows p → verdict_of (claim_blocks_of s form items p) ≡ None → IsLawful (updated s (claim_blocks_of s form items p).update)

@@ -57,7 +57,7 @@ ends start end a b t =
 -- ---- drafts
 
 -- the row of a draft has the next id of its kind
-pub drafted_next : (s : State) (draft : Draft) → by_view (drafted (next_for s draft) draft) (λ T rules row. rules.id row) ≡ by_view (drafted (next_for s draft) draft) (λ T rules row. (rules.shelf s).next)
+pub drafted_next : (s : State) (draft : Draft) → by_view (drafted (next_for s draft) draft) (λ T rules row. rules.id row) ≡ by_view (drafted (next_for s draft) draft) (λ T rules row. (rules.row_list s).next)
 drafted_next s (VrfDraft name rd enforce_unique description) = refl
 drafted_next s draft = refl
 

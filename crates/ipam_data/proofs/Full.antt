@@ -33,7 +33,7 @@ full_room kind most count next n = let e : nat_le (count + 1) most ≡ false = g
 full : {T : Type 0} (rules : KindRules T) → FullKindRefuses rules
 full rules s told row e n =
     kept (broken rules s None told row ++ no_seats rules s 1) (no_log s.spent 1 ∷ []) (Limit (OfKind rules.kind) rules.most)
-    (past (broken rules s None told row) (no_seats rules s 1) e ∙ full_room rules.kind rules.most (length (rules.shelf s).rows) (rules.shelf s).next n)
+    (past (broken rules s None told row) (no_seats rules s 1) e ∙ full_room rules.kind rules.most (length (rules.row_list s).rows) (rules.row_list s).next n)
 
 pub full_kinds : FullKindsRefuse
 full_kinds = record {

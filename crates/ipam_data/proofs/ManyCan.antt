@@ -13,7 +13,7 @@ use Rattle.ipam_data.specs.declared.range.IpRange.{IpRange}
 use Rattle.ipam_data.specs.declared.replies.Refusal.{Refusal}
 use Rattle.ipam_data.specs.declared.replies.Which.TheVariants.{Claims}
 use Rattle.ipam_data.specs.Rows.{prefix_id, range_id, address_id, HasPrefixBounds, HasAddressBounds}
-use Rattle.ipam_data.specs.Shelf.{Shelf, row_at, with_row, replaced, AllBelow, last_next}
+use Rattle.ipam_data.specs.RowList.{RowList, row_at, with_row, replaced, AllBelow, last_next}
 use Rattle.ipam_data.specs.Checks.{too_many}
 use Rattle.ipam_data.specs.State.{State, verdict_of}
 use Rattle.ipam_data.specs.Plans.{KindRules, no_place, with_found}
@@ -39,14 +39,14 @@ Follow {T} id n [] = Unit {0}
 Follow {T} id n (row ∷ rows) = (id row ≡ n) × Follow id (n + 1) rows
 
 -- new rows fit, one after another
-fit_new : {T : Type 0} (rules : KindRules T) → IsTied rules → (s : State) (n : ℕ) (rows : List T) → Follow rules.id n rows → AllBelow rules.id n (rules.shelf s).rows
+fit_new : {T : Type 0} (rules : KindRules T) → IsTied rules → (s : State) (n : ℕ) (rows : List T) → Follow rules.id n rows → AllBelow rules.id n (rules.row_list s).rows
     → 1 ≤ n → n + length rows ≤ last_next → AreFit s (map rules.view rows)
 fit_new {T} rules tied s n [] f below low high = tt
 fit_new {T} rules tied s n (row ∷ rows) f below low high =
     let e = f.0 in
-    let kept = (rules.shelf s).rows in
-    let after : (rules.shelf (with_view s (rules.view row))).rows ≡ with_row rules.id kept row =
-    ap (λ (t : State). (rules.shelf t).rows) (tied.put s row) ∙ ap (λ (shelf : Shelf T). shelf.rows) (tied.given s (replaced rules.id (rules.shelf s) row)) in
+    let kept = (rules.row_list s).rows in
+    let after : (rules.row_list (with_view s (rules.view row))).rows ≡ with_row rules.id kept row =
+    ap (λ (t : State). (rules.row_list t).rows) (tied.put s row) ∙ ap (λ (row_list : RowList T). row_list.rows) (tied.given s (replaced rules.id (rules.row_list s) row)) in
     let more : AllBelow rules.id (n + 1) (with_row rules.id kept row) = below_with rules.id (n + 1) kept row (below_more rules.id n (n + 1) kept (omega arith) below) (omega arith) in (
       tied.fit s row (record { low = omega arith; high = omega arith; place = inr (subst (λ (m : ℕ). AllBelow rules.id m kept) (sym e) below) }),
       fit_new rules tied (with_view s (rules.view row)) (n + 1) rows f.1 (subst (λ (xs : List T). AllBelow rules.id (n + 1) xs) (sym after) more) (omega arith) (omega arith),
@@ -55,16 +55,16 @@ fit_new {T} rules tied s n (row ∷ rows) f below low high =
 -- ---- claims
 
 pub claim_can : {T : Type 0} (rules : KindRules T) (Bounds : T → Type 0) (sound : IsSound rules Bounds) (s : State) (told : List (Option Refusal)) (wanted : ℕ) (form : Answered) (rows : List T) → IsLawful s
-    → Follow rules.id (rules.shelf s).next rows → length rows ≤ wanted → verdict_of (claim rules s told wanted form rows) ≡ None → CanUpdate s (claim rules s told wanted form rows).update
+    → Follow rules.id (rules.row_list s).next rows → length rows ≤ wanted → verdict_of (claim rules s told wanted form rows) ≡ None → CanUpdate s (claim rules s told wanted form rows).update
 claim_can {T} rules Bounds sound s told wanted form rows h f few v =
-    let kept = sound.shelf s h in
+    let kept = sound.row_list s h in
     let low = kept.next_low in
     let items : Option Refusal = too_many Claims most_items wanted in
     let space : Option Refusal = no_space wanted (length rows) in
     let place = place_from rules s wanted (none_rest space (no_place rules s wanted) (none_right (items ∷ told) (space ∷ no_place rules s wanted) v)) in
     let top = place.room.ids in
     record {
-      puts = fit_new rules sound.tied s (rules.shelf s).next rows f kept.below low (omega arith);
+      puts = fit_new rules sound.tied s (rules.row_list s).next rows f kept.below low (omega arith);
       cuts = tt;
       next = (omega arith, tt);
     }

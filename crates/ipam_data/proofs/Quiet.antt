@@ -16,7 +16,7 @@ use Rattle.ipam_data.specs.declared.replies.View.TheVariants.{Vrf as VrfView, Ri
 use Rattle.ipam_data.specs.declared.replies.Refusal.{Refusal}
 use Rattle.ipam_data.specs.declared.replies.Reply.{Reply}
 use Rattle.ipam_data.specs.declared.replies.Reply.TheVariants.{Made, MadeMany, Changed, Gone, Imported, One, Page, Blocks, Addrs, Percent, Refused}
-use Rattle.ipam_data.specs.Shelf.{row_at}
+use Rattle.ipam_data.specs.RowList.{row_at}
 use Rattle.ipam_data.specs.State.{State, Plan, verdict_of, no_update, reading}
 use Rattle.ipam_data.specs.Plans.{KindRules, with_found, with_row_at, create, replace, change, take_out, delete, get, list, nothing_told}
 use Rattle.ipam_data.specs.Updates.{updated, answered, outcome}
@@ -82,14 +82,14 @@ module _ {T : Type 0} (rules : KindRules T) where
   create_quiet s told row = accepting_quiet (create rules s told row) refl
 
   change_quiet : (s : State) (n : ℕ) (told : T → List (Option Rule)) (edit : T → T) → IsQuiet (change rules s n told edit)
-  change_quiet s n told edit = found_quiet n (λ old. replace rules s old (told old) (edit old)) (row_at rules.id (rules.shelf s).rows n)
+  change_quiet s n told edit = found_quiet n (λ old. replace rules s old (told old) (edit old)) (row_at rules.id (rules.row_list s).rows n)
       (λ old. accepting_quiet (replace rules s old (told old) (edit old)) refl)
 
   delete_quiet : (s : State) (n : ℕ) → IsQuiet (delete rules s n)
-  delete_quiet s n = found_quiet n (λ old. take_out rules s n) (row_at rules.id (rules.shelf s).rows n) (λ old. accepting_quiet (take_out rules s n) refl)
+  delete_quiet s n = found_quiet n (λ old. take_out rules s n) (row_at rules.id (rules.row_list s).rows n) (λ old. accepting_quiet (take_out rules s n) refl)
 
   get_quiet : (s : State) (n : ℕ) → IsQuiet (get rules s n)
-  get_quiet s n = found_quiet n _ (row_at rules.id (rules.shelf s).rows n) (λ row. record { nothing = λ a. refl })
+  get_quiet s n = found_quiet n _ (row_at rules.id (rules.row_list s).rows n) (λ row. record { nothing = λ a. refl })
 
   list_quiet : (s : State) (meets : T → Bool) (limit offset : ℕ) → IsQuiet (list rules s meets limit offset)
   list_quiet s meets limit offset = record { nothing = λ a. refl }
@@ -154,7 +154,7 @@ list_all s (SomeAddresses family vrf_id status role parent dns_name) limit offse
 module _ {T : Type 0} (rules : KindRules T) where
   -- a row of which something is read
   pub read_quiet : (s : State) (n : ℕ) (reply : T → Reply) → IsQuiet (with_row_at rules s n (λ row. reading (reply row)))
-  read_quiet s n reply = found_quiet rules n (λ row. reading (reply row)) (row_at rules.id (rules.shelf s).rows n) (λ row. record { nothing = λ a. refl })
+  read_quiet s n reply = found_quiet rules n (λ row. reading (reply row)) (row_at rules.id (rules.row_list s).rows n) (λ row. record { nothing = λ a. refl })
 
   pub claim_quiet : (s : State) (told : List (Option Refusal)) (wanted : ℕ) (form : Answered) (rows : List T) → IsQuiet (claim rules s told wanted form rows)
   claim_quiet s told wanted form rows = accepting_quiet (claim rules s told wanted form rows) (accepts form (map rules.view rows))

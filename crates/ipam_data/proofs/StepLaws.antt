@@ -28,7 +28,7 @@ use Rattle.ipam_data.specs.Fields.{drafted, told_of_draft, kind_of_edit, edited_
 use Rattle.ipam_data.specs.Steps.{plan_of, next_for, create_plan, change_of_kind, change_plan, delete_plan, get_plan, list_plan, plain_step}
 use Rattle.ipam_data.specs.Replays.{OneMoreEntryIsOneMoreStep}
 use Rattle.ipam_data.specs.Lawful.{IsLawful, RefusedStepsLeave, FoundIsLeast}
-use Rattle.ipam_data.proofs.Shelves.{found_least}
+use Rattle.ipam_data.proofs.RowLists.{found_least}
 use Rattle.ipam_data.proofs.Sound.{outcome_keeps, create_keeps, change_keeps, delete_keeps, get_keeps, list_keeps}
 use Rattle.ipam_data.proofs.DraftLaws.{drafted_next, HasRowBounds, drafted_bounds, vrf_stays, rir_stays, role_stays, aggregate_stays, prefix_stays, range_stays, address_stays, vrf_edited, rir_edited, role_edited, aggregate_edited, prefix_edited, range_edited, address_edited}
 use Rattle.ipam_data.proofs.VrfLaws.{vrfs_sound}
@@ -41,7 +41,7 @@ use Rattle.ipam_data.proofs.AddressLaws.{addresses_sound}
 
 -- ---- what each call keeps
 
-view_keeps : (s : State) (told : List (Option Rule)) (view : View) → IsLawful s → by_view view (λ T rules row. rules.id row) ≡ by_view view (λ T rules row. (rules.shelf s).next)
+view_keeps : (s : State) (told : List (Option Rule)) (view : View) → IsLawful s → by_view view (λ T rules row. rules.id row) ≡ by_view view (λ T rules row. (rules.row_list s).next)
     → (first told ≡ None → HasRowBounds view) → IsLawful (outcome s (by_view view (λ T rules row. create rules s told row))).0
 view_keeps s told (VrfView row) h e b = outcome_keeps s (create vrf_rules s told row) h (create_keeps vrf_rules HasVrfBounds vrfs_sound s told row h e b)
 view_keeps s told (RirView row) h e b = outcome_keeps s (create rir_rules s told row) h (create_keeps rir_rules HasRirBounds rirs_sound s told row h e b)

@@ -2,7 +2,7 @@
 use Rattle.std.proofs.Common.{◌≡◌, ◌≢◌, ℕ, ◌<◌, Bool, true, false, List, [], ◌∷◌, ◌++◌, fold, refl, arith, nat_lt, ◌==◌, IsPermutation, if◌then◌else◌}
 use Rattle.std.proofs.lemmas.Bool.Decides.{nat_tests}
 use Rattle.std.proofs.lemmas.List.Sorted.{IsPermutation-refl, IsPermutation-sym, IsPermutation-trans, IsPermutation-cons, IsPermutation-middle, IsPermutation-append_right}
-use Rattle.ipam_data.specs.Shelf.{placed, Rises}
+use Rattle.ipam_data.specs.RowList.{placed, Rises}
 
 module _ {T : Type 0} (id : T → ℕ) where
   -- no row of the list has the row's number

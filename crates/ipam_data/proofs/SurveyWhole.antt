@@ -2,7 +2,7 @@
 use Rattle.std.proofs.Common.{◌≢◌, ℕ, ◌+◌, ◌*◌, ◌<◌, ◌≤◌, List, [], ◌∷◌, subst, arith, append-nil, IsPermutation}
 use Rattle.ipam_data.specs.declared.prefix.Prefix.{Prefix}
 use Rattle.ipam_data.specs.Rows.{prefix_id}
-use Rattle.ipam_data.specs.Shelf.{Rises, AllBelow, last_next}
+use Rattle.ipam_data.specs.RowList.{Rises, AllBelow, last_next}
 use Rattle.ipam_data.specs.Survey.{survey_place, surveyed, SurveyIsWhole}
 use Rattle.ipam_data.proofs.SurveyInsertion.{AllOther, AreApart, AllAbove, sorted_all, sorted_rises}
 
@@ -30,10 +30,10 @@ above low (row ∷ rows) r = let l = r.0 in (more _ (prefix_id row) (omega arith
 
 pub whole : SurveyIsWhole
 whole s h =
-    let shelf = h.prefixes.shelf in
+    let row_list = h.prefixes.row_list in
     let rows = s.prefixes.rows in
-    let p : AreApart survey_place rows = apart 0 s.prefixes.next rows shelf.ordered shelf.below shelf.next_fits in
+    let p : AreApart survey_place rows = apart 0 s.prefixes.next rows row_list.ordered row_list.below row_list.next_fits in
     record {
       all = subst (λ (xs : List Prefix). IsPermutation xs (surveyed rows)) (append-nil rows) (sorted_all survey_place rows p);
-      ordered = sorted_rises survey_place 0 rows (above 0 rows shelf.ordered) p;
+      ordered = sorted_rises survey_place 0 rows (above 0 rows row_list.ordered) p;
     }

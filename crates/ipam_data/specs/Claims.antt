@@ -37,7 +37,7 @@ use Rattle.ipam_data.specs.Texts.{IsDescription, IsDnsText}
 use Rattle.ipam_data.specs.HostNames.{is_dns_name}
 use Rattle.ipam_data.specs.Tables.{table_of, same_table}
 use Rattle.inet_num.specs.Blocks.{same_family, is_strictly_inside, is_block_inside, block_holds}
-use Rattle.ipam_data.specs.Shelf.{row_at}
+use Rattle.ipam_data.specs.RowList.{row_at}
 use Rattle.ipam_data.specs.Checks.{no_such, too_many, breaks}
 use Rattle.ipam_data.specs.State.{State, Plan, reading, refusing}
 use Rattle.ipam_data.specs.Plans.{KindRules, no_place, with_row_at}
@@ -180,7 +180,7 @@ module _ {T : Type 0} (rules : KindRules T) where
   abbrev pub claim : State → List (Option Refusal) → ℕ → Answered → List T → Plan
   claim s told wanted answered rows = record {
     checks = too_many Claims most_items wanted ∷ told ++ no_space wanted (length rows) ∷ no_place rules s wanted;
-    update = record { puts = map rules.view rows; cuts = []; next = (rules.kind, (rules.shelf s).next + wanted) ∷ []; spent = wanted };
+    update = record { puts = map rules.view rows; cuts = []; next = (rules.kind, (rules.row_list s).next + wanted) ∷ []; spent = wanted };
     reply = served answered (map rules.view rows);
   }
 

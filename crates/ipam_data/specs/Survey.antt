@@ -4,7 +4,7 @@ use Rattle.std.specs.Prelude.{ℕ, ◌+◌, ◌*◌, ◌^◌, List, [], Option, 
 use Rattle.inet_num.specs.declared.Family.{Family}
 use Rattle.inet_num.specs.declared.Family.TheVariants.{V4, V6}
 use Rattle.ipam_data.specs.declared.prefix.Prefix.{Prefix}
-use Rattle.ipam_data.specs.Shelf.{placed, Rises}
+use Rattle.ipam_data.specs.RowList.{placed, Rises}
 use Rattle.ipam_data.specs.Tables.{table_of}
 use Rattle.ipam_data.specs.Prefixes.{depth_of}
 use Rattle.ipam_data.specs.Claims.{prefix_figure}

@@ -6,7 +6,7 @@ use Rattle.ipam_data.specs.declared.replies.Reply.{Reply}
 use Rattle.ipam_data.specs.declared.replies.Reply.TheVariants.{Made, MadeMany, Changed, Gone, Imported, One, Page, Blocks, Addrs, Percent, Refused}
 use Rattle.ipam_data.specs.declared.replies.View.{View}
 use Rattle.ipam_data.specs.declared.replies.View.TheVariants.{Vrf as VrfView, Rir as RirView, Role as RoleView, Aggregate as AggregateView, Prefix as PrefixView, IpRange as RangeView, IpAddress as AddressView}
-use Rattle.ipam_data.specs.Shelf.{IsFitting}
+use Rattle.ipam_data.specs.RowList.{IsFitting}
 use Rattle.ipam_data.specs.State.{State, Plan, verdict_of}
 use Rattle.ipam_data.specs.Plans.{KindRules, put_row, cut_row, set_next}
 use Rattle.ipam_data.specs.Vrfs.{vrf_rules}
@@ -74,7 +74,7 @@ outcome old plan = elim (verdict_of plan) [
 pub record FitsOn {T : Type 0} (rules : KindRules T) (s : State) (row : T) : Type 0 where
   pub low : 1 ≤ rules.id row
   pub high : rules.id row < 4294967296
-  pub place : IsFitting rules.id (rules.shelf s).rows row
+  pub place : IsFitting rules.id (rules.row_list s).rows row
 
 abbrev pub IsFit : State → View → Type 0
 IsFit s (VrfView row) = FitsOn vrf_rules s row

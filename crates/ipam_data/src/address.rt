@@ -94,7 +94,7 @@ impl IpAddress {
         self.description.bounds();
     }
 
-    /// The address that a draft of one makes under an id. `Err` is want of memory.
+    /// The address that a draft of one makes under an id. `Err` means out of memory.
     pub fn drafted(id: u32, draft: &Draft) -> Result<IpAddress, AllocError>
         requires { kind_of_draft draft.now ≡ Addresses }
         ensures { IfOk result (λ row. drafted id draft.now ≡ AddressView row) }
@@ -121,7 +121,7 @@ impl IpAddress {
     }
 
     /// The address that an edit leaves: a field that is not given stays, and an edit of another kind changes nothing. `Err` is
-    /// want of memory.
+    /// out of memory.
     pub fn edited(&self, edit: &Edit) -> Result<IpAddress, AllocError>
         ensures { IfOk result (λ row. row ≡ edited_address edit.now self.now) }
     {
@@ -146,7 +146,7 @@ impl IpAddress {
         }
     }
 
-    /// The same row again. `Err` is want of memory.
+    /// The same row again. `Err` means out of memory.
     pub fn copy(&self) -> Result<IpAddress, AllocError>
         ensures { IfOk result (λ row. row ≡ self.now) }
     {

@@ -35,7 +35,7 @@ impl Aggregate {
         self.description.bounds();
     }
 
-    /// The aggregate that a draft of one makes under an id. `Err` is want of memory.
+    /// The aggregate that a draft of one makes under an id. `Err` means out of memory.
     pub fn drafted(id: u32, draft: &Draft) -> Result<Aggregate, AllocError>
         requires { kind_of_draft draft.now ≡ Aggregates }
         ensures { IfOk result (λ row. drafted id draft.now ≡ AggregateView row) }
@@ -56,7 +56,7 @@ impl Aggregate {
     }
 
     /// The aggregate that an edit leaves: a field that is not given stays, and an edit of another kind changes nothing. `Err` is
-    /// want of memory.
+    /// out of memory.
     pub fn edited(&self, edit: &Edit) -> Result<Aggregate, AllocError>
         ensures { IfOk result (λ row. row ≡ edited_aggregate edit.now self.now) }
     {
@@ -75,7 +75,7 @@ impl Aggregate {
         }
     }
 
-    /// The same row again. `Err` is want of memory.
+    /// The same row again. `Err` means out of memory.
     pub fn copy(&self) -> Result<Aggregate, AllocError>
         ensures { IfOk result (λ row. row ≡ self.now) }
     {

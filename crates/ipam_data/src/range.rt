@@ -123,7 +123,7 @@ impl IpRange {
     }
 
     /// The range that an edit leaves, where its ends are of one family and have one mask: a field that is not given stays, an end
-    /// that is not given keeps the row's mask, and an edit of another kind changes nothing. `Err` is want of memory.
+    /// that is not given keeps the row's mask, and an edit of another kind changes nothing. `Err` means out of memory.
     pub fn edited(&self, edit: &Edit) -> Result<IpRange, AllocError>
         requires { first (told_of_change edit.now self.now) ≡ None }
         ensures { IfOk result (λ row. row ≡ edited_range edit.now self.now) }
@@ -153,7 +153,7 @@ impl IpRange {
         }
     }
 
-    /// The same row again. `Err` is want of memory.
+    /// The same row again. `Err` means out of memory.
     pub fn copy(&self) -> Result<IpRange, AllocError>
         ensures { IfOk result (λ row. row ≡ self.now) }
     {

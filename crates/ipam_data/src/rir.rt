@@ -35,7 +35,7 @@ impl Rir {
         self.description.bounds();
     }
 
-    /// The RIR that a draft of one makes under an id. `Err` is want of memory.
+    /// The RIR that a draft of one makes under an id. `Err` means out of memory.
     pub fn drafted(id: u32, draft: &Draft) -> Result<Rir, AllocError>
         requires { kind_of_draft draft.now ≡ Rirs }
         ensures { IfOk result (λ row. drafted id draft.now ≡ RirView row) }
@@ -58,7 +58,7 @@ impl Rir {
     }
 
     /// The RIR that an edit leaves: a field that is not given stays, and an edit of another kind changes nothing. `Err` is
-    /// want of memory.
+    /// out of memory.
     pub fn edited(&self, edit: &Edit) -> Result<Rir, AllocError>
         ensures { IfOk result (λ row. row ≡ edited_rir edit.now self.now) }
     {
@@ -79,7 +79,7 @@ impl Rir {
         }
     }
 
-    /// The same row again. `Err` is want of memory.
+    /// The same row again. `Err` means out of memory.
     pub fn copy(&self) -> Result<Rir, AllocError>
         ensures { IfOk result (λ row. row ≡ self.now) }
     {

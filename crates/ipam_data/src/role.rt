@@ -36,7 +36,7 @@ impl Role {
         self.description.bounds();
     }
 
-    /// The role that a draft of one makes under an id. `Err` is want of memory.
+    /// The role that a draft of one makes under an id. `Err` means out of memory.
     pub fn drafted(id: u32, draft: &Draft) -> Result<Role, AllocError>
         requires { kind_of_draft draft.now ≡ Roles }
         ensures { IfOk result (λ row. drafted id draft.now ≡ RoleView row) }
@@ -59,7 +59,7 @@ impl Role {
     }
 
     /// The role that an edit leaves: a field that is not given stays, and an edit of another kind changes nothing. `Err` is
-    /// want of memory.
+    /// out of memory.
     pub fn edited(&self, edit: &Edit) -> Result<Role, AllocError>
         ensures { IfOk result (λ row. row ≡ edited_role edit.now self.now) }
     {
@@ -80,7 +80,7 @@ impl Role {
         }
     }
 
-    /// The same row again. `Err` is want of memory.
+    /// The same row again. `Err` means out of memory.
     pub fn copy(&self) -> Result<Role, AllocError>
         ensures { IfOk result (λ row. row ≡ self.now) }
     {

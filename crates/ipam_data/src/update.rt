@@ -37,7 +37,7 @@ impl Ids {
         self.items.as_slice()
     }
 
-    /// The same list again. `Err` is want of memory.
+    /// The same list again. `Err` means out of memory.
     pub fn copy(&self, alloc: Global) -> Result<Ids, AllocError>
         ensures { IfOk result (λ i. i ≡ self.now) }
     {

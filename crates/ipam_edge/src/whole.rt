@@ -18,7 +18,7 @@ pub enum Unread {
     Failed,
     /// It has more bytes than the limit. It is not read to its end.
     TooLong,
-    /// Want of memory.
+    /// Out of memory.
     Memory,
 }
 

@@ -29,7 +29,7 @@ pub after : {E : Type 0} {r : Result (Unit {0}) E} {u : Unit {0}} {old mid new :
 after {r = r} {old = old} {mid = mid} {new = new} {a = a} {b = b} h k =
     record { before = k.before ∙ h.before; tokens = join r old mid new a b h.tokens k.tokens }
 
--- some pieces, and then want of memory
+-- some pieces, and then out of memory
 pub failed : {E : Type 0} {u : Unit {0}} {e : E} {old mid new : Written} {a b : List Token}
     → Puts {E = E} (Ok u) old mid a → Puts {E = E} (Err e) mid new b → (c : List Token) → Puts {E = E} (Err e) old new c
 failed h k c = record { before = k.before ∙ h.before; tokens = tt }

@@ -45,7 +45,7 @@ given_member key read (Some d) = given (field key (read (Some d)))
 abbrev pub read_given : {A : Type 0} → FieldName → (Option Data → Option A) → Data → Result (Option A) Refusal
 read_given name read d = given_member name read (value_of name d)
 
--- the answer is as it should be, or want of memory
+-- the answer is as it should be, or out of memory
 abbrev pub OrMemory : {A : Type 0} → (Result A Refusal → Type 0) → Result A Refusal → Type 0
 OrMemory IsRight (Ok a) = IsRight (Ok a)
 OrMemory IsRight (Err refusal) = (refusal ≡ Memory) ⊎ IsRight (Err refusal)

@@ -21,7 +21,7 @@ fn push_all(text: &mut ArrayVec<u8, 128>, more: &[u8])
     }
 }
 
-/// The JSON text of a refusal whose detail names nothing: want of memory, and what is refused before a body is read, among them.
+/// The JSON text of a refusal whose detail names nothing: out of memory, and what is refused before a body is read, among them.
 /// It takes no memory.
 pub fn fixed_refusal_bytes(refusal: &Refusal) -> ArrayVec<u8, 128>
     requires { is_fixed refusal.now ≡ true }

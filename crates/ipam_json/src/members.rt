@@ -22,7 +22,7 @@ pub(crate) fn member(body: &Value, name: FieldName) -> Option<&Value>
     body.get(field_name(name))
 }
 
-/// A text of the caller's, or want of memory.
+/// A text of the caller's, or out of memory.
 fn owned(alloc: Global, text: &str) -> Result<String, Refusal>
     ensures ok { IfOk result (λ s. string_bytes s ≡ text.now) }
     ensures err { IfErr result (λ e. e ≡ Memory) }

@@ -117,7 +117,7 @@ fn put_reply(
 }
 
 /// The JSON text of a reply: compact, with the members of each object in the byte order of their names, and no text where a
-/// row is gone. The links are those of a page; no other reply has any. `Err` is want of memory.
+/// row is gone. The links are those of a page; no other reply has any. `Err` means out of memory.
 pub fn reply_bytes(alloc: Global, reply: &Reply, links: &Links) -> Result<Vec<u8>, AllocError>
     ensures { IfOk result (λ v. v.items ≡ reply_text reply.now links.now) }
 {
@@ -126,7 +126,7 @@ pub fn reply_bytes(alloc: Global, reply: &Reply, links: &Links) -> Result<Vec<u8
     Ok(writer.into_inner())
 }
 
-/// The JSON text of a refusal, which is that of a reply that is refused so. `Err` is want of memory.
+/// The JSON text of a refusal, which is that of a reply that is refused so. `Err` means out of memory.
 pub fn refusal_bytes(alloc: Global, refusal: &Refusal) -> Result<Vec<u8>, AllocError>
     ensures { IfOk result (λ v. v.items ≡ refusal_text refusal.now) }
 {
@@ -135,7 +135,7 @@ pub fn refusal_bytes(alloc: Global, refusal: &Refusal) -> Result<Vec<u8>, AllocE
     Ok(writer.into_inner())
 }
 
-/// Appends the JSON text of a reply. After want of memory `out` is as before.
+/// Appends the JSON text of a reply. After out of memory `out` is as before.
 pub fn write_reply(
     alloc: Global,
     reply: &Reply,

@@ -2,8 +2,8 @@
 use Rattle.std.proofs.Common.{subst, ◌≡◌, ℕ, zero, suc, ◌+◌, ◌<◌, ◌≤◌, ◌==◌, nat_lt, Bool, true, false, cond, List, [], ◌∷◌, ◌++◌, length, take, drop, get_or, Some, None, MatchBool, refl, ap, sym, ◌∙◌, arith, add-one, if◌then◌else◌}
 use Rattle.std.specs.List.{slice_set}
 use Rattle.std.proofs.lemmas.Bool.Decides.{nat_tests}
-use Rattle.ipam_data.specs.Shelf.{row_at, placed, Rises}
-use Rattle.ipam_data.proofs.Shelves.{eq_true, eq_false}
+use Rattle.ipam_data.specs.RowList.{row_at, placed, Rises}
+use Rattle.ipam_data.proofs.RowLists.{eq_true, eq_false}
 use Rattle.ipam_data.proofs.Placed.{lt_true, lt_false, is_ne, is_eq, is_lt}
 use Rattle.placed_book.specs.RowBook.{place, IsAt}
 use Rattle.placed_book.proofs.RowPlaces.{any_default, is_at, place_from, none_at_place}

@@ -8,7 +8,7 @@ use ipam_data::update::Ids;
 use std::alloc::{AllocError, Global};
 use stored_tables::tables::{Rows, Tables};
 
-/// The tables without rows: version 1, and each next id is 1. `Err` is want of memory.
+/// The tables without rows: version 1, and each next id is 1. `Err` means out of memory.
 pub fn empty_tables(alloc: Global) -> Result<Tables, AllocError>
     ensures tables { IfOk result (λ t. t ≡ no_rows) }
     ensures order { IfOk result (λ t. AreTables t) }

@@ -15,7 +15,7 @@ use stored_tables::tables::{Change, Tables, Text};
 pub enum KeepFault {
     /// What it keeps could not be read or written.
     Failed,
-    /// Want of memory.
+    /// Out of memory.
     Memory,
 }
 

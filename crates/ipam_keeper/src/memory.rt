@@ -2,7 +2,7 @@
 
 ghost use Rattle.std.specs.Prelude.{◌≡◌, ◌↔◌, ℕ, ◌+◌, ◌<◌, ◌≤◌, ◌==◌, ◌⊎◌, Some, option_map, IfOk, OnOk, OnErr, IsTrue, IsErrOf, MatchResult, fold, vec_len, vec_capacity};
 ghost use Rattle.std.specs.List.{list_any};
-ghost use Rattle.ipam_data.specs.Shelf.{Rises, placed};
+ghost use Rattle.ipam_data.specs.RowList.{Rises, placed};
 ghost use Rattle.stored_tables.specs.Stored.{row_place, next_place, without_stored, changed};
 ghost use Rattle.stored_tables.specs.Order.{AreTables};
 ghost use Rattle.ipam_keeper.specs.Keeping.{Rose, IsTold};
@@ -31,7 +31,7 @@ pub struct MemoryKeeper {
 
 impl Model for MemoryKeeper {
     ghost use Rattle.std.specs.Prelude.{◌≤◌};
-    ghost use Rattle.ipam_data.specs.Shelf.{Rises};
+    ghost use Rattle.ipam_data.specs.RowList.{Rises};
     ghost use Rattle.stored_tables.specs.Stored.{row_place, next_place};
     ghost use Rattle.ipam_keeper.specs.Memory.{Held};
 
@@ -118,7 +118,7 @@ impl MemoryKeeper {
         fails
     }
 
-    /// Makes a change. `Err` is want of memory, and leaves the tables.
+    /// Makes a change. `Err` means out of memory, and leaves the tables.
     fn change(&mut self, change: &Change) -> Result<(), AllocError>
         ensures ok { OnOk result (self.new ≡ holding self.old (changed change.now self.old.tables)) }
         ensures err { OnErr result (self.new ≡ self.old) }

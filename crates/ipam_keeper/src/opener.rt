@@ -140,7 +140,7 @@ impl KeeperOpener for MemoryOpener {
     ghost faults = { λ o. o.faults };
 
     /// A keeper over the tables of this path, or over empty ones, of whose calls those of the numbers fail that the opener was
-    /// given. It is refused for want of memory alone.
+    /// given. It is refused for lack of memory alone.
     fn start(&mut self, path: Option<&Text>) -> Result<MemoryKeeper, KeepFault>
         ensures told { IfOk result (λ kept. Some kept.tables ≡ started (Some self.old.stored) (option_copied path.entry)) }
         ensures stays { Some self.new.stored ≡ Some self.old.stored }

@@ -1,7 +1,7 @@
 //! Lists that stand in the order of a number that each element has: rows by kind and id, next ids by kind.
 
 ghost use Rattle.std.specs.Prelude.{◌≡◌, ℕ, ◌+◌, ◌*◌, ◌<◌, ◌≤◌, None, MatchBool, IfSome, IfNone, length, fold, vec_len, vec_capacity};
-ghost use Rattle.ipam_data.specs.Shelf.{Rises, placed, without, row_at};
+ghost use Rattle.ipam_data.specs.RowList.{Rises, placed, without, row_at};
 ghost use Rattle.stored_tables.specs.Stored.{kind_number, place_of, row_place, next_place, without_stored};
 ghost use Rattle.placed_book.specs.RowBook.{place, IsAt};
 

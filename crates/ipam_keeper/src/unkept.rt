@@ -25,7 +25,7 @@ impl Keeper for Unkept {
 
     ghost faults = { λ k. 0 };
 
-    /// The empty tables. `Err` is want of memory alone.
+    /// The empty tables. `Err` means out of memory alone.
     fn load(&mut self) -> Result<Tables, KeepFault> {
         Ok(empty_tables(self.alloc)?)
     }

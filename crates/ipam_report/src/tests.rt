@@ -17,7 +17,7 @@ const TEXT: &str = "global
 10.0.1.0/24                                                                     256
 ";
 
-/// The block of a text, or want of memory.
+/// The block of a text, or out of memory.
 fn block(text: &str) -> Result<Block, AllocError> {
     match read_block(text.as_bytes()) {
         Ok(block) => Ok(block),

@@ -1,4 +1,4 @@
-//! The detail of a refusal. `Err` is want of memory.
+//! The detail of a refusal. `Err` means out of memory.
 
 ghost use Rattle.std.specs.Prelude.{◌≡◌, ◌++◌, IfOk, decimal, codes, string_bytes};
 ghost use Rattle.inet_num.specs.Text.{block_text_of};

@@ -1,4 +1,4 @@
-//! Refusals and openings as the commands print them, each without its line feed. `Err` is want of memory.
+//! Refusals and openings as the commands print them, each without its line feed. `Err` means out of memory.
 
 ghost use Rattle.std.specs.Prelude.{◌≡◌, IfOk, string_bytes};
 ghost use Rattle.ipam_words.specs.Lines as spec;

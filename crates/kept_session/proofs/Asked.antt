@@ -1,4 +1,4 @@
--- Where memory was wanting, the call of a request was not made, or it was and its answer is lost.
+-- Where memory ran out, the call of a request was not made, or it was and its answer is lost.
 use Rattle.std.proofs.Common.{◌≡◌, ℕ, List, OnErr, Result, Ok, Err, subst, refl, inl, inr, length, IfOk}
 use Rattle.ipam_data.specs.declared.calls.Call.{Call}
 use Rattle.ipam_json.specs.Bodies.{OrMemory}

@@ -1,4 +1,4 @@
--- Where no answer tells that the keeper failed, the answers are the plain register's, or tell that memory was wanting.
+-- Where no answer tells that the keeper failed, the answers are the plain register's, or tell that memory ran out.
 use Rattle.std.proofs.Common.{◌≡◌, ℕ, List, [], Option, Ok, Err, inl, inr, refl, sym, ◌∙◌, ap, arith}
 use Rattle.ipam_data.specs.declared.calls.Call.{Call}
 use Rattle.ipam_data.specs.declared.replies.Reply.{Reply}

@@ -22,7 +22,7 @@ tells_alike old new same = ((λ told. same ∙ told), (λ told. sym same ∙ tol
 abbrev seat : Standing → Bool → Attended
 seat standing tells = record { standing = standing; tells = tells }
 
--- where memory was wanting, all is as before or the answer is lost, and the keeper goes on so
+-- where memory ran out, all is as before or the answer is lost, and the keeper goes on so
 left : (old new : Standing) (before after : Bool) (request : Framed) → after ≡ before → IsLeft answers_kept old request new
     → IsLeft answers_telling (record { standing = old; tells = before }) request (record { standing = new; tells = after })
 left old new before after request same (inl stays) = inl (ap (λ (s : Standing). seat s after) stays ∙ ap (seat old) same)

@@ -1,5 +1,5 @@
 -- The answers of a register over a keeper that one connection has for itself: those of the plain register, one after another; but where
--- the keeper fails a call that no check refuses is answered so, and where memory is wanting a call is, and all stays.
+-- the keeper fails a call that no check refuses is answered so, and where memory runs out a call is, and all stays.
 use Rattle.std.specs.Prelude.{◌≡◌, ◌⊎◌, ℕ, Bool, List, [], length, Option, None, is_some, Result, Ok, Err}
 use Rattle.ipam_data.specs.declared.calls.Call.{Call}
 use Rattle.ipam_data.specs.declared.replies.Reply.{Reply}
@@ -37,7 +37,7 @@ pub record IsUnstored (old : Standing) (call : Call) (reply : Reply) (new : Stan
   pub seen : new.seen ≡ old.seen
   pub failed : IsRaised old.failed 1 new.failed
 
--- memory was wanting in the register, and all is as before
+-- memory ran out in the register, and all is as before
 pub record IsWanting (old : Standing) (reply : Reply) (new : Standing) : Type 0 where
   pub reply_is : reply ≡ Refused Memory
   pub stays : new ≡ old
@@ -55,7 +55,7 @@ abbrev pub IsAnswer : Standing → List ℕ → Asked → Answer → Standing �
 IsAnswer old target (Ok asked) answer new = IsTold old asked.0 asked.1 answer new
 IsAnswer old target (Err refusal) answer new = IsRefusedAnswer target refusal answer × (new ≡ old)
 
--- a request is answered as the plain register would, or the keeper failed, or memory was wanting; bytes that are none are answered by their
+-- a request is answered as the plain register would, or the keeper failed, or memory ran out; bytes that are none are answered by their
 -- refusal
 abbrev pub answers_kept : May Standing
 answers_kept =
@@ -64,7 +64,7 @@ answers_kept =
       refuses = IsFramingAnswer;
     }
 
--- a call was made and its answer is this; or memory was wanting, and all is as before, or the answer is lost
+-- a call was made and its answer is this; or memory ran out, and all is as before, or the answer is lost
 abbrev pub IsActed : {E : Type 0} → Standing → Call → Links → Result Written E → Standing → Type 0
 IsActed old call links (Ok reply) new = IsTold old call links (answer_of reply) new
 IsActed old call links (Err e) new = (new ≡ old) ⊎ ((answer : Answer) × IsTold old call links answer new)

@@ -24,7 +24,7 @@ use std::marker::PhantomData;
 /// The number under which the one caller's changes are noted.
 const CALLER: u32 = 0;
 
-/// Whether a refusal is want of memory.
+/// Whether a refusal means out of memory.
 fn is_want(refusal: &Refusal) -> bool
     ensures { MatchBool result (refusal.now ≡ Refusal.Memory) (refusal.now ≢ Refusal.Memory) }
 {
@@ -38,7 +38,7 @@ fn is_keepers(refusal: &Refusal) -> bool
     matches!(refusal, Refusal::Keeper)
 }
 
-/// Whether a reply is want of memory.
+/// Whether a reply means out of memory.
 fn is_memory(reply: &Reply) -> bool
     ensures { MatchBool result (reply.now ≡ Reply.Refused Refusal.Memory) (reply.now ≢ Reply.Refused Refusal.Memory) }
 {
@@ -83,7 +83,7 @@ fn place_of<K: Keeper>(register: &Register<K>) -> u64
     register.log().len() as u64
 }
 
-/// Lets the register answer a call, and writes the answer. The one error is want of memory for the answer, which is then lost.
+/// Lets the register answer a call, and writes the answer. The one error means out of memory for the answer, which is then lost.
 fn act<K: Keeper>(
     alloc: Global,
     register: &mut Register<K>,
@@ -104,7 +104,7 @@ fn act<K: Keeper>(
     answer
 }
 
-/// Writes the answer to a refused request of this target. The one error is want of memory, in this call or as what was refused.
+/// Writes the answer to a refused request of this target. The one error means out of memory, in this call or as what was refused.
 fn refuse(
     alloc: Global,
     routes: &Routes,
@@ -176,7 +176,7 @@ impl<'a, K: Keeper> Desk for KeptDesk<'a, K> {
 
 /// Serves one connection with a register of its own, from its first byte to its end, and notes its changes under the number 0. The
 /// table of routes is lent. `SourceFault` comes where a read failed, with all requests that lay whole in the bytes read answered;
-/// `SinkFault` where a write failed, with a shorter front of the last answer written; `Memory` where memory was wanting, before a call
+/// `SinkFault` where a write failed, with a shorter front of the last answer written; `Memory` where memory ran out, before a call
 /// reached the register or for the text of a reply that tells something else: that the register wanted memory is answered like any other
 /// reply. As many answers as `failed` says tell that the keeper failed, and the keeper
 /// failed at least as often. A keeper that tells its tables tells them at the end, and one that tells none goes on so.

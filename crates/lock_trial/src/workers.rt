@@ -160,7 +160,7 @@ fn hire(
     seat
 }
 
-/// Gives each list of calls to a thread of its own, and comes back with the tally and the workers when all have ended. None for want of memory.
+/// Gives each list of calls to a thread of its own, and comes back with the tally and the workers when all have ended. None for lack of memory.
 pub fn run<R: Threads + Wait + Sync>(
     rt: &R,
     alloc: Global,

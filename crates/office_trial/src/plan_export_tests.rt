@@ -14,7 +14,7 @@ use ipam_data::text::{Bounded, Name, Tested, Weight};
 use ipam_data::update::Update;
 use plan_export::rows_of;
 use register_plans::plan_draft;
-use register_tables::{Planned, Shelves};
+use register_tables::{Planned, RowTables};
 use std::alloc::{AllocError, Global};
 use std::test::Fail;
 
@@ -28,7 +28,7 @@ prefix in blue as core
 prefix in global as none
 ";
 
-/// A text within bounds; one that is not is told as want of memory.
+/// A text within bounds; one that is not is told as out of memory.
 fn text<B: Tested>(alloc: Global, text: &str) -> Result<Bounded<B>, AllocError> {
     match Bounded::of(String::from_str(alloc, text)?) {
         Some(text) => Ok(text),
@@ -36,7 +36,7 @@ fn text<B: Tested>(alloc: Global, text: &str) -> Result<Bounded<B>, AllocError> 
     }
 }
 
-/// A block; a text that is none is told as want of memory.
+/// A block; a text that is none is told as out of memory.
 fn block(text: &str) -> Result<Block, AllocError> {
     match read_block(text.as_bytes()) {
         Ok(block) => Ok(block),
@@ -100,15 +100,15 @@ fn prefix(alloc: Global, block: Block, id: Option<u32>) -> Result<Draft, AllocEr
 }
 
 /// Makes an update that leaves a lawful state.
-fn commit(shelves: &mut Shelves, update: Update) -> Result<(), AllocError>
-    requires old { IsLawful (state_of shelves.old) }
-    requires can { CanUpdate (state_of shelves.old) update }
-    requires lawful { IsLawful (updated (state_of shelves.old) update) }
-    ensures { OnOk result (IsLawful (state_of shelves.new)) }
+fn commit(row_tables: &mut RowTables, update: Update) -> Result<(), AllocError>
+    requires old { IsLawful (state_of row_tables.old) }
+    requires can { CanUpdate (state_of row_tables.old) update }
+    requires lawful { IsLawful (updated (state_of row_tables.old) update) }
+    ensures { OnOk result (IsLawful (state_of row_tables.new)) }
 {
-    match shelves.reserve(update.puts.as_slice()) {
+    match row_tables.reserve(update.puts.as_slice()) {
         Ok(()) => {
-            shelves.update(update);
+            row_tables.update(update);
             Ok(())
         }
         Err(error) => {
@@ -118,17 +118,17 @@ fn commit(shelves: &mut Shelves, update: Update) -> Result<(), AllocError>
     }
 }
 
-/// Makes the record of a draft; one that is refused is told as want of memory.
-fn make(shelves: &mut Shelves, draft: &Draft) -> Result<(), AllocError>
-    requires { IsLawful (state_of shelves.old) }
-    ensures { OnOk result (IsLawful (state_of shelves.new)) }
+/// Makes the record of a draft; one that is refused is told as out of memory.
+fn make(row_tables: &mut RowTables, draft: &Draft) -> Result<(), AllocError>
+    requires { IsLawful (state_of row_tables.old) }
+    ensures { OnOk result (IsLawful (state_of row_tables.new)) }
 {
     draft.bounds();
-    let planned = plan_draft(shelves, draft)?;
+    let planned = plan_draft(row_tables, draft)?;
     match planned {
         Planned::Change(update, reply) => {
             drop(reply);
-            commit(shelves, update)
+            commit(row_tables, update)
         }
         Planned::Read(reply) => {
             drop(reply);
@@ -142,26 +142,26 @@ fn make(shelves: &mut Shelves, draft: &Draft) -> Result<(), AllocError>
 }
 
 /// The same of a draft that is given away.
-fn put(shelves: &mut Shelves, draft: Draft) -> Result<(), AllocError>
-    requires { IsLawful (state_of shelves.old) }
-    ensures { OnOk result (IsLawful (state_of shelves.new)) }
+fn put(row_tables: &mut RowTables, draft: Draft) -> Result<(), AllocError>
+    requires { IsLawful (state_of row_tables.old) }
+    ensures { OnOk result (IsLawful (state_of row_tables.new)) }
 {
-    let made = make(shelves, &draft);
+    let made = make(row_tables, &draft);
     drop(draft);
     made
 }
 
 /// A VRF, a RIR, a role, an aggregate of the RIR, and two prefixes, the first one of the VRF and the role.
-fn fill(alloc: Global, shelves: &mut Shelves) -> Result<(), AllocError>
-    requires { IsLawful (state_of shelves.old) }
-    ensures { OnOk result (IsLawful (state_of shelves.new)) }
+fn fill(alloc: Global, row_tables: &mut RowTables) -> Result<(), AllocError>
+    requires { IsLawful (state_of row_tables.old) }
+    ensures { OnOk result (IsLawful (state_of row_tables.new)) }
 {
-    put(shelves, vrf(alloc)?)?;
-    put(shelves, rir(alloc)?)?;
-    put(shelves, role(alloc)?)?;
-    put(shelves, aggregate(alloc, block("10.0.0.0/8")?)?)?;
-    put(shelves, prefix(alloc, block("10.0.0.0/24")?, Some(1))?)?;
-    put(shelves, prefix(alloc, block("10.0.1.0/24")?, None)?)
+    put(row_tables, vrf(alloc)?)?;
+    put(row_tables, rir(alloc)?)?;
+    put(row_tables, role(alloc)?)?;
+    put(row_tables, aggregate(alloc, block("10.0.0.0/8")?)?)?;
+    put(row_tables, prefix(alloc, block("10.0.0.0/24")?, Some(1))?)?;
+    put(row_tables, prefix(alloc, block("10.0.1.0/24")?, None)?)
 }
 
 /// The name, or the word for none.
@@ -192,12 +192,12 @@ fn words(alloc: Global, row: &ImportRow) -> Result<String, AllocError> {
 fn put_kind(
     alloc: Global,
     out: &mut String,
-    shelves: &Shelves,
+    row_tables: &RowTables,
     kind: Kind,
 ) -> Result<(), AllocError>
-    requires { IsLawful (state_of shelves.now) }
+    requires { IsLawful (state_of row_tables.now) }
 {
-    let rows = rows_of(shelves, kind)?;
+    let rows = rows_of(row_tables, kind)?;
     for row in &rows {
         let words = words(alloc, row)?;
         out.push_str(words.as_str())?;
@@ -206,26 +206,26 @@ fn put_kind(
 }
 
 /// The export of the small register in words.
-fn told_in(alloc: Global, shelves: &mut Shelves) -> Result<String, AllocError>
-    requires { IsLawful (state_of shelves.old) }
+fn told_in(alloc: Global, row_tables: &mut RowTables) -> Result<String, AllocError>
+    requires { IsLawful (state_of row_tables.old) }
 {
-    fill(alloc, shelves)?;
+    fill(alloc, row_tables)?;
     let mut out = String::new(alloc);
-    put_kind(alloc, &mut out, shelves, Kind::Vrfs)?;
-    put_kind(alloc, &mut out, shelves, Kind::Rirs)?;
-    put_kind(alloc, &mut out, shelves, Kind::Roles)?;
-    put_kind(alloc, &mut out, shelves, Kind::Aggregates)?;
-    put_kind(alloc, &mut out, shelves, Kind::Prefixes)?;
-    put_kind(alloc, &mut out, shelves, Kind::Ranges)?;
-    put_kind(alloc, &mut out, shelves, Kind::Addresses)?;
+    put_kind(alloc, &mut out, row_tables, Kind::Vrfs)?;
+    put_kind(alloc, &mut out, row_tables, Kind::Rirs)?;
+    put_kind(alloc, &mut out, row_tables, Kind::Roles)?;
+    put_kind(alloc, &mut out, row_tables, Kind::Aggregates)?;
+    put_kind(alloc, &mut out, row_tables, Kind::Prefixes)?;
+    put_kind(alloc, &mut out, row_tables, Kind::Ranges)?;
+    put_kind(alloc, &mut out, row_tables, Kind::Addresses)?;
     Ok(out)
 }
 
-/// The same of new shelves, which are given away.
+/// The same of new tables in memory, which are given away.
 fn told(alloc: Global) -> Result<String, AllocError> {
-    let mut shelves = Shelves::new(alloc, true);
-    let told = told_in(alloc, &mut shelves);
-    drop(shelves);
+    let mut row_tables = RowTables::new(alloc, true);
+    let told = told_in(alloc, &mut row_tables);
+    drop(row_tables);
     told
 }
 

@@ -10,11 +10,11 @@ use ipam_data::kinds::Kind;
 use ipam_data::prefix::PrefixStatus;
 use ipam_data::text::{Description, Name};
 use plan_import::make_rows;
-use register_tables::Shelves;
+use register_tables::RowTables;
 use std::alloc::{AllocError, Global};
 use std::test::Fail;
 
-/// A name; a text that is none is told as want of memory.
+/// A name; a text that is none is told as out of memory.
 fn name(alloc: Global, text: &str) -> Result<Name, AllocError> {
     match Name::of(String::from_str(alloc, text)?) {
         Some(name) => Ok(name),
@@ -64,9 +64,9 @@ fn prefix(alloc: Global, block: &str) -> Result<ImportRow, AllocError>
 fn told(alloc: Global, kind: Kind, rows: &[ImportRow]) -> Result<String, AllocError>
     requires { AreOfKind kind rows.now }
 {
-    let mut shelves = Shelves::new(alloc, true);
-    let made = make_rows(&mut shelves, kind, rows);
-    drop(shelves);
+    let mut row_tables = RowTables::new(alloc, true);
+    let made = make_rows(&mut row_tables, kind, rows);
+    drop(row_tables);
     match made {
         Ok(done) => format!(in alloc; "{} {}", done.created, done.present),
         Err(halt) => format!(in alloc; "{:?}", halt),

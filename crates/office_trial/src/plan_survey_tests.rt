@@ -14,7 +14,7 @@ use ipam_data::text::{Bounded, Tested};
 use ipam_data::update::Update;
 use plan_survey::survey;
 use register_plans::plan_draft;
-use register_tables::{Planned, Shelves};
+use register_tables::{Planned, RowTables};
 use std::alloc::{AllocError, Global};
 use std::test::Fail;
 
@@ -27,7 +27,7 @@ const SURVEYED: &str = "\
 1 0 v4 167772160/16 0
 ";
 
-/// A text within bounds; one that is not is told as want of memory.
+/// A text within bounds; one that is not is told as out of memory.
 fn text<B: Tested>(alloc: Global, text: &str) -> Result<Bounded<B>, AllocError> {
     match Bounded::of(String::from_str(alloc, text)?) {
         Some(text) => Ok(text),
@@ -45,7 +45,7 @@ fn vrf(alloc: Global) -> Result<Draft, AllocError> {
     })
 }
 
-/// A container in the table of the VRF of an id, or in the global table; a text that is no block is told as want of memory.
+/// A container in the table of the VRF of an id, or in the global table; a text that is no block is told as out of memory.
 fn prefix(alloc: Global, block: &str, vrf: Option<u32>) -> Result<Draft, AllocError> {
     match read_block(block.as_bytes()) {
         Ok(block) => Ok(Draft::Prefix {
@@ -62,15 +62,15 @@ fn prefix(alloc: Global, block: &str, vrf: Option<u32>) -> Result<Draft, AllocEr
 }
 
 /// Makes an update that leaves a lawful state.
-fn commit(shelves: &mut Shelves, update: Update) -> Result<(), AllocError>
-    requires old { IsLawful (state_of shelves.old) }
-    requires can { CanUpdate (state_of shelves.old) update }
-    requires lawful { IsLawful (updated (state_of shelves.old) update) }
-    ensures { OnOk result (IsLawful (state_of shelves.new)) }
+fn commit(row_tables: &mut RowTables, update: Update) -> Result<(), AllocError>
+    requires old { IsLawful (state_of row_tables.old) }
+    requires can { CanUpdate (state_of row_tables.old) update }
+    requires lawful { IsLawful (updated (state_of row_tables.old) update) }
+    ensures { OnOk result (IsLawful (state_of row_tables.new)) }
 {
-    match shelves.reserve(update.puts.as_slice()) {
+    match row_tables.reserve(update.puts.as_slice()) {
         Ok(()) => {
-            shelves.update(update);
+            row_tables.update(update);
             Ok(())
         }
         Err(error) => {
@@ -80,17 +80,17 @@ fn commit(shelves: &mut Shelves, update: Update) -> Result<(), AllocError>
     }
 }
 
-/// Makes the record of a draft; one that is refused is told as want of memory.
-fn make(shelves: &mut Shelves, draft: &Draft) -> Result<(), AllocError>
-    requires { IsLawful (state_of shelves.old) }
-    ensures { OnOk result (IsLawful (state_of shelves.new)) }
+/// Makes the record of a draft; one that is refused is told as out of memory.
+fn make(row_tables: &mut RowTables, draft: &Draft) -> Result<(), AllocError>
+    requires { IsLawful (state_of row_tables.old) }
+    ensures { OnOk result (IsLawful (state_of row_tables.new)) }
 {
     draft.bounds();
-    let planned = plan_draft(shelves, draft)?;
+    let planned = plan_draft(row_tables, draft)?;
     match planned {
         Planned::Change(update, reply) => {
             drop(reply);
-            commit(shelves, update)
+            commit(row_tables, update)
         }
         Planned::Read(reply) => {
             drop(reply);
@@ -104,11 +104,11 @@ fn make(shelves: &mut Shelves, draft: &Draft) -> Result<(), AllocError>
 }
 
 /// The same of a draft that is given away.
-fn put(shelves: &mut Shelves, draft: Draft) -> Result<(), AllocError>
-    requires { IsLawful (state_of shelves.old) }
-    ensures { OnOk result (IsLawful (state_of shelves.new)) }
+fn put(row_tables: &mut RowTables, draft: Draft) -> Result<(), AllocError>
+    requires { IsLawful (state_of row_tables.old) }
+    ensures { OnOk result (IsLawful (state_of row_tables.new)) }
 {
-    let made = make(shelves, &draft);
+    let made = make(row_tables, &draft);
     drop(draft);
     made
 }
@@ -136,10 +136,10 @@ fn words(alloc: Global, line: &PrefixLine) -> Result<String, AllocError> {
 }
 
 /// The survey in words.
-fn surveyed(alloc: Global, shelves: &Shelves) -> Result<String, AllocError>
-    requires { IsLawful (state_of shelves.now) }
+fn surveyed(alloc: Global, row_tables: &RowTables) -> Result<String, AllocError>
+    requires { IsLawful (state_of row_tables.now) }
 {
-    let lines = survey(shelves)?;
+    let lines = survey(row_tables)?;
     let mut out = String::new(alloc);
     for line in &lines {
         let words = words(alloc, line)?;
@@ -149,31 +149,31 @@ fn surveyed(alloc: Global, shelves: &Shelves) -> Result<String, AllocError>
 }
 
 /// A VRF, and containers in its table and in the global one.
-fn fill(alloc: Global, shelves: &mut Shelves) -> Result<(), AllocError>
-    requires { IsLawful (state_of shelves.old) }
-    ensures { OnOk result (IsLawful (state_of shelves.new)) }
+fn fill(alloc: Global, row_tables: &mut RowTables) -> Result<(), AllocError>
+    requires { IsLawful (state_of row_tables.old) }
+    ensures { OnOk result (IsLawful (state_of row_tables.new)) }
 {
-    put(shelves, vrf(alloc)?)?;
-    put(shelves, prefix(alloc, "10.0.0.0/16", Some(1))?)?;
-    put(shelves, prefix(alloc, "2001:db8::/32", None)?)?;
-    put(shelves, prefix(alloc, "10.0.1.0/24", None)?)?;
-    put(shelves, prefix(alloc, "10.0.0.0/24", None)?)?;
-    put(shelves, prefix(alloc, "10.0.0.0/22", None)?)
+    put(row_tables, vrf(alloc)?)?;
+    put(row_tables, prefix(alloc, "10.0.0.0/16", Some(1))?)?;
+    put(row_tables, prefix(alloc, "2001:db8::/32", None)?)?;
+    put(row_tables, prefix(alloc, "10.0.1.0/24", None)?)?;
+    put(row_tables, prefix(alloc, "10.0.0.0/24", None)?)?;
+    put(row_tables, prefix(alloc, "10.0.0.0/22", None)?)
 }
 
 /// The survey of the small register in words.
-fn told_in(alloc: Global, shelves: &mut Shelves) -> Result<String, AllocError>
-    requires { IsLawful (state_of shelves.old) }
+fn told_in(alloc: Global, row_tables: &mut RowTables) -> Result<String, AllocError>
+    requires { IsLawful (state_of row_tables.old) }
 {
-    fill(alloc, shelves)?;
-    surveyed(alloc, shelves)
+    fill(alloc, row_tables)?;
+    surveyed(alloc, row_tables)
 }
 
-/// The same of new shelves, which are given away.
+/// The same of new tables in memory, which are given away.
 fn told(alloc: Global) -> Result<String, AllocError> {
-    let mut shelves = Shelves::new(alloc, true);
-    let told = told_in(alloc, &mut shelves);
-    drop(shelves);
+    let mut row_tables = RowTables::new(alloc, true);
+    let told = told_in(alloc, &mut row_tables);
+    drop(row_tables);
     told
 }
 

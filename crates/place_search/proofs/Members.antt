@@ -3,7 +3,7 @@ use Rattle.std.proofs.Common.{◌≡◌, ℕ, ◌++◌, ◌&&◌, Bool, true, fa
 use Rattle.std.specs.List.{flat_map}
 use Rattle.std.proofs.lemmas.List.Concat.{flat_map-cons}
 use Rattle.std.proofs.lemmas.List.Elements.{Contains-append_left, Contains-append_right, Contains-append_cases}
-use Rattle.ipam_data.proofs.Shelves.{contains_cases, contains_head, contains_rest}
+use Rattle.ipam_data.proofs.RowLists.{contains_cases, contains_head, contains_rest}
 use Rattle.ipam_data.proofs.Kept.{contains_map}
 
 pub both : (a b : Bool) → (a && b) ≡ true → (a ≡ true) × (b ≡ true)

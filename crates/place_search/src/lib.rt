@@ -37,7 +37,7 @@ pub enum Area {
 
 /// The ids of the rows that are in one of the tables and whose block is in the area, rising, each once. `None` where it gives up:
 /// more than `MOST_CANDIDATES` rows are there, or some block there stands more than once in its table. A table that is not there has
-/// no rows. The one error is want of memory.
+/// no rows. The one error means out of memory.
 pub fn ids_in<T: Located + Drop>(
     alloc: Global,
     book: &PlacedBook<T, Tree>,

@@ -7,7 +7,7 @@ use std::alloc::AllocError;
 pub enum Stop {
     /// There are many rows, or a block stands more than once in its table.
     Many,
-    /// Want of memory.
+    /// Out of memory.
     Memory,
 }
 

@@ -3,7 +3,7 @@ use Rattle.std.proofs.Common.{◌≡◌, ◌≢◌, ℕ, zero, suc, ◌+◌, ◌
 use Rattle.std.specs.List.{swap_remove}
 use Rattle.std.proofs.lemmas.Bool.Decides.{nat_tests}
 use Rattle.std.proofs.lemmas.Option.{slice_get_within, slice_get-get_or, get_or_from_slice_get}
-use Rattle.ipam_data.specs.Shelf.{row_at, row_after, with_row, without, Rises}
+use Rattle.ipam_data.specs.RowList.{row_at, row_after, with_row, without, Rises}
 use Rattle.placed_book.specs.RowBook.{place, IsAt, IsFitting}
 use Rattle.placed_book.proofs.RowPlaces.{all_above, none_below, eq_true, eq_false, row_at_index, after_place, set_at, remove_at, with_row_new, rises_with, rises_without}
 use Rattle.placed_book.specs.declared.indexed.Entry.{Entry}

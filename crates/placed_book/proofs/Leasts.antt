@@ -8,7 +8,7 @@ use Rattle.inet_num.specs.declared.Family.{Family}
 use Rattle.inet_num.specs.declared.Family.TheVariants.{V4, V6}
 use Rattle.inet_num.specs.Net.{Cidr, width_of}
 use Rattle.ipam_data.specs.declared.kinds.Table.{Table}
-use Rattle.ipam_data.specs.Shelf.{row_at, with_row, without, least, Rises, AllBelow}
+use Rattle.ipam_data.specs.RowList.{row_at, with_row, without, least, Rises, AllBelow}
 use Rattle.ipam_data.specs.Tables.{table_of, same_table}
 use Rattle.inet_num.specs.Blocks.{same_block}
 use Rattle.placed_book.specs.RowBook.{IsFitting}
@@ -21,7 +21,7 @@ use Rattle.placed_book.specs.Firsts.{is_at, first_at, spot_of, same_spot, HasFir
 use Rattle.placed_book.proofs.Lookups.{same_numbers, one_table, same_self}
 use Rattle.placed_book.proofs.Orders.{both, is_block, same_block-refl}
 use Rattle.placed_book.proofs.Places.{places_at, places_with, places_without, places_rise}
-use Rattle.ipam_data.proofs.Shelves.{find_none}
+use Rattle.ipam_data.proofs.RowLists.{find_none}
 use Rattle.placed_book.proofs.Rows.{found_row}
 use Rattle.placed_book.proofs.Meetings.{rival_where}
 

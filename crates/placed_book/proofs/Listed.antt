@@ -5,7 +5,7 @@ use Rattle.std.specs.HashMap.{HashMap, get}
 use Rattle.inet_num.specs.Net.{Cidr}
 use Rattle.ipam_data.specs.declared.kinds.Table.{Table}
 use Rattle.ipam_data.specs.declared.kinds.Table.TheVariants.{Global, Of}
-use Rattle.ipam_data.specs.Shelf.{least}
+use Rattle.ipam_data.specs.RowList.{least}
 use Rattle.block_space.specs.Listed.{times_of}
 use Rattle.placed_book.specs.declared.firsts.Spot.{Spot}
 use Rattle.placed_book.specs.Book.{Placed, placed_id, TableBlocks, blocks_at, AreInOrder}

@@ -5,7 +5,7 @@ use Rattle.std.proofs.lemmas.Bool.Decides.{nat_tests}
 use Rattle.std.specs.Option.{option_or}
 use Rattle.inet_num.specs.Net.{Cidr}
 use Rattle.ipam_data.specs.declared.kinds.Table.{Table}
-use Rattle.ipam_data.specs.Shelf.{row_at, least, least_pair, Rises}
+use Rattle.ipam_data.specs.RowList.{row_at, least, least_pair, Rises}
 use Rattle.ipam_data.specs.Tables.{table_of, same_table}
 use Rattle.inet_num.specs.Blocks.{same_family, same_block}
 use Rattle.placed_book.proofs.RowPlaces.{none_below, eq_false}

@@ -6,7 +6,7 @@ use Rattle.inet_num.specs.declared.Family.{Family}
 use Rattle.inet_num.specs.Net.{Cidr}
 use Rattle.block_space.specs.Listed.{times_of}
 use Rattle.ipam_data.specs.declared.kinds.Table.{Table}
-use Rattle.ipam_data.specs.Shelf.{row_at, with_row, without, Rises}
+use Rattle.ipam_data.specs.RowList.{row_at, with_row, without, Rises}
 use Rattle.ipam_data.specs.Tables.{table_of}
 use Rattle.inet_num.specs.Blocks.{same_block, is_strictly_inside, distinct}
 use Rattle.placed_book.specs.Book.{Placed, placed_id, TableBlocks, is_there, blocks_at, blocks_of_family, blocks_of_rows, AreInOrder, AreAll}

@@ -1,6 +1,6 @@
 -- The places of rows: what a look-up, a put and a cut among rows are among their places.
 use Rattle.std.proofs.Common.{◌≡◌, ℕ, suc, ◌+◌, ◌==◌, Bool, true, false, not, cond, List, [], ◌∷◌, length, map, Some, option_map, refl, ap, sym, ◌∙◌, subst, arith, if◌then◌else◌}
-use Rattle.ipam_data.specs.Shelf.{row_at, with_row, without, Rises, AllBelow}
+use Rattle.ipam_data.specs.RowList.{row_at, with_row, without, Rises, AllBelow}
 use Rattle.placed_book.proofs.RowPlaces.{eq_false}
 use Rattle.placed_book.specs.Book.{Placed, placed_id}
 

@@ -1,7 +1,7 @@
 -- Where a row stands among rows in the order of their ids, and what putting one and taking one away does there.
 use Rattle.std.proofs.Common.{◌≡◌, ◌≢◌, ℕ, zero, suc, ◌+◌, ◌<◌, ◌≤◌, ◌==◌, nat_lt, Bool, true, false, not, cond, List, [], ◌∷◌, ◌++◌, length, Some, None, set, remove, get_or, refl, ap, sym, ◌∙◌, arith, if◌then◌else◌, IsSome, ◌⊎◌, inl, inr, slice_get}
 use Rattle.std.proofs.lemmas.Bool.Decides.{nat_tests}
-use Rattle.ipam_data.specs.Shelf.{row_at, row_after, with_row, without, Rises, AllBelow}
+use Rattle.ipam_data.specs.RowList.{row_at, row_after, with_row, without, Rises, AllBelow}
 use Rattle.placed_book.specs.RowBook.{place, IsAt}
 
 pub lt_true : (a b : ℕ) → a < b → nat_lt a b ≡ true

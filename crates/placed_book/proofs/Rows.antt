@@ -6,8 +6,8 @@ use Rattle.std.proofs.lemmas.List.Sorted.{IsPermutation-refl, IsPermutation-tran
 use Rattle.inet_num.specs.declared.Family.{Family}
 use Rattle.inet_num.specs.Net.{Cidr}
 use Rattle.ipam_data.specs.declared.kinds.Table.{Table}
-use Rattle.ipam_data.specs.Shelf.{row_at, with_row, without, Rises}
-use Rattle.ipam_data.proofs.Shelves.{contains_cases, contains_head, contains_rest}
+use Rattle.ipam_data.specs.RowList.{row_at, with_row, without, Rises}
+use Rattle.ipam_data.proofs.RowLists.{contains_cases, contains_head, contains_rest}
 use Rattle.placed_book.proofs.RowPlaces.{none_below, without_none}
 use Rattle.placed_book.specs.Book.{Placed, placed_id, TableBlocks, is_of, blocks_at, blocks_of_rows, AreInOrder}
 use Rattle.placed_book.proofs.Orders.{swapped}

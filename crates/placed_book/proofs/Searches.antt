@@ -2,7 +2,7 @@
 use Rattle.std.proofs.Common.{◌≡◌, ℕ, zero, suc, ◌+◌, ◌-◌, ◌<◌, ◌≤◌, Bool, true, false, cond, IsSome, List, [], ◌∷◌, length, take, drop, Some, None, find, slice_get, refl, ap, sym, subst, ◌∙◌, arith, option_map}
 use Rattle.std.specs.List.{count_by}
 use Rattle.std.specs.Option.{option_or}
-use Rattle.ipam_data.specs.Shelf.{least, least_pair, Rises}
+use Rattle.ipam_data.specs.RowList.{least, least_pair, Rises}
 use Rattle.placed_book.proofs.Orders.{count_yes, count_no}
 
 module _ {T : Type 0} where

@@ -6,7 +6,7 @@ use Rattle.std.proofs.lemmas.List.Sorted.{IsPermutation-sym, IsPermutation-trans
 use Rattle.inet_num.specs.declared.Family.{Family}
 use Rattle.inet_num.specs.Net.{Cidr}
 use Rattle.block_space.specs.Listed.{times_of, is_same}
-use Rattle.ipam_data.specs.Shelf.{row_at, with_row, without, Rises}
+use Rattle.ipam_data.specs.RowList.{row_at, with_row, without, Rises}
 use Rattle.inet_num.specs.Blocks.{same_family}
 use Rattle.placed_book.proofs.RowPlaces.{without_none}
 use Rattle.placed_book.specs.Book.{Placed, placed_id, TableBlocks, blocks_of_family, blocks_of_all, AreAll}

@@ -5,7 +5,7 @@ use Rattle.inet_num.specs.Net.{Cidr, width_of}
 use Rattle.ipam_data.specs.declared.kinds.Table.{Table}
 use Rattle.ipam_data.specs.Tables.{table_of, same_table}
 use Rattle.inet_num.specs.Blocks.{same_block}
-use Rattle.ipam_data.specs.Shelf.{least}
+use Rattle.ipam_data.specs.RowList.{least}
 use Rattle.placed_book.specs.declared.firsts.Spot.{Spot}
 use Rattle.placed_book.specs.Book.{Placed, placed_id, TableBlocks, AreInOrder, AreAll}
 use Rattle.placed_book.specs.Keys.{number_of}

@@ -3,7 +3,7 @@ use Rattle.std.specs.Prelude.{ℕ, ◌==◌, ◌&&◌, Bool, false, not, List, O
 use Rattle.ipam_data.specs.declared.kinds.Table.{Table}
 use Rattle.ipam_data.specs.Tables.{table_of, same_table}
 use Rattle.inet_num.specs.Blocks.{same_block}
-use Rattle.ipam_data.specs.Shelf.{row_at}
+use Rattle.ipam_data.specs.RowList.{row_at}
 use Rattle.placed_book.specs.Book.{Placed}
 
 -- the two rows are of one table

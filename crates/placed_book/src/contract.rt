@@ -1,7 +1,7 @@
 //! What all books of rows have in common.
 
 ghost use Rattle.std.specs.Prelude.{◌≡◌, ℕ, ◌+◌, ◌^◌, ◌<◌, ◌≤◌, List, OnOk, OnErr, length, option_copied, slice_get};
-ghost use Rattle.ipam_data.specs.Shelf.{row_at, row_after, with_row, without, Rises};
+ghost use Rattle.ipam_data.specs.RowList.{row_at, row_after, with_row, without, Rises};
 ghost use Rattle.placed_book.specs.RowBook.{IsFitting};
 
 use ipam_data::kinds::HasId;
@@ -37,7 +37,7 @@ pub trait Book: Sized {
     fn after(&self, id: u32) -> Option<&Self::Item>
         ensures { option_copied result ≡ row_after Self.Item.id_of (rows self.now) id };
 
-    /// Makes room for `n` more rows. `Err` is want of memory, and leaves the book as it was.
+    /// Makes room for `n` more rows. `Err` means out of memory, and leaves the book as it was.
     fn reserve(&mut self, n: u32) -> Result<(), AllocError>
         requires { length (rows self.old) + n < 2 ^ 30 }
         ensures rows { rows self.new ≡ rows self.old }

@@ -2,7 +2,7 @@
 //! slots, 8 bytes a row, is what moves when a row is taken out.
 
 ghost use Rattle.std.specs.Prelude.{◌≡◌, ℕ, [], option_copied, slice_get, vec_capacity};
-ghost use Rattle.ipam_data.specs.Shelf.{Rises};
+ghost use Rattle.ipam_data.specs.RowList.{Rises};
 ghost use Rattle.placed_book.specs.Indexed.{entry_id, resettled, IsOnlyFor};
 
 use crate::contract::Book;
@@ -60,7 +60,7 @@ pub struct IndexedBook<T: HasId> {
 
 impl<T: HasId> Model for IndexedBook<T> {
     ghost use Rattle.std.specs.Prelude.{◌≡◌, ◌+◌, ◌≤◌, ◌<◌, ◌^◌, vec_len, vec_capacity};
-    ghost use Rattle.ipam_data.specs.Shelf.{Rises};
+    ghost use Rattle.ipam_data.specs.RowList.{Rises};
     ghost use Rattle.placed_book.specs.RowBook.{Book, book_code};
 
     ghost Value = { Book T };

@@ -10,7 +10,7 @@
 ghost use Rattle.std.specs.Prelude.{◌≡◌, ◌↔◌, ℕ, ◌+◌, ◌^◌, ◌<◌, ◌≤◌, true, false, None, IfSome, IsSome, IfOk, OnOk, OnErr, MatchBool, IsPermutation, length, map, option_copied, slice_get};
 ghost use Rattle.inet_num.specs.declared.Family.{Family};
 ghost use Rattle.ipam_data.specs.declared.kinds.Table.{Table};
-ghost use Rattle.ipam_data.specs.Shelf.{row_at, row_after, with_row, without, least, least_pair, Rises};
+ghost use Rattle.ipam_data.specs.RowList.{row_at, row_after, with_row, without, least, least_pair, Rises};
 ghost use Rattle.ipam_data.specs.Tables.{table_of, same_table};
 ghost use Rattle.placed_book.specs.RowBook.{IsFitting};
 ghost use Rattle.placed_book.specs.Book.{Placed, TabledRows, empty_book, table_at, is_there, spare_of, blocks_at, blocks_of_family, blocks_of_rows, blocks_of_all, IsInOrder};
@@ -168,7 +168,7 @@ impl<T: Located + Drop, S: Space + Drop> PlacedBook<T, S> {
         self.rows.after(id)
     }
 
-    /// Makes room for `n` more rows. `Err` is want of memory, and leaves the book as it was.
+    /// Makes room for `n` more rows. `Err` means out of memory, and leaves the book as it was.
     pub fn reserve(&mut self, n: u32) -> Result<(), AllocError>
         requires order { IsInOrder T.placed self.old }
         requires few { length self.old.rows + n < 2 ^ 30 }
@@ -190,7 +190,7 @@ impl<T: Located + Drop, S: Space + Drop> PlacedBook<T, S> {
         Ok(())
     }
 
-    /// Makes the table where it is not there, and makes its room at least `n` rows of either family. `Err` is want of memory,
+    /// Makes the table where it is not there, and makes its room at least `n` rows of either family. `Err` means out of memory,
     /// and leaves the book as it was.
     pub fn reserve_table(&mut self, table: Table, n: u32) -> Result<(), AllocError>
         requires order { IsInOrder T.placed self.old }
@@ -294,7 +294,7 @@ impl<T: Located + Drop, S: Space + Drop> PlacedBook<T, S> {
     }
 
     /// The ids of the rows of a table with this block, in their order. Where the table has the block once or never, that is one
-    /// look-up of the least id there; else it looks at the rows. The one error is want of memory.
+    /// look-up of the least id there; else it looks at the rows. The one error means out of memory.
     pub fn ids_at(&self, alloc: Global, table: Table, block: Block) -> Result<Vec<u32>, AllocError>
         requires { IsInOrder T.placed self.now }
         ensures { IfOk result (λ v. v.items ≡ ids_at (map T.placed self.now.rows) table block) }

@@ -1,7 +1,7 @@
 //! Which rows are where another is: in its table, with its block.
 
 ghost use Rattle.std.specs.Prelude.{◌≡◌, ◌++◌, IfOk, OnOk, drop, map};
-ghost use Rattle.ipam_data.specs.Shelf.{least};
+ghost use Rattle.ipam_data.specs.RowList.{least};
 ghost use Rattle.placed_book.specs.Book.{AreInOrder};
 ghost use Rattle.placed_book.specs.Firsts.{HasFirsts, is_at, ids_at, one_if};
 ghost use Rattle.placed_book.specs.Rivals.{is_rival, stays_among};

@@ -1,7 +1,7 @@
 //! A book of rows side by side, in the order of their ids.
 
 ghost use Rattle.std.specs.Prelude.{◌≡◌, ℕ, [], None, IfSome, IfNone};
-ghost use Rattle.ipam_data.specs.Shelf.{row_at, Rises};
+ghost use Rattle.ipam_data.specs.RowList.{row_at, Rises};
 ghost use Rattle.placed_book.specs.RowBook.{place, IsAt};
 
 use crate::contract::Book;
@@ -54,7 +54,7 @@ pub struct RowBook<T: HasId> {
 
 impl<T: HasId> Model for RowBook<T> {
     ghost use Rattle.std.specs.Prelude.{◌+◌, ◌≤◌, ◌<◌, ◌^◌, vec_len, vec_capacity};
-    ghost use Rattle.ipam_data.specs.Shelf.{Rises};
+    ghost use Rattle.ipam_data.specs.RowList.{Rises};
     ghost use Rattle.placed_book.specs.RowBook.{Book, book_code};
 
     ghost Value = { Book T };

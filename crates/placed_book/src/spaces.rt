@@ -78,7 +78,7 @@ impl<S: Space> TableSpaces<S> {
         }
     }
 
-    /// Makes its room at least `n` blocks of either family. `Err` is want of memory, and leaves the table as it was.
+    /// Makes its room at least `n` blocks of either family. `Err` means out of memory, and leaves the table as it was.
     pub fn reserve(&mut self, n: u32) -> Result<(), AllocError>
         requires { (family : Family) → length (blocks_of_family self.old family) + n < 2 ^ 30 }
         ensures ok { OnOk result (IsRoomier n self.old self.new) }

@@ -3,7 +3,7 @@
 ghost use Rattle.std.specs.Prelude.{◌≡◌, ℕ, ◌+◌, ◌^◌, ◌<◌, ◌≤◌, ◌∷◌, [], true, IfOk, IfErr, OnOk, OnErr, length, option_copied};
 ghost use Rattle.inet_num.specs.declared.Family.{Family};
 ghost use Rattle.ipam_data.specs.declared.kinds.Table.TheVariants.{Global as GlobalTable};
-ghost use Rattle.ipam_data.specs.Shelf.{Rises};
+ghost use Rattle.ipam_data.specs.RowList.{Rises};
 ghost use Rattle.block_space.specs.Listed.{times_of};
 ghost use Rattle.placed_book.specs.RowBook.{IsAt};
 ghost use Rattle.placed_book.specs.Book.{TableBlocks, empty_table, table_at, is_there, spare_of, blocks_at};
@@ -64,7 +64,7 @@ pub struct Tables<S: Space> {
 impl<S: Space> Model for Tables<S> {
     ghost use Rattle.std.specs.Prelude.{◌≡◌, ◌∷◌, List};
     ghost use Rattle.ipam_data.specs.declared.kinds.Table.TheVariants.{Global as GlobalTable};
-    ghost use Rattle.ipam_data.specs.Shelf.{Rises};
+    ghost use Rattle.ipam_data.specs.RowList.{Rises};
     ghost use Rattle.placed_book.specs.Book.{TableBlocks};
     ghost use Rattle.placed_book.specs.Keys.{key_of};
 

@@ -10,7 +10,7 @@ use Rattle.ipam_data.specs.declared.prefix.Prefix.{Prefix}
 use Rattle.ipam_data.specs.declared.range.IpRange.{IpRange}
 use Rattle.ipam_data.specs.declared.address.IpAddress.{IpAddress}
 use Rattle.ipam_data.specs.Rows.{vrf_id, rir_id, role_id}
-use Rattle.ipam_data.specs.Shelf.{row_at}
+use Rattle.ipam_data.specs.RowList.{row_at}
 use Rattle.ipam_data.specs.Fields.{start_of, end_of}
 use Rattle.ipam_data.specs.State.{State}
 use Rattle.import_rows.specs.declared.rows.ImportRow.{ImportRow}

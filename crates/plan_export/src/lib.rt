@@ -1,4 +1,4 @@
-//! Exports over the register's shelves: the records of a kind as the rows of an import, in the order of their ids.
+//! Exports over the register's tables: the records of a kind as the rows of an import, in the order of their ids.
 #![tactic(auto)]
 
 ghost use Rattle.std.specs.Prelude.{◌≡◌, ◌<◌, Some, IfOk, length, map, slice_get};
@@ -19,46 +19,46 @@ use ipam_data::range::IpRange;
 use ipam_data::rir::Rir;
 use ipam_data::role::Role;
 use ipam_data::vrf::Vrf;
-use register_tables::Shelves;
+use register_tables::RowTables;
 use std::alloc::AllocError;
 
 /// The record at an index that is there.
-fn record_at<T: Exported>(shelves: &Shelves, index: u32) -> &T
-    requires { index < length (T.rules.shelf (state_of shelves.now)).rows }
-    ensures { Some result.now ≡ slice_get (T.rules.shelf (state_of shelves.now)).rows index }
+fn record_at<T: Exported>(row_tables: &RowTables, index: u32) -> &T
+    requires { index < length (T.rules.row_list (state_of row_tables.now)).rows }
+    ensures { Some result.now ≡ slice_get (T.rules.row_list (state_of row_tables.now)).rows index }
 {
-    match T::nth(shelves, index) {
+    match T::nth(row_tables, index) {
         Some(row) => row,
         None => unreachable!(),
     }
 }
 
 /// The rows of all records of a kind.
-fn all_rows<T: Exported>(shelves: &Shelves) -> Result<Vec<ImportRow>, AllocError>
-    requires { IsLawful (state_of shelves.now) }
-    ensures { IfOk result (λ v. v.items ≡ map (T.as_line (state_of shelves.now)) (T.rules.shelf (state_of shelves.now)).rows) }
+fn all_rows<T: Exported>(row_tables: &RowTables) -> Result<Vec<ImportRow>, AllocError>
+    requires { IsLawful (state_of row_tables.now) }
+    ensures { IfOk result (λ v. v.items ≡ map (T.as_line (state_of row_tables.now)) (T.rules.row_list (state_of row_tables.now)).rows) }
 {
-    let mut rows = Vec::new(shelves.allocator());
-    let count = T::count(shelves);
+    let mut rows = Vec::new(row_tables.allocator());
+    let count = T::count(row_tables);
     'records: for index in 0..count {
-        let row: &T = record_at(shelves, index);
-        rows.push(row.line(shelves)?)?;
+        let row: &T = record_at(row_tables, index);
+        rows.push(row.line(row_tables)?)?;
     }
     Ok(rows)
 }
 
-/// The rows of all records of a kind, as an import of them would have them. `Err` is want of memory.
-pub fn rows_of(shelves: &Shelves, kind: Kind) -> Result<Vec<ImportRow>, AllocError>
-    requires { IsLawful (state_of shelves.now) }
-    ensures { IfOk result (λ v. v.items ≡ exported (state_of shelves.now) kind) }
+/// The rows of all records of a kind, as an import of them would have them. `Err` means out of memory.
+pub fn rows_of(row_tables: &RowTables, kind: Kind) -> Result<Vec<ImportRow>, AllocError>
+    requires { IsLawful (state_of row_tables.now) }
+    ensures { IfOk result (λ v. v.items ≡ exported (state_of row_tables.now) kind) }
 {
     match kind {
-        Kind::Vrfs => all_rows::<Vrf>(shelves),
-        Kind::Rirs => all_rows::<Rir>(shelves),
-        Kind::Roles => all_rows::<Role>(shelves),
-        Kind::Aggregates => all_rows::<Aggregate>(shelves),
-        Kind::Prefixes => all_rows::<Prefix>(shelves),
-        Kind::Ranges => all_rows::<IpRange>(shelves),
-        Kind::Addresses => all_rows::<IpAddress>(shelves),
+        Kind::Vrfs => all_rows::<Vrf>(row_tables),
+        Kind::Rirs => all_rows::<Rir>(row_tables),
+        Kind::Roles => all_rows::<Role>(row_tables),
+        Kind::Aggregates => all_rows::<Aggregate>(row_tables),
+        Kind::Prefixes => all_rows::<Prefix>(row_tables),
+        Kind::Ranges => all_rows::<IpRange>(row_tables),
+        Kind::Addresses => all_rows::<IpAddress>(row_tables),
     }
 }

@@ -17,7 +17,7 @@ use ipam_data::rir::Rir;
 use ipam_data::role::Role;
 use ipam_data::vrf::{Vrf, copy_distinguisher};
 use register_plans::Registered;
-use register_tables::Shelves;
+use register_tables::RowTables;
 use std::alloc::AllocError;
 
 /// A kind of record that is exported.
@@ -25,16 +25,16 @@ pub(crate) trait Exported: Registered {
     ghost as_line: { State → Self → ImportRow };
 
     /// The row of an import that the record is; the record is one of a lawful register.
-    fn line(&self, shelves: &Shelves) -> Result<ImportRow, AllocError>
-        requires lawful { IsLawful (state_of shelves.now) }
-        requires there { Contains (Self.rules.shelf (state_of shelves.now)).rows self.now }
-        ensures { IfOk result (λ row. row ≡ as_line (state_of shelves.now) self.now) };
+    fn line(&self, row_tables: &RowTables) -> Result<ImportRow, AllocError>
+        requires lawful { IsLawful (state_of row_tables.now) }
+        requires there { Contains (Self.rules.row_list (state_of row_tables.now)).rows self.now }
+        ensures { IfOk result (λ row. row ≡ as_line (state_of row_tables.now) self.now) };
 }
 
 impl Exported for Vrf {
     ghost as_line = { vrf_line };
 
-    fn line(&self, _shelves: &Shelves) -> Result<ImportRow, AllocError> {
+    fn line(&self, _row_tables: &RowTables) -> Result<ImportRow, AllocError> {
         Ok(ImportRow::Vrf {
             name: self.name.copy()?,
             rd: copy_distinguisher(&self.rd)?,
@@ -47,7 +47,7 @@ impl Exported for Vrf {
 impl Exported for Rir {
     ghost as_line = { rir_line };
 
-    fn line(&self, _shelves: &Shelves) -> Result<ImportRow, AllocError> {
+    fn line(&self, _row_tables: &RowTables) -> Result<ImportRow, AllocError> {
         Ok(ImportRow::Rir {
             name: self.name.copy()?,
             slug: self.slug.copy()?,
@@ -60,7 +60,7 @@ impl Exported for Rir {
 impl Exported for Role {
     ghost as_line = { role_line };
 
-    fn line(&self, _shelves: &Shelves) -> Result<ImportRow, AllocError> {
+    fn line(&self, _row_tables: &RowTables) -> Result<ImportRow, AllocError> {
         Ok(ImportRow::Role {
             name: self.name.copy()?,
             slug: self.slug.copy()?,
@@ -73,10 +73,10 @@ impl Exported for Role {
 impl Exported for Aggregate {
     ghost as_line = { aggregate_line };
 
-    fn line(&self, shelves: &Shelves) -> Result<ImportRow, AllocError> {
+    fn line(&self, row_tables: &RowTables) -> Result<ImportRow, AllocError> {
         Ok(ImportRow::Aggregate {
             block: self.block,
-            rir: rir_name_of(shelves, self.rir)?,
+            rir: rir_name_of(row_tables, self.rir)?,
             description: self.description.copy()?,
         })
     }
@@ -85,12 +85,12 @@ impl Exported for Aggregate {
 impl Exported for Prefix {
     ghost as_line = { prefix_line };
 
-    fn line(&self, shelves: &Shelves) -> Result<ImportRow, AllocError> {
+    fn line(&self, row_tables: &RowTables) -> Result<ImportRow, AllocError> {
         Ok(ImportRow::Prefix {
             block: self.block,
-            vrf: vrf_name_of(shelves, self.vrf)?,
+            vrf: vrf_name_of(row_tables, self.vrf)?,
             status: self.status,
-            role: role_name_of(shelves, self.role)?,
+            role: role_name_of(row_tables, self.role)?,
             is_pool: self.is_pool,
             mark_utilized: self.mark_utilized,
             description: self.description.copy()?,
@@ -101,13 +101,13 @@ impl Exported for Prefix {
 impl Exported for IpRange {
     ghost as_line = { range_line };
 
-    fn line(&self, shelves: &Shelves) -> Result<ImportRow, AllocError> {
+    fn line(&self, row_tables: &RowTables) -> Result<ImportRow, AllocError> {
         Ok(ImportRow::IpRange {
             start: self.start(),
             end: self.end(),
-            vrf: vrf_name_of(shelves, self.vrf)?,
+            vrf: vrf_name_of(row_tables, self.vrf)?,
             status: self.status,
-            role: role_name_of(shelves, self.role)?,
+            role: role_name_of(row_tables, self.role)?,
             mark_utilized: self.mark_utilized,
             description: self.description.copy()?,
         })
@@ -117,13 +117,13 @@ impl Exported for IpRange {
 impl Exported for IpAddress {
     ghost as_line = { address_line };
 
-    fn line(&self, shelves: &Shelves) -> Result<ImportRow, AllocError> {
+    fn line(&self, row_tables: &RowTables) -> Result<ImportRow, AllocError> {
         Ok(ImportRow::IpAddress {
             host: self.host,
-            vrf: vrf_name_of(shelves, self.vrf)?,
+            vrf: vrf_name_of(row_tables, self.vrf)?,
             status: self.status,
             role: self.role,
-            dns_name: dns_text_of(shelves.allocator(), &self.dns_name)?,
+            dns_name: dns_text_of(row_tables.allocator(), &self.dns_name)?,
             description: self.description.copy()?,
         })
     }

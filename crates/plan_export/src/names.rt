@@ -2,46 +2,52 @@
 
 ghost use Rattle.std.specs.Prelude.{◌≡◌, IfOk, IsSome};
 ghost use Rattle.ipam_data.specs.Rows.{rir_id};
-ghost use Rattle.ipam_data.specs.Shelf.{row_at};
+ghost use Rattle.ipam_data.specs.RowList.{row_at};
 ghost use Rattle.plan_export.specs.Exported.{rir_name, role_name, vrf_name};
 
 use ipam_data::text::{DnsName, DnsText, Name};
 use placed_book::Book;
-use register_tables::Shelves;
+use register_tables::RowTables;
 use std::alloc::{AllocError, Global};
 
 /// The name of the VRF of an id.
-pub(crate) fn vrf_name_of(shelves: &Shelves, vrf: Option<u32>) -> Result<Option<Name>, AllocError>
-    ensures { IfOk result (λ name. name ≡ vrf_name shelves.now.vrfs.rows vrf) }
+pub(crate) fn vrf_name_of(
+    row_tables: &RowTables,
+    vrf: Option<u32>,
+) -> Result<Option<Name>, AllocError>
+    ensures { IfOk result (λ name. name ≡ vrf_name row_tables.now.vrfs.rows vrf) }
 {
     let Some(id) = vrf else {
         return Ok(None);
     };
-    match shelves.vrfs().get(id) {
+    match row_tables.vrfs().get(id) {
         Some(row) => Ok(Some(row.name.copy()?)),
         None => Ok(None),
     }
 }
 
 /// The name of the role of an id.
-pub(crate) fn role_name_of(shelves: &Shelves, role: Option<u32>) -> Result<Option<Name>, AllocError>
-    ensures { IfOk result (λ name. name ≡ role_name shelves.now.roles.rows role) }
+pub(crate) fn role_name_of(
+    row_tables: &RowTables,
+    role: Option<u32>,
+) -> Result<Option<Name>, AllocError>
+    ensures { IfOk result (λ name. name ≡ role_name row_tables.now.roles.rows role) }
 {
     let Some(id) = role else {
         return Ok(None);
     };
-    match shelves.roles().get(id) {
+    match row_tables.roles().get(id) {
         Some(row) => Ok(Some(row.name.copy()?)),
         None => Ok(None),
     }
 }
 
 /// The name of the RIR of an id, which is there.
-pub(crate) fn rir_name_of(shelves: &Shelves, rir: u32) -> Result<Name, AllocError>
-    requires { IsSome (row_at rir_id shelves.now.rirs.rows rir) }
-    ensures { IfOk result (λ name. name ≡ rir_name shelves.now.rirs.rows rir) }
+pub(crate) fn rir_name_of(row_tables: &RowTables, rir: u32) -> Result<Name, AllocError>
+    requires { IsSome (row_at rir_id row_tables.now.rirs.rows rir) }
+    ensures { IfOk result (λ name. name ≡ rir_name row_tables.now.rirs.rows rir) }
 {
-    match shelves.rirs().get(rir) {
+    match row_tables.rirs().get(rir) {
         Some(row) => row.name.copy(),
         None => unreachable!(),
     }

@@ -9,7 +9,7 @@ use Rattle.ipam_data.specs.declared.replies.Refusal.TheVariants.{Rule as Breaks}
 use Rattle.ipam_data.specs.declared.replies.View.{View}
 use Rattle.ipam_data.specs.declared.replies.View.TheVariants.{Vrf as VrfView, Rir as RirView, Role as RoleView, Aggregate as AggregateView, Prefix as PrefixView, IpRange as RangeView, IpAddress as AddressView}
 use Rattle.ipam_data.specs.Rows.{HasVrfBounds, HasRirBounds, HasRoleBounds, HasAggregateBounds, HasPrefixBounds, HasRangeBounds, HasAddressBounds}
-use Rattle.ipam_data.specs.Shelf.{AllBelow}
+use Rattle.ipam_data.specs.RowList.{AllBelow}
 use Rattle.ipam_data.specs.Checks.{first, breaks}
 use Rattle.ipam_data.specs.State.{State}
 use Rattle.ipam_data.specs.Plans.{KindRules, broken, no_seats, creation}
@@ -70,11 +70,11 @@ nothing_told s (AddressRow host vrf status role dns_name description) e = refl
 
 -- ---- the record that a row makes
 
-room_of : {T : Type 0} (rules : KindRules T) (s : State) (told : List (Option Rule)) (row : T) → first (creation rules s told row) ≡ None → (rules.shelf s).next + 1 ≤ 4294967295
+room_of : {T : Type 0} (rules : KindRules T) (s : State) (told : List (Option Rule)) (row : T) → first (creation rules s told row) ≡ None → (rules.row_list s).next + 1 ≤ 4294967295
 room_of rules s told row v =
-    (room_from rules.kind rules.most (length (rules.shelf s).rows) (rules.shelf s).next 1 (none_right (broken rules s None told row) (no_seats rules s 1) v)).ids
+    (room_from rules.kind rules.most (length (rules.row_list s).rows) (rules.row_list s).next 1 (none_right (broken rules s None told row) (no_seats rules s 1) v)).ids
 
-view_room : (s : State) (told : List (Option Rule)) (view : View) → first (by_view view (λ T rules row. creation rules s told row)) ≡ None → by_view view (λ T rules row. (rules.shelf s).next) + 1 ≤ 4294967295
+view_room : (s : State) (told : List (Option Rule)) (view : View) → first (by_view view (λ T rules row. creation rules s told row)) ≡ None → by_view view (λ T rules row. (rules.row_list s).next) + 1 ≤ 4294967295
 view_room s told (VrfView row) v = room_of vrf_rules s told row v
 view_room s told (RirView row) v = room_of rir_rules s told row v
 view_room s told (RoleView row) v = room_of role_rules s told row v
@@ -83,7 +83,7 @@ view_room s told (PrefixView row depth children) v = room_of prefix_rules s told
 view_room s told (RangeView row) v = room_of range_rules s told row v
 view_room s told (AddressView row) v = room_of address_rules s told row v
 
-same_next : (s : State) (d : Draft) → by_view (record_of s d) (λ T rules row. (rules.shelf s).next) ≡ next_for s d
+same_next : (s : State) (d : Draft) → by_view (record_of s d) (λ T rules row. (rules.row_list s).next) ≡ next_for s d
 same_next s (VrfDraft name rd enforce_unique description) = refl
 same_next s d = refl
 
@@ -91,14 +91,14 @@ pub next_room : (s : State) (d : Draft) → first (create_checks true s d) ≡ N
 next_room s d v = let room = view_room s (told_of_draft d) (record_of s d) v in let same = same_next s d in omega arith
 
 fits : {T : Type 0} (rules : KindRules T) (Bounds : T → Type 0) → IsSound rules Bounds → (s : State) (told : List (Option Rule)) (row : T) → IsLawful s
-    → rules.id row ≡ (rules.shelf s).next → first (creation rules s told row) ≡ None → FitsOn rules s row
+    → rules.id row ≡ (rules.row_list s).next → first (creation rules s told row) ≡ None → FitsOn rules s row
 fits {T} rules Bounds sound s told row h e v =
     let top = room_of rules s told row v in
-    let kept = sound.shelf s h in
+    let kept = sound.row_list s h in
     let low = kept.next_low in
-    record { low = omega arith; high = omega arith; place = inr (subst (λ (n : ℕ). AllBelow rules.id n (rules.shelf s).rows) (sym e) kept.below) }
+    record { low = omega arith; high = omega arith; place = inr (subst (λ (n : ℕ). AllBelow rules.id n (rules.row_list s).rows) (sym e) kept.below) }
 
-view_fits : (s : State) (told : List (Option Rule)) (view : View) → IsLawful s → by_view view (λ T rules row. rules.id row) ≡ by_view view (λ T rules row. (rules.shelf s).next)
+view_fits : (s : State) (told : List (Option Rule)) (view : View) → IsLawful s → by_view view (λ T rules row. rules.id row) ≡ by_view view (λ T rules row. (rules.row_list s).next)
     → first (by_view view (λ T rules row. creation rules s told row)) ≡ None → IsFit s view
 view_fits s told (VrfView row) h e v = fits vrf_rules HasVrfBounds vrfs_sound s told row h e v
 view_fits s told (RirView row) h e v = fits rir_rules HasRirBounds rirs_sound s told row h e v

@@ -15,7 +15,7 @@ fault_of s row = first (name_rules s row ++ value_rules row)
 
 -- ---- why an import stops
 
--- it is refused so, or memory is wanting
+-- it is refused so, or memory runs out
 abbrev pub IsHaltBy : Option Refusal → Halt → Type 0
 IsHaltBy verdict (Refused refusal) = verdict ≡ Some refusal
 IsHaltBy verdict Memory = Unit {0}

@@ -42,7 +42,7 @@ key_of_row rules row = key_of (stored_row (rules.view row)).fields
 
 -- those of the records of a kind
 abbrev pub record_keys : State → Kind → List (List ℕ)
-record_keys s kind = by_kind kind (λ T rules. map (key_of_row rules) (rules.shelf s).rows)
+record_keys s kind = by_kind kind (λ T rules. map (key_of_row rules) (rules.row_list s).rows)
 
 -- ---- one row
 

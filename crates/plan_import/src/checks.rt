@@ -9,7 +9,7 @@ ghost use Rattle.register_tables.specs.Held.{state_of};
 use ipam_data::kinds::{Kind, LAST_ID};
 use ipam_data::replies::{Refusal, View, Which};
 use register_plans::{Registered, broken};
-use register_tables::Shelves;
+use register_tables::RowTables;
 
 /// Why a kind takes no further row, if so: it would have more than `most`, or no id is left.
 fn no_room_for_one(kind: Kind, most: u32, count: u32, next: u32) -> Option<Refusal>
@@ -25,30 +25,35 @@ fn no_room_for_one(kind: Kind, most: u32, count: u32, next: u32) -> Option<Refus
 }
 
 /// Why a row can't be made, if so, where nothing is told of its draft; the log has no say.
-fn check_row<T: Registered>(shelves: &Shelves, row: &T) -> Option<Refusal>
-    ensures { result ≡ first (creation T.rules (state_of shelves.now) [] row.now) }
+fn check_row<T: Registered>(row_tables: &RowTables, row: &T) -> Option<Refusal>
+    ensures { result ≡ first (creation T.rules (state_of row_tables.now) [] row.now) }
 {
-    if let Some(rule) = broken(shelves, row) {
+    if let Some(rule) = broken(row_tables, row) {
         return Some(Refusal::Rule(rule));
     }
-    no_room_for_one(T::kind(), T::most(), T::count(shelves), T::next(shelves))
+    no_room_for_one(
+        T::kind(),
+        T::most(),
+        T::count(row_tables),
+        T::next(row_tables),
+    )
 }
 
 /// The same of a row of any kind.
-pub(crate) fn check_view(shelves: &Shelves, view: &View) -> Option<Refusal>
-    ensures { result ≡ by_view view.now (λ T rules row. first (creation rules (state_of shelves.now) [] row)) }
+pub(crate) fn check_view(row_tables: &RowTables, view: &View) -> Option<Refusal>
+    ensures { result ≡ by_view view.now (λ T rules row. first (creation rules (state_of row_tables.now) [] row)) }
 {
     match view {
-        View::Vrf(row) => check_row(shelves, row),
-        View::Rir(row) => check_row(shelves, row),
-        View::Role(row) => check_row(shelves, row),
-        View::Aggregate(row) => check_row(shelves, row),
+        View::Vrf(row) => check_row(row_tables, row),
+        View::Rir(row) => check_row(row_tables, row),
+        View::Role(row) => check_row(row_tables, row),
+        View::Aggregate(row) => check_row(row_tables, row),
         View::Prefix {
             row,
             depth: _,
             children: _,
-        } => check_row(shelves, row),
-        View::IpRange(row) => check_row(shelves, row),
-        View::IpAddress(row) => check_row(shelves, row),
+        } => check_row(row_tables, row),
+        View::IpRange(row) => check_row(row_tables, row),
+        View::IpAddress(row) => check_row(row_tables, row),
     }
 }

@@ -20,7 +20,7 @@ use ipam_data::replies::{Rule, View};
 use ipam_data::rir::Rir;
 use ipam_data::role::Role;
 use ipam_data::vrf::{Vrf, copy_distinguisher};
-use register_tables::Shelves;
+use register_tables::RowTables;
 use std::alloc::AllocError;
 
 /// The draft that a row of a VRF stands for.
@@ -87,9 +87,9 @@ fn role_draft(row: &ImportRow) -> Result<Draft, AllocError>
 }
 
 /// The draft that a row of an aggregate stands for.
-fn aggregate_draft(shelves: &Shelves, row: &ImportRow) -> Result<Draft, AllocError>
+fn aggregate_draft(row_tables: &RowTables, row: &ImportRow) -> Result<Draft, AllocError>
     requires { kind_of_row row.now ≡ Aggregates }
-    ensures { IfOk result (λ d. d ≡ draft_of (state_of shelves.now) row.now) }
+    ensures { IfOk result (λ d. d ≡ draft_of (state_of row_tables.now) row.now) }
 {
     match row {
         ImportRow::Aggregate {
@@ -98,7 +98,7 @@ fn aggregate_draft(shelves: &Shelves, row: &ImportRow) -> Result<Draft, AllocErr
             description,
         } => Ok(Draft::Aggregate {
             block: *block,
-            rir: rir_id_of(shelves, rir),
+            rir: rir_id_of(row_tables, rir),
             description: description.copy()?,
         }),
         _ => unreachable!(),
@@ -106,9 +106,9 @@ fn aggregate_draft(shelves: &Shelves, row: &ImportRow) -> Result<Draft, AllocErr
 }
 
 /// The draft that a row of a prefix stands for.
-fn prefix_draft(shelves: &Shelves, row: &ImportRow) -> Result<Draft, AllocError>
+fn prefix_draft(row_tables: &RowTables, row: &ImportRow) -> Result<Draft, AllocError>
     requires { kind_of_row row.now ≡ Prefixes }
-    ensures { IfOk result (λ d. d ≡ draft_of (state_of shelves.now) row.now) }
+    ensures { IfOk result (λ d. d ≡ draft_of (state_of row_tables.now) row.now) }
 {
     match row {
         ImportRow::Prefix {
@@ -121,9 +121,9 @@ fn prefix_draft(shelves: &Shelves, row: &ImportRow) -> Result<Draft, AllocError>
             description,
         } => Ok(Draft::Prefix {
             block: *block,
-            vrf: vrf_id_of(shelves, vrf),
+            vrf: vrf_id_of(row_tables, vrf),
             status: *status,
-            role: role_id_of(shelves, role),
+            role: role_id_of(row_tables, role),
             is_pool: *is_pool,
             mark_utilized: *mark_utilized,
             description: description.copy()?,
@@ -133,9 +133,9 @@ fn prefix_draft(shelves: &Shelves, row: &ImportRow) -> Result<Draft, AllocError>
 }
 
 /// The draft that a row of a range stands for.
-fn range_draft(shelves: &Shelves, row: &ImportRow) -> Result<Draft, AllocError>
+fn range_draft(row_tables: &RowTables, row: &ImportRow) -> Result<Draft, AllocError>
     requires { kind_of_row row.now ≡ Ranges }
-    ensures { IfOk result (λ d. d ≡ draft_of (state_of shelves.now) row.now) }
+    ensures { IfOk result (λ d. d ≡ draft_of (state_of row_tables.now) row.now) }
 {
     match row {
         ImportRow::IpRange {
@@ -149,9 +149,9 @@ fn range_draft(shelves: &Shelves, row: &ImportRow) -> Result<Draft, AllocError>
         } => Ok(Draft::IpRange {
             start: *start,
             end: *end,
-            vrf: vrf_id_of(shelves, vrf),
+            vrf: vrf_id_of(row_tables, vrf),
             status: *status,
-            role: role_id_of(shelves, role),
+            role: role_id_of(row_tables, role),
             mark_utilized: *mark_utilized,
             description: description.copy()?,
         }),
@@ -160,9 +160,9 @@ fn range_draft(shelves: &Shelves, row: &ImportRow) -> Result<Draft, AllocError>
 }
 
 /// The draft that a row of an address stands for.
-fn address_draft(shelves: &Shelves, row: &ImportRow) -> Result<Draft, AllocError>
+fn address_draft(row_tables: &RowTables, row: &ImportRow) -> Result<Draft, AllocError>
     requires { kind_of_row row.now ≡ Addresses }
-    ensures { IfOk result (λ d. d ≡ draft_of (state_of shelves.now) row.now) }
+    ensures { IfOk result (λ d. d ≡ draft_of (state_of row_tables.now) row.now) }
 {
     match row {
         ImportRow::IpAddress {
@@ -174,7 +174,7 @@ fn address_draft(shelves: &Shelves, row: &ImportRow) -> Result<Draft, AllocError
             description,
         } => Ok(Draft::IpAddress {
             host: *host,
-            vrf: vrf_id_of(shelves, vrf),
+            vrf: vrf_id_of(row_tables, vrf),
             status: *status,
             role: *role,
             dns_name: dns_name.copy()?,
@@ -185,17 +185,17 @@ fn address_draft(shelves: &Shelves, row: &ImportRow) -> Result<Draft, AllocError
 }
 
 /// The draft that a row stands for.
-pub(crate) fn draft(shelves: &Shelves, row: &ImportRow) -> Result<Draft, AllocError>
-    ensures { IfOk result (λ d. d ≡ draft_of (state_of shelves.now) row.now) }
+pub(crate) fn draft(row_tables: &RowTables, row: &ImportRow) -> Result<Draft, AllocError>
+    ensures { IfOk result (λ d. d ≡ draft_of (state_of row_tables.now) row.now) }
 {
     match row {
         ImportRow::Vrf { .. } => vrf_draft(row),
         ImportRow::Rir { .. } => rir_draft(row),
         ImportRow::Role { .. } => role_draft(row),
-        ImportRow::Aggregate { .. } => aggregate_draft(shelves, row),
-        ImportRow::Prefix { .. } => prefix_draft(shelves, row),
-        ImportRow::IpRange { .. } => range_draft(shelves, row),
-        ImportRow::IpAddress { .. } => address_draft(shelves, row),
+        ImportRow::Aggregate { .. } => aggregate_draft(row_tables, row),
+        ImportRow::Prefix { .. } => prefix_draft(row_tables, row),
+        ImportRow::IpRange { .. } => range_draft(row_tables, row),
+        ImportRow::IpAddress { .. } => address_draft(row_tables, row),
     }
 }
 
@@ -220,10 +220,10 @@ pub(crate) fn view_under(id: u32, draft: &Draft) -> Result<View, AllocError>
 }
 
 /// The first rule that a row breaks by its names or its values.
-pub(crate) fn fault(shelves: &Shelves, row: &ImportRow) -> Option<Rule>
-    ensures { result ≡ fault_of (state_of shelves.now) row.now }
+pub(crate) fn fault(row_tables: &RowTables, row: &ImportRow) -> Option<Rule>
+    ensures { result ≡ fault_of (state_of row_tables.now) row.now }
 {
-    match name_fault(shelves, row) {
+    match name_fault(row_tables, row) {
         Some(rule) => Some(rule),
         None => row.value_fault(),
     }

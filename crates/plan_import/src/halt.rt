@@ -6,7 +6,7 @@ ghost use Rattle.plan_import.specs.declared.halt.Halt.TheVariants.{Memory};
 use ipam_data::replies::Refusal;
 use std::alloc::AllocError;
 
-/// Why an import stops: it is refused, or memory is wanting.
+/// Why an import stops: it is refused, or memory runs out.
 #[derive(Clone, Copy, Debug)]
 pub enum Halt {
     Refused(Refusal),

@@ -19,7 +19,7 @@ use ipam_data::rir::Rir;
 use ipam_data::role::Role;
 use ipam_data::vrf::Vrf;
 use register_plans::Registered;
-use register_tables::Shelves;
+use register_tables::RowTables;
 use std::alloc::{AllocError, Global};
 use stored_tables::tables::Text;
 use stored_tables::writing::write_row;
@@ -52,11 +52,11 @@ fn key_of_record<T: Registered>(alloc: Global, row: &T) -> Result<String, AllocE
 }
 
 /// The record at an index that is there.
-fn record_at<T: Registered>(shelves: &Shelves, index: u32) -> &T
-    requires { index < length (T.rules.shelf (state_of shelves.now)).rows }
-    ensures { Some result.now ≡ slice_get (T.rules.shelf (state_of shelves.now)).rows index }
+fn record_at<T: Registered>(row_tables: &RowTables, index: u32) -> &T
+    requires { index < length (T.rules.row_list (state_of row_tables.now)).rows }
+    ensures { Some result.now ≡ slice_get (T.rules.row_list (state_of row_tables.now)).rows index }
 {
-    match T::nth(shelves, index) {
+    match T::nth(row_tables, index) {
         Some(row) => row,
         None => unreachable!(),
     }
@@ -75,44 +75,44 @@ fn expect_all(alloc: Global, rows: &[Ready]) -> Result<Leftovers, AllocError>
 }
 
 /// Counts the records of a kind under their keys.
-fn count_kind<T: Registered>(shelves: &Shelves, left: &mut Leftovers) -> Result<(), AllocError>
+fn count_kind<T: Registered>(row_tables: &RowTables, left: &mut Leftovers) -> Result<(), AllocError>
     requires { (keys : List (List ℕ)) × IsLeft left.old keys [] [] }
-    ensures { (keys : List (List ℕ)) → IsLeft left.old keys [] [] → OnOk result (IsLeft left.new keys (map (key_of_row T.rules) (T.rules.shelf (state_of shelves.now)).rows) []) }
+    ensures { (keys : List (List ℕ)) → IsLeft left.old keys [] [] → OnOk result (IsLeft left.new keys (map (key_of_row T.rules) (T.rules.row_list (state_of row_tables.now)).rows) []) }
 {
-    let count = T::count(shelves);
+    let count = T::count(row_tables);
     'records: for index in 0..count {
-        let row: &T = record_at(shelves, index);
-        let key = key_of_record(shelves.allocator(), row)?;
+        let row: &T = record_at(row_tables, index);
+        let key = key_of_record(row_tables.allocator(), row)?;
         left.count(&key);
     }
     Ok(())
 }
 
 /// Counts the records of a kind, by its name.
-fn count_all(shelves: &Shelves, kind: Kind, left: &mut Leftovers) -> Result<(), AllocError>
+fn count_all(row_tables: &RowTables, kind: Kind, left: &mut Leftovers) -> Result<(), AllocError>
     requires { (keys : List (List ℕ)) × IsLeft left.old keys [] [] }
-    ensures { (keys : List (List ℕ)) → IsLeft left.old keys [] [] → OnOk result (IsLeft left.new keys (record_keys (state_of shelves.now) kind) []) }
+    ensures { (keys : List (List ℕ)) → IsLeft left.old keys [] [] → OnOk result (IsLeft left.new keys (record_keys (state_of row_tables.now) kind) []) }
 {
     match kind {
-        Kind::Vrfs => count_kind::<Vrf>(shelves, left),
-        Kind::Rirs => count_kind::<Rir>(shelves, left),
-        Kind::Roles => count_kind::<Role>(shelves, left),
-        Kind::Aggregates => count_kind::<Aggregate>(shelves, left),
-        Kind::Prefixes => count_kind::<Prefix>(shelves, left),
-        Kind::Ranges => count_kind::<IpRange>(shelves, left),
-        Kind::Addresses => count_kind::<IpAddress>(shelves, left),
+        Kind::Vrfs => count_kind::<Vrf>(row_tables, left),
+        Kind::Rirs => count_kind::<Rir>(row_tables, left),
+        Kind::Roles => count_kind::<Role>(row_tables, left),
+        Kind::Aggregates => count_kind::<Aggregate>(row_tables, left),
+        Kind::Prefixes => count_kind::<Prefix>(row_tables, left),
+        Kind::Ranges => count_kind::<IpRange>(row_tables, left),
+        Kind::Addresses => count_kind::<IpAddress>(row_tables, left),
     }
 }
 
 /// How many records of the kind are left that each row may stand for: one look for each row and each record.
 pub(crate) fn leftovers(
-    shelves: &Shelves,
+    row_tables: &RowTables,
     kind: Kind,
     rows: &[Ready],
 ) -> Result<Leftovers, AllocError>
-    ensures { IfOk result (λ left. IsLeft left (keys_of rows.now) (record_keys (state_of shelves.now) kind) []) }
+    ensures { IfOk result (λ left. IsLeft left (keys_of rows.now) (record_keys (state_of row_tables.now) kind) []) }
 {
-    let mut left = expect_all(shelves.allocator(), rows)?;
-    count_all(shelves, kind, &mut left)?;
+    let mut left = expect_all(row_tables.allocator(), rows)?;
+    count_all(row_tables, kind, &mut left)?;
     Ok(left)
 }

@@ -20,7 +20,7 @@ use crate::ready::{Ready, ready_all};
 use import_rows::rows::ImportRow;
 use ipam_data::kinds::Kind;
 use ipam_data::replies::{Refusal, RowFault, View};
-use register_tables::Shelves;
+use register_tables::RowTables;
 use std::alloc::AllocError;
 
 /// Keeps a record behind those that were made before.
@@ -42,17 +42,17 @@ fn stands(left: &mut Leftovers, row: &Ready) -> bool
 
 /// What one row does: it is refused, it stands for a record that is left, or it makes one.
 fn take_row(
-    shelves: &mut Shelves,
+    row_tables: &mut RowTables,
     left: &mut Leftovers,
     made: &mut Vec<View>,
     row: &Ready,
 ) -> Result<(), Halt>
-    requires lawful { IsLawful (state_of shelves.old) }
+    requires lawful { IsLawful (state_of row_tables.old) }
     requires told { row.now.fault ≡ None → first (told_of_draft row.now.draft) ≡ None }
     ensures step { (keys records spent : List (List ℕ)) → IsLeft left.old keys records spent → list_any (bytes_eq row.now.key) keys ≡ true
-        → IsTaken (not (nat_lt (count_by (bytes_eq row.now.key) spent) (count_by (bytes_eq row.now.key) records))) row.now (state_of shelves.old) made.old.items (state_of shelves.new) made.new.items result }
+        → IsTaken (not (nat_lt (count_by (bytes_eq row.now.key) spent) (count_by (bytes_eq row.now.key) records))) row.now (state_of row_tables.old) made.old.items (state_of row_tables.new) made.new.items result }
     ensures left { (keys records spent : List (List ℕ)) → IsLeft left.old keys records spent → OnOk result (IsLeft left.new keys records (spent ++ row.now.key ∷ [])) }
-    ensures lawful { OnOk result (IsLawful (state_of shelves.new)) }
+    ensures lawful { OnOk result (IsLawful (state_of row_tables.new)) }
 {
     if let Some(rule) = row.fault {
         return Err(Halt::Refused(Refusal::Rule(rule)));
@@ -60,7 +60,7 @@ fn take_row(
     if stands(left, row) {
         return Ok(());
     }
-    let view = match make(shelves, &row.draft) {
+    let view = match make(row_tables, &row.draft) {
         Ok(view) => view,
         Err(halt) => return Err(halt),
     };
@@ -91,23 +91,23 @@ fn stopped_at(n: u32, halt: Halt) -> Halt
 
 /// Makes the records of all rows, one after another, and hands out copies of them.
 pub(crate) fn make_all(
-    shelves: &mut Shelves,
+    row_tables: &mut RowTables,
     kind: Kind,
     lines: &[ImportRow],
 ) -> Result<Vec<View>, Halt>
-    requires lawful { IsLawful (state_of shelves.old) }
+    requires lawful { IsLawful (state_of row_tables.old) }
     requires few { length lines.now ≤ 10000 }
-    ensures made { IfOk result (λ v. AreMade (state_of shelves.old) kind lines.now (state_of shelves.new) v.items) }
-    ensures halted { IfErr result (λ halt. IsHaltBy (first (row_verdicts (state_of shelves.old) kind (begun (state_of shelves.old)) 1 lines.now)) halt) }
-    ensures lawful { OnOk result (IsLawful (state_of shelves.new)) }
+    ensures made { IfOk result (λ v. AreMade (state_of row_tables.old) kind lines.now (state_of row_tables.new) v.items) }
+    ensures halted { IfErr result (λ halt. IsHaltBy (first (row_verdicts (state_of row_tables.old) kind (begun (state_of row_tables.old)) 1 lines.now)) halt) }
+    ensures lawful { OnOk result (IsLawful (state_of row_tables.new)) }
 {
-    let rows = ready_all(shelves, lines)?;
-    let mut left = leftovers(shelves, kind, &rows)?;
-    let mut made = Vec::new(shelves.allocator());
+    let rows = ready_all(row_tables, lines)?;
+    let mut left = leftovers(row_tables, kind, &rows)?;
+    let mut made = Vec::new(row_tables.allocator());
     let mut n = 0;
     for row in &rows {
         n += 1;
-        match take_row(shelves, &mut left, &mut made, row) {
+        match take_row(row_tables, &mut left, &mut made, row) {
             Ok(()) => {}
             Err(halt) => return Err(stopped_at(n, halt)),
         }

@@ -14,15 +14,15 @@ use ipam_data::replies::Rule;
 use ipam_data::rir::Rir;
 use ipam_data::role::Role;
 use ipam_data::text::Name;
-use register_tables::Shelves;
+use register_tables::RowTables;
 use vrf_table::VrfRules;
 
 /// The least id of a VRF with the name that is given.
-pub(crate) fn vrf_id_of(shelves: &Shelves, name: &Option<Name>) -> Option<u32>
-    ensures { result ≡ vrf_named shelves.now.vrfs.rows name.now }
+pub(crate) fn vrf_id_of(row_tables: &RowTables, name: &Option<Name>) -> Option<u32>
+    ensures { result ≡ vrf_named row_tables.now.vrfs.rows name.now }
 {
     match name {
-        Some(name) => shelves.vrfs().named(name).0,
+        Some(name) => row_tables.vrfs().named(name).0,
         None => None,
     }
 }
@@ -42,21 +42,21 @@ fn role_of<'a>(rows: &'a [Role], name: &Name) -> Option<&'a Role>
 }
 
 /// The id of the role with the name.
-fn role_with(shelves: &Shelves, name: &Name) -> Option<u32>
-    ensures { result ≡ role_named shelves.now.roles.rows name.now }
+fn role_with(row_tables: &RowTables, name: &Name) -> Option<u32>
+    ensures { result ≡ role_named row_tables.now.roles.rows name.now }
 {
-    match role_of(shelves.roles().rows(), name) {
+    match role_of(row_tables.roles().rows(), name) {
         Some(row) => Some(row.id),
         None => None,
     }
 }
 
 /// The id of the role with the name that is given.
-pub(crate) fn role_id_of(shelves: &Shelves, name: &Option<Name>) -> Option<u32>
-    ensures { result ≡ role_named_too shelves.now.roles.rows name.now }
+pub(crate) fn role_id_of(row_tables: &RowTables, name: &Option<Name>) -> Option<u32>
+    ensures { result ≡ role_named_too row_tables.now.roles.rows name.now }
 {
     match name {
-        Some(name) => role_with(shelves, name),
+        Some(name) => role_with(row_tables, name),
         None => None,
     }
 }
@@ -76,20 +76,20 @@ fn rir_of<'a>(rows: &'a [Rir], name: &Name) -> Option<&'a Rir>
 }
 
 /// The id of the RIR with the name.
-fn rir_with(shelves: &Shelves, name: &Name) -> Option<u32>
-    ensures { result ≡ rir_named shelves.now.rirs.rows name.now }
+fn rir_with(row_tables: &RowTables, name: &Name) -> Option<u32>
+    ensures { result ≡ rir_named row_tables.now.rirs.rows name.now }
 {
-    match rir_of(shelves.rirs().rows(), name) {
+    match rir_of(row_tables.rirs().rows(), name) {
         Some(row) => Some(row.id),
         None => None,
     }
 }
 
 /// The id of the RIR with the name, or 0.
-pub(crate) fn rir_id_of(shelves: &Shelves, name: &Name) -> u32
-    ensures { result ≡ id_or_none (rir_named shelves.now.rirs.rows name.now) }
+pub(crate) fn rir_id_of(row_tables: &RowTables, name: &Name) -> u32
+    ensures { result ≡ id_or_none (rir_named row_tables.now.rirs.rows name.now) }
 {
-    match rir_with(shelves, name) {
+    match rir_with(row_tables, name) {
         Some(id) => id,
         None => 0,
     }
@@ -107,12 +107,12 @@ fn one_fault(first: Option<u32>, second: Option<u32>) -> Option<Rule>
 }
 
 /// The rule that the name of a VRF breaks.
-fn vrf_fault(shelves: &Shelves, name: &Option<Name>) -> Option<Rule>
-    ensures { result ≡ vrf_rule shelves.now.vrfs.rows name.now }
+fn vrf_fault(row_tables: &RowTables, name: &Option<Name>) -> Option<Rule>
+    ensures { result ≡ vrf_rule row_tables.now.vrfs.rows name.now }
 {
     match name {
         Some(name) => {
-            let (one, other) = shelves.vrfs().named(name);
+            let (one, other) = row_tables.vrfs().named(name);
             one_fault(one, other)
         }
         None => None,
@@ -120,11 +120,11 @@ fn vrf_fault(shelves: &Shelves, name: &Option<Name>) -> Option<Rule>
 }
 
 /// The rule that the name of a role breaks.
-fn role_fault(shelves: &Shelves, name: &Option<Name>) -> Option<Rule>
-    ensures { result ≡ role_rule shelves.now.roles.rows name.now }
+fn role_fault(row_tables: &RowTables, name: &Option<Name>) -> Option<Rule>
+    ensures { result ≡ role_rule row_tables.now.roles.rows name.now }
 {
     match name {
-        Some(given) => match role_of(shelves.roles().rows(), given) {
+        Some(given) => match role_of(row_tables.roles().rows(), given) {
             Some(_) => None,
             None => Some(Rule::NoSuchName(Kind::Roles)),
         },
@@ -133,34 +133,34 @@ fn role_fault(shelves: &Shelves, name: &Option<Name>) -> Option<Rule>
 }
 
 /// The rule that the name of a RIR breaks.
-fn rir_fault(shelves: &Shelves, name: &Name) -> Option<Rule>
-    ensures { result ≡ named_rule Rirs (rir_named shelves.now.rirs.rows name.now) }
+fn rir_fault(row_tables: &RowTables, name: &Name) -> Option<Rule>
+    ensures { result ≡ named_rule Rirs (rir_named row_tables.now.rirs.rows name.now) }
 {
-    match rir_with(shelves, name) {
+    match rir_with(row_tables, name) {
         Some(_) => None,
         None => Some(Rule::NoSuchName(Kind::Rirs)),
     }
 }
 
 /// The first rule that the names of a VRF and a role break.
-fn table_fault(shelves: &Shelves, vrf: &Option<Name>, role: &Option<Name>) -> Option<Rule>
-    ensures { result ≡ first (vrf_rule shelves.now.vrfs.rows vrf.now ∷ role_rule shelves.now.roles.rows role.now ∷ []) }
+fn table_fault(row_tables: &RowTables, vrf: &Option<Name>, role: &Option<Name>) -> Option<Rule>
+    ensures { result ≡ first (vrf_rule row_tables.now.vrfs.rows vrf.now ∷ role_rule row_tables.now.roles.rows role.now ∷ []) }
 {
-    match vrf_fault(shelves, vrf) {
+    match vrf_fault(row_tables, vrf) {
         Some(rule) => Some(rule),
-        None => role_fault(shelves, role),
+        None => role_fault(row_tables, role),
     }
 }
 
 /// The first rule that the names of a row break.
-pub(crate) fn name_fault(shelves: &Shelves, row: &ImportRow) -> Option<Rule>
-    ensures { result ≡ first (name_rules (state_of shelves.now) row.now) }
+pub(crate) fn name_fault(row_tables: &RowTables, row: &ImportRow) -> Option<Rule>
+    ensures { result ≡ first (name_rules (state_of row_tables.now) row.now) }
 {
     match row {
         ImportRow::Vrf { .. } | ImportRow::Rir { .. } | ImportRow::Role { .. } => None,
-        ImportRow::Aggregate { rir, .. } => rir_fault(shelves, rir),
-        ImportRow::Prefix { vrf, role, .. } => table_fault(shelves, vrf, role),
-        ImportRow::IpRange { vrf, role, .. } => table_fault(shelves, vrf, role),
-        ImportRow::IpAddress { vrf, .. } => vrf_fault(shelves, vrf),
+        ImportRow::Aggregate { rir, .. } => rir_fault(row_tables, rir),
+        ImportRow::Prefix { vrf, role, .. } => table_fault(row_tables, vrf, role),
+        ImportRow::IpRange { vrf, role, .. } => table_fault(row_tables, vrf, role),
+        ImportRow::IpAddress { vrf, .. } => vrf_fault(row_tables, vrf),
     }
 }

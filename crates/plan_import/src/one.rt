@@ -16,7 +16,7 @@ use crate::halt::Halt;
 use ipam_data::calls::Draft;
 use ipam_data::kinds::Kind;
 use ipam_data::replies::{Refusal, View};
-use register_tables::Shelves;
+use register_tables::RowTables;
 use std::alloc::AllocError;
 
 /// The kind of the record that a draft makes.
@@ -35,60 +35,65 @@ fn kind_of(draft: &Draft) -> Kind
 }
 
 /// The next id of the kind of a draft.
-fn next_id(shelves: &Shelves, draft: &Draft) -> u32
-    ensures { result ≡ next_for (state_of shelves.now) draft.now }
+fn next_id(row_tables: &RowTables, draft: &Draft) -> u32
+    ensures { result ≡ next_for (state_of row_tables.now) draft.now }
 {
     match draft {
-        Draft::Vrf { .. } => shelves.next(Kind::Vrfs),
-        Draft::Rir { .. } => shelves.next(Kind::Rirs),
-        Draft::Role { .. } => shelves.next(Kind::Roles),
-        Draft::Aggregate { .. } => shelves.next(Kind::Aggregates),
-        Draft::Prefix { .. } => shelves.next(Kind::Prefixes),
-        Draft::IpRange { .. } => shelves.next(Kind::Ranges),
-        Draft::IpAddress { .. } => shelves.next(Kind::Addresses),
+        Draft::Vrf { .. } => row_tables.next(Kind::Vrfs),
+        Draft::Rir { .. } => row_tables.next(Kind::Rirs),
+        Draft::Role { .. } => row_tables.next(Kind::Roles),
+        Draft::Aggregate { .. } => row_tables.next(Kind::Aggregates),
+        Draft::Prefix { .. } => row_tables.next(Kind::Prefixes),
+        Draft::IpRange { .. } => row_tables.next(Kind::Ranges),
+        Draft::IpAddress { .. } => row_tables.next(Kind::Addresses),
     }
 }
 
 /// Puts a record, and sets the next id of its kind.
-fn put_record(shelves: &mut Shelves, view: View, kind: Kind, next: u32) -> Result<(), AllocError>
-    requires { IsFit (state_of shelves.old) view }
-    ensures { OnOk result (state_of shelves.new ≡ with_next (with_view (state_of shelves.old) view) (kind, next)) }
+fn put_record(
+    row_tables: &mut RowTables,
+    view: View,
+    kind: Kind,
+    next: u32,
+) -> Result<(), AllocError>
+    requires { IsFit (state_of row_tables.old) view }
+    ensures { OnOk result (state_of row_tables.new ≡ with_next (with_view (state_of row_tables.old) view) (kind, next)) }
 {
-    shelves.admit(view)?;
-    shelves.set_next(kind, next);
+    row_tables.admit(view)?;
+    row_tables.set_next(kind, next);
     Ok(())
 }
 
 /// Why the record of a draft can't be made beside those that are there, if so; the log has no say.
-fn refused(shelves: &Shelves, draft: &Draft, view: &View) -> Option<Refusal>
+fn refused(row_tables: &RowTables, draft: &Draft, view: &View) -> Option<Refusal>
     requires told { first (told_of_draft draft.now) ≡ None }
-    requires made { view.now ≡ record_of (state_of shelves.now) draft.now }
-    ensures { result ≡ first (create_checks true (state_of shelves.now) draft.now) }
+    requires made { view.now ≡ record_of (state_of row_tables.now) draft.now }
+    ensures { result ≡ first (create_checks true (state_of row_tables.now) draft.now) }
 {
-    check_view(shelves, view)
+    check_view(row_tables, view)
 }
 
 /// Makes the record of a draft, where no check refuses it, and hands out a copy.
-pub(crate) fn make(shelves: &mut Shelves, draft: &Draft) -> Result<View, Halt>
-    requires lawful { IsLawful (state_of shelves.old) }
+pub(crate) fn make(row_tables: &mut RowTables, draft: &Draft) -> Result<View, Halt>
+    requires lawful { IsLawful (state_of row_tables.old) }
     requires told { first (told_of_draft draft.now) ≡ None }
-    ensures made { IfOk result (λ v. v ≡ record_of (state_of shelves.old) draft.now) }
-    ensures state { OnOk result (state_of shelves.new ≡ with_record (state_of shelves.old) draft.now) }
-    ensures free { OnOk result (first (create_checks true (state_of shelves.old) draft.now) ≡ None) }
-    ensures lawful { OnOk result (IsLawful (state_of shelves.new)) }
-    ensures err { IfErr result (λ halt. IsHaltBy (first (create_checks true (state_of shelves.old) draft.now)) halt) }
+    ensures made { IfOk result (λ v. v ≡ record_of (state_of row_tables.old) draft.now) }
+    ensures state { OnOk result (state_of row_tables.new ≡ with_record (state_of row_tables.old) draft.now) }
+    ensures free { OnOk result (first (create_checks true (state_of row_tables.old) draft.now) ≡ None) }
+    ensures lawful { OnOk result (IsLawful (state_of row_tables.new)) }
+    ensures err { IfErr result (λ halt. IsHaltBy (first (create_checks true (state_of row_tables.old) draft.now)) halt) }
 {
     draft.bounds();
-    let id = next_id(shelves, draft);
+    let id = next_id(row_tables, draft);
     let view = view_under(id, draft)?;
-    match refused(shelves, draft, &view) {
+    match refused(row_tables, draft, &view) {
         Some(refusal) => {
             drop(view);
             return Err(Halt::Refused(refusal));
         }
         None => {}
     }
-    put_record(shelves, view, kind_of(draft), id + 1)?;
+    put_record(row_tables, view, kind_of(draft), id + 1)?;
     let copy = view_under(id, draft)?;
     Ok(copy)
 }

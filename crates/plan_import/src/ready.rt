@@ -14,7 +14,7 @@ use import_rows::rows::ImportRow;
 use ipam_data::calls::Draft;
 use ipam_data::replies::Rule;
 use ipam_data::text::Text;
-use register_tables::Shelves;
+use register_tables::RowTables;
 use std::alloc::{AllocError, Global};
 
 /// A row made ready: its draft, the rule that it breaks by its names or its values, and, where it breaks none, the key of its texts.
@@ -46,12 +46,12 @@ fn key_if(alloc: Global, fault: &Option<Rule>, draft: &Draft) -> Result<String, 
 }
 
 /// Makes a row ready.
-fn make_ready(shelves: &Shelves, row: &ImportRow) -> Result<Ready, AllocError>
-    ensures { IfOk result (λ r. r ≡ ready_of (state_of shelves.now) row.now) }
+fn make_ready(row_tables: &RowTables, row: &ImportRow) -> Result<Ready, AllocError>
+    ensures { IfOk result (λ r. r ≡ ready_of (state_of row_tables.now) row.now) }
 {
-    let draft = draft(shelves, row)?;
-    let fault = fault(shelves, row);
-    let key = key_if(shelves.allocator(), &fault, &draft)?;
+    let draft = draft(row_tables, row)?;
+    let fault = fault(row_tables, row);
+    let key = key_if(row_tables.allocator(), &fault, &draft)?;
     Ok(Ready {
         draft,
         fault,
@@ -60,12 +60,15 @@ fn make_ready(shelves: &Shelves, row: &ImportRow) -> Result<Ready, AllocError>
 }
 
 /// Makes all rows ready.
-pub(crate) fn ready_all(shelves: &Shelves, rows: &[ImportRow]) -> Result<Vec<Ready>, AllocError>
-    ensures { IfOk result (λ v. v.items ≡ ready_rows (state_of shelves.now) rows.now) }
+pub(crate) fn ready_all(
+    row_tables: &RowTables,
+    rows: &[ImportRow],
+) -> Result<Vec<Ready>, AllocError>
+    ensures { IfOk result (λ v. v.items ≡ ready_rows (state_of row_tables.now) rows.now) }
 {
-    let mut all = Vec::new(shelves.allocator());
+    let mut all = Vec::new(row_tables.allocator());
     for row in rows {
-        all.push(make_ready(shelves, row)?)?;
+        all.push(make_ready(row_tables, row)?)?;
     }
     Ok(all)
 }

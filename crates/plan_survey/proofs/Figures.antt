@@ -6,13 +6,13 @@ use Rattle.ipam_data.specs.declared.kinds.Kind.TheVariants.{Prefixes}
 use Rattle.ipam_data.specs.declared.replies.Reply.{Reply}
 use Rattle.ipam_data.specs.declared.replies.Reply.TheVariants.{Percent}
 use Rattle.ipam_data.specs.Replays.{is_accepted}
-use Rattle.ipam_data.specs.Shelf.{row_at, Rises}
+use Rattle.ipam_data.specs.RowList.{row_at, Rises}
 use Rattle.ipam_data.specs.Rows.{prefix_id}
 use Rattle.ipam_data.specs.State.{State, Plan, reading}
 use Rattle.ipam_data.specs.Plans.{with_found}
 use Rattle.ipam_data.specs.Prefixes.{prefix_rules}
 use Rattle.ipam_data.specs.Claims.{prefix_figure, utilization_plan}
-use Rattle.ipam_data.proofs.Shelves.{eq_true, eq_false, contains_cases, rises_above}
+use Rattle.ipam_data.proofs.RowLists.{eq_true, eq_false, contains_cases, rises_above}
 use Rattle.register_tables.specs.declared.planned.Planned.{Planned}
 use Rattle.register_tables.specs.declared.planned.Planned.TheVariants.{Refused, Read, Change}
 use Rattle.register_tables.specs.Planned.{IsPlanned}

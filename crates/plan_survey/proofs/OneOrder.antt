@@ -3,8 +3,8 @@ use Rattle.std.proofs.Common.{◌≡◌, ◌≢◌, ℕ, ◌+◌, ◌<◌, ◌�
 use Rattle.std.specs.List.{count_by}
 use Rattle.std.proofs.lemmas.List.Sums.{sum_by-cons}
 use Rattle.std.proofs.lemmas.List.Sorted.{Contains-permutation, IsPermutation-sym, sum_by-IsPermutation}
-use Rattle.ipam_data.specs.Shelf.{Rises}
-use Rattle.ipam_data.proofs.Shelves.{eq_true, eq_false, contains_cases, contains_head, contains_rest, rises_above}
+use Rattle.ipam_data.specs.RowList.{Rises}
+use Rattle.ipam_data.proofs.RowLists.{eq_true, eq_false, contains_cases, contains_head, contains_rest, rises_above}
 
 module _ {X : Type 0} (p : X → Bool) where
   pub count_yes : (x : X) (xs : List X) → p x ≡ true → count_by p (x ∷ xs) ≡ count_by p xs + 1

@@ -8,11 +8,11 @@ use Rattle.std.proofs.lemmas.List.Sorted.{IsPermutation-sym, IsPermutation-trans
 use Rattle.std.proofs.lemmas.Option.{slice_get_within, get_or_from_slice_get}
 use Rattle.inet_num.proofs.Numbers.{width_small, width_fits}
 use Rattle.ipam_data.specs.declared.prefix.Prefix.{Prefix}
-use Rattle.ipam_data.specs.Shelf.{Rises, AllBelow}
+use Rattle.ipam_data.specs.RowList.{Rises, AllBelow}
 use Rattle.ipam_data.specs.Rows.{prefix_id}
 use Rattle.ipam_data.specs.State.{State}
 use Rattle.ipam_data.specs.Lawful.{IsLawful, IsPrefix}
-use Rattle.ipam_data.proofs.Shelves.{contains_cases}
+use Rattle.ipam_data.proofs.RowLists.{contains_cases}
 use Rattle.ipam_data.specs.Survey.{survey_place, surveyed, line_of, survey_of}
 use Rattle.ipam_data.proofs.SurveyWhole.{whole}
 use Rattle.plan_survey.specs.declared.line.Placed.{Placed}
@@ -60,11 +60,11 @@ place_fits row p i =
 fit_all : (s : State) → IsLawful s → All (λ (p : Placed). AreDigits p.place) (map (placed_row s) s.prefixes.rows)
 fit_all s l =
     let rows = s.prefixes.rows in
-    let shelf = l.prefixes.shelf in
+    let row_list = l.prefixes.row_list in
     All-map (λ (p : Placed). AreDigits p.place) (placed_row s) rows (λ k d within.
     (let there = Contains-get_or rows k d within in
-    let low = below s.prefixes.next rows (get_or rows k d) shelf.below there in
-    let fits = shelf.next_fits in
+    let low = below s.prefixes.next rows (get_or rows k d) row_list.below there in
+    let fits = row_list.next_fits in
     place_fits (get_or rows k d) (l.prefixes.each (get_or rows k d) there) (omega arith)))
 
 -- ---- in the order of places

@@ -1,4 +1,4 @@
-//! Surveys over the register's shelves: the lines of a report of all prefixes, in the order of their places.
+//! Surveys over the register's tables: the lines of a report of all prefixes, in the order of their places.
 #![tactic(auto)]
 
 ghost use Rattle.std.specs.Prelude.{◌≡◌, ◌<◌, Some, IfOk, IsPermutation, length, map, slice_get};
@@ -16,30 +16,30 @@ use crate::line::{Placed, placed_line};
 use ipam_data::prefix::Prefix;
 use ipam_data::survey::PrefixLine;
 use placed_book::Book;
-use register_tables::Shelves;
+use register_tables::RowTables;
 use std::alloc::{AllocError, Global};
 
 /// The prefix at an index that is there.
-fn prefix_at(shelves: &Shelves, index: u32) -> &Prefix
-    requires { index < length shelves.now.prefixes.rows }
-    ensures { Some result.now ≡ slice_get shelves.now.prefixes.rows index }
+fn prefix_at(row_tables: &RowTables, index: u32) -> &Prefix
+    requires { index < length row_tables.now.prefixes.rows }
+    ensures { Some result.now ≡ slice_get row_tables.now.prefixes.rows index }
 {
-    match shelves.prefixes().at(index) {
+    match row_tables.prefixes().at(index) {
         Some(row) => row,
         None => unreachable!(),
     }
 }
 
 /// The lines of all prefixes with their places, in the order of the ids.
-fn placed_lines(shelves: &Shelves) -> Result<Vec<Placed>, AllocError>
-    requires { IsLawful (state_of shelves.now) }
-    ensures { IfOk result (λ v. v.items ≡ map (placed_row (state_of shelves.now)) shelves.now.prefixes.rows) }
+fn placed_lines(row_tables: &RowTables) -> Result<Vec<Placed>, AllocError>
+    requires { IsLawful (state_of row_tables.now) }
+    ensures { IfOk result (λ v. v.items ≡ map (placed_row (state_of row_tables.now)) row_tables.now.prefixes.rows) }
 {
-    let mut placed = Vec::new(shelves.allocator());
-    let count = shelves.prefixes().len();
+    let mut placed = Vec::new(row_tables.allocator());
+    let count = row_tables.prefixes().len();
     'prefixes: for index in 0..count {
-        let row = prefix_at(shelves, index);
-        placed.push(placed_line(shelves, row))?;
+        let row = prefix_at(row_tables, index);
+        placed.push(placed_line(row_tables, row))?;
     }
     Ok(placed)
 }
@@ -63,13 +63,13 @@ fn lines_of(alloc: Global, placed: &[Placed]) -> Result<Vec<PrefixLine>, AllocEr
     Ok(lines)
 }
 
-/// The lines of all prefixes, in the order of their places. `Err` is want of memory.
-pub fn survey(shelves: &Shelves) -> Result<Vec<PrefixLine>, AllocError>
-    requires { IsLawful (state_of shelves.now) }
-    ensures { IfOk result (λ v. v.items ≡ survey_of (state_of shelves.now)) }
+/// The lines of all prefixes, in the order of their places. `Err` means out of memory.
+pub fn survey(row_tables: &RowTables) -> Result<Vec<PrefixLine>, AllocError>
+    requires { IsLawful (state_of row_tables.now) }
+    ensures { IfOk result (λ v. v.items ≡ survey_of (state_of row_tables.now)) }
 {
-    let mut placed = placed_lines(shelves)?;
+    let mut placed = placed_lines(row_tables)?;
     sort(&mut placed);
-    let lines = lines_of(shelves.allocator(), placed.as_slice())?;
+    let lines = lines_of(row_tables.allocator(), placed.as_slice())?;
     Ok(lines)
 }

@@ -16,7 +16,7 @@ use ipam_data::replies::Reply;
 use ipam_data::survey::PrefixLine;
 use prefix_rules::PrefixRules;
 use register_claims::plan_utilization;
-use register_tables::{Planned, Shelves};
+use register_tables::{Planned, RowTables};
 
 /// A line with the place of its prefix.
 #[derive(Clone, Copy, Debug)]
@@ -48,40 +48,40 @@ fn figure_in(planned: &Planned) -> u8
 }
 
 /// How much of a prefix that is there is used.
-fn figure_of(shelves: &Shelves, row: &Prefix) -> u8
-    requires lawful { IsLawful (state_of shelves.now) }
-    requires there { Contains shelves.now.prefixes.rows row.now }
-    ensures { result ≡ prefix_figure (state_of shelves.now) row.now }
+fn figure_of(row_tables: &RowTables, row: &Prefix) -> u8
+    requires lawful { IsLawful (state_of row_tables.now) }
+    requires there { Contains row_tables.now.prefixes.rows row.now }
+    ensures { result ≡ prefix_figure (state_of row_tables.now) row.now }
 {
-    let planned = plan_utilization(shelves, Kind::Prefixes, row.id);
+    let planned = plan_utilization(row_tables, Kind::Prefixes, row.id);
     let figure = figure_in(&planned);
     drop(planned);
     figure
 }
 
 /// What is told of a prefix that is there.
-fn line_of(shelves: &Shelves, row: &Prefix) -> PrefixLine
-    requires lawful { IsLawful (state_of shelves.now) }
-    requires there { Contains shelves.now.prefixes.rows row.now }
-    ensures { result ≡ line_of (state_of shelves.now) row.now }
+fn line_of(row_tables: &RowTables, row: &Prefix) -> PrefixLine
+    requires lawful { IsLawful (state_of row_tables.now) }
+    requires there { Contains row_tables.now.prefixes.rows row.now }
+    ensures { result ≡ line_of (state_of row_tables.now) row.now }
 {
     PrefixLine {
         table: Table::of(row.vrf),
-        depth: shelves.prefixes().depth_of(row),
+        depth: row_tables.prefixes().depth_of(row),
         block: row.block,
         status: row.status,
-        percent: figure_of(shelves, row),
+        percent: figure_of(row_tables, row),
     }
 }
 
 /// The line of a prefix that is there, with its place.
-pub(crate) fn placed_line(shelves: &Shelves, row: &Prefix) -> Placed
-    requires lawful { IsLawful (state_of shelves.now) }
-    requires there { Contains shelves.now.prefixes.rows row.now }
-    ensures { result ≡ placed_row (state_of shelves.now) row.now }
+pub(crate) fn placed_line(row_tables: &RowTables, row: &Prefix) -> Placed
+    requires lawful { IsLawful (state_of row_tables.now) }
+    requires there { Contains row_tables.now.prefixes.rows row.now }
+    ensures { result ≡ placed_row (state_of row_tables.now) row.now }
 {
     Placed {
         place: place_of(row),
-        line: line_of(shelves, row),
+        line: line_of(row_tables, row),
     }
 }

@@ -110,7 +110,7 @@ impl Tree {
     }
 
     /// The blocks of the tree that contain a block of its family, each once, the largest first: their lengths rise. A block
-    /// contains itself. The one error is want of memory.
+    /// contains itself. The one error means out of memory.
     pub fn covering(&self, block: Block) -> Result<Vec<Block>, AllocError>
         requires family { block.family ≡ self.now.family }
         ensures { IfOk result (λ v. ListsCovering self.now.blocks block v.items) }

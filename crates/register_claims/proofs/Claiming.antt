@@ -22,7 +22,7 @@ use Rattle.ipam_data.specs.declared.replies.Reply.TheVariants.{Made, MadeMany}
 use Rattle.ipam_data.specs.declared.replies.View.{View}
 use Rattle.ipam_data.specs.declared.update.Update.{Update}
 use Rattle.ipam_data.specs.Checks.{first, too_many, no_such, breaks}
-use Rattle.ipam_data.specs.Shelf.{row_at}
+use Rattle.ipam_data.specs.RowList.{row_at}
 use Rattle.ipam_data.specs.Rows.{role_id}
 use Rattle.ipam_data.specs.State.{State, Plan, verdict_of}
 use Rattle.ipam_data.specs.Plans.{KindRules, no_place, with_row_at, with_found}
@@ -40,11 +40,11 @@ use Rattle.register_claims.specs.Claimed.{claimed_prefix}
 
 module _ {T : Type 0} (rules : KindRules T) (s : State) (n : ℕ) (plan : T → Plan) where
   -- what is planned of a row that is there
-  pub found_planned : (row : T) (p : Result Planned AllocError) → row_at rules.id (rules.shelf s).rows n ≡ Some row → IfOk p (λ q. IsPlanned (plan row) q) → IfOk p (λ q. IsPlanned (with_row_at rules s n plan) q)
+  pub found_planned : (row : T) (p : Result Planned AllocError) → row_at rules.id (rules.row_list s).rows n ≡ Some row → IfOk p (λ q. IsPlanned (plan row) q) → IfOk p (λ q. IsPlanned (with_row_at rules s n plan) q)
   found_planned row p e h = subst (λ (found : Option T). IfOk p (λ q. IsPlanned (with_found rules n plan found) q)) (sym e) h
 
   -- where there is none, that it is not there
-  pub missing_planned : row_at rules.id (rules.shelf s).rows n ≡ None → IsPlanned (with_row_at rules s n plan) (Refused (NotFound rules.kind n))
+  pub missing_planned : row_at rules.id (rules.row_list s).rows n ≡ None → IsPlanned (with_row_at rules s n plan) (Refused (NotFound rules.kind n))
   missing_planned e = subst (λ (found : Option T). IsPlanned (with_found rules n plan found) (Refused (NotFound rules.kind n))) (sym e) refl
 
 -- ---- the checks of a claim
@@ -122,7 +122,7 @@ module _ {T : Type 0} (rules : KindRules T) (s : State) (answered : Answered) wh
 
   -- what is done where no check refuses
   pub rows_planned : (wanted next : ℕ) (kind : Kind) (rows : List T) (puts : List View) (reply : Reply) (p : Result Planned AllocError) → wanted ≤ most_items → length rows ≡ wanted
-      → first (no_place rules s wanted) ≡ None → puts ≡ map rules.view rows → reply ≡ served answered (map rules.view rows) → kind ≡ rules.kind → next ≡ (rules.shelf s).next + wanted
+      → first (no_place rules s wanted) ≡ None → puts ≡ map rules.view rows → reply ≡ served answered (map rules.view rows) → kind ≡ rules.kind → next ≡ (rules.row_list s).next + wanted
       → IfOk p (λ q. q ≡ Change (record { puts = puts; cuts = []; next = (kind, next) ∷ []; spent = wanted }) reply)
       → IfOk p (λ q. IsPlanned (claim rules s [] wanted answered rows) q)
   rows_planned wanted next kind rows puts reply (Ok q) h l v f r k n e =

@@ -16,12 +16,12 @@ use Rattle.ipam_data.specs.declared.prefix.Prefix.{Prefix}
 use Rattle.ipam_data.specs.declared.aggregate.Aggregate.{Aggregate}
 use Rattle.ipam_data.specs.Tables.{table_of, same_table}
 use Rattle.ipam_data.specs.Rows.{prefix_id}
-use Rattle.ipam_data.specs.Shelf.{row_at, AllAre}
+use Rattle.ipam_data.specs.RowList.{row_at, AllAre}
 use Rattle.ipam_data.specs.Lawful.{IsPrefix}
 use Rattle.ipam_data.specs.Prefixes.{in_one_table, is_child}
 use Rattle.ipam_data.specs.Claims.{sees_all, is_child_prefix, child_blocks, own_blocks, aggregated_blocks}
 use Rattle.ipam_data.proofs.Kept.{found_there}
-use Rattle.ipam_data.proofs.Shelves.{contains_rest, contains_head}
+use Rattle.ipam_data.proofs.RowLists.{contains_rest, contains_head}
 use Rattle.placed_book.specs.Book.{Placed, TableBlocks, TabledRows, placed_id, is_there, is_of, AreInOrder}
 use Rattle.placed_book.specs.Kinds.{placed_prefix}
 use Rattle.placed_book.proofs.Inside.{counts_strictly}

@@ -4,7 +4,7 @@ use Rattle.inet_num.specs.Net.{Cidr}
 use Rattle.ipam_data.specs.declared.prefix.Prefix.{Prefix}
 use Rattle.ipam_data.specs.Tables.{table_of}
 use Rattle.ipam_data.specs.Rows.{prefix_id}
-use Rattle.ipam_data.specs.Shelf.{row_at}
+use Rattle.ipam_data.specs.RowList.{row_at}
 use Rattle.ipam_data.specs.Claims.{sees_all}
 use Rattle.register_tables.specs.Beside.{blocks_in_table, blocks_in_all}
 

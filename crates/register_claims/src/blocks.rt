@@ -5,7 +5,7 @@ ghost use Rattle.inet_num.specs.Free.{available_blocks_of};
 ghost use Rattle.block_space.specs.Fit.{fits_of};
 ghost use Rattle.block_claim.specs.Claims.{IsShort, FitInside};
 ghost use Rattle.ipam_data.specs.Lawful.{IsLawful};
-ghost use Rattle.ipam_data.specs.Shelf.{row_at};
+ghost use Rattle.ipam_data.specs.RowList.{row_at};
 ghost use Rattle.ipam_data.specs.Rows.{prefix_id};
 ghost use Rattle.ipam_data.specs.Prefixes.{prefix_rules};
 ghost use Rattle.ipam_data.specs.Claims.{most_items, child_blocks, claimed_prefixes, claim, claim_blocks_of, blocks_plan, claim_blocks_plan};
@@ -23,28 +23,36 @@ use ipam_data::calls::{Answered, BlockItem};
 use ipam_data::kinds::{Kind, Table};
 use ipam_data::prefix::{MOST_PREFIXES, Prefix};
 use ipam_data::replies::{Blocks, Refusal, Reply};
-use register_tables::{Planned, Shelves};
+use register_tables::{Planned, RowTables};
 use std::alloc::AllocError;
 
-/// The first available blocks of a prefix that is there, at most `limit`: the largest free ones, in order. `Err` is want of memory.
-pub fn available_in(shelves: &Shelves, row: &Prefix, limit: u32) -> Result<Vec<Block>, AllocError>
-    requires lawful { IsLawful (state_of shelves.now) }
-    requires there { IsThere shelves.now.prefixes.rows row.now }
-    ensures { IfOk result (λ v. v.items ≡ take limit (available_blocks_of row.now.block (child_blocks shelves.now.prefixes.rows row.now))) }
+/// The first available blocks of a prefix that is there, at most `limit`: the largest free ones, in order. `Err` means out of memory.
+pub fn available_in(
+    row_tables: &RowTables,
+    row: &Prefix,
+    limit: u32,
+) -> Result<Vec<Block>, AllocError>
+    requires lawful { IsLawful (state_of row_tables.now) }
+    requires there { IsThere row_tables.now.prefixes.rows row.now }
+    ensures { IfOk result (λ v. v.items ≡ take limit (available_blocks_of row.now.block (child_blocks row_tables.now.prefixes.rows row.now))) }
 {
-    let kids = space_beside(shelves.prefixes(), row);
-    available_blocks(shelves.allocator(), kids, row.block, limit)
+    let kids = space_beside(row_tables.prefixes(), row);
+    available_blocks(row_tables.allocator(), kids, row.block, limit)
 }
 
 /// Reads the first available blocks of the prefix of an id, at most `limit`: the largest free ones, in order. `Err` is want of
 /// memory.
-pub fn plan_available_blocks(shelves: &Shelves, id: u32, limit: u32) -> Result<Planned, AllocError>
-    requires { IsLawful (state_of shelves.now) }
-    ensures { IfOk result (λ p. IsPlanned (blocks_plan (state_of shelves.now) id limit) p) }
+pub fn plan_available_blocks(
+    row_tables: &RowTables,
+    id: u32,
+    limit: u32,
+) -> Result<Planned, AllocError>
+    requires { IsLawful (state_of row_tables.now) }
+    ensures { IfOk result (λ p. IsPlanned (blocks_plan (state_of row_tables.now) id limit) p) }
 {
-    match shelves.prefixes().get(id) {
+    match row_tables.prefixes().get(id) {
         Some(row) => {
-            let list = available_in(shelves, row, limit)?;
+            let list = available_in(row_tables, row, limit)?;
             Ok(Planned::Read(Reply::Blocks {
                 vrf: row.vrf,
                 list: Blocks::of(list),
@@ -55,25 +63,25 @@ pub fn plan_available_blocks(shelves: &Shelves, id: u32, limit: u32) -> Result<P
 }
 
 /// What lengths get in a prefix that is there, beside the prefixes that count for it.
-fn fits(shelves: &mut Shelves, row: &Prefix, wanted: &[u8]) -> Result<Vec<Block>, ClaimFault>
-    requires lawful { IsLawful (state_of shelves.old) }
-    requires there { IsThere shelves.old.prefixes.rows row.now }
+fn fits(row_tables: &mut RowTables, row: &Prefix, wanted: &[u8]) -> Result<Vec<Block>, ClaimFault>
+    requires lawful { IsLawful (state_of row_tables.old) }
+    requires there { IsThere row_tables.old.prefixes.rows row.now }
     requires lengths { FitInside row.now.block wanted.now }
     requires few { length wanted.now ≤ most_items }
-    ensures state { state_of shelves.new ≡ state_of shelves.old }
-    ensures ok { IfOk result (λ v. (v.items ≡ fits_of row.now.block (child_blocks shelves.old.prefixes.rows row.now) wanted.now) × (length v.items ≡ length wanted.now)) }
-    ensures err { IfErr result (IsShort (length wanted.now) (length (fits_of row.now.block (child_blocks shelves.old.prefixes.rows row.now) wanted.now))) }
+    ensures state { state_of row_tables.new ≡ state_of row_tables.old }
+    ensures ok { IfOk result (λ v. (v.items ≡ fits_of row.now.block (child_blocks row_tables.old.prefixes.rows row.now) wanted.now) × (length v.items ≡ length wanted.now)) }
+    ensures err { IfErr result (IsShort (length wanted.now) (length (fits_of row.now.block (child_blocks row_tables.old.prefixes.rows row.now) wanted.now))) }
 {
-    shelves.prefixes().in_order();
+    row_tables.prefixes().in_order();
     if sees_all(row) {
-        return shelves.fits_in_all(row.block, wanted);
+        return row_tables.fits_in_all(row.block, wanted);
     }
-    shelves.fits_in_table(Table::of(row.vrf), row.block, wanted)
+    row_tables.fits_in_table(Table::of(row.vrf), row.block, wanted)
 }
 
-/// Plans the prefixes of items that got a block each. `Err` is want of memory.
+/// Plans the prefixes of items that got a block each. `Err` means out of memory.
 fn plan_rows(
-    shelves: &Shelves,
+    row_tables: &RowTables,
     row: &Prefix,
     answered: Answered,
     items: &[BlockItem],
@@ -81,57 +89,57 @@ fn plan_rows(
 ) -> Result<Planned, AllocError>
     requires each { length blocks.now ≡ length items.now }
     requires few { length items.now ≤ most_items }
-    ensures { IfOk result (λ p. IsPlanned (claim prefix_rules (state_of shelves.now) [] (length items.now) answered (claimed_prefixes row.now shelves.now.next_prefix items.now blocks.now)) p) }
+    ensures { IfOk result (λ p. IsPlanned (claim prefix_rules (state_of row_tables.now) [] (length items.now) answered (claimed_prefixes row.now row_tables.now.next_prefix items.now blocks.now)) p) }
 {
     let wanted = items.len() as u32;
-    let next = shelves.next(Kind::Prefixes);
-    let count = shelves.prefixes().len();
+    let next = row_tables.next(Kind::Prefixes);
+    let count = row_tables.prefixes().len();
     match no_place(
         Kind::Prefixes,
         MOST_PREFIXES,
         count,
         next,
-        shelves.spent(),
+        row_tables.spent(),
         wanted,
     ) {
         Some(refusal) => return Ok(Planned::Refused(refusal)),
         None => {}
     }
-    let alloc = shelves.allocator();
+    let alloc = row_tables.allocator();
     let puts = claimed_views(alloc, row, next, items, blocks)?;
     let again = claimed_views(alloc, row, next, items, blocks)?;
     let reply = served(answered, again);
     changed(alloc, puts, Kind::Prefixes, next + wanted, wanted, reply)
 }
 
-/// Plans a claim in a prefix that is there. `Err` is want of memory.
+/// Plans a claim in a prefix that is there. `Err` means out of memory.
 fn plan_claimed(
-    shelves: &mut Shelves,
+    row_tables: &mut RowTables,
     row: &Prefix,
     answered: Answered,
     items: &[BlockItem],
 ) -> Result<Planned, AllocError>
-    requires lawful { IsLawful (state_of shelves.old) }
-    requires there { IsThere shelves.old.prefixes.rows row.now }
-    ensures state { state_of shelves.new ≡ state_of shelves.old }
-    ensures plan { IfOk result (λ p. IsPlanned (claim_blocks_of (state_of shelves.old) answered items.now row.now) p) }
+    requires lawful { IsLawful (state_of row_tables.old) }
+    requires there { IsThere row_tables.old.prefixes.rows row.now }
+    ensures state { state_of row_tables.new ≡ state_of row_tables.old }
+    ensures plan { IfOk result (λ p. IsPlanned (claim_blocks_of (state_of row_tables.old) answered items.now row.now) p) }
 {
-    match claim_fault(shelves, row, items) {
+    match claim_fault(row_tables, row, items) {
         Some(refusal) => return Ok(Planned::Refused(refusal)),
         None => {}
     }
-    let wanted = lengths(shelves.allocator(), items)?;
-    match fits(shelves, row, wanted.as_slice()) {
-        Ok(blocks) => plan_rows(shelves, row, answered, items, blocks.as_slice()),
+    let wanted = lengths(row_tables.allocator(), items)?;
+    match fits(row_tables, row, wanted.as_slice()) {
+        Ok(blocks) => plan_rows(row_tables, row, answered, items, blocks.as_slice()),
         Err(fault) => stopped(fault),
     }
 }
 
-/// The prefix of an id, as a row of its own. `Err` is want of memory.
-fn prefix_of(shelves: &Shelves, id: u32) -> Result<Option<Prefix>, AllocError>
-    ensures { IfOk result (λ found. found ≡ row_at prefix_id shelves.now.prefixes.rows id) }
+/// The prefix of an id, as a row of its own. `Err` means out of memory.
+fn prefix_of(row_tables: &RowTables, id: u32) -> Result<Option<Prefix>, AllocError>
+    ensures { IfOk result (λ found. found ≡ row_at prefix_id row_tables.now.prefixes.rows id) }
 {
-    match shelves.prefixes().get(id) {
+    match row_tables.prefixes().get(id) {
         Some(row) => {
             let row = row.copy()?;
             Ok(Some(row))
@@ -142,19 +150,19 @@ fn prefix_of(shelves: &Shelves, id: u32) -> Result<Option<Prefix>, AllocError>
 
 /// Plans a claim of blocks in the prefix of an id: each item gets the lowest free block of its length beside the prefixes that
 /// count and the blocks of the items before it. The rows stay; a space of the book is lent to the plan, and no room is left in
-/// its table. `Err` is want of memory.
+/// its table. `Err` means out of memory.
 pub fn plan_claim_blocks(
-    shelves: &mut Shelves,
+    row_tables: &mut RowTables,
     id: u32,
     answered: Answered,
     items: &[BlockItem],
 ) -> Result<Planned, AllocError>
-    requires { IsLawful (state_of shelves.old) }
-    ensures state { state_of shelves.new ≡ state_of shelves.old }
-    ensures plan { IfOk result (λ p. IsPlanned (claim_blocks_plan (state_of shelves.old) id answered items.now) p) }
+    requires { IsLawful (state_of row_tables.old) }
+    ensures state { state_of row_tables.new ≡ state_of row_tables.old }
+    ensures plan { IfOk result (λ p. IsPlanned (claim_blocks_plan (state_of row_tables.old) id answered items.now) p) }
 {
-    match prefix_of(shelves, id)? {
-        Some(row) => plan_claimed(shelves, &row, answered, items),
+    match prefix_of(row_tables, id)? {
+        Some(row) => plan_claimed(row_tables, &row, answered, items),
         None => Ok(Planned::Refused(Refusal::NotFound(Kind::Prefixes, id))),
     }
 }

@@ -50,7 +50,7 @@ pub fn no_place(
     None
 }
 
-/// What a claim comes to that got too little. `Err` is want of memory.
+/// What a claim comes to that got too little. `Err` means out of memory.
 pub fn stopped(fault: ClaimFault) -> Result<Planned, AllocError>
     ensures { (wanted : ℕ) (got : ℕ) → IsShort wanted got fault → IfOk result (λ p. (p ≡ Planned.Refused (NoSpace got)) × (got < wanted)) }
 {
@@ -81,7 +81,7 @@ pub fn served(answered: Answered, views: Vec<View>) -> Reply
     }
 }
 
-/// Rows more, and the next id of their kind after them, with an answer. `Err` is want of memory.
+/// Rows more, and the next id of their kind after them, with an answer. `Err` means out of memory.
 pub fn changed(
     alloc: Global,
     puts: Vec<View>,

@@ -11,7 +11,7 @@ ghost use Rattle.ipam_data.specs.declared.kinds.Kind.TheVariants.{Addresses as A
 ghost use Rattle.ipam_data.specs.declared.replies.Which.TheVariants.{Claims as ClaimItems};
 ghost use Rattle.ipam_data.specs.declared.replies.View.TheVariants.{IpAddress as AddressView};
 ghost use Rattle.ipam_data.specs.Checks.{first, too_many};
-ghost use Rattle.ipam_data.specs.Shelf.{last_next};
+ghost use Rattle.ipam_data.specs.RowList.{last_next};
 ghost use Rattle.ipam_data.specs.Tables.{table_of};
 ghost use Rattle.ipam_data.specs.Plans.{no_place};
 ghost use Rattle.ipam_data.specs.Addresses.{address_rules, is_slaac_of_v4};
@@ -37,7 +37,7 @@ use ipam_data::prefix::Prefix;
 use ipam_data::range::IpRange;
 use ipam_data::replies::{Refusal, Rule, View};
 use placed_book::Book;
-use register_tables::{Planned, Shelves};
+use register_tables::{Planned, RowTables};
 use std::alloc::{AllocError, Global};
 
 // ---- what is told of the items
@@ -52,7 +52,7 @@ fn is_slaac_of_ipv4(status: AddressStatus, family: Family) -> bool
     }
 }
 
-/// Why an item can't be served by what it says, if so. `Err` is want of memory.
+/// Why an item can't be served by what it says, if so. `Err` means out of memory.
 fn fault_of_item(item: &AddrItem, family: Family) -> Result<Option<Refusal>, AllocError>
     ensures { IfOk result (λ r. r ≡ first (told_of_address family item.now)) }
 {
@@ -66,7 +66,7 @@ fn fault_of_item(item: &AddrItem, family: Family) -> Result<Option<Refusal>, All
     Ok(None)
 }
 
-/// The same of the first item that can't. `Err` is want of memory.
+/// The same of the first item that can't. `Err` means out of memory.
 fn fault_of_items(items: &[AddrItem], family: Family) -> Result<Option<Refusal>, AllocError>
     ensures { IfOk result (λ r. r ≡ first (flat_map (told_of_address family) items.now)) }
 {
@@ -103,7 +103,7 @@ fn masked(addr: Addr, len: u8) -> Host
     }
 }
 
-/// The row that an item gets under an id. `Err` is want of memory.
+/// The row that an item gets under an id. `Err` means out of memory.
 fn claimed_row(
     item: &AddrItem,
     host: Host,
@@ -125,7 +125,7 @@ fn claimed_row(
     })
 }
 
-/// The rows that items get, each the next address, under ids from one on. `Err` is want of memory.
+/// The rows that items get, each the next address, under ids from one on. `Err` means out of memory.
 fn claimed_rows(
     alloc: Global,
     items: &[AddrItem],
@@ -148,9 +148,9 @@ fn claimed_rows(
     Ok(views)
 }
 
-/// What is done and answered where the items get these addresses. `Err` is want of memory.
+/// What is done and answered where the items get these addresses. `Err` means out of memory.
 fn made(
-    shelves: &Shelves,
+    row_tables: &RowTables,
     answered: Answered,
     items: &[AddrItem],
     found: &[Addr],
@@ -159,11 +159,11 @@ fn made(
 ) -> Result<Planned, AllocError>
     requires count { length found.now ≡ length items.now }
     requires mask { AllByRecursion (λ a. len ≤ width_of a.family) found.now }
-    requires ids { shelves.now.next_address + length items.now ≤ last_next }
-    ensures { IfOk result (λ p. let views = map AddressView (claimed_addresses vrf len shelves.now.next_address items.now found.now) in p ≡ Planned.Change (record { puts = views; cuts = []; next = (AddressKind, shelves.now.next_address + length items.now) ∷ []; spent = length items.now }) (served answered views)) }
+    requires ids { row_tables.now.next_address + length items.now ≤ last_next }
+    ensures { IfOk result (λ p. let views = map AddressView (claimed_addresses vrf len row_tables.now.next_address items.now found.now) in p ≡ Planned.Change (record { puts = views; cuts = []; next = (AddressKind, row_tables.now.next_address + length items.now) ∷ []; spent = length items.now }) (served answered views)) }
 {
-    let alloc = shelves.allocator();
-    let next = shelves.next(Kind::Addresses);
+    let alloc = row_tables.allocator();
+    let next = row_tables.next(Kind::Addresses);
     let wanted = items.len() as u32;
     let puts = claimed_rows(alloc, items, found, vrf, len, next)?;
     let again = claimed_rows(alloc, items, found, vrf, len, next)?;
@@ -171,9 +171,9 @@ fn made(
     changed(alloc, puts, Kind::Addresses, next + wanted, wanted, reply)
 }
 
-/// Plans a claim of which nothing is told and whose items get these addresses. `Err` is want of memory.
+/// Plans a claim of which nothing is told and whose items get these addresses. `Err` means out of memory.
 fn plan_served(
-    shelves: &Shelves,
+    row_tables: &RowTables,
     answered: Answered,
     items: &[AddrItem],
     found: &[Addr],
@@ -184,36 +184,36 @@ fn plan_served(
     requires told { first (too_many ClaimItems most_items (length items.now) ∷ flat_map (told_of_address family) items.now) ≡ None }
     requires count { length found.now ≡ length items.now }
     requires mask { AllByRecursion (λ a. len ≤ width_of a.family) found.now }
-    ensures { IfOk result (λ p. (usable : List ℕ) → IsServed (length items.now) (addressed family usable) found.now → IsPlanned (claim_addresses_of (state_of shelves.now) answered items.now vrf len family usable) p) }
+    ensures { IfOk result (λ p. (usable : List ℕ) → IsServed (length items.now) (addressed family usable) found.now → IsPlanned (claim_addresses_of (state_of row_tables.now) answered items.now vrf len family usable) p) }
 {
     let wanted = items.len() as u32;
-    let next = shelves.next(Kind::Addresses);
-    let count = shelves.addresses().len();
+    let next = row_tables.next(Kind::Addresses);
+    let count = row_tables.addresses().len();
     match no_place(
         Kind::Addresses,
         MOST_ADDRESSES,
         count,
         next,
-        shelves.spent(),
+        row_tables.spent(),
         wanted,
     ) {
         Some(refusal) => Ok(Planned::Refused(refusal)),
-        None => made(shelves, answered, items, found, vrf, len),
+        None => made(row_tables, answered, items, found, vrf, len),
     }
 }
 
 // ---- the calls
 
-/// Plans a claim in a prefix that is there, beside the spans of the ranges of its table. `Err` is want of memory.
+/// Plans a claim in a prefix that is there, beside the spans of the ranges of its table. `Err` means out of memory.
 fn claim_in_prefix(
-    shelves: &Shelves,
+    row_tables: &RowTables,
     answered: Answered,
     items: &[AddrItem],
     held: &[Span],
     row: &Prefix,
 ) -> Result<Planned, AllocError>
-    requires { AreSpansOf shelves.now.ranges.rows (table_of row.now.vrf) row.now.block.family AllRanges held.now }
-    ensures { IfOk result (λ p. IsPlanned (claim_addresses_of (state_of shelves.now) answered items.now row.now.vrf row.now.block.len row.now.block.family (usable_in (state_of shelves.now) row.now)) p) }
+    requires { AreSpansOf row_tables.now.ranges.rows (table_of row.now.vrf) row.now.block.family AllRanges held.now }
+    ensures { IfOk result (λ p. IsPlanned (claim_addresses_of (state_of row_tables.now) answered items.now row.now.vrf row.now.block.len row.now.block.family (usable_in (state_of row_tables.now) row.now)) p) }
 {
     let family = row.block.family();
     let len = row.block.len();
@@ -222,9 +222,9 @@ fn claim_in_prefix(
         Some(refusal) => return Ok(Planned::Refused(refusal)),
         None => {}
     }
-    match claimed_of_prefix(shelves, held, row, items.len() as u32) {
+    match claimed_of_prefix(row_tables, held, row, items.len() as u32) {
         Ok(found) => plan_served(
-            shelves,
+            row_tables,
             answered,
             items,
             found.as_slice(),
@@ -236,9 +236,9 @@ fn claim_in_prefix(
     }
 }
 
-/// Plans a claim in a range that is there, given by its pieces. `Err` is want of memory.
+/// Plans a claim in a range that is there, given by its pieces. `Err` means out of memory.
 fn claim_in_range(
-    shelves: &Shelves,
+    row_tables: &RowTables,
     answered: Answered,
     items: &[AddrItem],
     pieces: &[Block],
@@ -246,7 +246,7 @@ fn claim_in_range(
 ) -> Result<Planned, AllocError>
     requires numbers { flat_map addresses_of pieces.now ≡ numbers_in row.now }
     requires family { AllByRecursion (λ b. b.family ≡ row.now.ends.start.family) pieces.now }
-    ensures { IfOk result (λ p. IsPlanned (claim_addresses_of (state_of shelves.now) answered items.now row.now.vrf row.now.ends.len row.now.ends.start.family (usable_of_range (state_of shelves.now) row.now)) p) }
+    ensures { IfOk result (λ p. IsPlanned (claim_addresses_of (state_of row_tables.now) answered items.now row.now.vrf row.now.ends.len row.now.ends.start.family (usable_of_range (state_of row_tables.now) row.now)) p) }
 {
     let start = row.ends.start();
     let family = start.family();
@@ -256,9 +256,9 @@ fn claim_in_range(
         Some(refusal) => return Ok(Planned::Refused(refusal)),
         None => {}
     }
-    match claimed_of_range(shelves, pieces, row, items.len() as u32) {
+    match claimed_of_range(row_tables, pieces, row, items.len() as u32) {
         Ok(found) => plan_served(
-            shelves,
+            row_tables,
             answered,
             items,
             found.as_slice(),
@@ -271,37 +271,37 @@ fn claim_in_range(
 }
 
 /// Plans a claim of addresses of the prefix of an id: each item gets the lowest usable one, the first item the first. It came as
-/// one item or as a list, and is answered so. `Err` is want of memory.
+/// one item or as a list, and is answered so. `Err` means out of memory.
 pub fn plan_claim_prefix_addrs(
-    shelves: &Shelves,
+    row_tables: &RowTables,
     id: u32,
     answered: Answered,
     items: &[AddrItem],
 ) -> Result<Planned, AllocError>
-    requires { IsLawful (state_of shelves.now) }
-    ensures { IfOk result (λ p. IsPlanned (claim_prefix_addrs_plan (state_of shelves.now) id answered items.now) p) }
+    requires { IsLawful (state_of row_tables.now) }
+    ensures { IfOk result (λ p. IsPlanned (claim_prefix_addrs_plan (state_of row_tables.now) id answered items.now) p) }
 {
-    let Some(row) = shelves.prefixes().get(id) else {
+    let Some(row) = row_tables.prefixes().get(id) else {
         return Ok(Planned::Refused(Refusal::NotFound(Kind::Prefixes, id)));
     };
     let family = row.block.family();
-    let held = spans_of(shelves, Table::of(row.vrf), family, Wanted::All);
-    claim_in_prefix(shelves, answered, items, held, row)
+    let held = spans_of(row_tables, Table::of(row.vrf), family, Wanted::All);
+    claim_in_prefix(row_tables, answered, items, held, row)
 }
 
-/// Plans a claim of addresses of the range of an id: each item gets the lowest one that no host has. `Err` is want of memory.
+/// Plans a claim of addresses of the range of an id: each item gets the lowest one that no host has. `Err` means out of memory.
 pub fn plan_claim_range_addrs(
-    shelves: &Shelves,
+    row_tables: &RowTables,
     id: u32,
     answered: Answered,
     items: &[AddrItem],
 ) -> Result<Planned, AllocError>
-    requires { IsLawful (state_of shelves.now) }
-    ensures { IfOk result (λ p. IsPlanned (claim_range_addrs_plan (state_of shelves.now) id answered items.now) p) }
+    requires { IsLawful (state_of row_tables.now) }
+    ensures { IfOk result (λ p. IsPlanned (claim_range_addrs_plan (state_of row_tables.now) id answered items.now) p) }
 {
-    let Some(row) = shelves.ranges().get(id) else {
+    let Some(row) = row_tables.ranges().get(id) else {
         return Ok(Planned::Refused(Refusal::NotFound(Kind::Ranges, id)));
     };
-    let pieces = pieces_of(shelves, id, row)?;
-    claim_in_range(shelves, answered, items, pieces.as_slice(), row)
+    let pieces = pieces_of(row_tables, id, row)?;
+    claim_in_range(row_tables, answered, items, pieces.as_slice(), row)
 }

@@ -15,28 +15,28 @@ use inet_num::Block;
 use ipam_data::calls::BlockItem;
 use ipam_data::prefix::Prefix;
 use ipam_data::replies::{Refusal, Rule, View};
-use register_tables::{Shelves, missing_role};
+use register_tables::{RowTables, missing_role};
 use std::alloc::{AllocError, Global};
 
 /// Why an item can't be served whatever is free, if so: its length does not fit the prefix, or its role is not there.
-fn fault_of(shelves: &Shelves, row: &Prefix, item: &BlockItem) -> Option<Refusal>
-    ensures { result ≡ first (told_of_block (state_of shelves.now) row.now item.now) }
+fn fault_of(row_tables: &RowTables, row: &Prefix, item: &BlockItem) -> Option<Refusal>
+    ensures { result ≡ first (told_of_block (state_of row_tables.now) row.now item.now) }
 {
     if item.len <= row.block.len() || item.len > row.block.family().width() {
         return Some(Refusal::Rule(Rule::WantedLength));
     }
-    match missing_role(shelves, item.role) {
+    match missing_role(row_tables, item.role) {
         Some(rule) => Some(Refusal::Rule(rule)),
         None => None,
     }
 }
 
 /// The first of these that an item has.
-fn first_fault(shelves: &Shelves, row: &Prefix, items: &[BlockItem]) -> Option<Refusal>
-    ensures { result ≡ first (flat_map (told_of_block (state_of shelves.now) row.now) items.now) }
+fn first_fault(row_tables: &RowTables, row: &Prefix, items: &[BlockItem]) -> Option<Refusal>
+    ensures { result ≡ first (flat_map (told_of_block (state_of row_tables.now) row.now) items.now) }
 {
     'items: for item in items {
-        if let Some(refusal) = fault_of(shelves, row, item) {
+        if let Some(refusal) = fault_of(row_tables, row, item) {
             return Some(refusal);
         }
     }
@@ -44,16 +44,16 @@ fn first_fault(shelves: &Shelves, row: &Prefix, items: &[BlockItem]) -> Option<R
 }
 
 /// Why a claim can't be served whatever is free, if so: it has too many items, or one of them a fault.
-pub fn claim_fault(shelves: &Shelves, row: &Prefix, items: &[BlockItem]) -> Option<Refusal>
-    ensures { result ≡ first (too_many Claims most_items (length items.now) ∷ flat_map (told_of_block (state_of shelves.now) row.now) items.now) }
+pub fn claim_fault(row_tables: &RowTables, row: &Prefix, items: &[BlockItem]) -> Option<Refusal>
+    ensures { result ≡ first (too_many Claims most_items (length items.now) ∷ flat_map (told_of_block (state_of row_tables.now) row.now) items.now) }
 {
     match too_many_items(items.len()) {
         Some(refusal) => Some(refusal),
-        None => first_fault(shelves, row, items),
+        None => first_fault(row_tables, row, items),
     }
 }
 
-/// The lengths of the items. `Err` is want of memory.
+/// The lengths of the items. `Err` means out of memory.
 pub fn lengths(alloc: Global, items: &[BlockItem]) -> Result<Vec<u8>, AllocError>
     ensures { IfOk result (λ v. v.items ≡ lengths_of items.now) }
 {
@@ -64,7 +64,7 @@ pub fn lengths(alloc: Global, items: &[BlockItem]) -> Result<Vec<u8>, AllocError
     Ok(lengths)
 }
 
-/// The prefix that an item gets, in the table of the prefix that it is claimed of. `Err` is want of memory.
+/// The prefix that an item gets, in the table of the prefix that it is claimed of. `Err` means out of memory.
 fn claimed(row: &Prefix, id: u32, item: &BlockItem, block: Block) -> Result<View, AllocError>
     ensures { IfOk result (λ v. v ≡ PrefixView (claimed_prefix row.now id item.now block) 0 0) }
 {
@@ -85,7 +85,7 @@ fn claimed(row: &Prefix, id: u32, item: &BlockItem, block: Block) -> Result<View
     })
 }
 
-/// The prefixes that the items get with these blocks, each under the next id. `Err` is want of memory.
+/// The prefixes that the items get with these blocks, each under the next id. `Err` means out of memory.
 pub fn claimed_views(
     alloc: Global,
     row: &Prefix,

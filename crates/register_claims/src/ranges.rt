@@ -4,7 +4,7 @@ ghost use Rattle.std.specs.Prelude.{◌≡◌, Some, IfOk};
 ghost use Rattle.std.specs.List.{AllByRecursion, flat_map};
 ghost use Rattle.inet_num.specs.Count.{addresses_of};
 ghost use Rattle.ipam_data.specs.Lawful.{IsLawful};
-ghost use Rattle.ipam_data.specs.Shelf.{row_at};
+ghost use Rattle.ipam_data.specs.RowList.{row_at};
 ghost use Rattle.ipam_data.specs.Rows.{range_id};
 ghost use Rattle.register_tables.specs.Held.{state_of};
 ghost use Rattle.ipam_data.specs.Claims.{numbers_in};
@@ -14,23 +14,27 @@ use inet_num::{Block, Family, Span};
 use ip_ranges::Which;
 use ipam_data::kinds::Table;
 use ipam_data::range::IpRange;
-use register_tables::Shelves;
+use register_tables::RowTables;
 use std::alloc::AllocError;
 
 /// The spans of the ranges of a table and family, in order.
-pub fn spans_of(shelves: &Shelves, table: Table, family: Family, which: Which) -> &[Span]
-    requires { IsLawful (state_of shelves.now) }
-    ensures { AreSpansOf shelves.now.ranges.rows table family which result.now }
+pub fn spans_of(row_tables: &RowTables, table: Table, family: Family, which: Which) -> &[Span]
+    requires { IsLawful (state_of row_tables.now) }
+    ensures { AreSpansOf row_tables.now.ranges.rows table family which result.now }
 {
-    shelves.ranges().spans(table, family, which)
+    row_tables.ranges().spans(table, family, which)
 }
 
-/// The range of an id, which is this one, as blocks, whose addresses follow one another. `Err` is want of memory.
-pub fn pieces_of(shelves: &Shelves, id: u32, _range: &IpRange) -> Result<Vec<Block>, AllocError>
-    requires lawful { IsLawful (state_of shelves.now) }
-    requires there { row_at range_id shelves.now.ranges.rows id ≡ Some _range.now }
+/// The range of an id, which is this one, as blocks, whose addresses follow one another. `Err` means out of memory.
+pub fn pieces_of(
+    row_tables: &RowTables,
+    id: u32,
+    _range: &IpRange,
+) -> Result<Vec<Block>, AllocError>
+    requires lawful { IsLawful (state_of row_tables.now) }
+    requires there { row_at range_id row_tables.now.ranges.rows id ≡ Some _range.now }
     ensures numbers { IfOk result (λ v. flat_map addresses_of v.items ≡ numbers_in _range.now) }
     ensures family { IfOk result (λ v. AllByRecursion (λ b. b.family ≡ _range.now.ends.start.family) v.items) }
 {
-    shelves.ranges().pieces(id)
+    row_tables.ranges().pieces(id)
 }

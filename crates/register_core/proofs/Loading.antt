@@ -4,7 +4,7 @@ use Rattle.std.proofs.Math.Seq.{drop-cons, take-suc}
 use Rattle.std.proofs.lemmas.List.{take-append-drop}
 use Rattle.ipam_data.specs.declared.kinds.Kind.{Kind}
 use Rattle.ipam_data.specs.declared.replies.View.{View}
-use Rattle.ipam_data.specs.Shelf.{Rises}
+use Rattle.ipam_data.specs.RowList.{Rises}
 use Rattle.ipam_data.specs.State.{State}
 use Rattle.ipam_data.specs.Updates.{with_view, AreFit}
 use Rattle.stored_tables.specs.declared.tables.Row.{Row}
@@ -69,7 +69,7 @@ unread_here rows i row views read l is a r n = record {
 all_read : (rows : List Row) (views : List View) (unread : Option (Kind × ℕ)) → AreRead rows views unread → unread ≡ None → AreOf rows views
 all_read rows views unread r n = subst (λ (o : Option (Kind × ℕ)). AreRead rows views o) n r
 
--- rows that were read from tables in order fit into the shelves without rows
+-- rows that were read from tables in order fit into the tables in memory without rows
 pub fit : (tables : Tables) (g : Bool) (rows : List Row) (nexts : List (Kind × ℕ)) (views : List View) (unread : Option (Kind × ℕ)) (s : State) → AreTables tables → rows ≡ tables.rows
     → AreRead rows views unread → unread ≡ None → s ≡ bare_state nexts g → AreFit s views
 fit tables g rows nexts views unread s order same r n e =

@@ -33,7 +33,7 @@ use Rattle.ipam_data.specs.Addresses.{is_slaac_of_v4}
 use Rattle.ipam_data.specs.Claims.{child_blocks, wanted_length, claim, served, most_items, no_space, told_of_block, told_of_address, usable_in, usable_of_range, prefix_figure, range_figure, aggregate_figure, figure_plan, utilization_plan}
 use Rattle.ipam_data.specs.declared.replies.Reply.{Reply}
 use Rattle.ipam_data.specs.declared.replies.Reply.TheVariants.{Made, MadeMany, Changed, Gone, Imported, One, Page, Blocks, Addrs, Percent, Refused}
-use Rattle.ipam_data.specs.Shelf.{row_at}
+use Rattle.ipam_data.specs.RowList.{row_at}
 use Rattle.ipam_data.specs.Checks.{first, too_many, no_ids, no_log, no_such, breaks}
 use Rattle.ipam_data.specs.State.{State, Plan, verdict_of, reading}
 use Rattle.ipam_data.specs.Plans.{KindRules, broken, no_seats, no_place, create, replace, change, take_out, delete, get, list, with_found, nothing_told}
@@ -127,8 +127,8 @@ module _ (bad : Refusal) (apart : IsApart bad) where
 
     never_seats : (more : ℕ) → first (no_seats rules s more) ≢ Some bad
     never_seats more =
-        never_append (too_many _ rules.most (length (rules.shelf s).rows + more) ∷ []) (no_ids (rules.shelf s).next more ∷ []) (never_one (too_many _ rules.most (length (rules.shelf s).rows + more)) (never_many _ _ _))
-        (never_one (no_ids (rules.shelf s).next more) (limited (nat_le _ _) _ _))
+        never_append (too_many _ rules.most (length (rules.row_list s).rows + more) ∷ []) (no_ids (rules.row_list s).next more ∷ []) (never_one (too_many _ rules.most (length (rules.row_list s).rows + more)) (never_many _ _ _))
+        (never_one (no_ids (rules.row_list s).next more) (limited (nat_le _ _) _ _))
 
     create_rules : (told : List (Option Rule)) (row : T) → IsOfRules (create rules s told row)
     create_rules told row = record {
@@ -147,16 +147,16 @@ module _ (bad : Refusal) (apart : IsApart bad) where
     found_rules n plan (Some row) h = h row
 
     change_rules : (n : ℕ) (told : T → List (Option Rule)) (edit : T → T) → IsOfRules (change rules s n told edit)
-    change_rules n told edit = found_rules n (λ old. replace rules s old (told old) (edit old)) (row_at rules.id (rules.shelf s).rows n) (λ old. replace_rules old (told old) (edit old))
+    change_rules n told edit = found_rules n (λ old. replace rules s old (told old) (edit old)) (row_at rules.id (rules.row_list s).rows n) (λ old. replace_rules old (told old) (edit old))
 
     delete_rules : (n : ℕ) → first (rules.users s n) ≢ Some bad → IsOfRules (delete rules s n)
-    delete_rules n u = found_rules n (λ old. take_out rules s n) (row_at rules.id (rules.shelf s).rows n) (λ old. record {
+    delete_rules n u = found_rules n (λ old. take_out rules s n) (row_at rules.id (rules.row_list s).rows n) (λ old. record {
       checks = never_append (rules.users s n) (no_log s.spent 1 ∷ []) u (never_log 1);
       reply = λ v refusal e. cc;
     })
 
     get_rules : (n : ℕ) → IsOfRules (get rules s n)
-    get_rules n = found_rules n _ (row_at rules.id (rules.shelf s).rows n) (λ row. record { checks = λ e. cc; reply = λ v refusal e. cc })
+    get_rules n = found_rules n _ (row_at rules.id (rules.row_list s).rows n) (λ row. record { checks = λ e. cc; reply = λ v refusal e. cc })
 
     list_rules : (meets : T → Bool) (limit offset : ℕ) → IsOfRules (list rules s meets limit offset)
     list_rules meets limit offset = record { checks = λ e. cc; reply = λ v refusal e. cc }
@@ -176,7 +176,7 @@ module _ (bad : Refusal) (apart : IsApart bad) where
     }
 
     figure_rules : (figure : State → T → ℕ) (n : ℕ) → IsOfRules (figure_plan rules figure s n)
-    figure_rules figure n = found_rules n (λ row. reading (Percent (figure s row))) (row_at rules.id (rules.shelf s).rows n) (λ row. read_rules (Percent (figure s row)) (λ refusal e. cc))
+    figure_rules figure n = found_rules n (λ row. reading (Percent (figure s row))) (row_at rules.id (rules.row_list s).rows n) (λ row. read_rules (Percent (figure s row)) (λ refusal e. cc))
 
   view_of_rules : (s : State) (told : List (Option Rule)) (view : View) → IsOfRules (by_view view (λ T rules row. create rules s told row))
   view_of_rules s told (VrfView row) = create_rules vrf_rules s told row

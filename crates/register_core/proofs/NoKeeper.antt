@@ -5,7 +5,7 @@ use Rattle.ipam_data.specs.declared.calls.Call.TheVariants.{List as ListOf, Get,
 use Rattle.ipam_data.specs.declared.replies.Refusal.TheVariants.{Keeper, NoSpace}
 use Rattle.ipam_data.specs.declared.replies.Reply.TheVariants.{Refused}
 use Rattle.ipam_data.specs.Rows.{prefix_id, range_id}
-use Rattle.ipam_data.specs.Shelf.{row_at}
+use Rattle.ipam_data.specs.RowList.{row_at}
 use Rattle.ipam_data.specs.State.{State}
 use Rattle.ipam_data.specs.Prefixes.{prefix_rules}
 use Rattle.ipam_data.specs.Ranges.{range_rules}

@@ -19,7 +19,7 @@ use Rattle.ipam_data.specs.declared.replies.Reply.{Reply}
 use Rattle.ipam_data.specs.declared.replies.Reply.TheVariants.{Refused}
 use Rattle.ipam_data.specs.declared.replies.Which.TheVariants.{Claims}
 use Rattle.ipam_data.specs.Rows.{prefix_id, range_id}
-use Rattle.ipam_data.specs.Shelf.{row_at}
+use Rattle.ipam_data.specs.RowList.{row_at}
 use Rattle.ipam_data.specs.Checks.{first, too_many}
 use Rattle.ipam_data.specs.State.{State, Plan, verdict_of}
 use Rattle.ipam_data.specs.Plans.{KindRules, no_place, with_found}

@@ -8,7 +8,7 @@ use Rattle.ipam_data.specs.declared.replies.Reply.{Reply}
 use Rattle.ipam_data.specs.declared.replies.Reply.TheVariants.{Made, MadeMany, Changed, Gone, Imported, One, Page, Blocks, Addrs, Percent, Refused}
 use Rattle.ipam_data.specs.Replays.{Entry}
 
--- want of memory and a keeper that failed are kinds of their own, and every other refusal a plain answer
+-- out of memory and a keeper that failed are kinds of their own, and every other refusal a plain answer
 abbrev pub refusal_kind : Refusal → ReplyKind
 refusal_kind BadHead = plain
 refusal_kind (TooLarge part) = plain

@@ -12,15 +12,15 @@ use register_claims::{
     plan_prefix_addrs, plan_range_addrs, plan_utilization,
 };
 use register_plans::{plan_draft, plan_edit, plan_gone, plan_one, plan_page};
-use register_tables::{Planned, Shelves};
+use register_tables::{Planned, RowTables};
 use std::alloc::AllocError;
 
 /// What a call comes to. The state stays: a claim of blocks takes a space out of its book and puts it back, and all others change
-/// nothing. `Err` is want of memory.
-pub(crate) fn plan(shelves: &mut Shelves, call: &Call) -> Result<Planned, AllocError>
-    requires { IsLawful (state_of shelves.old) }
-    ensures state { state_of shelves.new ≡ state_of shelves.old }
-    ensures plan { IfOk result (λ p. IsPlanned (plan_of (state_of shelves.old) call.now) p) }
+/// nothing. `Err` means out of memory.
+pub(crate) fn plan(row_tables: &mut RowTables, call: &Call) -> Result<Planned, AllocError>
+    requires { IsLawful (state_of row_tables.old) }
+    ensures state { state_of row_tables.new ≡ state_of row_tables.old }
+    ensures plan { IfOk result (λ p. IsPlanned (plan_of (state_of row_tables.old) call.now) p) }
 {
     match call {
         Call::List {
@@ -28,29 +28,29 @@ pub(crate) fn plan(shelves: &mut Shelves, call: &Call) -> Result<Planned, AllocE
             filter,
             limit,
             offset,
-        } => plan_page(shelves, filter, *limit, *offset),
-        Call::Get { kind, id } => plan_one(shelves, *kind, *id),
-        Call::Create { draft } => plan_draft(shelves, draft),
-        Call::Change { id, edit } => plan_edit(shelves, *id, edit),
-        Call::Delete { kind, id } => plan_gone(shelves, *kind, *id),
-        Call::Blocks { id, limit } => plan_available_blocks(shelves, *id, *limit),
-        Call::PrefixAddrs { id, limit } => plan_prefix_addrs(shelves, *id, *limit),
-        Call::RangeAddrs { id, limit } => plan_range_addrs(shelves, *id, *limit),
+        } => plan_page(row_tables, filter, *limit, *offset),
+        Call::Get { kind, id } => plan_one(row_tables, *kind, *id),
+        Call::Create { draft } => plan_draft(row_tables, draft),
+        Call::Change { id, edit } => plan_edit(row_tables, *id, edit),
+        Call::Delete { kind, id } => plan_gone(row_tables, *kind, *id),
+        Call::Blocks { id, limit } => plan_available_blocks(row_tables, *id, *limit),
+        Call::PrefixAddrs { id, limit } => plan_prefix_addrs(row_tables, *id, *limit),
+        Call::RangeAddrs { id, limit } => plan_range_addrs(row_tables, *id, *limit),
         Call::ClaimBlocks {
             id,
             answered,
             items,
-        } => plan_claim_blocks(shelves, *id, *answered, items.as_slice()),
+        } => plan_claim_blocks(row_tables, *id, *answered, items.as_slice()),
         Call::ClaimPrefixAddrs {
             id,
             answered,
             items,
-        } => plan_claim_prefix_addrs(shelves, *id, *answered, items.as_slice()),
+        } => plan_claim_prefix_addrs(row_tables, *id, *answered, items.as_slice()),
         Call::ClaimRangeAddrs {
             id,
             answered,
             items,
-        } => plan_claim_range_addrs(shelves, *id, *answered, items.as_slice()),
-        Call::Utilization { kind, id } => Ok(plan_utilization(shelves, *kind, *id)),
+        } => plan_claim_range_addrs(row_tables, *id, *answered, items.as_slice()),
+        Call::Utilization { kind, id } => Ok(plan_utilization(row_tables, *kind, *id)),
     }
 }

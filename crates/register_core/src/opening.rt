@@ -14,17 +14,17 @@ use crate::passes::{bare, fill, first_bad_next, first_overfull, most_of, read_al
 use crate::register::{Register, Settings};
 use ipam_data::replies::Which;
 use ipam_keeper::keeper::{KeepFault, Keeper};
-use register_tables::Shelves;
+use register_tables::RowTables;
 use std::alloc::{AllocError, Global};
 use stored_tables::opening::OpenFault;
 use stored_tables::tables::Tables;
 
-/// The shelves of the rows of stored tables, or what is first found wrong with the tables. `Err` is want of memory.
+/// The tables in memory of the rows of stored tables, or what is first found wrong with the tables. `Err` means out of memory.
 fn check(
     alloc: Global,
     tables: &Tables,
     global_unique: bool,
-) -> Result<Result<Shelves, OpenFault>, AllocError>
+) -> Result<Result<RowTables, OpenFault>, AllocError>
     requires { AreTables tables.now }
     ensures { IfOk result (λ checked. IsChecked tables.now global_unique checked) }
 {
@@ -40,41 +40,41 @@ fn check(
     if let Some(kind) = first_overfull(rows) {
         return Ok(Err(OpenFault::Limit(Which::Kind(kind), most_of(kind) as u64)));
     }
-    // The shelves are given away on every way out, so that no path has to take them apart.
-    let mut shelves = bare(alloc, nexts, global_unique);
-    match fill(&mut shelves, views) {
+    // The tables in memory are given away on every way out, so that no path has to take them apart.
+    let mut row_tables = bare(alloc, nexts, global_unique);
+    match fill(&mut row_tables, views) {
         Ok(None) => {}
         Ok(Some(breach)) => {
-            drop(shelves);
+            drop(row_tables);
             return Ok(Err(OpenFault::BadTables(breach.kind, breach.id, breach.rule)));
         }
         Err(AllocError) => {
-            drop(shelves);
+            drop(row_tables);
             return Err(AllocError);
         }
     }
     match first_bad_next(nexts, rows) {
         Some(kind) => {
-            drop(shelves);
+            drop(row_tables);
             Ok(Err(OpenFault::BadNext(kind)))
         }
-        None => Ok(Ok(shelves)),
+        None => Ok(Ok(row_tables)),
     }
 }
 
-/// The shelves of the state for which the tables of a keeper stand, and the keeper again. The tables are loaded once and checked in
+/// The tables in memory of the state for which the tables of a keeper stand, and the keeper again. The tables are loaded once and checked in
 /// passes, each over all rows by kind and id before the next begins. The keeper keeps what it tells, as does the keeper that a refusal
 /// hands back.
 ///
 /// `Err` is `Version` exactly where the version is not 1; `BadRow` exactly where a row has id 0 or can't be read, the first such;
 /// `Limit` exactly where a kind has more rows than it may, the first such; `BadTables` exactly where a row breaks a rule beside the
 /// rows before it, the first such with its first rule, references first; `BadNext` exactly where a next id is absent, 0 or not above
-/// all ids of its kind, the first such kind; `Keeper` only where the keeper failed in this call; `Memory` for want of memory.
-pub fn open_shelves<K: Keeper + Drop>(
+/// all ids of its kind, the first such kind; `Keeper` only where the keeper failed in this call; `Memory` for lack of memory.
+pub fn open_row_tables<K: Keeper + Drop>(
     alloc: Global,
     keeper: K,
     settings: Settings,
-) -> Result<(Shelves, K), (K, OpenFault)>
+) -> Result<(RowTables, K), (K, OpenFault)>
     ensures state { IfOk result (λ r. IsOpened (K.told keeper) settings.global_unique (state_of r.0)) }
     ensures lawful { IfOk result (λ r. IsLawful (state_of r.0)) }
     ensures told { IfOk result (λ r. K.told r.1 ≡ K.told keeper) }
@@ -96,13 +96,13 @@ pub fn open_shelves<K: Keeper + Drop>(
         Err(AllocError) => return Err((keeper, OpenFault::Memory)),
     };
     match checked {
-        Ok(shelves) => Ok((shelves, keeper)),
+        Ok(row_tables) => Ok((row_tables, keeper)),
         Err(fault) => Err((keeper, fault)),
     }
 }
 
-/// A register over a keeper, of the state for which its tables stand, as `open_shelves` finds it. The register has an empty log and no
-/// last change, and the keeper keeps what it tells, as does the keeper that a refusal hands back. `Err` is what `open_shelves` answers.
+/// A register over a keeper, of the state for which its tables stand, as `open_row_tables` finds it. The register has an empty log and no
+/// last change, and the keeper keeps what it tells, as does the keeper that a refusal hands back. `Err` is what `open_row_tables` answers.
 pub fn open<K: Keeper + Drop>(
     alloc: Global,
     keeper: K,
@@ -117,8 +117,8 @@ pub fn open<K: Keeper + Drop>(
     ensures err_told { IfErr result (λ e. K.told e.0 ≡ K.told keeper) }
     ensures err_later { IfErr result (λ e. K.faults keeper ≤ K.faults e.0) }
 {
-    match open_shelves(alloc, keeper, settings) {
-        Ok((shelves, keeper)) => Ok(Register::over(alloc, Books::of(shelves), keeper)),
+    match open_row_tables(alloc, keeper, settings) {
+        Ok((row_tables, keeper)) => Ok(Register::over(alloc, Books::of(row_tables), keeper)),
         Err(refused) => Err(refused),
     }
 }

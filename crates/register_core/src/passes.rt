@@ -18,7 +18,7 @@ use ipam_data::rir::MOST_RIRS;
 use ipam_data::role::MOST_ROLES;
 use ipam_data::vrf::MOST_VRFS;
 use register_plans::broken_by_view;
-use register_tables::Shelves;
+use register_tables::RowTables;
 use std::alloc::{AllocError, Global};
 use stored_tables::opening::Breach;
 use stored_tables::reading::read_row;
@@ -26,7 +26,7 @@ use stored_tables::tables::Row;
 
 // ---- the rows are read
 
-/// Reads rows into views, up to the first that can't be read; its kind and id are handed out. `Err` is want of memory.
+/// Reads rows into views, up to the first that can't be read; its kind and id are handed out. `Err` means out of memory.
 pub(crate) fn read_all(
     alloc: Global,
     rows: &[Row],
@@ -133,20 +133,20 @@ fn told_next(nexts: &[(Kind, u32)], kind: Kind) -> u32
     0
 }
 
-/// Shelves without rows, with the told next ids. It takes no memory.
-pub(crate) fn bare(alloc: Global, nexts: &[(Kind, u32)], global_unique: bool) -> Shelves
+/// RowTables without rows, with the told next ids. It takes no memory.
+pub(crate) fn bare(alloc: Global, nexts: &[(Kind, u32)], global_unique: bool) -> RowTables
     ensures state { state_of result ≡ bare_state nexts.now global_unique }
     ensures nexts { AreNextIds nexts.now }
 {
-    let mut shelves = Shelves::new(alloc, global_unique);
-    shelves.set_next(Kind::Vrfs, told_next(nexts, Kind::Vrfs));
-    shelves.set_next(Kind::Rirs, told_next(nexts, Kind::Rirs));
-    shelves.set_next(Kind::Roles, told_next(nexts, Kind::Roles));
-    shelves.set_next(Kind::Aggregates, told_next(nexts, Kind::Aggregates));
-    shelves.set_next(Kind::Prefixes, told_next(nexts, Kind::Prefixes));
-    shelves.set_next(Kind::Ranges, told_next(nexts, Kind::Ranges));
-    shelves.set_next(Kind::Addresses, told_next(nexts, Kind::Addresses));
-    shelves
+    let mut row_tables = RowTables::new(alloc, global_unique);
+    row_tables.set_next(Kind::Vrfs, told_next(nexts, Kind::Vrfs));
+    row_tables.set_next(Kind::Rirs, told_next(nexts, Kind::Rirs));
+    row_tables.set_next(Kind::Roles, told_next(nexts, Kind::Roles));
+    row_tables.set_next(Kind::Aggregates, told_next(nexts, Kind::Aggregates));
+    row_tables.set_next(Kind::Prefixes, told_next(nexts, Kind::Prefixes));
+    row_tables.set_next(Kind::Ranges, told_next(nexts, Kind::Ranges));
+    row_tables.set_next(Kind::Addresses, told_next(nexts, Kind::Addresses));
+    row_tables
 }
 
 /// The kind of a row, and its id.
@@ -169,10 +169,10 @@ fn place_of(view: &View) -> (Kind, u32)
 }
 
 /// The breach of a row beside the rows that are there.
-fn breach_of(shelves: &Shelves, view: &View) -> Option<Breach>
-    ensures { result ≡ breach_of (state_of shelves.now) view.now }
+fn breach_of(row_tables: &RowTables, view: &View) -> Option<Breach>
+    ensures { result ≡ breach_of (state_of row_tables.now) view.now }
 {
-    match broken_by_view(shelves, view) {
+    match broken_by_view(row_tables, view) {
         Some(rule) => {
             let place = place_of(view);
             Some(Breach {
@@ -186,22 +186,25 @@ fn breach_of(shelves: &Shelves, view: &View) -> Option<Breach>
 }
 
 /// Puts rows one after another, as far as each breaks no rule beside those that stand before it; the first that breaks one is
-/// told. `Err` is want of memory.
-pub(crate) fn fill(shelves: &mut Shelves, views: Vec<View>) -> Result<Option<Breach>, AllocError>
-    requires { AreFit (state_of shelves.old) views.items }
-    ensures breach { IfOk result (λ b. first_breach (state_of shelves.old) views.items ≡ b) }
-    ensures state { IfOk result (λ b. b ≡ None → state_of shelves.new ≡ fold with_view (state_of shelves.old) views.items) }
+/// told. `Err` means out of memory.
+pub(crate) fn fill(
+    row_tables: &mut RowTables,
+    views: Vec<View>,
+) -> Result<Option<Breach>, AllocError>
+    requires { AreFit (state_of row_tables.old) views.items }
+    ensures breach { IfOk result (λ b. first_breach (state_of row_tables.old) views.items ≡ b) }
+    ensures state { IfOk result (λ b. b ≡ None → state_of row_tables.new ≡ fold with_view (state_of row_tables.old) views.items) }
 {
     let mut rest = views.into_iter();
     while let Some(view) = rest.next() {
-        match breach_of(shelves, &view) {
+        match breach_of(row_tables, &view) {
             Some(breach) => {
                 drop(view);
                 return Ok(Some(breach));
             }
             None => {}
         }
-        shelves.admit(view)?;
+        row_tables.admit(view)?;
     }
     Ok(None)
 }

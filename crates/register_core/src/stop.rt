@@ -7,7 +7,7 @@ use ipam_data::replies::Refusal;
 use ipam_keeper::keeper::KeepFault;
 use std::alloc::AllocError;
 
-/// What stops a call: want of memory, or its keeper.
+/// What stops a call: out of memory, or its keeper.
 #[derive(Clone, Copy, Debug)]
 pub enum Stop {
     Memory,

@@ -16,11 +16,11 @@ use Rattle.ipam_data.specs.declared.address.IpAddress.{IpAddress}
 use Rattle.ipam_data.specs.declared.kinds.Table.{Table}
 use Rattle.ipam_data.specs.declared.kinds.Table.TheVariants.{Global, Of}
 use Rattle.ipam_data.specs.Rows.{vrf_id, prefix_status_number, address_status_number}
-use Rattle.ipam_data.specs.Shelf.{row_at}
+use Rattle.ipam_data.specs.RowList.{row_at}
 use Rattle.ipam_data.specs.Tables.{table_of, same_table, same_name}
 use Rattle.ipam_data.specs.Checks.{asks}
 use Rattle.ipam_data.proofs.Kept.{found_there}
-use Rattle.ipam_data.proofs.Shelves.{eq_true, contains_cases, contains_rest}
+use Rattle.ipam_data.proofs.RowLists.{eq_true, contains_cases, contains_rest}
 use Rattle.placed_book.specs.Book.{Placed}
 use Rattle.placed_book.specs.Kinds.{placed_prefix, placed_address}
 use Rattle.place_search.specs.declared.Area.{Area}

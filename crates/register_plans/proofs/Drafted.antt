@@ -12,7 +12,7 @@ use Rattle.ipam_data.specs.declared.calls.Draft.{Draft}
 use Rattle.ipam_data.specs.declared.calls.Edit.{Edit}
 use Rattle.ipam_data.specs.Checks.{first}
 use Rattle.ipam_data.specs.Rows.{range_id}
-use Rattle.ipam_data.specs.Shelf.{row_at}
+use Rattle.ipam_data.specs.RowList.{row_at}
 use Rattle.ipam_data.specs.State.{State, Plan, verdict_of}
 use Rattle.ipam_data.specs.Plans.{create, replace}
 use Rattle.ipam_data.specs.ByKind.{by_view}
@@ -61,7 +61,7 @@ made s draft view p e t h =
     (subst (λ (told : List (Option Rule)). IfOk p (λ q. IsPlanned (by_view view (λ T rules row. create rules s told row)) q)) (sym t) h)
 
 -- the next id of ranges is that of a row of a range
-next_range : (s : State) (view : View) → by_view view (λ T rules row. rules.kind) ≡ Ranges → by_view view (λ T rules row. (rules.shelf s).next) ≡ s.ranges.next
+next_range : (s : State) (view : View) → by_view view (λ T rules row. rules.kind) ≡ Ranges → by_view view (λ T rules row. (rules.row_list s).next) ≡ s.ranges.next
 next_range s (VrfView row) e = cc
 next_range s (RirView row) e = cc
 next_range s (RoleView row) e = cc

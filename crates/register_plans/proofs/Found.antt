@@ -4,8 +4,8 @@ use Rattle.std.specs.List.{count_by, cons_option}
 use Rattle.std.proofs.lemmas.Bool.{cases_lt}
 use Rattle.std.proofs.lemmas.List.Kept.{AllPairs-from_increasing}
 use Rattle.std.proofs.lemmas.List.Sums.{length-filter}
-use Rattle.ipam_data.specs.Shelf.{row_at, Rises}
-use Rattle.ipam_data.proofs.Shelves.{eq_true, eq_false, contains_cases, contains_head, contains_rest, rises_above}
+use Rattle.ipam_data.specs.RowList.{row_at, Rises}
+use Rattle.ipam_data.proofs.RowLists.{eq_true, eq_false, contains_cases, contains_head, contains_rest, rises_above}
 use Rattle.register_plans.specs.Candidates.{AreCandidates, rows_of}
 
 abbrev Rising : List ℕ → Type 0

@@ -7,8 +7,8 @@ use Rattle.std.proofs.lemmas.Option.{slice_get_within, get_or_from_slice_get}
 use Rattle.std.proofs.Math.Seq.{take-suc}
 use Rattle.std.proofs.lemmas.Bool.Decides.{nat_tests}
 use Rattle.std.proofs.lemmas.List.Elements.{filter-append, filter_map-append}
-use Rattle.ipam_data.specs.Shelf.{page, row_at, Rises}
-use Rattle.ipam_data.proofs.Shelves.{eq_true, eq_false}
+use Rattle.ipam_data.specs.RowList.{page, row_at, Rises}
+use Rattle.ipam_data.proofs.RowLists.{eq_true, eq_false}
 use Rattle.register_plans.specs.Pages.{is_paged, one_if, only_if, one_of, only_of, page_of}
 use Rattle.register_plans.specs.Candidates.{rows_of}
 

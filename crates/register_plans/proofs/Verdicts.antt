@@ -12,7 +12,7 @@ use Rattle.ipam_data.specs.declared.replies.Rule.{Rule}
 use Rattle.ipam_data.specs.declared.replies.Refusal.{Refusal}
 use Rattle.ipam_data.specs.declared.replies.Refusal.TheVariants.{Rule as Breaks}
 use Rattle.ipam_data.specs.Checks.{first, breaks, no_log}
-use Rattle.ipam_data.specs.Shelf.{row_at}
+use Rattle.ipam_data.specs.RowList.{row_at}
 use Rattle.ipam_data.specs.State.{State, Plan, verdict_of}
 use Rattle.ipam_data.specs.Plans.{KindRules, broken, no_seats, creation, create, replace, take_out, delete, change, with_found, nothing_told}
 use Rattle.ipam_data.proofs.Verdicts.{none_left, none_right, room_from}
@@ -68,9 +68,9 @@ module _ {T : Type 0} (rules : KindRules T) (s : State) where
       l ∙ sym (new_unbroken row e ∙ head_passes (no_seats rules s 1) (no_log s.spent 1 ∷ []) f ∙ one (no_log s.spent 1))
 
   -- a row that may be made leaves room for another next id
-  pub next_fits : (row : T) → verdict_of (create rules s [] row) ≡ None → (rules.shelf s).next + 1 ≤ LAST_ID + 1
+  pub next_fits : (row : T) → verdict_of (create rules s [] row) ≡ None → (rules.row_list s).next + 1 ≤ LAST_ID + 1
   next_fits row v =
-      (room_from rules.kind rules.most (length (rules.shelf s).rows) (rules.shelf s).next 1
+      (room_from rules.kind rules.most (length (rules.row_list s).rows) (rules.row_list s).next 1
       (none_right (broken rules s None [] row) (no_seats rules s 1) (none_left (creation rules s [] row) (no_log s.spent 1 ∷ []) v))).ids
 
   -- ---- a changed row
@@ -91,11 +91,11 @@ module _ {T : Type 0} (rules : KindRules T) (s : State) where
   out_logged n e = head_passes (rules.users s n) (no_log s.spent 1 ∷ []) e ∙ one (no_log s.spent 1)
 
   -- what is planned of a row that is there
-  pub deletes : (n : ℕ) (row : T) → row_at rules.id (rules.shelf s).rows n ≡ Some row → delete rules s n ≡ take_out rules s n
+  pub deletes : (n : ℕ) (row : T) → row_at rules.id (rules.row_list s).rows n ≡ Some row → delete rules s n ≡ take_out rules s n
   deletes n row e = ap (λ (found : Option T). with_found rules n (λ old. take_out rules s n) found) e
 
   -- the update of a row that goes is planned
-  pub delete_planned : (n : ℕ) (row : T) (puts : List View) (kind : Kind) (p : Result Planned AllocError) → row_at rules.id (rules.shelf s).rows n ≡ Some row
+  pub delete_planned : (n : ℕ) (row : T) (puts : List View) (kind : Kind) (p : Result Planned AllocError) → row_at rules.id (rules.row_list s).rows n ≡ Some row
       → first (rules.users s n) ≡ None → no_log s.spent 1 ≡ None → puts ≡ rules.forgetting s n → kind ≡ rules.kind
       → IfOk p (λ q. q ≡ Change (record { puts = puts; cuts = (kind, n) ∷ []; next = []; spent = 1 }) Gone) → IfOk p (λ q. IsPlanned (delete rules s n) q)
   delete_planned n row puts kind (Err e) r u l f k h = h
@@ -109,11 +109,11 @@ module _ {T : Type 0} (rules : KindRules T) (s : State) where
       }))
 
   -- the row that an edit leaves of one that is there stands under its id
-  pub own_found : (n : ℕ) (old row : T) → row_at rules.id (rules.shelf s).rows n ≡ Some old → rules.id row ≡ rules.id old → own_row rules s row ≡ Some old
-  own_found n old row e same = rw (same ∙ (found_there rules.id (rules.shelf s).rows n old e).1) e
+  pub own_found : (n : ℕ) (old row : T) → row_at rules.id (rules.row_list s).rows n ≡ Some old → rules.id row ≡ rules.id old → own_row rules s row ≡ Some old
+  own_found n old row e same = rw (same ∙ (found_there rules.id (rules.row_list s).rows n old e).1) e
 
   -- the plan of a change by id is that of the row which was found
-  pub change_planned : (n : ℕ) (edit : T → T) (old row : T) (p : Result Planned AllocError) → row_at rules.id (rules.shelf s).rows n ≡ Some old → row ≡ edit old
+  pub change_planned : (n : ℕ) (edit : T → T) (old row : T) (p : Result Planned AllocError) → row_at rules.id (rules.row_list s).rows n ≡ Some old → row ≡ edit old
       → rules.id (edit old) ≡ rules.id old → IfOk p (λ q. (x : T) → own_row rules s row ≡ Some x → IsPlanned (replace rules s x [] row) q)
       → IfOk p (λ q. IsPlanned (change rules s n nothing_told edit) q)
   change_planned n edit old row (Err e) r same i h = h

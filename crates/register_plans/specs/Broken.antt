@@ -2,7 +2,7 @@
 use Rattle.std.specs.Prelude.{Option, None, ◌++◌}
 use Rattle.ipam_data.specs.declared.replies.Rule.{Rule}
 use Rattle.ipam_data.specs.declared.replies.View.{View}
-use Rattle.ipam_data.specs.Shelf.{row_at}
+use Rattle.ipam_data.specs.RowList.{row_at}
 use Rattle.ipam_data.specs.Checks.{first}
 use Rattle.ipam_data.specs.State.{State}
 use Rattle.ipam_data.specs.Plans.{KindRules}
@@ -18,4 +18,4 @@ broken_new s view = by_view view (λ T rules row. first_broken rules s None row)
 
 -- the row of the id that a row has
 abbrev pub own_row : {T : Type 0} → KindRules T → State → T → Option T
-own_row rules s row = row_at rules.id (rules.shelf s).rows (rules.id row)
+own_row rules s row = row_at rules.id (rules.row_list s).rows (rules.id row)

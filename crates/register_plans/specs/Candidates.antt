@@ -5,7 +5,7 @@ use Rattle.std.specs.List.Sorted.{IsStrictlyIncreasing}
 use Rattle.ipam_data.specs.declared.vrf.Vrf.{Vrf}
 use Rattle.ipam_data.specs.declared.kinds.Table.{Table}
 use Rattle.ipam_data.specs.declared.kinds.Table.TheVariants.{Global, Of}
-use Rattle.ipam_data.specs.Shelf.{row_at}
+use Rattle.ipam_data.specs.RowList.{row_at}
 use Rattle.ipam_data.specs.Tables.{table_of, same_name}
 use Rattle.ipam_data.specs.Checks.{asks}
 use Rattle.placed_book.specs.Book.{Placed}

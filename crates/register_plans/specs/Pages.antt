@@ -1,6 +1,6 @@
 -- A page of the rows that meet a filter, built row by row.
 use Rattle.std.specs.Prelude.{ℕ, ◌-◌, ◌&&◌, nat_le, nat_lt, Bool, List, [], ◌∷◌, Option, Some, None, map, filter, if◌then◌else◌}
-use Rattle.ipam_data.specs.Shelf.{page}
+use Rattle.ipam_data.specs.RowList.{page}
 
 -- the row before which so many meet a filter stands on the page of this limit and offset
 abbrev pub is_paged : ℕ → ℕ → ℕ → Bool

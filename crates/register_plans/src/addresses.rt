@@ -20,18 +20,18 @@ use ipam_data::address::{AddressRole, AddressStatus, IpAddress, MOST_ADDRESSES};
 use ipam_data::calls::{Edit, Filter};
 use ipam_data::kinds::{Kind, Table};
 use ipam_data::replies::{Refusal, Rule, View};
-use register_tables::{Planned, Shelves, missing_vrf};
+use register_tables::{Planned, RowTables, missing_vrf};
 use std::alloc::AllocError;
 use vrf_table::VrfRules;
 
 /// The first rule past the VRF that it names that an address breaks beside the rows of other ids.
-fn fault(shelves: &Shelves, row: &IpAddress) -> Option<Rule>
-    ensures { result ≡ address_fault shelves.now.addresses.rows row.now (is_enforcing shelves.now.global_unique shelves.now.vrfs.rows (table_of row.now.vrf)) }
+fn fault(row_tables: &RowTables, row: &IpAddress) -> Option<Rule>
+    ensures { result ≡ address_fault row_tables.now.addresses.rows row.now (is_enforcing row_tables.now.global_unique row_tables.now.vrfs.rows (table_of row.now.vrf)) }
 {
-    let enforcing = shelves
+    let enforcing = row_tables
         .vrfs()
-        .enforcing(Table::of(row.vrf), shelves.global_unique());
-    shelves.addresses().fault(row, enforcing)
+        .enforcing(Table::of(row.vrf), row_tables.global_unique());
+    row_tables.addresses().fault(row, enforcing)
 }
 
 /// Whether the status is the one that is asked for.
@@ -97,19 +97,19 @@ impl Registered for IpAddress {
         }
     }
 
-    fn found<'a>(shelves: &'a Shelves, id: u32) -> Option<&'a IpAddress> {
-        shelves.addresses().get(id)
+    fn found<'a>(row_tables: &'a RowTables, id: u32) -> Option<&'a IpAddress> {
+        row_tables.addresses().get(id)
     }
 
-    fn count(shelves: &Shelves) -> u32 {
-        shelves.addresses().len()
+    fn count(row_tables: &RowTables) -> u32 {
+        row_tables.addresses().len()
     }
 
-    fn nth<'a>(shelves: &'a Shelves, index: u32) -> Option<&'a IpAddress> {
-        shelves.addresses().at(index)
+    fn nth<'a>(row_tables: &'a RowTables, index: u32) -> Option<&'a IpAddress> {
+        row_tables.addresses().at(index)
     }
 
-    fn candidates(shelves: &Shelves, filter: &Filter) -> Result<Option<Vec<u32>>, AllocError> {
+    fn candidates(row_tables: &RowTables, filter: &Filter) -> Result<Option<Vec<u32>>, AllocError> {
         let Filter::Addresses {
             family: _,
             vrf_id,
@@ -121,41 +121,41 @@ impl Registered for IpAddress {
         else {
             return Ok(None);
         };
-        ids_asked(shelves, shelves.addresses(), vrf_id, &area_of(parent))
+        ids_asked(row_tables, row_tables.addresses(), vrf_id, &area_of(parent))
     }
 
-    fn next(shelves: &Shelves) -> u32 {
-        shelves.next(Kind::Addresses)
+    fn next(row_tables: &RowTables) -> u32 {
+        row_tables.next(Kind::Addresses)
     }
 
-    fn missing(&self, shelves: &Shelves) -> Option<Rule> {
-        missing_vrf(shelves, self.vrf)
+    fn missing(&self, row_tables: &RowTables) -> Option<Rule> {
+        missing_vrf(row_tables, self.vrf)
     }
 
-    fn fault_new(&self, shelves: &Shelves) -> Option<Rule> {
-        fault(shelves, self)
+    fn fault_new(&self, row_tables: &RowTables) -> Option<Rule> {
+        fault(row_tables, self)
     }
 
-    fn fault_changed(&self, shelves: &Shelves) -> Option<Rule> {
-        fault(shelves, self)
+    fn fault_changed(&self, row_tables: &RowTables) -> Option<Rule> {
+        fault(row_tables, self)
     }
 
-    fn user(_shelves: &Shelves, _id: u32) -> Option<Refusal> {
+    fn user(_row_tables: &RowTables, _id: u32) -> Option<Refusal> {
         None
     }
 
-    fn forgetting(shelves: &Shelves, _id: u32) -> Result<Vec<View>, AllocError> {
-        Ok(Vec::new(shelves.allocator()))
+    fn forgetting(row_tables: &RowTables, _id: u32) -> Result<Vec<View>, AllocError> {
+        Ok(Vec::new(row_tables.allocator()))
     }
 }
 
-/// Plans the address of an id with the fields of an edit changed. `Err` is want of memory.
-pub fn plan_edit(shelves: &Shelves, id: u32, edit: &Edit) -> Result<Planned, AllocError>
-    ensures { IfOk result (λ p. IsPlanned (change address_rules (state_of shelves.now) id nothing_told (edited_address edit.now)) p) }
+/// Plans the address of an id with the fields of an edit changed. `Err` means out of memory.
+pub fn plan_edit(row_tables: &RowTables, id: u32, edit: &Edit) -> Result<Planned, AllocError>
+    ensures { IfOk result (λ p. IsPlanned (change address_rules (state_of row_tables.now) id nothing_told (edited_address edit.now)) p) }
 {
-    let row = match IpAddress::found(shelves, id) {
+    let row = match IpAddress::found(row_tables, id) {
         Some(old) => old.edited(edit)?,
         None => return Ok(Planned::Refused(Refusal::NotFound(Kind::Addresses, id))),
     };
-    plan_replace(shelves, row)
+    plan_replace(row_tables, row)
 }

@@ -17,7 +17,7 @@ use ipam_data::calls::{Edit, Filter};
 use ipam_data::kinds::Kind;
 use ipam_data::replies::{Refusal, Rule, View};
 use placed_book::Book;
-use register_tables::{Planned, Shelves, missing_rir};
+use register_tables::{Planned, RowTables, missing_rir};
 use std::alloc::AllocError;
 
 impl Registered for Aggregate {
@@ -50,50 +50,50 @@ impl Registered for Aggregate {
         }
     }
 
-    fn found<'a>(shelves: &'a Shelves, id: u32) -> Option<&'a Aggregate> {
-        shelves.aggregates().get(id)
+    fn found<'a>(row_tables: &'a RowTables, id: u32) -> Option<&'a Aggregate> {
+        row_tables.aggregates().get(id)
     }
 
-    fn count(shelves: &Shelves) -> u32 {
-        shelves.aggregates().len()
+    fn count(row_tables: &RowTables) -> u32 {
+        row_tables.aggregates().len()
     }
 
-    fn nth<'a>(shelves: &'a Shelves, index: u32) -> Option<&'a Aggregate> {
-        shelves.aggregates().at(index)
+    fn nth<'a>(row_tables: &'a RowTables, index: u32) -> Option<&'a Aggregate> {
+        row_tables.aggregates().at(index)
     }
 
-    fn next(shelves: &Shelves) -> u32 {
-        shelves.next(Kind::Aggregates)
+    fn next(row_tables: &RowTables) -> u32 {
+        row_tables.next(Kind::Aggregates)
     }
 
-    fn missing(&self, shelves: &Shelves) -> Option<Rule> {
-        missing_rir(shelves, self.rir)
+    fn missing(&self, row_tables: &RowTables) -> Option<Rule> {
+        missing_rir(row_tables, self.rir)
     }
 
-    fn fault_new(&self, shelves: &Shelves) -> Option<Rule> {
-        shelves.aggregates().fault(self)
+    fn fault_new(&self, row_tables: &RowTables) -> Option<Rule> {
+        row_tables.aggregates().fault(self)
     }
 
-    fn fault_changed(&self, shelves: &Shelves) -> Option<Rule> {
-        shelves.aggregates().fault(self)
+    fn fault_changed(&self, row_tables: &RowTables) -> Option<Rule> {
+        row_tables.aggregates().fault(self)
     }
 
-    fn user(_shelves: &Shelves, _id: u32) -> Option<Refusal> {
+    fn user(_row_tables: &RowTables, _id: u32) -> Option<Refusal> {
         None
     }
 
-    fn forgetting(shelves: &Shelves, _id: u32) -> Result<Vec<View>, AllocError> {
-        Ok(Vec::new(shelves.allocator()))
+    fn forgetting(row_tables: &RowTables, _id: u32) -> Result<Vec<View>, AllocError> {
+        Ok(Vec::new(row_tables.allocator()))
     }
 }
 
-/// Plans the aggregate of an id with the fields of an edit changed. `Err` is want of memory.
-pub fn plan_edit(shelves: &Shelves, id: u32, edit: &Edit) -> Result<Planned, AllocError>
-    ensures { IfOk result (λ p. IsPlanned (change aggregate_rules (state_of shelves.now) id nothing_told (edited_aggregate edit.now)) p) }
+/// Plans the aggregate of an id with the fields of an edit changed. `Err` means out of memory.
+pub fn plan_edit(row_tables: &RowTables, id: u32, edit: &Edit) -> Result<Planned, AllocError>
+    ensures { IfOk result (λ p. IsPlanned (change aggregate_rules (state_of row_tables.now) id nothing_told (edited_aggregate edit.now)) p) }
 {
-    let row = match Aggregate::found(shelves, id) {
+    let row = match Aggregate::found(row_tables, id) {
         Some(old) => old.edited(edit)?,
         None => return Ok(Planned::Refused(Refusal::NotFound(Kind::Aggregates, id))),
     };
-    plan_replace(shelves, row)
+    plan_replace(row_tables, row)
 }

@@ -4,7 +4,7 @@ ghost use Rattle.std.specs.Prelude.{◌≡◌, ℕ, ◌<◌, ◌+◌, ◌^◌, �
 ghost use Rattle.ipam_data.specs.declared.replies.Reply.TheVariants.{Made as MadeReply, Changed as ChangedReply, Gone as GoneReply};
 ghost use Rattle.ipam_data.specs.Checks.{first, no_room, no_log};
 ghost use Rattle.ipam_data.specs.Lawful.{IsLawful};
-ghost use Rattle.ipam_data.specs.Shelf.{row_at};
+ghost use Rattle.ipam_data.specs.RowList.{row_at};
 ghost use Rattle.ipam_data.specs.State.{verdict_of};
 ghost use Rattle.ipam_data.specs.Plans.{create, replace, delete, get, list};
 ghost use Rattle.register_tables.specs.Held.{state_of};
@@ -18,7 +18,7 @@ use ipam_data::calls::Filter;
 use ipam_data::kinds::{Kind, LAST_ID, MOST_SPENT};
 use ipam_data::replies::{Refusal, Reply, Rule, View, Views, Which};
 use ipam_data::update::{Ids, Update};
-use register_tables::{Planned, Shelves};
+use register_tables::{Planned, RowTables};
 use std::alloc::{AllocError, Global};
 
 /// Why a kind takes no further row, if so: it would have more than `most`, or no id is left.
@@ -45,51 +45,51 @@ fn no_log_for_one(spent: u32) -> Option<Refusal>
 }
 
 /// The first rule that a row breaks as a new one, the rows that it names first.
-pub fn broken<T: Registered>(shelves: &Shelves, row: &T) -> Option<Rule>
-    ensures { result ≡ first_broken T.rules (state_of shelves.now) None row.now }
+pub fn broken<T: Registered>(row_tables: &RowTables, row: &T) -> Option<Rule>
+    ensures { result ≡ first_broken T.rules (state_of row_tables.now) None row.now }
 {
-    match row.missing(shelves) {
+    match row.missing(row_tables) {
         Some(rule) => Some(rule),
-        None => row.fault_new(shelves),
+        None => row.fault_new(row_tables),
     }
 }
 
 /// The first rule that a row breaks in the place of the one of its id, the rows that it names first.
-fn broken_changed<T: Registered>(shelves: &Shelves, row: &T) -> Option<Rule>
-    ensures { result ≡ first_broken T.rules (state_of shelves.now) (own_row T.rules (state_of shelves.now) row.now) row.now }
+fn broken_changed<T: Registered>(row_tables: &RowTables, row: &T) -> Option<Rule>
+    ensures { result ≡ first_broken T.rules (state_of row_tables.now) (own_row T.rules (state_of row_tables.now) row.now) row.now }
 {
-    match row.missing(shelves) {
+    match row.missing(row_tables) {
         Some(rule) => Some(rule),
-        None => row.fault_changed(shelves),
+        None => row.fault_changed(row_tables),
     }
 }
 
 /// Why the row can't be made, if so.
-fn check_new<T: Registered>(shelves: &Shelves, row: &T) -> Option<Refusal>
-    ensures { result ≡ verdict_of (create T.rules (state_of shelves.now) [] row.now) }
+fn check_new<T: Registered>(row_tables: &RowTables, row: &T) -> Option<Refusal>
+    ensures { result ≡ verdict_of (create T.rules (state_of row_tables.now) [] row.now) }
 {
-    if let Some(rule) = broken(shelves, row) {
+    if let Some(rule) = broken(row_tables, row) {
         return Some(Refusal::Rule(rule));
     }
     if let Some(refusal) = no_room_for_one(
         T::kind(),
         T::most(),
-        T::count(shelves),
-        T::next(shelves),
+        T::count(row_tables),
+        T::next(row_tables),
     ) {
         return Some(refusal);
     }
-    no_log_for_one(shelves.spent())
+    no_log_for_one(row_tables.spent())
 }
 
 /// Why the row can't stand in the place of the one of its id, if so.
-fn check_changed<T: Registered>(shelves: &Shelves, row: &T) -> Option<Refusal>
-    ensures { (old : T) → own_row T.rules (state_of shelves.now) row.now ≡ Some old → result ≡ verdict_of (replace T.rules (state_of shelves.now) old [] row.now) }
+fn check_changed<T: Registered>(row_tables: &RowTables, row: &T) -> Option<Refusal>
+    ensures { (old : T) → own_row T.rules (state_of row_tables.now) row.now ≡ Some old → result ≡ verdict_of (replace T.rules (state_of row_tables.now) old [] row.now) }
 {
-    if let Some(rule) = broken_changed(shelves, row) {
+    if let Some(rule) = broken_changed(row_tables, row) {
         return Some(Refusal::Rule(rule));
     }
-    no_log_for_one(shelves.spent())
+    no_log_for_one(row_tables.spent())
 }
 
 /// One row more, and the next id of its kind after it; the other row is the same one, for the answer.
@@ -145,18 +145,21 @@ fn taken_out(alloc: Global, puts: Vec<View>, kind: Kind, id: u32) -> Result<Plan
     ))
 }
 
-/// Plans a row more. `Err` is want of memory.
-pub fn plan_create<T: Registered + Drop>(shelves: &Shelves, row: T) -> Result<Planned, AllocError>
-    ensures { IfOk result (λ p. IsPlanned (create T.rules (state_of shelves.now) [] row) p) }
+/// Plans a row more. `Err` means out of memory.
+pub fn plan_create<T: Registered + Drop>(
+    row_tables: &RowTables,
+    row: T,
+) -> Result<Planned, AllocError>
+    ensures { IfOk result (λ p. IsPlanned (create T.rules (state_of row_tables.now) [] row) p) }
 {
-    match check_new(shelves, &row) {
+    match check_new(row_tables, &row) {
         Some(refusal) => return Ok(Planned::Refused(refusal)),
         None => {}
     }
-    let next = T::next(shelves) + 1;
+    let next = T::next(row_tables) + 1;
     let copy = row.copied()?;
     made(
-        shelves.allocator(),
+        row_tables.allocator(),
         row.into_view(),
         copy.into_view(),
         T::kind(),
@@ -164,43 +167,46 @@ pub fn plan_create<T: Registered + Drop>(shelves: &Shelves, row: T) -> Result<Pl
     )
 }
 
-/// Plans a changed row in the place of the one of its id, which is there. `Err` is want of memory.
-pub fn plan_replace<T: Registered + Drop>(shelves: &Shelves, row: T) -> Result<Planned, AllocError>
-    ensures { IfOk result (λ p. (old : T) → own_row T.rules (state_of shelves.now) row ≡ Some old → IsPlanned (replace T.rules (state_of shelves.now) old [] row) p) }
+/// Plans a changed row in the place of the one of its id, which is there. `Err` means out of memory.
+pub fn plan_replace<T: Registered + Drop>(
+    row_tables: &RowTables,
+    row: T,
+) -> Result<Planned, AllocError>
+    ensures { IfOk result (λ p. (old : T) → own_row T.rules (state_of row_tables.now) row ≡ Some old → IsPlanned (replace T.rules (state_of row_tables.now) old [] row) p) }
 {
-    match check_changed(shelves, &row) {
+    match check_changed(row_tables, &row) {
         Some(refusal) => return Ok(Planned::Refused(refusal)),
         None => {}
     }
     let copy = row.copied()?;
-    replaced(shelves.allocator(), row.into_view(), copy.into_view())
+    replaced(row_tables.allocator(), row.into_view(), copy.into_view())
 }
 
-/// Plans that the row of an id is taken out. `Err` is want of memory.
-pub fn plan_delete<T: Registered>(shelves: &Shelves, id: u32) -> Result<Planned, AllocError>
-    ensures { IfOk result (λ p. IsPlanned (delete T.rules (state_of shelves.now) id) p) }
+/// Plans that the row of an id is taken out. `Err` means out of memory.
+pub fn plan_delete<T: Registered>(row_tables: &RowTables, id: u32) -> Result<Planned, AllocError>
+    ensures { IfOk result (λ p. IsPlanned (delete T.rules (state_of row_tables.now) id) p) }
 {
-    match T::found(shelves, id) {
+    match T::found(row_tables, id) {
         Some(_) => {}
         None => return Ok(Planned::Refused(Refusal::NotFound(T::kind(), id))),
     }
-    match T::user(shelves, id) {
+    match T::user(row_tables, id) {
         Some(refusal) => return Ok(Planned::Refused(refusal)),
         None => {}
     }
-    match no_log_for_one(shelves.spent()) {
+    match no_log_for_one(row_tables.spent()) {
         Some(refusal) => return Ok(Planned::Refused(refusal)),
         None => {}
     }
-    let again = T::forgetting(shelves, id)?;
-    taken_out(shelves.allocator(), again, T::kind(), id)
+    let again = T::forgetting(row_tables, id)?;
+    taken_out(row_tables.allocator(), again, T::kind(), id)
 }
 
-/// Reads the row of an id. `Err` is want of memory.
-pub fn plan_get<T: Registered>(shelves: &Shelves, id: u32) -> Result<Planned, AllocError>
-    ensures { IfOk result (λ p. IsPlanned (get T.rules (state_of shelves.now) id) p) }
+/// Reads the row of an id. `Err` means out of memory.
+pub fn plan_get<T: Registered>(row_tables: &RowTables, id: u32) -> Result<Planned, AllocError>
+    ensures { IfOk result (λ p. IsPlanned (get T.rules (state_of row_tables.now) id) p) }
 {
-    match T::found(shelves, id) {
+    match T::found(row_tables, id) {
         Some(row) => {
             let row = row.copied()?;
             Ok(Planned::Read(Reply::One(row.into_view())))
@@ -217,11 +223,11 @@ fn is_on_page(before: u32, limit: u32, offset: u32) -> bool
 }
 
 /// The row at an index that is there.
-fn row_at_index<T: Registered>(shelves: &Shelves, index: u32) -> &T
-    requires { index < length (T.rules.shelf (state_of shelves.now)).rows }
-    ensures { Some result.now ≡ slice_get (T.rules.shelf (state_of shelves.now)).rows index }
+fn row_at_index<T: Registered>(row_tables: &RowTables, index: u32) -> &T
+    requires { index < length (T.rules.row_list (state_of row_tables.now)).rows }
+    ensures { Some result.now ≡ slice_get (T.rules.row_list (state_of row_tables.now)).rows index }
 {
-    match T::nth(shelves, index) {
+    match T::nth(row_tables, index) {
         Some(row) => row,
         None => unreachable!(),
     }
@@ -254,7 +260,7 @@ fn take_in<T: Registered>(
 
 /// Adds the row of an id, if there is one, as `take_in` does.
 fn take_by_id<T: Registered>(
-    shelves: &Shelves,
+    row_tables: &RowTables,
     id: u32,
     filter: &Filter,
     met: u32,
@@ -263,31 +269,31 @@ fn take_by_id<T: Registered>(
     views: &mut Vec<View>,
 ) -> Result<u32, AllocError>
     requires few { met < 2 ^ 30 }
-    ensures met { IfOk result (λ n. n ≡ met + one_of (T.meets filter.now) (row_at T.rules.id (T.rules.shelf (state_of shelves.now)).rows id)) }
-    ensures views { OnOk result (views.new.items ≡ views.old.items ++ only_of T.rules.view (T.meets filter.now) met limit offset (row_at T.rules.id (T.rules.shelf (state_of shelves.now)).rows id)) }
+    ensures met { IfOk result (λ n. n ≡ met + one_of (T.meets filter.now) (row_at T.rules.id (T.rules.row_list (state_of row_tables.now)).rows id)) }
+    ensures views { OnOk result (views.new.items ≡ views.old.items ++ only_of T.rules.view (T.meets filter.now) met limit offset (row_at T.rules.id (T.rules.row_list (state_of row_tables.now)).rows id)) }
 {
-    match T::found(shelves, id) {
+    match T::found(row_tables, id) {
         Some(row) => take_in(row, filter, met, limit, offset, views),
         None => Ok(met),
     }
 }
 
-/// Adds the rows of a page, where all rows are looked at, and gives how many meet the filter. `Err` is want of memory.
+/// Adds the rows of a page, where all rows are looked at, and gives how many meet the filter. `Err` means out of memory.
 fn take_all<T: Registered>(
-    shelves: &Shelves,
+    row_tables: &RowTables,
     filter: &Filter,
     limit: u32,
     offset: u32,
     views: &mut Vec<View>,
 ) -> Result<u32, AllocError>
     requires { views.old.items ≡ [] }
-    ensures met { IfOk result (λ n. n ≡ count_by (T.meets filter.now) (T.rules.shelf (state_of shelves.now)).rows) }
-    ensures views { OnOk result (views.new.items ≡ page_of T.rules.view (T.meets filter.now) limit offset (T.rules.shelf (state_of shelves.now)).rows) }
+    ensures met { IfOk result (λ n. n ≡ count_by (T.meets filter.now) (T.rules.row_list (state_of row_tables.now)).rows) }
+    ensures views { OnOk result (views.new.items ≡ page_of T.rules.view (T.meets filter.now) limit offset (T.rules.row_list (state_of row_tables.now)).rows) }
 {
     let mut met: u32 = 0;
-    let count = T::count(shelves);
+    let count = T::count(row_tables);
     'rows: for index in 0..count {
-        let row: &T = row_at_index(shelves, index);
+        let row: &T = row_at_index(row_tables, index);
         met = take_in(row, filter, met, limit, offset, views)?;
     }
     Ok(met)
@@ -295,7 +301,7 @@ fn take_all<T: Registered>(
 
 /// The same where the rows of some ids are looked at, among which each is that meets the filter.
 fn take_found<T: Registered>(
-    shelves: &Shelves,
+    row_tables: &RowTables,
     ids: &[u32],
     filter: &Filter,
     limit: u32,
@@ -303,32 +309,39 @@ fn take_found<T: Registered>(
     views: &mut Vec<View>,
 ) -> Result<u32, AllocError>
     requires none { views.old.items ≡ [] }
-    requires ids { AreCandidates T.rules.id (T.meets filter.now) (T.rules.shelf (state_of shelves.now)).rows ids.now }
-    ensures met { IfOk result (λ n. n ≡ count_by (T.meets filter.now) (T.rules.shelf (state_of shelves.now)).rows) }
-    ensures views { OnOk result (views.new.items ≡ page_of T.rules.view (T.meets filter.now) limit offset (T.rules.shelf (state_of shelves.now)).rows) }
+    requires ids { AreCandidates T.rules.id (T.meets filter.now) (T.rules.row_list (state_of row_tables.now)).rows ids.now }
+    ensures met { IfOk result (λ n. n ≡ count_by (T.meets filter.now) (T.rules.row_list (state_of row_tables.now)).rows) }
+    ensures views { OnOk result (views.new.items ≡ page_of T.rules.view (T.meets filter.now) limit offset (T.rules.row_list (state_of row_tables.now)).rows) }
 {
     let mut met: u32 = 0;
-    let _count = T::count(shelves);
+    let _count = T::count(row_tables);
     'found: for id in ids {
-        met = take_by_id::<T>(shelves, *id, filter, met, limit, offset, views)?;
+        met = take_by_id::<T>(row_tables, *id, filter, met, limit, offset, views)?;
     }
     Ok(met)
 }
 
-/// Reads the rows that meet the filter, past the first `offset`, at most `limit`, and how many meet it. `Err` is want of memory.
+/// Reads the rows that meet the filter, past the first `offset`, at most `limit`, and how many meet it. `Err` means out of memory.
 pub fn plan_list<T: Registered>(
-    shelves: &Shelves,
+    row_tables: &RowTables,
     filter: &Filter,
     limit: u32,
     offset: u32,
 ) -> Result<Planned, AllocError>
-    requires { IsLawful (state_of shelves.now) }
-    ensures { IfOk result (λ p. IsPlanned (list T.rules (state_of shelves.now) (T.meets filter.now) limit offset) p) }
+    requires { IsLawful (state_of row_tables.now) }
+    ensures { IfOk result (λ p. IsPlanned (list T.rules (state_of row_tables.now) (T.meets filter.now) limit offset) p) }
 {
-    let mut views = Vec::new(shelves.allocator());
-    let met = match T::candidates(shelves, filter)? {
-        Some(ids) => take_found::<T>(shelves, ids.as_slice(), filter, limit, offset, &mut views)?,
-        None => take_all::<T>(shelves, filter, limit, offset, &mut views)?,
+    let mut views = Vec::new(row_tables.allocator());
+    let met = match T::candidates(row_tables, filter)? {
+        Some(ids) => take_found::<T>(
+            row_tables,
+            ids.as_slice(),
+            filter,
+            limit,
+            offset,
+            &mut views,
+        )?,
+        None => take_all::<T>(row_tables, filter, limit, offset, &mut views)?,
     };
     Ok(Planned::Read(Reply::Page {
         count: met,

@@ -19,118 +19,124 @@ use ipam_data::replies::{Rule, View};
 use ipam_data::rir::Rir;
 use ipam_data::role::Role;
 use ipam_data::vrf::Vrf;
-use register_tables::{Planned, Shelves};
+use register_tables::{Planned, RowTables};
 use std::alloc::AllocError;
 
 /// The first rule that a row breaks as a new one beside the rows that are there, the rows that it names first.
-pub fn broken_by_view(shelves: &Shelves, view: &View) -> Option<Rule>
-    ensures { result ≡ broken_new (state_of shelves.now) view.now }
+pub fn broken_by_view(row_tables: &RowTables, view: &View) -> Option<Rule>
+    ensures { result ≡ broken_new (state_of row_tables.now) view.now }
 {
     match view {
-        View::Vrf(row) => broken(shelves, row),
-        View::Rir(row) => broken(shelves, row),
-        View::Role(row) => broken(shelves, row),
-        View::Aggregate(row) => broken(shelves, row),
+        View::Vrf(row) => broken(row_tables, row),
+        View::Rir(row) => broken(row_tables, row),
+        View::Role(row) => broken(row_tables, row),
+        View::Aggregate(row) => broken(row_tables, row),
         View::Prefix {
             row,
             depth: _,
             children: _,
-        } => broken(shelves, row),
-        View::IpRange(row) => broken(shelves, row),
-        View::IpAddress(row) => broken(shelves, row),
+        } => broken(row_tables, row),
+        View::IpRange(row) => broken(row_tables, row),
+        View::IpAddress(row) => broken(row_tables, row),
     }
 }
 
-/// Plans the row of a draft. `Err` is want of memory.
-pub fn plan_draft(shelves: &Shelves, draft: &Draft) -> Result<Planned, AllocError>
-    ensures { IfOk result (λ p. IsPlanned (create_plan (state_of shelves.now) draft.now) p) }
+/// Plans the row of a draft. `Err` means out of memory.
+pub fn plan_draft(row_tables: &RowTables, draft: &Draft) -> Result<Planned, AllocError>
+    ensures { IfOk result (λ p. IsPlanned (create_plan (state_of row_tables.now) draft.now) p) }
 {
     match draft {
-        Draft::Vrf { .. } => plan_create(shelves, Vrf::drafted(shelves.next(Kind::Vrfs), draft)?),
-        Draft::Rir { .. } => plan_create(shelves, Rir::drafted(shelves.next(Kind::Rirs), draft)?),
+        Draft::Vrf { .. } => plan_create(
+            row_tables,
+            Vrf::drafted(row_tables.next(Kind::Vrfs), draft)?,
+        ),
+        Draft::Rir { .. } => plan_create(
+            row_tables,
+            Rir::drafted(row_tables.next(Kind::Rirs), draft)?,
+        ),
         Draft::Role { .. } => plan_create(
-            shelves,
-            Role::drafted(shelves.next(Kind::Roles), draft)?,
+            row_tables,
+            Role::drafted(row_tables.next(Kind::Roles), draft)?,
         ),
         Draft::Aggregate { .. } => plan_create(
-            shelves,
-            Aggregate::drafted(shelves.next(Kind::Aggregates), draft)?,
+            row_tables,
+            Aggregate::drafted(row_tables.next(Kind::Aggregates), draft)?,
         ),
         Draft::Prefix { .. } => plan_create(
-            shelves,
-            Prefix::drafted(shelves.next(Kind::Prefixes), draft)?,
+            row_tables,
+            Prefix::drafted(row_tables.next(Kind::Prefixes), draft)?,
         ),
-        Draft::IpRange { .. } => ranges::plan_draft(shelves, draft),
+        Draft::IpRange { .. } => ranges::plan_draft(row_tables, draft),
         Draft::IpAddress { .. } => plan_create(
-            shelves,
-            IpAddress::drafted(shelves.next(Kind::Addresses), draft)?,
+            row_tables,
+            IpAddress::drafted(row_tables.next(Kind::Addresses), draft)?,
         ),
     }
 }
 
-/// Plans the row of an id with the fields of an edit changed. `Err` is want of memory.
-pub fn plan_edit(shelves: &Shelves, id: u32, edit: &Edit) -> Result<Planned, AllocError>
-    ensures { IfOk result (λ p. IsPlanned (change_plan (state_of shelves.now) id edit.now) p) }
+/// Plans the row of an id with the fields of an edit changed. `Err` means out of memory.
+pub fn plan_edit(row_tables: &RowTables, id: u32, edit: &Edit) -> Result<Planned, AllocError>
+    ensures { IfOk result (λ p. IsPlanned (change_plan (state_of row_tables.now) id edit.now) p) }
 {
     match edit {
-        Edit::Vrf { .. } => vrfs::plan_edit(shelves, id, edit),
-        Edit::Rir { .. } => rirs::plan_edit(shelves, id, edit),
-        Edit::Role { .. } => roles::plan_edit(shelves, id, edit),
-        Edit::Aggregate { .. } => aggregate::plan_edit(shelves, id, edit),
-        Edit::Prefix { .. } => prefixes::plan_edit(shelves, id, edit),
-        Edit::IpRange { .. } => ranges::plan_edit(shelves, id, edit),
-        Edit::IpAddress { .. } => addresses::plan_edit(shelves, id, edit),
+        Edit::Vrf { .. } => vrfs::plan_edit(row_tables, id, edit),
+        Edit::Rir { .. } => rirs::plan_edit(row_tables, id, edit),
+        Edit::Role { .. } => roles::plan_edit(row_tables, id, edit),
+        Edit::Aggregate { .. } => aggregate::plan_edit(row_tables, id, edit),
+        Edit::Prefix { .. } => prefixes::plan_edit(row_tables, id, edit),
+        Edit::IpRange { .. } => ranges::plan_edit(row_tables, id, edit),
+        Edit::IpAddress { .. } => addresses::plan_edit(row_tables, id, edit),
     }
 }
 
-/// Plans that the row of an id is taken out. `Err` is want of memory.
-pub fn plan_gone(shelves: &Shelves, kind: Kind, id: u32) -> Result<Planned, AllocError>
-    ensures { IfOk result (λ p. IsPlanned (delete_plan (state_of shelves.now) kind id) p) }
+/// Plans that the row of an id is taken out. `Err` means out of memory.
+pub fn plan_gone(row_tables: &RowTables, kind: Kind, id: u32) -> Result<Planned, AllocError>
+    ensures { IfOk result (λ p. IsPlanned (delete_plan (state_of row_tables.now) kind id) p) }
 {
     match kind {
-        Kind::Vrfs => plan_delete::<Vrf>(shelves, id),
-        Kind::Rirs => plan_delete::<Rir>(shelves, id),
-        Kind::Roles => plan_delete::<Role>(shelves, id),
-        Kind::Aggregates => plan_delete::<Aggregate>(shelves, id),
-        Kind::Prefixes => plan_delete::<Prefix>(shelves, id),
-        Kind::Ranges => plan_delete::<IpRange>(shelves, id),
-        Kind::Addresses => plan_delete::<IpAddress>(shelves, id),
+        Kind::Vrfs => plan_delete::<Vrf>(row_tables, id),
+        Kind::Rirs => plan_delete::<Rir>(row_tables, id),
+        Kind::Roles => plan_delete::<Role>(row_tables, id),
+        Kind::Aggregates => plan_delete::<Aggregate>(row_tables, id),
+        Kind::Prefixes => plan_delete::<Prefix>(row_tables, id),
+        Kind::Ranges => plan_delete::<IpRange>(row_tables, id),
+        Kind::Addresses => plan_delete::<IpAddress>(row_tables, id),
     }
 }
 
-/// Reads the row of an id. `Err` is want of memory.
-pub fn plan_one(shelves: &Shelves, kind: Kind, id: u32) -> Result<Planned, AllocError>
-    ensures { IfOk result (λ p. IsPlanned (get_plan (state_of shelves.now) kind id) p) }
+/// Reads the row of an id. `Err` means out of memory.
+pub fn plan_one(row_tables: &RowTables, kind: Kind, id: u32) -> Result<Planned, AllocError>
+    ensures { IfOk result (λ p. IsPlanned (get_plan (state_of row_tables.now) kind id) p) }
 {
     match kind {
-        Kind::Vrfs => plan_get::<Vrf>(shelves, id),
-        Kind::Rirs => plan_get::<Rir>(shelves, id),
-        Kind::Roles => plan_get::<Role>(shelves, id),
-        Kind::Aggregates => plan_get::<Aggregate>(shelves, id),
-        Kind::Prefixes => plan_get::<Prefix>(shelves, id),
-        Kind::Ranges => plan_get::<IpRange>(shelves, id),
-        Kind::Addresses => plan_get::<IpAddress>(shelves, id),
+        Kind::Vrfs => plan_get::<Vrf>(row_tables, id),
+        Kind::Rirs => plan_get::<Rir>(row_tables, id),
+        Kind::Roles => plan_get::<Role>(row_tables, id),
+        Kind::Aggregates => plan_get::<Aggregate>(row_tables, id),
+        Kind::Prefixes => plan_get::<Prefix>(row_tables, id),
+        Kind::Ranges => plan_get::<IpRange>(row_tables, id),
+        Kind::Addresses => plan_get::<IpAddress>(row_tables, id),
     }
 }
 
-/// Reads the rows of a page, and how many meet the filter. `Err` is want of memory.
+/// Reads the rows of a page, and how many meet the filter. `Err` means out of memory.
 pub fn plan_page(
-    shelves: &Shelves,
+    row_tables: &RowTables,
     filter: &Filter,
     limit: u32,
     offset: u32,
 ) -> Result<Planned, AllocError>
-    requires { IsLawful (state_of shelves.now) }
-    ensures { IfOk result (λ p. IsPlanned (list_plan (state_of shelves.now) filter.now limit offset) p) }
+    requires { IsLawful (state_of row_tables.now) }
+    ensures { IfOk result (λ p. IsPlanned (list_plan (state_of row_tables.now) filter.now limit offset) p) }
 {
     match filter {
-        Filter::Vrfs { name: _, rd: _ } => plan_list::<Vrf>(shelves, filter, limit, offset),
-        Filter::Rirs { name: _, slug: _ } => plan_list::<Rir>(shelves, filter, limit, offset),
-        Filter::Roles { name: _, slug: _ } => plan_list::<Role>(shelves, filter, limit, offset),
+        Filter::Vrfs { name: _, rd: _ } => plan_list::<Vrf>(row_tables, filter, limit, offset),
+        Filter::Rirs { name: _, slug: _ } => plan_list::<Rir>(row_tables, filter, limit, offset),
+        Filter::Roles { name: _, slug: _ } => plan_list::<Role>(row_tables, filter, limit, offset),
         Filter::Aggregates {
             family: _,
             rir_id: _,
-        } => plan_list::<Aggregate>(shelves, filter, limit, offset),
+        } => plan_list::<Aggregate>(row_tables, filter, limit, offset),
         Filter::Prefixes {
             family: _,
             vrf_id: _,
@@ -140,14 +146,14 @@ pub fn plan_page(
             within: _,
             within_include: _,
             contains: _,
-        } => plan_list::<Prefix>(shelves, filter, limit, offset),
+        } => plan_list::<Prefix>(row_tables, filter, limit, offset),
         Filter::Ranges {
             family: _,
             vrf_id: _,
             status: _,
             role_id: _,
             contains: _,
-        } => plan_list::<IpRange>(shelves, filter, limit, offset),
+        } => plan_list::<IpRange>(row_tables, filter, limit, offset),
         Filter::Addresses {
             family: _,
             vrf_id: _,
@@ -155,6 +161,6 @@ pub fn plan_page(
             role: _,
             parent: _,
             dns_name: _,
-        } => plan_list::<IpAddress>(shelves, filter, limit, offset),
+        } => plan_list::<IpAddress>(row_tables, filter, limit, offset),
     }
 }

@@ -20,7 +20,7 @@ use ipam_data::kinds::{Kind, Table};
 use ipam_data::prefix::{MOST_PREFIXES, Prefix, PrefixStatus};
 use ipam_data::replies::{Refusal, Rule, View};
 use prefix_rules::PrefixRules;
-use register_tables::{Planned, Shelves, missing_role, missing_vrf};
+use register_tables::{Planned, RowTables, missing_role, missing_vrf};
 use std::alloc::AllocError;
 use vrf_table::VrfRules;
 
@@ -35,13 +35,13 @@ fn asks_status(wanted: &Option<PrefixStatus>, status: PrefixStatus) -> bool
 }
 
 /// The first rule past the rows that it names that a prefix breaks beside the rows of other ids.
-fn fault(shelves: &Shelves, row: &Prefix) -> Option<Rule>
-    ensures { result ≡ prefix_fault shelves.now.prefixes.rows row.now (is_enforcing shelves.now.global_unique shelves.now.vrfs.rows (table_of row.now.vrf)) }
+fn fault(row_tables: &RowTables, row: &Prefix) -> Option<Rule>
+    ensures { result ≡ prefix_fault row_tables.now.prefixes.rows row.now (is_enforcing row_tables.now.global_unique row_tables.now.vrfs.rows (table_of row.now.vrf)) }
 {
-    let enforcing = shelves
+    let enforcing = row_tables
         .vrfs()
-        .enforcing(Table::of(row.vrf), shelves.global_unique());
-    shelves.prefixes().fault(row, enforcing)
+        .enforcing(Table::of(row.vrf), row_tables.global_unique());
+    row_tables.prefixes().fault(row, enforcing)
 }
 
 impl Registered for Prefix {
@@ -94,19 +94,19 @@ impl Registered for Prefix {
         }
     }
 
-    fn found<'a>(shelves: &'a Shelves, id: u32) -> Option<&'a Prefix> {
-        shelves.prefixes().get(id)
+    fn found<'a>(row_tables: &'a RowTables, id: u32) -> Option<&'a Prefix> {
+        row_tables.prefixes().get(id)
     }
 
-    fn count(shelves: &Shelves) -> u32 {
-        shelves.prefixes().len()
+    fn count(row_tables: &RowTables) -> u32 {
+        row_tables.prefixes().len()
     }
 
-    fn nth<'a>(shelves: &'a Shelves, index: u32) -> Option<&'a Prefix> {
-        shelves.prefixes().at(index)
+    fn nth<'a>(row_tables: &'a RowTables, index: u32) -> Option<&'a Prefix> {
+        row_tables.prefixes().at(index)
     }
 
-    fn candidates(shelves: &Shelves, filter: &Filter) -> Result<Option<Vec<u32>>, AllocError> {
+    fn candidates(row_tables: &RowTables, filter: &Filter) -> Result<Option<Vec<u32>>, AllocError> {
         let Filter::Prefixes {
             family: _,
             vrf_id,
@@ -121,44 +121,44 @@ impl Registered for Prefix {
             return Ok(None);
         };
         let area = area_asked(prefix, within, within_include, contains);
-        ids_asked(shelves, shelves.prefixes(), vrf_id, &area)
+        ids_asked(row_tables, row_tables.prefixes(), vrf_id, &area)
     }
 
-    fn next(shelves: &Shelves) -> u32 {
-        shelves.next(Kind::Prefixes)
+    fn next(row_tables: &RowTables) -> u32 {
+        row_tables.next(Kind::Prefixes)
     }
 
-    fn missing(&self, shelves: &Shelves) -> Option<Rule> {
-        if let Some(rule) = missing_vrf(shelves, self.vrf) {
+    fn missing(&self, row_tables: &RowTables) -> Option<Rule> {
+        if let Some(rule) = missing_vrf(row_tables, self.vrf) {
             return Some(rule);
         }
-        missing_role(shelves, self.role)
+        missing_role(row_tables, self.role)
     }
 
-    fn fault_new(&self, shelves: &Shelves) -> Option<Rule> {
-        fault(shelves, self)
+    fn fault_new(&self, row_tables: &RowTables) -> Option<Rule> {
+        fault(row_tables, self)
     }
 
-    fn fault_changed(&self, shelves: &Shelves) -> Option<Rule> {
-        fault(shelves, self)
+    fn fault_changed(&self, row_tables: &RowTables) -> Option<Rule> {
+        fault(row_tables, self)
     }
 
-    fn user(_shelves: &Shelves, _id: u32) -> Option<Refusal> {
+    fn user(_row_tables: &RowTables, _id: u32) -> Option<Refusal> {
         None
     }
 
-    fn forgetting(shelves: &Shelves, _id: u32) -> Result<Vec<View>, AllocError> {
-        Ok(Vec::new(shelves.allocator()))
+    fn forgetting(row_tables: &RowTables, _id: u32) -> Result<Vec<View>, AllocError> {
+        Ok(Vec::new(row_tables.allocator()))
     }
 }
 
-/// Plans the prefix of an id with the fields of an edit changed. `Err` is want of memory.
-pub fn plan_edit(shelves: &Shelves, id: u32, edit: &Edit) -> Result<Planned, AllocError>
-    ensures { IfOk result (λ p. IsPlanned (change prefix_rules (state_of shelves.now) id nothing_told (edited_prefix edit.now)) p) }
+/// Plans the prefix of an id with the fields of an edit changed. `Err` means out of memory.
+pub fn plan_edit(row_tables: &RowTables, id: u32, edit: &Edit) -> Result<Planned, AllocError>
+    ensures { IfOk result (λ p. IsPlanned (change prefix_rules (state_of row_tables.now) id nothing_told (edited_prefix edit.now)) p) }
 {
-    let row = match Prefix::found(shelves, id) {
+    let row = match Prefix::found(row_tables, id) {
         Some(old) => old.edited(edit)?,
         None => return Ok(Planned::Refused(Refusal::NotFound(Kind::Prefixes, id))),
     };
-    plan_replace(shelves, row)
+    plan_replace(row_tables, row)
 }

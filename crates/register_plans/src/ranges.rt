@@ -3,7 +3,7 @@
 ghost use Rattle.std.specs.Prelude.{◌≡◌, ◌==◌, ◌∷◌, [], Some, IfOk};
 ghost use Rattle.inet_num.specs.Net.{first_of, last_of};
 ghost use Rattle.ipam_data.specs.declared.kinds.Kind.TheVariants.{Vrfs, Roles, Ranges};
-ghost use Rattle.ipam_data.specs.Shelf.{row_at};
+ghost use Rattle.ipam_data.specs.RowList.{row_at};
 ghost use Rattle.ipam_data.specs.Rows.{vrf_id, role_id, range_id, range_status_number};
 ghost use Rattle.ipam_data.specs.Checks.{first, asks, no_such};
 ghost use Rattle.inet_num.specs.Blocks.{is_run_inside};
@@ -27,7 +27,7 @@ use ipam_data::kinds::Kind;
 use ipam_data::range::{IpRange, MOST_RANGES, RangeStatus};
 use ipam_data::replies::{Refusal, Rule, View};
 use placed_book::Book;
-use register_tables::{Planned, Shelves, missing_role, missing_vrf};
+use register_tables::{Planned, RowTables, missing_role, missing_vrf};
 use std::alloc::AllocError;
 
 /// Why start and end make no range, by their families.
@@ -54,13 +54,13 @@ fn told(start: Host, end: Host) -> Option<Rule>
 }
 
 /// The first row that a range names and that is not there.
-fn missing(shelves: &Shelves, vrf: Option<u32>, role: Option<u32>) -> Option<Rule>
-    ensures { result ≡ first (no_such Vrfs (row_at vrf_id shelves.now.vrfs.rows) vrf ∷ no_such Roles (row_at role_id shelves.now.roles.rows) role ∷ []) }
+fn missing(row_tables: &RowTables, vrf: Option<u32>, role: Option<u32>) -> Option<Rule>
+    ensures { result ≡ first (no_such Vrfs (row_at vrf_id row_tables.now.vrfs.rows) vrf ∷ no_such Roles (row_at role_id row_tables.now.roles.rows) role ∷ []) }
 {
-    if let Some(rule) = missing_vrf(shelves, vrf) {
+    if let Some(rule) = missing_vrf(row_tables, vrf) {
         return Some(rule);
     }
-    missing_role(shelves, role)
+    missing_role(row_tables, role)
 }
 
 /// Whether the status is the one that is asked for.
@@ -123,50 +123,50 @@ impl Registered for IpRange {
         }
     }
 
-    fn found<'a>(shelves: &'a Shelves, id: u32) -> Option<&'a IpRange> {
-        shelves.ranges().get(id)
+    fn found<'a>(row_tables: &'a RowTables, id: u32) -> Option<&'a IpRange> {
+        row_tables.ranges().get(id)
     }
 
-    fn count(shelves: &Shelves) -> u32 {
-        shelves.ranges().len()
+    fn count(row_tables: &RowTables) -> u32 {
+        row_tables.ranges().len()
     }
 
-    fn nth<'a>(shelves: &'a Shelves, index: u32) -> Option<&'a IpRange> {
-        shelves.ranges().at(index)
+    fn nth<'a>(row_tables: &'a RowTables, index: u32) -> Option<&'a IpRange> {
+        row_tables.ranges().at(index)
     }
 
-    fn next(shelves: &Shelves) -> u32 {
-        shelves.next(Kind::Ranges)
+    fn next(row_tables: &RowTables) -> u32 {
+        row_tables.next(Kind::Ranges)
     }
 
-    fn missing(&self, shelves: &Shelves) -> Option<Rule> {
-        missing(shelves, self.vrf, self.role)
+    fn missing(&self, row_tables: &RowTables) -> Option<Rule> {
+        missing(row_tables, self.vrf, self.role)
     }
 
-    fn fault_new(&self, shelves: &Shelves) -> Option<Rule> {
-        shelves.ranges().fault(self)
+    fn fault_new(&self, row_tables: &RowTables) -> Option<Rule> {
+        row_tables.ranges().fault(self)
     }
 
-    fn fault_changed(&self, shelves: &Shelves) -> Option<Rule> {
-        shelves.ranges().fault(self)
+    fn fault_changed(&self, row_tables: &RowTables) -> Option<Rule> {
+        row_tables.ranges().fault(self)
     }
 
-    fn user(_shelves: &Shelves, _id: u32) -> Option<Refusal> {
+    fn user(_row_tables: &RowTables, _id: u32) -> Option<Refusal> {
         None
     }
 
-    fn forgetting(shelves: &Shelves, _id: u32) -> Result<Vec<View>, AllocError> {
-        Ok(Vec::new(shelves.allocator()))
+    fn forgetting(row_tables: &RowTables, _id: u32) -> Result<Vec<View>, AllocError> {
+        Ok(Vec::new(row_tables.allocator()))
     }
 }
 
 /// The first row that the range of a draft names and that is not there.
-fn missing_drafted(shelves: &Shelves, draft: &Draft) -> Option<Rule>
+fn missing_drafted(row_tables: &RowTables, draft: &Draft) -> Option<Rule>
     requires { kind_of_draft draft.now ≡ Ranges }
-    ensures { result ≡ by_view (drafted (next_for (state_of shelves.now) draft.now) draft.now) (λ T rules row. first (rules.references (state_of shelves.now) row)) }
+    ensures { result ≡ by_view (drafted (next_for (state_of row_tables.now) draft.now) draft.now) (λ T rules row. first (rules.references (state_of row_tables.now) row)) }
 {
     match draft {
-        Draft::IpRange { vrf, role, .. } => missing(shelves, *vrf, *role),
+        Draft::IpRange { vrf, role, .. } => missing(row_tables, *vrf, *role),
         _ => unreachable!(),
     }
 }
@@ -181,32 +181,32 @@ fn told_drafted(draft: &Draft) -> Option<Rule>
     }
 }
 
-/// Plans a range more. `Err` is want of memory.
-pub fn plan_draft(shelves: &Shelves, draft: &Draft) -> Result<Planned, AllocError>
+/// Plans a range more. `Err` means out of memory.
+pub fn plan_draft(row_tables: &RowTables, draft: &Draft) -> Result<Planned, AllocError>
     requires { kind_of_draft draft.now ≡ Ranges }
-    ensures { IfOk result (λ p. IsPlanned (create_plan (state_of shelves.now) draft.now) p) }
+    ensures { IfOk result (λ p. IsPlanned (create_plan (state_of row_tables.now) draft.now) p) }
 {
-    if let Some(rule) = missing_drafted(shelves, draft) {
+    if let Some(rule) = missing_drafted(row_tables, draft) {
         return Ok(Planned::Refused(Refusal::Rule(rule)));
     }
     if let Some(rule) = told_drafted(draft) {
         return Ok(Planned::Refused(Refusal::Rule(rule)));
     }
-    let row = IpRange::drafted(shelves.next(Kind::Ranges), draft)?;
-    plan_create(shelves, row)
+    let row = IpRange::drafted(row_tables.next(Kind::Ranges), draft)?;
+    plan_create(row_tables, row)
 }
 
 /// The first row that the range which an edit leaves names and that is not there.
-fn missing_edited(shelves: &Shelves, old: &IpRange, edit: &Edit) -> Option<Rule>
-    ensures { result ≡ first (range_rules.references (state_of shelves.now) (edited_range edit.now old.now)) }
+fn missing_edited(row_tables: &RowTables, old: &IpRange, edit: &Edit) -> Option<Rule>
+    ensures { result ≡ first (range_rules.references (state_of row_tables.now) (edited_range edit.now old.now)) }
 {
     match edit {
         Edit::IpRange { vrf, role, .. } => missing(
-            shelves,
+            row_tables,
             edited_value(*vrf, old.vrf),
             edited_value(*role, old.role),
         ),
-        _ => missing(shelves, old.vrf, old.role),
+        _ => missing(row_tables, old.vrf, old.role),
     }
 }
 
@@ -223,28 +223,28 @@ fn told_edited(old: &IpRange, edit: &Edit) -> Option<Rule>
     }
 }
 
-/// Plans the range that an edit leaves in the place of the old one. `Err` is want of memory.
-fn plan_edited(shelves: &Shelves, old: &IpRange, edit: &Edit) -> Result<Planned, AllocError>
-    requires { row_at range_id shelves.now.ranges.rows old.now.id ≡ Some old.now }
-    ensures { IfOk result (λ p. IsPlanned (replace range_rules (state_of shelves.now) old.now (told_of_change edit.now old.now) (edited_range edit.now old.now)) p) }
+/// Plans the range that an edit leaves in the place of the old one. `Err` means out of memory.
+fn plan_edited(row_tables: &RowTables, old: &IpRange, edit: &Edit) -> Result<Planned, AllocError>
+    requires { row_at range_id row_tables.now.ranges.rows old.now.id ≡ Some old.now }
+    ensures { IfOk result (λ p. IsPlanned (replace range_rules (state_of row_tables.now) old.now (told_of_change edit.now old.now) (edited_range edit.now old.now)) p) }
 {
-    if let Some(rule) = missing_edited(shelves, old, edit) {
+    if let Some(rule) = missing_edited(row_tables, old, edit) {
         return Ok(Planned::Refused(Refusal::Rule(rule)));
     }
     if let Some(rule) = told_edited(old, edit) {
         return Ok(Planned::Refused(Refusal::Rule(rule)));
     }
     let row = old.edited(edit)?;
-    plan_replace(shelves, row)
+    plan_replace(row_tables, row)
 }
 
 /// Plans the range of an id with the fields of an edit changed; an end that is not given keeps the row's mask. `Err` is want of
 /// memory.
-pub fn plan_edit(shelves: &Shelves, id: u32, edit: &Edit) -> Result<Planned, AllocError>
-    ensures { IfOk result (λ p. IsPlanned (change range_rules (state_of shelves.now) id (told_of_change edit.now) (edited_range edit.now)) p) }
+pub fn plan_edit(row_tables: &RowTables, id: u32, edit: &Edit) -> Result<Planned, AllocError>
+    ensures { IfOk result (λ p. IsPlanned (change range_rules (state_of row_tables.now) id (told_of_change edit.now) (edited_range edit.now)) p) }
 {
-    match IpRange::found(shelves, id) {
+    match IpRange::found(row_tables, id) {
         None => Ok(Planned::Refused(Refusal::NotFound(Kind::Ranges, id))),
-        Some(old) => plan_edited(shelves, old, edit),
+        Some(old) => plan_edited(row_tables, old, edit),
     }
 }

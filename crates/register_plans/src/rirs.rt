@@ -17,7 +17,7 @@ use ipam_data::kinds::Kind;
 use ipam_data::replies::{Refusal, Rule, View};
 use ipam_data::rir::{MOST_RIRS, Rir};
 use placed_book::Book;
-use register_tables::{Planned, Shelves};
+use register_tables::{Planned, RowTables};
 use std::alloc::AllocError;
 
 impl Registered for Rir {
@@ -50,53 +50,53 @@ impl Registered for Rir {
         }
     }
 
-    fn found<'a>(shelves: &'a Shelves, id: u32) -> Option<&'a Rir> {
-        shelves.rirs().get(id)
+    fn found<'a>(row_tables: &'a RowTables, id: u32) -> Option<&'a Rir> {
+        row_tables.rirs().get(id)
     }
 
-    fn count(shelves: &Shelves) -> u32 {
-        shelves.rirs().len()
+    fn count(row_tables: &RowTables) -> u32 {
+        row_tables.rirs().len()
     }
 
-    fn nth<'a>(shelves: &'a Shelves, index: u32) -> Option<&'a Rir> {
-        shelves.rirs().at(index)
+    fn nth<'a>(row_tables: &'a RowTables, index: u32) -> Option<&'a Rir> {
+        row_tables.rirs().at(index)
     }
 
-    fn next(shelves: &Shelves) -> u32 {
-        shelves.next(Kind::Rirs)
+    fn next(row_tables: &RowTables) -> u32 {
+        row_tables.next(Kind::Rirs)
     }
 
-    fn missing(&self, _shelves: &Shelves) -> Option<Rule> {
+    fn missing(&self, _row_tables: &RowTables) -> Option<Rule> {
         None
     }
 
-    fn fault_new(&self, shelves: &Shelves) -> Option<Rule> {
-        shelves.rirs().fault(self)
+    fn fault_new(&self, row_tables: &RowTables) -> Option<Rule> {
+        row_tables.rirs().fault(self)
     }
 
-    fn fault_changed(&self, shelves: &Shelves) -> Option<Rule> {
-        shelves.rirs().fault(self)
+    fn fault_changed(&self, row_tables: &RowTables) -> Option<Rule> {
+        row_tables.rirs().fault(self)
     }
 
-    fn user(shelves: &Shelves, id: u32) -> Option<Refusal> {
-        match shelves.aggregates().of_rir(id) {
+    fn user(row_tables: &RowTables, id: u32) -> Option<Refusal> {
+        match row_tables.aggregates().of_rir(id) {
             Some(aggregate) => Some(Refusal::InUse(Kind::Aggregates, aggregate)),
             None => None,
         }
     }
 
-    fn forgetting(shelves: &Shelves, _id: u32) -> Result<Vec<View>, AllocError> {
-        Ok(Vec::new(shelves.allocator()))
+    fn forgetting(row_tables: &RowTables, _id: u32) -> Result<Vec<View>, AllocError> {
+        Ok(Vec::new(row_tables.allocator()))
     }
 }
 
-/// Plans the RIR of an id with the fields of an edit changed. `Err` is want of memory.
-pub fn plan_edit(shelves: &Shelves, id: u32, edit: &Edit) -> Result<Planned, AllocError>
-    ensures { IfOk result (λ p. IsPlanned (change rir_rules (state_of shelves.now) id nothing_told (edited_rir edit.now)) p) }
+/// Plans the RIR of an id with the fields of an edit changed. `Err` means out of memory.
+pub fn plan_edit(row_tables: &RowTables, id: u32, edit: &Edit) -> Result<Planned, AllocError>
+    ensures { IfOk result (λ p. IsPlanned (change rir_rules (state_of row_tables.now) id nothing_told (edited_rir edit.now)) p) }
 {
-    let row = match Rir::found(shelves, id) {
+    let row = match Rir::found(row_tables, id) {
         Some(old) => old.edited(edit)?,
         None => return Ok(Planned::Refused(Refusal::NotFound(Kind::Rirs, id))),
     };
-    plan_replace(shelves, row)
+    plan_replace(row_tables, row)
 }

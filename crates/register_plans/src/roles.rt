@@ -24,10 +24,10 @@ use ipam_data::range::IpRange;
 use ipam_data::replies::{Refusal, Rule, View};
 use ipam_data::role::{MOST_ROLES, Role};
 use placed_book::Book;
-use register_tables::{Planned, Prefixes, Shelves};
+use register_tables::{Planned, Prefixes, RowTables};
 use std::alloc::AllocError;
 
-/// Adds a prefix without the role, where it has it. `Err` is want of memory.
+/// Adds a prefix without the role, where it has it. `Err` means out of memory.
 fn forget_in_prefix(row: &Prefix, id: u32, views: &mut Vec<View>) -> Result<(), AllocError>
     ensures { OnOk result (views.new.items ≡ views.old.items ++ map prefix_rules.view (prefixes_without_role id (row.now ∷ []))) }
 {
@@ -40,7 +40,7 @@ fn forget_in_prefix(row: &Prefix, id: u32, views: &mut Vec<View>) -> Result<(), 
     Ok(())
 }
 
-/// Adds a range without the role, where it has it. `Err` is want of memory.
+/// Adds a range without the role, where it has it. `Err` means out of memory.
 fn forget_in_range(row: &IpRange, id: u32, views: &mut Vec<View>) -> Result<(), AllocError>
     ensures { OnOk result (views.new.items ≡ views.old.items ++ map range_rules.view (ranges_without_role id (row.now ∷ []))) }
 {
@@ -64,7 +64,7 @@ fn prefix_at(book: &Prefixes, index: u32) -> &Prefix
     }
 }
 
-/// Adds the prefixes that have the role, without it. `Err` is want of memory.
+/// Adds the prefixes that have the role, without it. `Err` means out of memory.
 fn forget_in_prefixes(book: &Prefixes, id: u32, views: &mut Vec<View>) -> Result<(), AllocError>
     ensures { OnOk result (views.new.items ≡ views.old.items ++ map prefix_rules.view (prefixes_without_role id book.now.rows)) }
 {
@@ -76,7 +76,7 @@ fn forget_in_prefixes(book: &Prefixes, id: u32, views: &mut Vec<View>) -> Result
     Ok(())
 }
 
-/// Adds the ranges that have the role, without it. `Err` is want of memory.
+/// Adds the ranges that have the role, without it. `Err` means out of memory.
 fn forget_in_ranges(rows: &[IpRange], id: u32, views: &mut Vec<View>) -> Result<(), AllocError>
     ensures { OnOk result (views.new.items ≡ views.old.items ++ map range_rules.view (ranges_without_role id rows.now)) }
 {
@@ -116,53 +116,53 @@ impl Registered for Role {
         }
     }
 
-    fn found<'a>(shelves: &'a Shelves, id: u32) -> Option<&'a Role> {
-        shelves.roles().get(id)
+    fn found<'a>(row_tables: &'a RowTables, id: u32) -> Option<&'a Role> {
+        row_tables.roles().get(id)
     }
 
-    fn count(shelves: &Shelves) -> u32 {
-        shelves.roles().len()
+    fn count(row_tables: &RowTables) -> u32 {
+        row_tables.roles().len()
     }
 
-    fn nth<'a>(shelves: &'a Shelves, index: u32) -> Option<&'a Role> {
-        shelves.roles().at(index)
+    fn nth<'a>(row_tables: &'a RowTables, index: u32) -> Option<&'a Role> {
+        row_tables.roles().at(index)
     }
 
-    fn next(shelves: &Shelves) -> u32 {
-        shelves.next(Kind::Roles)
+    fn next(row_tables: &RowTables) -> u32 {
+        row_tables.next(Kind::Roles)
     }
 
-    fn missing(&self, _shelves: &Shelves) -> Option<Rule> {
+    fn missing(&self, _row_tables: &RowTables) -> Option<Rule> {
         None
     }
 
-    fn fault_new(&self, shelves: &Shelves) -> Option<Rule> {
-        shelves.roles().fault(self)
+    fn fault_new(&self, row_tables: &RowTables) -> Option<Rule> {
+        row_tables.roles().fault(self)
     }
 
-    fn fault_changed(&self, shelves: &Shelves) -> Option<Rule> {
-        shelves.roles().fault(self)
+    fn fault_changed(&self, row_tables: &RowTables) -> Option<Rule> {
+        row_tables.roles().fault(self)
     }
 
-    fn user(_shelves: &Shelves, _id: u32) -> Option<Refusal> {
+    fn user(_row_tables: &RowTables, _id: u32) -> Option<Refusal> {
         None
     }
 
-    fn forgetting(shelves: &Shelves, id: u32) -> Result<Vec<View>, AllocError> {
-        let mut views = Vec::new(shelves.allocator());
-        forget_in_prefixes(shelves.prefixes(), id, &mut views)?;
-        forget_in_ranges(shelves.ranges().rows(), id, &mut views)?;
+    fn forgetting(row_tables: &RowTables, id: u32) -> Result<Vec<View>, AllocError> {
+        let mut views = Vec::new(row_tables.allocator());
+        forget_in_prefixes(row_tables.prefixes(), id, &mut views)?;
+        forget_in_ranges(row_tables.ranges().rows(), id, &mut views)?;
         Ok(views)
     }
 }
 
-/// Plans the role of an id with the fields of an edit changed. `Err` is want of memory.
-pub fn plan_edit(shelves: &Shelves, id: u32, edit: &Edit) -> Result<Planned, AllocError>
-    ensures { IfOk result (λ p. IsPlanned (change role_rules (state_of shelves.now) id nothing_told (edited_role edit.now)) p) }
+/// Plans the role of an id with the fields of an edit changed. `Err` means out of memory.
+pub fn plan_edit(row_tables: &RowTables, id: u32, edit: &Edit) -> Result<Planned, AllocError>
+    ensures { IfOk result (λ p. IsPlanned (change role_rules (state_of row_tables.now) id nothing_told (edited_role edit.now)) p) }
 {
-    let row = match Role::found(shelves, id) {
+    let row = match Role::found(row_tables, id) {
         Some(old) => old.edited(edit)?,
         None => return Ok(Planned::Refused(Refusal::NotFound(Kind::Roles, id))),
     };
-    plan_replace(shelves, row)
+    plan_replace(row_tables, row)
 }

@@ -3,7 +3,7 @@
 ghost use Rattle.std.specs.Prelude.{◌≡◌, ℕ, ◌<◌, ◌≤◌, ◌&&◌, Some, None, IfOk, find, drop, length, option_map, option_copied, slice_get};
 ghost use Rattle.ipam_data.specs.declared.prefix.Prefix.{Prefix};
 ghost use Rattle.ipam_data.specs.declared.range.IpRange.{IpRange};
-ghost use Rattle.ipam_data.specs.Shelf.{least, row_at};
+ghost use Rattle.ipam_data.specs.RowList.{least, row_at};
 ghost use Rattle.ipam_data.specs.Rows.{vrf_id, prefix_id};
 ghost use Rattle.ipam_data.specs.Tables.{is_named};
 ghost use Rattle.ipam_data.specs.Plans.{change, nothing_told};
@@ -28,7 +28,7 @@ use ipam_data::vrf::{MOST_VRFS, Vrf};
 use placed_book::{Book, Located, PlacedBook};
 use prefix_rules::PrefixRules;
 use radix_tree::Tree;
-use register_tables::{Planned, Shelves};
+use register_tables::{Planned, RowTables};
 use std::alloc::AllocError;
 use vrf_table::VrfRules;
 
@@ -55,26 +55,26 @@ fn range_of(rows: &[IpRange], id: u32) -> Option<&IpRange>
 }
 
 /// Whether the change to this row turns enforcing on.
-fn is_turned_on(shelves: &Shelves, row: &Vrf) -> bool
-    ensures { result ≡ turns_on (row_at vrf_id shelves.now.vrfs.rows row.now.id) row.now }
+fn is_turned_on(row_tables: &RowTables, row: &Vrf) -> bool
+    ensures { result ≡ turns_on (row_at vrf_id row_tables.now.vrfs.rows row.now.id) row.now }
 {
-    match shelves.vrfs().get(row.id) {
+    match row_tables.vrfs().get(row.id) {
         Some(old) => !old.enforce_unique && row.enforce_unique,
         None => false,
     }
 }
 
 /// Two rows of the VRF's table that may not stand in it once it enforces, where it is to: prefixes before addresses.
-fn coinciding(shelves: &Shelves, row: &Vrf) -> Option<Rule>
-    ensures { result ≡ coincidence (state_of shelves.now) (row_at vrf_id shelves.now.vrfs.rows row.now.id) row.now }
+fn coinciding(row_tables: &RowTables, row: &Vrf) -> Option<Rule>
+    ensures { result ≡ coincidence (state_of row_tables.now) (row_at vrf_id row_tables.now.vrfs.rows row.now.id) row.now }
 {
-    if !is_turned_on(shelves, row) {
+    if !is_turned_on(row_tables, row) {
         return None;
     }
-    if let Some((a, b)) = shelves.prefixes().coincidence_of(Table::Of(row.id)) {
+    if let Some((a, b)) = row_tables.prefixes().coincidence_of(Table::Of(row.id)) {
         return Some(Rule::Coincide(Kind::Prefixes, a, b));
     }
-    match shelves.addresses().clash_of(Table::Of(row.id)) {
+    match row_tables.addresses().clash_of(Table::Of(row.id)) {
         Some((a, b)) => Some(Rule::Coincide(Kind::Addresses, a, b)),
         None => None,
     }
@@ -121,62 +121,62 @@ impl Registered for Vrf {
         }
     }
 
-    fn found<'a>(shelves: &'a Shelves, id: u32) -> Option<&'a Vrf> {
-        shelves.vrfs().get(id)
+    fn found<'a>(row_tables: &'a RowTables, id: u32) -> Option<&'a Vrf> {
+        row_tables.vrfs().get(id)
     }
 
-    fn count(shelves: &Shelves) -> u32 {
-        shelves.vrfs().len()
+    fn count(row_tables: &RowTables) -> u32 {
+        row_tables.vrfs().len()
     }
 
-    fn nth<'a>(shelves: &'a Shelves, index: u32) -> Option<&'a Vrf> {
-        shelves.vrfs().rows().get(index as usize)
+    fn nth<'a>(row_tables: &'a RowTables, index: u32) -> Option<&'a Vrf> {
+        row_tables.vrfs().rows().get(index as usize)
     }
 
-    fn next(shelves: &Shelves) -> u32 {
-        shelves.next(Kind::Vrfs)
+    fn next(row_tables: &RowTables) -> u32 {
+        row_tables.next(Kind::Vrfs)
     }
 
-    fn missing(&self, _shelves: &Shelves) -> Option<Rule> {
+    fn missing(&self, _row_tables: &RowTables) -> Option<Rule> {
         None
     }
 
-    fn fault_new(&self, shelves: &Shelves) -> Option<Rule> {
-        shelves.vrfs().fault(self)
+    fn fault_new(&self, row_tables: &RowTables) -> Option<Rule> {
+        row_tables.vrfs().fault(self)
     }
 
-    fn fault_changed(&self, shelves: &Shelves) -> Option<Rule> {
-        if let Some(rule) = shelves.vrfs().fault(self) {
+    fn fault_changed(&self, row_tables: &RowTables) -> Option<Rule> {
+        if let Some(rule) = row_tables.vrfs().fault(self) {
             return Some(rule);
         }
-        coinciding(shelves, self)
+        coinciding(row_tables, self)
     }
 
-    fn user(shelves: &Shelves, id: u32) -> Option<Refusal> {
-        if let Some(prefix) = user_in(shelves.prefixes(), id) {
+    fn user(row_tables: &RowTables, id: u32) -> Option<Refusal> {
+        if let Some(prefix) = user_in(row_tables.prefixes(), id) {
             return Some(Refusal::InUse(Kind::Prefixes, prefix));
         }
-        if let Some(range) = range_of(shelves.ranges().rows(), id) {
+        if let Some(range) = range_of(row_tables.ranges().rows(), id) {
             return Some(Refusal::InUse(Kind::Ranges, range.id));
         }
-        match user_in(shelves.addresses(), id) {
+        match user_in(row_tables.addresses(), id) {
             Some(address) => Some(Refusal::InUse(Kind::Addresses, address)),
             None => None,
         }
     }
 
-    fn forgetting(shelves: &Shelves, _id: u32) -> Result<Vec<View>, AllocError> {
-        Ok(Vec::new(shelves.allocator()))
+    fn forgetting(row_tables: &RowTables, _id: u32) -> Result<Vec<View>, AllocError> {
+        Ok(Vec::new(row_tables.allocator()))
     }
 }
 
-/// Plans the VRF of an id with the fields of an edit changed. `Err` is want of memory.
-pub fn plan_edit(shelves: &Shelves, id: u32, edit: &Edit) -> Result<Planned, AllocError>
-    ensures { IfOk result (λ p. IsPlanned (change vrf_rules (state_of shelves.now) id nothing_told (edited_vrf edit.now)) p) }
+/// Plans the VRF of an id with the fields of an edit changed. `Err` means out of memory.
+pub fn plan_edit(row_tables: &RowTables, id: u32, edit: &Edit) -> Result<Planned, AllocError>
+    ensures { IfOk result (λ p. IsPlanned (change vrf_rules (state_of row_tables.now) id nothing_told (edited_vrf edit.now)) p) }
 {
-    let row = match Vrf::found(shelves, id) {
+    let row = match Vrf::found(row_tables, id) {
         Some(old) => old.edited(edit)?,
         None => return Ok(Planned::Refused(Refusal::NotFound(Kind::Vrfs, id))),
     };
-    plan_replace(shelves, row)
+    plan_replace(row_tables, row)
 }

@@ -43,7 +43,7 @@ pub record IsServedWhole (opening : State) (faults_old faults_new : ℕ) (told :
   -- told tables are those of the history's replay
   pub told_are : Tells told (replay plain_step opening history)
 
--- memory was wanting, or the listener was not bound
+-- memory ran out, or the listener was not bound
 abbrev pub IsPrevented : Unserved → Type 0
 IsPrevented (Opening fault) = fault ≡ NoMemory
 IsPrevented Place = Unit {0}
@@ -53,7 +53,7 @@ abbrev pub IsOutcome : State → ℕ → ℕ → Option Tables → List Returned
 IsOutcome opening faults_old faults_new told old new none_left (Ok served) = IsServedWhole opening faults_old faults_new told old new none_left served.entries
 IsOutcome opening faults_old faults_new told old new none_left (Err why) = Tells told opening × (new ≡ old) × IsPrevented why
 
--- the tables were refused, or could not be read: it was not for want of memory
+-- the tables were refused, or could not be read: it was not for lack of memory
 abbrev pub IsRefusal : Unserved → Type 0
 IsRefusal (Opening fault) = fault ≢ NoMemory
 IsRefusal Place = ⊥

@@ -36,7 +36,7 @@ pub struct Served {
 /// Why a register was not served.
 #[derive(Clone, Copy, Debug)]
 pub enum Unserved {
-    /// It was not opened, or memory was wanting to serve it.
+    /// It was not opened, or memory ran out to serve it.
     Opening(OpenFault),
     /// The listener could not be bound to its place.
     Place,

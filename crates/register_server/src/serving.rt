@@ -33,7 +33,7 @@ fn fault_of(fault: KeepFault) -> OpenFault
 /// routes in its thread.
 ///
 /// `Ok` tells the number of accepted changes, also where the listening broke off; its connections were answered out of one history.
-/// `Err` is `Opening` where the tables were not opened, with what was found, or where memory was wanting, and `Place` where the
+/// `Err` is `Opening` where the tables were not opened, with what was found, or where memory ran out, and `Place` where the
 /// listener could not be bound; then nobody was served, and told tables are as before.
 pub fn serve<R: Threads + Wait + Sync, O: KeeperOpener, L: Listener>(
     rt: &R,

@@ -1,4 +1,4 @@
--- What the shelves of a register hold: the books of all kinds with their rooms, the next ids, the setting and the log items spent.
+-- What the tables in memory of a register hold: the books of all kinds with their rooms, the next ids, the setting and the log items spent.
 use Rattle.std.specs.Prelude.{◌≡◌, ℕ, ◌≤◌, ◌==◌, Bool, true, false, List, Option, Some, None, length, count_by}
 use Rattle.ipam_data.specs.declared.vrf.Vrf.{Vrf}
 use Rattle.ipam_data.specs.declared.rir.Rir.{Rir}

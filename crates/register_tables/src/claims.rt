@@ -10,7 +10,7 @@ ghost use Rattle.prefix_rules.specs.Book.{IsInOrder};
 ghost use Rattle.register_tables.specs.Held.{state_of};
 ghost use Rattle.register_tables.specs.Beside.{blocks_in_table, blocks_in_all};
 
-use crate::Shelves;
+use crate::RowTables;
 use block_claim::{ClaimFault, plan_blocks};
 use block_space::{Space, Steps};
 use inet_num::Block;
@@ -91,10 +91,10 @@ fn plan_in_all<S: Space + Drop>(
     planned
 }
 
-impl Shelves {
+impl RowTables {
     /// The blocks that lengths get in a block one after another by `plan_blocks`, each the lowest that is free beside the
     /// prefixes of a table strictly inside the block and the blocks that the lengths before it got. The rows stay, and no room
-    /// is left in the table. `NoSpace` is the first length that gets none; `Memory` is want of memory.
+    /// is left in the table. `NoSpace` is the first length that gets none; `Memory` means out of memory.
     pub fn fits_in_table(
         &mut self,
         table: Table,

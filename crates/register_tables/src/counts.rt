@@ -26,7 +26,7 @@ pub(crate) fn counted(counts: &Counts, table: Table) -> u32
     }
 }
 
-/// Counts one row more for a table. `Err` is want of memory.
+/// Counts one row more for a table. `Err` means out of memory.
 fn count_one(counts: &mut Counts, table: Table) -> Result<(), AllocError>
     requires { counted counts.old table < 2 ^ 31 }
     ensures { OnOk result ((t : SeenTable) → counted counts.new t ≡ (if same_table t table then counted counts.old t + 1 else counted counts.old t)) }
@@ -36,7 +36,7 @@ fn count_one(counts: &mut Counts, table: Table) -> Result<(), AllocError>
     Ok(())
 }
 
-/// Counts the rows of a kind by their tables, in one pass. `Err` is want of memory.
+/// Counts the rows of a kind by their tables, in one pass. `Err` means out of memory.
 pub(crate) fn counts_of(alloc: Global, views: &[View], kind: Kind) -> Result<Counts, AllocError>
     requires { length views.now < 2 ^ 31 }
     ensures { IfOk result (λ m. AreCounted kind views.now m) }

@@ -4,11 +4,11 @@ ghost use Rattle.std.specs.Prelude.{◌≡◌, map};
 ghost use Rattle.ipam_data.specs.Updates.{figured, answered};
 ghost use Rattle.register_tables.specs.Held.{state_of};
 
-use crate::Shelves;
+use crate::RowTables;
 use ipam_data::replies::{Reply, View, Views};
 use prefix_rules::PrefixRules;
 
-impl Shelves {
+impl RowTables {
     /// Sets the figures of a row to those of the state.
     fn figure(&self, view: &mut View)
         ensures { view.new ≡ figured (state_of self.now) view.old }

@@ -45,7 +45,7 @@ pub type Addresses = AddressBook<Tree>;
 /// The rows of all kinds with the next ids, the log items spent and the register's setting. A contract sees the books with their
 /// rooms.
 #[derive(Drop)]
-pub struct Shelves {
+pub struct RowTables {
     alloc: Global,
     vrfs: VrfBook,
     rirs: RirBook,
@@ -65,7 +65,7 @@ pub struct Shelves {
     spent: u32,
 }
 
-impl Model for Shelves {
+impl Model for RowTables {
     ghost use Rattle.register_tables.specs.Held.{Held};
     ghost use Rattle.prefix_rules.specs.Book.{IsInOrder};
     ghost use Rattle.ip_addresses.specs.Book.{IsInOrder as IsAddressOrder};
@@ -78,12 +78,12 @@ impl Model for Shelves {
     ghost invariant = { λ s. IsAggregateOrder s.aggregates × IsInOrder s.prefixes × IsAddressOrder s.addresses };
 }
 
-impl Shelves {
-    /// Shelves without rows. It takes no memory.
-    pub fn new(alloc: Global, global_unique: bool) -> Shelves
+impl RowTables {
+    /// RowTables without rows. It takes no memory.
+    pub fn new(alloc: Global, global_unique: bool) -> RowTables
         ensures { state_of result ≡ empty_state global_unique }
     {
-        Shelves {
+        RowTables {
             alloc,
             vrfs: VrfBook::new(alloc),
             rirs: RirBook::new(alloc),

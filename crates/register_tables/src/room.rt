@@ -7,7 +7,7 @@ ghost use Rattle.placed_book.specs.Book.{spare_of, IsInOrder};
 ghost use Rattle.register_tables.specs.Counts.{counted};
 ghost use Rattle.register_tables.specs.Held.{state_of, place_of_kind, kind_of, is_of, table_in, is_in, HasRoom, HasAtMost};
 
-use crate::Shelves;
+use crate::RowTables;
 use crate::counts::{Counts, counted, counts_of};
 use ipam_data::kinds::{Kind, Table};
 use ipam_data::replies::View;
@@ -127,8 +127,8 @@ fn reserve_tables<T: Located + Drop>(
     Ok(())
 }
 
-impl Shelves {
-    /// Makes room for rows that are to be put. `Err` is want of memory, and leaves the rows.
+impl RowTables {
+    /// Makes room for rows that are to be put. `Err` means out of memory, and leaves the rows.
     pub fn reserve(&mut self, views: &[View]) -> Result<(), AllocError>
         requires few { HasAtMost 500000000 self.old }
         ensures state { state_of self.new ≡ state_of self.old }
@@ -176,7 +176,7 @@ impl Shelves {
         self.reserve(std::slice::from_ref(view))
     }
 
-    /// Takes room for a row, and puts it. `Err` is want of memory, and the state is then as it was.
+    /// Takes room for a row, and puts it. `Err` means out of memory, and the state is then as it was.
     pub fn admit(&mut self, view: View) -> Result<(), AllocError>
         requires fits { IsFit (state_of self.old) view }
         ensures ok { OnOk result (state_of self.new ≡ with_view (state_of self.old) view) }

@@ -25,14 +25,14 @@ use std::mem;
 /// The number under which the one caller's changes are noted.
 const CALLER: u32 = 0;
 
-/// Whether a refusal is want of memory.
+/// Whether a refusal means out of memory.
 fn is_want(refusal: &Refusal) -> bool
     ensures { MatchBool result (refusal.now ≡ Refusal.Memory) (refusal.now ≢ Refusal.Memory) }
 {
     matches!(refusal, Refusal::Memory)
 }
 
-/// Whether a reply is want of memory.
+/// Whether a reply means out of memory.
 fn is_memory(reply: &Reply) -> bool
     ensures { MatchBool result (reply.now ≡ Reply.Refused Refusal.Memory) (reply.now ≢ Reply.Refused Refusal.Memory) }
 {
@@ -84,7 +84,7 @@ pub fn answer_to(
     answer
 }
 
-/// Lets the register answer a call, and writes the answer. The one error is want of memory for the answer, which is then lost.
+/// Lets the register answer a call, and writes the answer. The one error means out of memory for the answer, which is then lost.
 fn act(
     alloc: Global,
     register: &mut OwnRegister,
@@ -101,7 +101,7 @@ fn act(
     answer
 }
 
-/// Writes the answer to a refused request of this target. The one error is want of memory, in this call or as what was refused.
+/// Writes the answer to a refused request of this target. The one error means out of memory, in this call or as what was refused.
 fn refuse(
     alloc: Global,
     routes: &Routes,
@@ -200,7 +200,7 @@ fn serve_by<So: Source, Si: Sink>(
 
 /// Serves one connection with a register of its own, from its first byte to its end, and notes its changes under the number 0.
 /// `SourceFault` comes where a read failed, with all requests that lay whole in the bytes read answered; `SinkFault` where a
-/// write failed, with a front of the last answer written; `Memory` where memory was wanting, before a call reached the register
+/// write failed, with a front of the last answer written; `Memory` where memory ran out, before a call reached the register
 /// or for the text of a reply that tells something else: that the register wanted memory is answered like any other reply.
 /// The table of routes is built once, before the first read.
 pub fn serve_session<So: Source, Si: Sink>(

@@ -70,7 +70,7 @@ fn allowed(route: Option<Route>, refusal: &Refusal) -> &'static [u8]
     }
 }
 
-/// The answer of a reply of the register, which stands at this place. `Err` is want of memory.
+/// The answer of a reply of the register, which stands at this place. `Err` means out of memory.
 pub fn answer_of_reply(
     alloc: Global,
     reply: &Reply,
@@ -90,7 +90,7 @@ pub fn answer_of_reply(
 }
 
 /// The answer of a refusal that the bytes of a request decide, before the register, by a table of the routes that is lent: it has
-/// no place. `Err` is want of memory.
+/// no place. `Err` means out of memory.
 pub fn answer_of_refusal_by(
     alloc: Global,
     routes: &Routes,
@@ -149,7 +149,7 @@ pub fn answer_of_fault(fault: Fault) -> Answer
     }
 }
 
-/// The answer where memory is wanting in the register, which takes none itself.
+/// The answer where memory runs out in the register, which takes none itself.
 pub fn answer_of_want(place: u64) -> Answer
     ensures { (links : Links) → answer_of result ≡ reply_answer (Reply.Refused Refusal.Memory) links place }
 {

@@ -123,7 +123,7 @@ impl Model for Routes {
 }
 
 impl Routes {
-    /// The table of all routes. `Err` is want of memory.
+    /// The table of all routes. `Err` means out of memory.
     pub fn new(alloc: Global) -> Result<Routes, AllocError> {
         let mut table = RouteTable::new(alloc);
         add_kind(&mut table, alloc, Kind::Vrfs)?;

@@ -40,9 +40,9 @@ impl<T> Model for RouteTable<T> {
     ghost invariant = { λ t. AreOfForms t.router };
 }
 
-/// Puts a route into a router. After `Err` the router is as before. `matchit` has errors beside want of memory, for a route that it
+/// Puts a route into a router. After `Err` the router is as before. `matchit` has errors beside out of memory, for a route that it
 /// cannot read and for one beside which another stands that it takes for the same; the forms here have neither, and they would be answered
-/// as want of memory too.
+/// as out of memory too.
 fn put<T: Drop>(router: &mut Router<T>, text: &str, value: T) -> Result<(), AllocError>
     ensures ok { OnOk result (InsertsRead (parse_route text.now) value router.old router.new (Ok tt)) }
     ensures err { OnErr result (router.new ≡ router.old) }
@@ -83,7 +83,7 @@ impl<T: Drop> RouteTable<T> {
         }
     }
 
-    /// Adds the route of one whole path, of bytes below `{`. After `Err`, which is want of memory, the table is as before.
+    /// Adds the route of one whole path, of bytes below `{`. After `Err`, which means out of memory, the table is as before.
     pub fn add_whole(&mut self, text: &str, value: T) -> Result<(), AllocError>
         requires { IsLiteral text.now }
         ensures ok { OnOk result (IsPermutation ((Whole text.now, value) ∷ self.old) self.new) }
@@ -93,7 +93,7 @@ impl<T: Drop> RouteTable<T> {
     }
 
     /// Adds the route of a front, a piece and what follows the piece: bytes below `{`, and a slash right behind the piece. After
-    /// `Err`, which is want of memory, the table is as before.
+    /// `Err`, which means out of memory, the table is as before.
     pub fn add_around(&mut self, front: &str, rest: &str, value: T) -> Result<(), AllocError>
         requires front { IsLiteral front.now }
         requires rest { IsLiteral rest.now }

@@ -1,7 +1,7 @@
 //! Nine prefixes in two tables, of both families, and which of them lie in each kind of area; then one more with a block that is there.
 
 ghost use Rattle.std.specs.Prelude.{◌≡◌, ◌+◌, ◌≤◌, IfSome, OnOk};
-ghost use Rattle.ipam_data.specs.Shelf.{AllBelow};
+ghost use Rattle.ipam_data.specs.RowList.{AllBelow};
 ghost use Rattle.ipam_data.specs.Prefixes.{prefix_id};
 ghost use Rattle.placed_book.specs.Book.{IsInOrder};
 ghost use Rattle.placed_book.specs.Kinds.{placed_prefix};

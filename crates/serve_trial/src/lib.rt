@@ -4,6 +4,6 @@
 #[cfg(test)]
 mod claims;
 #[cfg(test)]
-mod register_load_tests;
+mod command_load_tests;
 #[cfg(test)]
-mod store_server_tests;
+mod command_serve_tests;

@@ -1,4 +1,4 @@
--- Where memory is wanting before the first read, nothing was read, answered or written.
+-- Where memory runs out before the first read, nothing was read, answered or written.
 use Rattle.std.proofs.Common.{ℕ, List, [], Option, Some, None, refl, sym, inl, append-nil}
 use Rattle.std.specs.Io.KnownBytes.{Appends}
 use Rattle.ipam_edge.specs.Reading.{Step, Open}

@@ -24,7 +24,7 @@ state_after fault old new = old
 state_after memory old new = old
 state_after plain old new = old
 
--- the reply to a call of the caller with this number is the plain step's, or tells a fault or want of memory; and what is kept then
+-- the reply to a call of the caller with this number is the plain step's, or tells a fault or out of memory; and what is kept then
 pub record IsReplied (number : ℕ) (old new : Plain) (call : Call) (reply : Reply) : Type 0 where
   pub right : AnswersAs (kind_of reply) reply (plain_step old.state call).1
   pub state : new.state ≡ state_after (kind_of reply) old.state (plain_step old.state call).0

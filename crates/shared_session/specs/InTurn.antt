@@ -27,7 +27,7 @@ answers_in_turn =
       refuses = IsFramingAnswer;
     }
 
--- a call was made through the seat; its answer is this, or is lost for want of memory
+-- a call was made through the seat; its answer is this, or is lost for lack of memory
 abbrev pub IsAsked : {E : Type 0} → Caller → Call → Links → Result Written E → Caller → Type 0
 IsAsked v call links result w =
     (reply : Reply) × (place : ℕ) × IsCall plain_step v w call reply (kind_of reply) place × IfOk result (λ answer. answer_of answer ≡ told_answer call reply links place)

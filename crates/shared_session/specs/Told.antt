@@ -43,7 +43,7 @@ standing_of v = record { place = length v.seen; made = own_entries v.number v.se
 -- one call that was answered, in a history from this opening state, of the caller with this number
 pub record IsTold (opening : State) (history : List Made) (number : ℕ) (before after : Standing) (call : Call) (reply : Reply) (place : ℕ) : Type 0 where
   -- the reply is the plain register's after the entries before its place, and an accepted change is the entry there; or it tells a
-  -- fault or want of memory
+  -- fault or out of memory
   pub legal : IsLegalAt plain_step opening history number call reply (kind_of reply) place
   -- places never fall ..
   pub in_order : before.place ≤ place

@@ -32,14 +32,14 @@ pub struct Sitting<'a, K: Keeper + 'a> {
     ghost fits: { seat.lock ≡ shared.now },
 }
 
-/// Whether a refusal is want of memory.
+/// Whether a refusal means out of memory.
 fn is_want(refusal: &Refusal) -> bool
     ensures { MatchBool result (refusal.now ≡ Refusal.Memory) (refusal.now ≢ Refusal.Memory) }
 {
     matches!(refusal, Refusal::Memory)
 }
 
-/// Whether a reply is want of memory.
+/// Whether a reply means out of memory.
 fn is_memory(reply: &Reply) -> bool
     ensures { MatchBool result (reply.now ≡ Reply.Refused Refusal.Memory) (reply.now ≢ Reply.Refused Refusal.Memory) }
 {
@@ -49,7 +49,7 @@ fn is_memory(reply: &Reply) -> bool
     }
 }
 
-/// The answer of a reply of the register, which stands at this place, and whose page ends with so many rows. `Err` is want of memory,
+/// The answer of a reply of the register, which stands at this place, and whose page ends with so many rows. `Err` means out of memory,
 /// which no answer tells that the register itself gave.
 fn answer_to(
     alloc: Global,
@@ -70,7 +70,7 @@ fn answer_to(
     answer
 }
 
-/// Makes a call through the seat, and writes its answer. The one error is want of memory for the answer, which is then lost.
+/// Makes a call through the seat, and writes its answer. The one error means out of memory for the answer, which is then lost.
 fn ask<R: Wait, K: Keeper>(
     rt: &R,
     alloc: Global,
@@ -90,7 +90,7 @@ fn ask<R: Wait, K: Keeper>(
     (seat, answer)
 }
 
-/// Writes the answer to a refused request of this target. The one error is want of memory, in this call or as what was refused.
+/// Writes the answer to a refused request of this target. The one error means out of memory, in this call or as what was refused.
 fn refuse(
     alloc: Global,
     routes: &Routes,
@@ -153,8 +153,8 @@ impl<'a, R: Wait, K: Keeper + 'a> Desk for SharedRegister<'a, R, K> {
 
 /// Serves one connection over the shared register, from its first byte to its end, and notes its changes under the seat's number.
 /// `Closed` comes with all requests answered; `SourceFault` where a read failed, with all requests that lay whole in the bytes read
-/// answered; `SinkFault` where a write failed, with a shorter front of the last answer written; `Memory` where memory was wanting before
-/// a call reached the register, or for the text of a reply that tells something else: a reply that tells want of memory in the register
+/// answered; `SinkFault` where a write failed, with a shorter front of the last answer written; `Memory` where memory ran out before
+/// a call reached the register, or for the text of a reply that tells something else: a reply that tells out of memory in the register
 /// is answered like any other.
 /// The table of routes is lent.
 pub fn serve_session_by<R: Wait, K: Keeper, So: Source, Si: Sink>(
@@ -188,7 +188,7 @@ pub fn serve_session_by<R: Wait, K: Keeper, So: Source, Si: Sink>(
     (seat, end)
 }
 
-/// The same with a table of routes of its own, which is built before the first read: where memory is wanting for it, the session ends
+/// The same with a table of routes of its own, which is built before the first read: where memory runs out for it, the session ends
 /// as `Memory` with nothing read.
 pub fn serve_session<R: Wait, K: Keeper, So: Source, Si: Sink>(
     rt: &R,

@@ -17,7 +17,7 @@ use shared_session::{serve_session, serve_session_by};
 use std::alloc::Global;
 use std::sync::Wait;
 
-/// Serves a session by the worker's table of routes, or by one of its own where the worker has none for want of memory.
+/// Serves a session by the worker's table of routes, or by one of its own where the worker has none for lack of memory.
 fn serve_by<R: Wait, K: Keeper, So: Source, Si: Sink>(
     rt: &R,
     alloc: Global,

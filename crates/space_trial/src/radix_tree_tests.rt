@@ -23,7 +23,7 @@ fn block(family: Family, first: u128, len: u8) -> Option<Block>
     Block::of(Addr::of(family, first)?, len)
 }
 
-/// Puts a block in or takes it out. What is no block of the family fails, as for want of memory.
+/// Puts a block in or takes it out. What is no block of the family fails, as for lack of memory.
 fn apply(tree: &mut Tree, change: Change) -> Result<(), AllocError>
     requires { length tree.old.blocks < 1000 }
     ensures family { tree.new.family ≡ tree.old.family }

@@ -30,7 +30,7 @@ fn block(family: Family, first: u128, len: u8) -> Option<Block>
     Block::of(Addr::of(family, first)?, len)
 }
 
-/// Puts a block in or takes it out. What is no block of the family fails, as for want of memory.
+/// Puts a block in or takes it out. What is no block of the family fails, as for lack of memory.
 fn apply<S: Space + Drop>(space: &mut S, change: Change) -> Result<(), AllocError>
     requires { length (S.held space.old) < 1000 }
     ensures family { S.family_of space.new ≡ S.family_of space.old }
@@ -436,7 +436,7 @@ fn change_of(word: &str) -> Option<Change> {
     }
 }
 
-/// The changes of words with a space between them. A word that is no change fails, as for want of memory.
+/// The changes of words with a space between them. A word that is no change fails, as for lack of memory.
 fn changes_of(alloc: Global, words: &str) -> Result<Vec<Change>, AllocError> {
     let mut out = Vec::new(alloc);
     for word in words.split(' ') {

@@ -51,7 +51,7 @@ fn widest(addr: Addr, last: u128) -> Block
     block
 }
 
-/// Appends the fewest aligned blocks of the span, in address order. After want of memory the list is as before.
+/// Appends the fewest aligned blocks of the span, in address order. After out of memory the list is as before.
 pub fn push_blocks(
     family: Family,
     first: u128,

@@ -60,7 +60,7 @@ impl SpanSet {
     }
 
     /// Adds the addresses of a span of the set's family, whose first is not above its last: the set then has an address
-    /// just where it had it or the span has it. The one error is want of memory, and the set is then as before.
+    /// just where it had it or the span has it. The one error means out of memory, and the set is then as before.
     pub fn add(&mut self, span: Span) -> Result<(), AllocError>
         requires first_family { span.first.family ≡ self.old.family }
         requires last_family { span.last.family ≡ self.old.family }
@@ -73,7 +73,7 @@ impl SpanSet {
     }
 
     /// Takes the addresses of a span of the set's family, whose first is not above its last, away: the set then has an
-    /// address just where it had it and the span does not have it. The one error is want of memory (a run falls into
+    /// address just where it had it and the span does not have it. The one error means out of memory (a run falls into
     /// two), and the set is then as before.
     pub fn subtract(&mut self, span: Span) -> Result<(), AllocError>
         requires first_family { span.first.family ≡ self.old.family }
@@ -97,7 +97,7 @@ impl SpanSet {
     }
 
     /// The fewest aligned blocks that have just the set's addresses, in address order: no list of blocks with these addresses
-    /// is shorter. The one error is want of memory.
+    /// is shorter. The one error means out of memory.
     pub fn blocks(&self) -> Result<Vec<Block>, AllocError>
         ensures fewest { IfOk result (λ v. ListsLargest self.now.family (IsIn self.now) v.items) }
         ensures shortest { IfOk result (λ v. NoneIsShorter self.now.family (IsIn self.now) v.items) }

@@ -65,7 +65,7 @@ fn cut(runs: &mut Vec<Run>, from: usize, to: usize)
     }
 }
 
-/// Puts one run in the place of those from one index up to another. After want of memory the list is as before.
+/// Puts one run in the place of those from one index up to another. After out of memory the list is as before.
 fn put_over(runs: &mut Vec<Run>, from: usize, to: usize, run: Run) -> Result<(), AllocError>
     requires order { from ≤ to }
     requires bound { to ≤ vec_len runs.old }
@@ -81,7 +81,7 @@ fn put_over(runs: &mut Vec<Run>, from: usize, to: usize, run: Run) -> Result<(),
     Ok(())
 }
 
-/// Puts what is left of some runs in their place. After want of memory the list is as before.
+/// Puts what is left of some runs in their place. After out of memory the list is as before.
 fn put_rests(
     runs: &mut Vec<Run>,
     from: usize,
@@ -109,7 +109,7 @@ fn put_rests(
     }
 }
 
-/// Adds the numbers from the first to the last. After want of memory the list is as before.
+/// Adds the numbers from the first to the last. After out of memory the list is as before.
 pub fn add_run(runs: &mut Vec<Run>, first: u128, last: u128) -> Result<(), AllocError>
     requires order { first ≤ last }
     requires apart { AreApart 0 runs.old.items }
@@ -157,7 +157,7 @@ fn right_of(run: Run, last: u128) -> Option<Run>
     }
 }
 
-/// Takes the numbers from the first to the last away. After want of memory the list is as before.
+/// Takes the numbers from the first to the last away. After out of memory the list is as before.
 pub fn subtract_run(runs: &mut Vec<Run>, first: u128, last: u128) -> Result<(), AllocError>
     requires order { first ≤ last }
     requires apart { AreApart 0 runs.old.items }

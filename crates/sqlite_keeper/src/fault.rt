@@ -12,11 +12,11 @@ use std::alloc::{AllocError, AllocFailed};
 pub(crate) enum StoreFault {
     /// The file could not be read or written, or holds other than it should.
     Failed,
-    /// Want of memory.
+    /// Out of memory.
     Memory,
 }
 
-/// Whether an error is want of memory.
+/// Whether an error means out of memory.
 pub(crate) fn is_want(error: &Error) -> bool
     ensures { MatchBool result (error.now ≡ SqliteFailure OutOfMemory) (error.now ≢ SqliteFailure OutOfMemory) }
 {

@@ -58,7 +58,7 @@ impl<S: Alter> SqliteKeeper<S> {
         self.conn
     }
 
-    /// What a stop is to the caller. It is counted, unless it is want of memory.
+    /// What a stop is to the caller. It is counted, unless it means out of memory.
     fn refused(&mut self, fault: StoreFault) -> KeepFault
         ensures memory { fault ≡ StoreFault.Memory → (result ≡ KeepFault.Memory) × (self.new ≡ self.old) }
         ensures failed { fault ≡ StoreFault.Failed → (result ≡ KeepFault.Failed) × IsRaised self.old 1 self.new }

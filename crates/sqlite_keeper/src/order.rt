@@ -1,7 +1,7 @@
 //! Whether tables stand in order.
 
 ghost use Rattle.std.specs.Prelude.{◌≡◌, IsTrue, ◌≤◌};
-ghost use Rattle.ipam_data.specs.Shelf.{Rises};
+ghost use Rattle.ipam_data.specs.RowList.{Rises};
 ghost use Rattle.stored_tables.specs.Stored.{kind_number, row_place, next_place};
 ghost use Rattle.stored_tables.specs.Order.{AreTables};
 

@@ -58,7 +58,7 @@ pub(crate) fn stopping_files(alloc: Global, stop: Stop) -> Files<Fuse<Memory>>
     }
 }
 
-/// A file of these bytes. `Err` is want of memory.
+/// A file of these bytes. `Err` means out of memory.
 fn file_of(alloc: Global, bytes: &[u8]) -> Result<Memory, AllocError>
     ensures { IfOk result (λ file. IsTrue (memory_is_usable file)) }
 {
@@ -97,7 +97,7 @@ fn torn(alloc: Global, written: &[u8], synced: &[u8]) -> Result<Vec<u8>, AllocEr
     Ok(bytes)
 }
 
-/// A file as it is found after its last call. `Err` is want of memory.
+/// A file as it is found after its last call. `Err` means out of memory.
 fn found_file(alloc: Global, mut file: Fuse<Memory>, found: Found) -> Result<Memory, AllocError>
     ensures { IfOk result (λ file. IsTrue (memory_is_usable file)) }
 {
@@ -111,7 +111,7 @@ fn found_file(alloc: Global, mut file: Fuse<Memory>, found: Found) -> Result<Mem
     }
 }
 
-/// Both files as they are found. `Err` is want of memory.
+/// Both files as they are found. `Err` means out of memory.
 pub(crate) fn found_files(
     alloc: Global,
     files: Files<Fuse<Memory>>,

@@ -23,7 +23,7 @@ pub enum Ending {
     Beyond,
 }
 
-/// Stores changes over a connection, and gives its store back, with how many were stored. `Err` is want of memory.
+/// Stores changes over a connection, and gives its store back, with how many were stored. `Err` means out of memory.
 fn stored_over<S: Alter + Drop>(
     alloc: Global,
     conn: Connection<S>,
@@ -34,7 +34,7 @@ fn stored_over<S: Alter + Drop>(
     (stored, keeper.into_connection().into_store())
 }
 
-/// The tables that a connection has, in words. `Err` is want of memory.
+/// The tables that a connection has, in words. `Err` means out of memory.
 fn tables_over<S: Alter + Drop>(alloc: Global, conn: Connection<S>) -> Result<String, AllocError> {
     let mut keeper = SqliteKeeper::adopt(alloc, conn);
     loaded(alloc, &mut keeper)
@@ -56,7 +56,7 @@ fn stopped(
     }
 }
 
-/// The tables of files, in words. `Err` is want of memory.
+/// The tables of files, in words. `Err` means out of memory.
 fn tables_of(alloc: Global, files: Files<Memory>) -> Result<String, AllocError>
     requires log { IsTrue (memory_is_usable files.log) }
     requires db { IsTrue (memory_is_usable files.db) }
@@ -80,7 +80,7 @@ fn are_after(alloc: Global, tables: &str, changes: u32) -> Result<bool, AllocErr
     Ok(after.as_str() == tables)
 }
 
-/// What comes of a stop while so many changes are stored. `Err` is want of memory.
+/// What comes of a stop while so many changes are stored. `Err` means out of memory.
 pub fn ending_of(alloc: Global, changes: u32, stop: Stop) -> Result<Ending, AllocError> {
     let (stored, files) = stopped(alloc, changes, stop);
     let stored = stored?;

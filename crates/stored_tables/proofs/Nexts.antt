@@ -2,8 +2,8 @@
 use Rattle.std.proofs.Common.{◌≡◌, ◌≢◌, ℕ, ◌<◌, ◌≤◌, ◌==◌, List, [], ◌∷◌, refl, ap, sym, ◌∙◌, arith, subst, inl, inr, if◌then◌else◌}
 use Rattle.ipam_data.specs.declared.kinds.Kind.{Kind}
 use Rattle.ipam_data.specs.declared.kinds.Kind.TheVariants.{Vrfs, Rirs, Roles, Aggregates, Prefixes, Ranges, Addresses}
-use Rattle.ipam_data.specs.Shelf.{Rises}
-use Rattle.ipam_data.proofs.Shelves.{eq_true, eq_false}
+use Rattle.ipam_data.specs.RowList.{Rises}
+use Rattle.ipam_data.proofs.RowLists.{eq_true, eq_false}
 use Rattle.stored_tables.specs.Stored.{kinds, kind_number, next_place, next_ids}
 use Rattle.stored_tables.specs.Opening.{told_next}
 use Rattle.stored_tables.proofs.Segments.{HasKind, all_kinds, kinds_rise}

@@ -11,7 +11,7 @@ use Rattle.ipam_data.specs.declared.replies.Rule.{Rule}
 use Rattle.ipam_data.specs.declared.replies.View.{View}
 use Rattle.ipam_data.specs.declared.replies.View.TheVariants.{Vrf as VrfView, Rir as RirView, Role as RoleView, Aggregate as AggregateView, Prefix as PrefixView, IpRange as RangeView, IpAddress as AddressView}
 use Rattle.ipam_data.specs.Rows.{HasVrfBounds, HasRirBounds, HasRoleBounds, HasAggregateBounds, HasPrefixBounds, HasRangeBounds, HasAddressBounds, vrf_id, rir_id, role_id, aggregate_id, prefix_id, range_id, address_id}
-use Rattle.ipam_data.specs.Shelf.{Shelf, IsShelf, with_row, replaced, Rises, AllBelow, last_next, placed}
+use Rattle.ipam_data.specs.RowList.{RowList, IsRowList, with_row, replaced, Rises, AllBelow, last_next, placed}
 use Rattle.ipam_data.specs.Checks.{first}
 use Rattle.ipam_data.specs.State.{State, empty_state}
 use Rattle.stored_tables.specs.Order.{empty_tables}
@@ -26,7 +26,7 @@ use Rattle.ipam_data.specs.Ranges.{range_rules}
 use Rattle.ipam_data.specs.Addresses.{address_rules}
 use Rattle.ipam_data.specs.Updates.{with_view, IsFit, AreFit}
 use Rattle.ipam_data.specs.Lawful.{IsLawful}
-use Rattle.ipam_data.proofs.Shelves.{with_row_above, find_none, eq_true}
+use Rattle.ipam_data.proofs.RowLists.{with_row_above, find_none, eq_true}
 use Rattle.ipam_data.proofs.Kept.{none_above}
 use Rattle.ipam_data.proofs.Placed.{rises_with, below_with, below_more, placed_behind}
 use Rattle.ipam_data.proofs.Verdicts.{none_left, none_right}
@@ -52,21 +52,21 @@ use Rattle.stored_tables.proofs.Nexts.{all_told}
 -- a row that may be added: above all of its kind, below the next id, as its type keeps it, and there is room for it
 pub record MayJoin {T : Type 0} (rules : KindRules T) (Bounds : T → Type 0) (s : State) (row : T) : Type 0 where
   pub low : 1 ≤ rules.id row
-  pub before : rules.id row < (rules.shelf s).next
-  pub few : length (rules.shelf s).rows + 1 ≤ rules.most
-  pub above : AllBelow rules.id (rules.id row) (rules.shelf s).rows
+  pub before : rules.id row < (rules.row_list s).next
+  pub few : length (rules.row_list s).rows + 1 ≤ rules.most
+  pub above : AllBelow rules.id (rules.id row) (rules.row_list s).rows
   pub bounds : Bounds row
 
 module _ {T : Type 0} (id : T → ℕ) where
   longer : (rows : List T) (row : T) → AllBelow id (id row) rows → length (with_row id rows row) ≡ length rows + 1
   longer rows row a = ap length (with_row_above id rows row a) ∙ rw length-append refl
 
-  shelf_joined : (most : ℕ) (shelf : Shelf T) (row : T) → IsShelf id most shelf → 1 ≤ id row → id row < shelf.next → length shelf.rows + 1 ≤ most → AllBelow id (id row) shelf.rows
-      → IsShelf id most (replaced id shelf row)
-  shelf_joined most shelf row h l u f a = record {
-    ordered = rises_with id 0 shelf.rows row h.ordered l (inr a);
-    below = below_with id shelf.next shelf.rows row h.below u;
-    few = (let n = longer shelf.rows row a in omega arith);
+  row_list_joined : (most : ℕ) (row_list : RowList T) (row : T) → IsRowList id most row_list → 1 ≤ id row → id row < row_list.next → length row_list.rows + 1 ≤ most → AllBelow id (id row) row_list.rows
+      → IsRowList id most (replaced id row_list row)
+  row_list_joined most row_list row h l u f a = record {
+    ordered = rises_with id 0 row_list.rows row h.ordered l (inr a);
+    below = below_with id row_list.next row_list.rows row h.below u;
+    few = (let n = longer row_list.rows row a in omega arith);
     next_low = h.next_low;
     next_fits = h.next_fits;
   }
@@ -78,9 +78,9 @@ module _ {T : Type 0} (id : T → ℕ) where
 module _ {T : Type 0} (rules : KindRules T) (Bounds : T → Type 0) (sound : IsSound rules Bounds) where
   joined_on : (s : State) (row : T) → IsLawful s → MayJoin rules Bounds s row → first (rules.references s row ++ rules.faults s None row) ≡ None → IsLawful (put_row rules s row)
   joined_on s row h j f =
-      sound.put s None row (replaced rules.id (rules.shelf s) row) h j.bounds
-      (none_above rules.id (rules.id row) (rules.id row) (rules.shelf s).rows j.above (omega arith))
-      refl (shelf_joined rules.id rules.most (rules.shelf s) row (sound.shelf s h) j.low j.before j.few j.above)
+      sound.put s None row (replaced rules.id (rules.row_list s) row) h j.bounds
+      (none_above rules.id (rules.id row) (rules.id row) (rules.row_list s).rows j.above (omega arith))
+      refl (row_list_joined rules.id rules.most (rules.row_list s) row (sound.row_list s h) j.low j.before j.few j.above)
       (none_left (rules.references s row) (rules.faults s None row) f) (none_right (rules.references s row) (rules.faults s None row) f)
 
 abbrev pub CanJoin : State → View → Type 0
@@ -229,10 +229,10 @@ placed_all p before (row ∷ rows) b r =
 
 -- the next id of a kind, and how many rows it has
 abbrev pub next_in : State → Kind → ℕ
-next_in s kind = by_kind kind (λ T rules. (rules.shelf s).next)
+next_in s kind = by_kind kind (λ T rules. (rules.row_list s).next)
 
 abbrev pub count_in : State → Kind → ℕ
-count_in s kind = by_kind kind (λ T rules. length (rules.shelf s).rows)
+count_in s kind = by_kind kind (λ T rules. length (rules.row_list s).rows)
 
 -- the rows of each kind and those to come are no more than there may be
 abbrev pub HasPlaces : State → List View → Type 0
@@ -315,19 +315,19 @@ join_all s next (view ∷ views) e a b n h = (
 nothing_contained : {T : Type 0} (x : T) → Contains [] x → ⊥
 nothing_contained x c = let h = c.1 in omega arith
 
-bare_kept : {T : Type 0} (id : T → ℕ) (most next : ℕ) → 1 ≤ next → next ≤ last_next → IsShelf id most (record { rows = []; next = next })
+bare_kept : {T : Type 0} (id : T → ℕ) (most next : ℕ) → 1 ≤ next → next ≤ last_next → IsRowList id most (record { rows = []; next = next })
 bare_kept id most next l u = record { ordered = tt; below = tt; few = omega arith; next_low = l; next_fits = u }
 
 module _ (nexts : List (Kind × ℕ)) (g : Bool) where
   bare_lawful : ((kind : Kind) → 1 ≤ told_next nexts kind) → AreNextIds nexts → IsLawful (bare_state nexts g)
   bare_lawful l u = record {
-    vrfs = record { shelf = bare_kept vrf_id vrf_rules.most (told_next nexts Vrfs) (l Vrfs) (u Vrfs); each = λ x c. absurd (nothing_contained x c); distinguishers = λ x y c d k. absurd (nothing_contained x c) };
-    rirs = record { shelf = bare_kept rir_id rir_rules.most (told_next nexts Rirs) (l Rirs) (u Rirs); each = λ x c. absurd (nothing_contained x c); names = λ x y c d k. absurd (nothing_contained x c); slugs = λ x y c d k. absurd (nothing_contained x c) };
-    roles = record { shelf = bare_kept role_id role_rules.most (told_next nexts Roles) (l Roles) (u Roles); each = λ x c. absurd (nothing_contained x c); names = λ x y c d k. absurd (nothing_contained x c); slugs = λ x y c d k. absurd (nothing_contained x c) };
-    aggregates = record { shelf = bare_kept aggregate_id aggregate_rules.most (told_next nexts Aggregates) (l Aggregates) (u Aggregates); each = λ x c. absurd (nothing_contained x c); registries = λ x n c e. absurd (nothing_contained x c); apart = λ x y c d k. absurd (nothing_contained x c) };
-    prefixes = record { shelf = bare_kept prefix_id prefix_rules.most (told_next nexts Prefixes) (l Prefixes) (u Prefixes); each = λ x c. absurd (nothing_contained x c); tables = λ x n c e. absurd (nothing_contained x c); with_roles = λ x n c e. absurd (nothing_contained x c); blocks = λ x y c d k. absurd (nothing_contained x c) };
-    ranges = record { shelf = bare_kept range_id range_rules.most (told_next nexts Ranges) (l Ranges) (u Ranges); each = λ x c. absurd (nothing_contained x c); tables = λ x n c e. absurd (nothing_contained x c); with_roles = λ x n c e. absurd (nothing_contained x c); apart = λ x y c d k. absurd (nothing_contained x c) };
-    addresses = record { shelf = bare_kept address_id address_rules.most (told_next nexts Addresses) (l Addresses) (u Addresses); each = λ x c. absurd (nothing_contained x c); tables = λ x n c e. absurd (nothing_contained x c); hosts = λ x y c d k. absurd (nothing_contained x c) };
+    vrfs = record { row_list = bare_kept vrf_id vrf_rules.most (told_next nexts Vrfs) (l Vrfs) (u Vrfs); each = λ x c. absurd (nothing_contained x c); distinguishers = λ x y c d k. absurd (nothing_contained x c) };
+    rirs = record { row_list = bare_kept rir_id rir_rules.most (told_next nexts Rirs) (l Rirs) (u Rirs); each = λ x c. absurd (nothing_contained x c); names = λ x y c d k. absurd (nothing_contained x c); slugs = λ x y c d k. absurd (nothing_contained x c) };
+    roles = record { row_list = bare_kept role_id role_rules.most (told_next nexts Roles) (l Roles) (u Roles); each = λ x c. absurd (nothing_contained x c); names = λ x y c d k. absurd (nothing_contained x c); slugs = λ x y c d k. absurd (nothing_contained x c) };
+    aggregates = record { row_list = bare_kept aggregate_id aggregate_rules.most (told_next nexts Aggregates) (l Aggregates) (u Aggregates); each = λ x c. absurd (nothing_contained x c); registries = λ x n c e. absurd (nothing_contained x c); apart = λ x y c d k. absurd (nothing_contained x c) };
+    prefixes = record { row_list = bare_kept prefix_id prefix_rules.most (told_next nexts Prefixes) (l Prefixes) (u Prefixes); each = λ x c. absurd (nothing_contained x c); tables = λ x n c e. absurd (nothing_contained x c); with_roles = λ x n c e. absurd (nothing_contained x c); blocks = λ x y c d k. absurd (nothing_contained x c) };
+    ranges = record { row_list = bare_kept range_id range_rules.most (told_next nexts Ranges) (l Ranges) (u Ranges); each = λ x c. absurd (nothing_contained x c); tables = λ x n c e. absurd (nothing_contained x c); with_roles = λ x n c e. absurd (nothing_contained x c); apart = λ x y c d k. absurd (nothing_contained x c) };
+    addresses = record { row_list = bare_kept address_id address_rules.most (told_next nexts Addresses) (l Addresses) (u Addresses); each = λ x c. absurd (nothing_contained x c); tables = λ x n c e. absurd (nothing_contained x c); hosts = λ x y c d k. absurd (nothing_contained x c) };
     spent = omega arith;
   }
 

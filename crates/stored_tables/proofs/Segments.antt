@@ -6,9 +6,9 @@ use Rattle.std.proofs.lemmas.List.Elements.{filter-append}
 use Rattle.ipam_data.specs.declared.kinds.Kind.{Kind}
 use Rattle.ipam_data.specs.declared.kinds.Kind.TheVariants.{Vrfs, Rirs, Roles, Aggregates, Prefixes, Ranges, Addresses}
 use Rattle.stored_tables.specs.declared.tables.Row.{Row}
-use Rattle.ipam_data.specs.Shelf.{without, placed, Rises, AllBelow}
+use Rattle.ipam_data.specs.RowList.{without, placed, Rises, AllBelow}
 use Rattle.stored_tables.specs.Stored.{kind_number, place_of, row_place, next_place, next_ids, kinds}
-use Rattle.ipam_data.proofs.Shelves.{eq_true, eq_false}
+use Rattle.ipam_data.proofs.RowLists.{eq_true, eq_false}
 use Rattle.ipam_data.proofs.Placed.{AllOver, over_less, below_more, over_append, placed_behind, placed_before, without_below, without_over, lt_false}
 
 -- the kind is one of these

@@ -8,7 +8,7 @@ use Rattle.ipam_data.specs.declared.update.Update.{Update}
 use Rattle.ipam_data.specs.declared.replies.View.{View}
 use Rattle.ipam_data.specs.declared.replies.View.TheVariants.{Vrf as VrfView, Rir as RirView, Role as RoleView, Aggregate as AggregateView, Prefix as PrefixView, IpRange as RangeView, IpAddress as AddressView}
 use Rattle.ipam_data.specs.Rows.{vrf_id, rir_id, role_id, aggregate_id, prefix_id, range_id, address_id, most_vrfs, most_rirs, most_roles, most_aggregates, most_prefixes, most_ranges, most_addresses}
-use Rattle.ipam_data.specs.Shelf.{Shelf, IsShelf, with_row, without, placed, Rises, AllBelow, IsFitting}
+use Rattle.ipam_data.specs.RowList.{RowList, IsRowList, with_row, without, placed, Rises, AllBelow, IsFitting}
 use Rattle.ipam_data.specs.State.{State}
 use Rattle.ipam_data.specs.Updates.{with_view, without_row, with_next, updated, IsFit, AreFit, AreKept, CanUpdate}
 use Rattle.ipam_data.specs.Lawful.{IsLawful}
@@ -34,17 +34,17 @@ IsOrderedOf s Addresses = IsOrdered address_id s.addresses.rows
 abbrev pub AreOrdered : State → Type 0
 AreOrdered s = (kind : Kind) → IsOrderedOf s kind
 
-shelf_ordered : {T : Type 0} (id : T → ℕ) (most : ℕ) (kept : Shelf T) → IsShelf id most kept → IsOrdered id kept.rows
-shelf_ordered id most kept h = record { rises = h.ordered; low = below_more id kept.next 4294967296 kept.rows (let f = h.next_fits in omega arith) h.below }
+row_list_ordered : {T : Type 0} (id : T → ℕ) (most : ℕ) (kept : RowList T) → IsRowList id most kept → IsOrdered id kept.rows
+row_list_ordered id most kept h = record { rises = h.ordered; low = below_more id kept.next 4294967296 kept.rows (let f = h.next_fits in omega arith) h.below }
 
 pub lawful_ordered : (s : State) → IsLawful s → AreOrdered s
-lawful_ordered s h Vrfs = shelf_ordered vrf_id most_vrfs s.vrfs h.vrfs.shelf
-lawful_ordered s h Rirs = shelf_ordered rir_id most_rirs s.rirs h.rirs.shelf
-lawful_ordered s h Roles = shelf_ordered role_id most_roles s.roles h.roles.shelf
-lawful_ordered s h Aggregates = shelf_ordered aggregate_id most_aggregates s.aggregates h.aggregates.shelf
-lawful_ordered s h Prefixes = shelf_ordered prefix_id most_prefixes s.prefixes h.prefixes.shelf
-lawful_ordered s h Ranges = shelf_ordered range_id most_ranges s.ranges h.ranges.shelf
-lawful_ordered s h Addresses = shelf_ordered address_id most_addresses s.addresses h.addresses.shelf
+lawful_ordered s h Vrfs = row_list_ordered vrf_id most_vrfs s.vrfs h.vrfs.row_list
+lawful_ordered s h Rirs = row_list_ordered rir_id most_rirs s.rirs h.rirs.row_list
+lawful_ordered s h Roles = row_list_ordered role_id most_roles s.roles h.roles.row_list
+lawful_ordered s h Aggregates = row_list_ordered aggregate_id most_aggregates s.aggregates h.aggregates.row_list
+lawful_ordered s h Prefixes = row_list_ordered prefix_id most_prefixes s.prefixes h.prefixes.row_list
+lawful_ordered s h Ranges = row_list_ordered range_id most_ranges s.ranges h.ranges.row_list
+lawful_ordered s h Addresses = row_list_ordered address_id most_addresses s.addresses h.addresses.row_list
 
 ordered_with : {T : Type 0} (id : T → ℕ) (rows : List T) (row : T) → IsOrdered id rows → 1 ≤ id row → id row < 4294967296 → IsFitting id rows row → IsOrdered id (with_row id rows row)
 ordered_with id rows row h l u f = record { rises = rises_with id 0 rows row h.rises l f; low = below_with id 4294967296 rows row h.low u }

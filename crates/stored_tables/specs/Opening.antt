@@ -14,7 +14,7 @@ use Rattle.stored_tables.specs.declared.tables.Tables.{Tables}
 use Rattle.stored_tables.specs.declared.opening.Breach.{Breach}
 use Rattle.stored_tables.specs.declared.opening.OpenFault.{OpenFault}
 use Rattle.stored_tables.specs.declared.opening.OpenFault.TheVariants.{Keeper, BadTables, Memory, BadRow, Version, BadNext, Limit}
-use Rattle.ipam_data.specs.Shelf.{Shelf, last_next}
+use Rattle.ipam_data.specs.RowList.{RowList, last_next}
 use Rattle.ipam_data.specs.Checks.{first}
 use Rattle.ipam_data.specs.State.{State}
 use Rattle.ipam_data.specs.ByKind.{by_kind, by_view}
@@ -47,19 +47,19 @@ told_next [] kind = 0
 told_next (next ∷ nexts) kind = if kind_number next.0 == kind_number kind then next.1 else told_next nexts kind
 
 -- a kind without rows, with its told next id
-abbrev pub bare_shelf : {T : Type 0} → List (Kind × ℕ) → Kind → Shelf T
-bare_shelf nexts kind = record { rows = []; next = told_next nexts kind }
+abbrev pub bare_row_list : {T : Type 0} → List (Kind × ℕ) → Kind → RowList T
+bare_row_list nexts kind = record { rows = []; next = told_next nexts kind }
 
 -- the state without rows, with these next ids, before anything was spent
 abbrev pub bare_state : List (Kind × ℕ) → Bool → State
 bare_state nexts global_unique = record {
-  vrfs = bare_shelf nexts Vrfs;
-  rirs = bare_shelf nexts Rirs;
-  roles = bare_shelf nexts Roles;
-  aggregates = bare_shelf nexts Aggregates;
-  prefixes = bare_shelf nexts Prefixes;
-  ranges = bare_shelf nexts Ranges;
-  addresses = bare_shelf nexts Addresses;
+  vrfs = bare_row_list nexts Vrfs;
+  rirs = bare_row_list nexts Rirs;
+  roles = bare_row_list nexts Roles;
+  aggregates = bare_row_list nexts Aggregates;
+  prefixes = bare_row_list nexts Prefixes;
+  ranges = bare_row_list nexts Ranges;
+  addresses = bare_row_list nexts Addresses;
   global_unique = global_unique;
   spent = 0;
 }

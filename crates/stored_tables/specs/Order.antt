@@ -1,7 +1,7 @@
 -- What any stored tables keep, and the tables without rows.
 use Rattle.std.specs.Prelude.{[]}
 use Rattle.stored_tables.specs.declared.tables.Tables.{Tables}
-use Rattle.ipam_data.specs.Shelf.{Rises}
+use Rattle.ipam_data.specs.RowList.{Rises}
 use Rattle.stored_tables.specs.Stored.{kinds, next_ids, row_place, next_place}
 
 -- rows stand in the order of kind and id and next ids in the order of kind, none twice

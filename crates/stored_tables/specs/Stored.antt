@@ -26,7 +26,7 @@ use Rattle.stored_tables.specs.declared.tables.Change.{Change}
 use Rattle.ipam_data.specs.declared.update.Update.{Update}
 use Rattle.ipam_data.specs.declared.replies.View.{View}
 use Rattle.ipam_data.specs.declared.replies.View.TheVariants.{Vrf as VrfView, Rir as RirView, Role as RoleView, Aggregate as AggregateView, Prefix as PrefixView, IpRange as RangeView, IpAddress as AddressView}
-use Rattle.ipam_data.specs.Shelf.{without, placed}
+use Rattle.ipam_data.specs.RowList.{without, placed}
 use Rattle.ipam_data.specs.State.{State}
 use Rattle.ipam_data.specs.ByKind.{by_kind}
 use Rattle.ipam_data.specs.Updates.{updated, CanUpdate}
@@ -158,11 +158,11 @@ kinds = Vrfs ∷ Rirs ∷ Roles ∷ Aggregates ∷ Prefixes ∷ Ranges ∷ Addre
 
 -- the stored rows of a kind
 abbrev pub stored_rows : State → Kind → List Row
-stored_rows s kind = by_kind kind (λ T rules. map (λ row. stored_row (rules.view row)) (rules.shelf s).rows)
+stored_rows s kind = by_kind kind (λ T rules. map (λ row. stored_row (rules.view row)) (rules.row_list s).rows)
 
 -- the next id of a kind
 abbrev pub next_of : State → Kind → ℕ
-next_of s kind = by_kind kind (λ T rules. (rules.shelf s).next)
+next_of s kind = by_kind kind (λ T rules. (rules.row_list s).next)
 
 -- each kind with its next id
 abbrev pub next_ids : (Kind → ℕ) → List Kind → List (Kind × ℕ)

@@ -48,7 +48,7 @@ pub(crate) fn write_address(alloc: Global, row: &IpAddress) -> Result<Row, Alloc
     })
 }
 
-/// An address of an id and its texts. `Err` is want of memory.
+/// An address of an id and its texts. `Err` means out of memory.
 pub(crate) fn read_address(
     alloc: Global,
     id: u32,

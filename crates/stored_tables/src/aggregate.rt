@@ -33,7 +33,7 @@ pub(crate) fn write_aggregate(alloc: Global, row: &Aggregate) -> Result<Row, All
     })
 }
 
-/// An aggregate of an id and its texts. `Err` is want of memory.
+/// An aggregate of an id and its texts. `Err` means out of memory.
 pub(crate) fn read_aggregate(
     alloc: Global,
     id: u32,

@@ -197,7 +197,7 @@ pub(crate) fn read_address_role(text: &Text) -> Option<Option<AddressRole>>
 
 // ---- blocks and addresses
 
-/// The block of a text. `Err` is want of memory.
+/// The block of a text. `Err` means out of memory.
 pub(crate) fn read_block_text(alloc: Global, text: &Text) -> Result<Option<Block>, AllocError>
     ensures { IfOk result (λ b. IsRead IsBlock block_text_of text.now b) }
 {
@@ -214,7 +214,7 @@ pub(crate) fn read_block_text(alloc: Global, text: &Text) -> Result<Option<Block
     }
 }
 
-/// This address with its mask, where the text is the one that is written of it. `Err` is want of memory.
+/// This address with its mask, where the text is the one that is written of it. `Err` means out of memory.
 fn host_if_written(
     alloc: Global,
     addr: Addr,
@@ -236,7 +236,7 @@ fn host_if_written(
     }
 }
 
-/// The address and the mask of a text. `Err` is want of memory.
+/// The address and the mask of a text. `Err` means out of memory.
 pub(crate) fn read_host_text(alloc: Global, text: &Text) -> Result<Option<Host>, AllocError>
     ensures { IfOk result (λ h. IsRead IsMasked masked_text text.now h) }
 {
@@ -256,7 +256,7 @@ fn ends_of(start: Host, end: Host) -> Option<Ends>
     Ends::of(start.addr(), end.addr(), start.len())
 }
 
-/// The ends of a range, of their two texts. `Err` is want of memory.
+/// The ends of a range, of their two texts. `Err` means out of memory.
 pub(crate) fn read_ends(alloc: Global, start: &Text, end: &Text) -> Result<Option<Ends>, AllocError>
     ensures { IfOk result (λ e. IsRead AreEnds ends_texts (start.now ∷ end.now ∷ []) e) }
 {
@@ -273,14 +273,14 @@ pub(crate) fn read_ends(alloc: Global, start: &Text, end: &Text) -> Result<Optio
 
 // ---- texts
 
-/// The text within bounds that a text is. `Err` is want of memory.
+/// The text within bounds that a text is. `Err` means out of memory.
 pub(crate) fn read_text<B: Tested>(text: &Text) -> Result<Option<Bounded<B>>, AllocError>
     ensures { IfOk result (λ n. IsRead B.admits (λ bytes. bytes) text.now n) }
 {
     Ok(Bounded::<B>::of(text.copy()?.into_string()))
 }
 
-/// The route distinguisher of a text that may be empty. `Err` is want of memory.
+/// The route distinguisher of a text that may be empty. `Err` means out of memory.
 pub(crate) fn read_distinguisher(text: &Text) -> Result<Option<Option<Distinguisher>>, AllocError>
     ensures { IfOk result (λ n. IsRead (IsAbsentOr IsDistinguisher) optional_text text.now n) }
 {
@@ -293,7 +293,7 @@ pub(crate) fn read_distinguisher(text: &Text) -> Result<Option<Option<Distinguis
     }
 }
 
-/// The name of a host, of a text that is in lower case already. `Err` is want of memory.
+/// The name of a host, of a text that is in lower case already. `Err` means out of memory.
 pub(crate) fn read_dns_name(text: &Text) -> Result<Option<DnsName>, AllocError>
     ensures { IfOk result (λ n. IsRead IsLowered (λ bytes. bytes) text.now n) }
 {

@@ -18,7 +18,7 @@ pub enum OpenFault {
     Keeper,
     /// The row of this kind and id breaks a rule beside the rows before it.
     BadTables(Kind, u32, Rule),
-    /// Want of memory.
+    /// Out of memory.
     Memory,
     /// The row of this kind and id can't be read.
     BadRow(Kind, u32),

@@ -45,7 +45,7 @@ pub(crate) fn write_prefix(alloc: Global, row: &Prefix) -> Result<Row, AllocErro
     })
 }
 
-/// A prefix of an id and its texts. `Err` is want of memory.
+/// A prefix of an id and its texts. `Err` means out of memory.
 pub(crate) fn read_prefix(
     alloc: Global,
     id: u32,

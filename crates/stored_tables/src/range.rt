@@ -45,7 +45,7 @@ pub(crate) fn write_range(alloc: Global, row: &IpRange) -> Result<Row, AllocErro
     })
 }
 
-/// A range of an id and its texts. `Err` is want of memory.
+/// A range of an id and its texts. `Err` means out of memory.
 pub(crate) fn read_range(
     alloc: Global,
     id: u32,

@@ -17,7 +17,7 @@ use ipam_data::replies::View;
 use std::alloc::{AllocError, Global};
 
 /// The row, with figures of 0, of a stored row; `None` exactly where its id is 0, or its texts are those of no row of its kind.
-/// `Err` is want of memory.
+/// `Err` means out of memory.
 pub fn read_row(alloc: Global, row: &Row) -> Result<Option<View>, AllocError>
     ensures { IfOk result (λ view. IsRead IsBare stored_row row.now view) }
 {

@@ -43,7 +43,7 @@ impl Text {
         self.string
     }
 
-    /// The same text again. `Err` is want of memory.
+    /// The same text again. `Err` means out of memory.
     pub fn copy(&self) -> Result<Text, AllocError>
         ensures { IfOk result (λ t. t ≡ self.now) }
     {
@@ -82,7 +82,7 @@ impl Texts {
         self.items.as_slice()
     }
 
-    /// The same texts again. `Err` is want of memory.
+    /// The same texts again. `Err` means out of memory.
     pub fn copy(&self) -> Result<Texts, AllocError>
         ensures { IfOk result (λ t. t ≡ self.now) }
     {
@@ -103,7 +103,7 @@ pub struct Row {
 }
 
 impl Row {
-    /// The same row again. `Err` is want of memory.
+    /// The same row again. `Err` means out of memory.
     pub fn copy(&self) -> Result<Row, AllocError>
         ensures { IfOk result (λ r. r ≡ self.now) }
     {
@@ -152,7 +152,7 @@ impl Rows {
         self.items
     }
 
-    /// The same rows again. `Err` is want of memory.
+    /// The same rows again. `Err` means out of memory.
     pub fn copy(&self) -> Result<Rows, AllocError>
         ensures { IfOk result (λ r. r ≡ self.now) }
     {
@@ -174,7 +174,7 @@ pub struct Tables {
 }
 
 impl Tables {
-    /// The same tables again. `Err` is want of memory.
+    /// The same tables again. `Err` means out of memory.
     pub fn copy(&self, alloc: Global) -> Result<Tables, AllocError>
         ensures { IfOk result (λ t. t ≡ self.now) }
     {

@@ -183,7 +183,7 @@ pub fn columns_of(kind: Kind) -> &'static [&'static str] {
     }
 }
 
-/// The stored row of a row as it is answered, whose figures are not stored. `Err` is want of memory.
+/// The stored row of a row as it is answered, whose figures are not stored. `Err` means out of memory.
 pub fn write_row(alloc: Global, view: &View) -> Result<Row, AllocError>
     ensures { IfOk result (λ r. r ≡ stored_row view.now) }
 {
@@ -213,7 +213,7 @@ fn write_rows(alloc: Global, views: &[View]) -> Result<Rows, AllocError>
     Ok(Rows::of(rows))
 }
 
-/// The change of stored tables that an update makes. `Err` is want of memory.
+/// The change of stored tables that an update makes. `Err` means out of memory.
 pub fn write_change(alloc: Global, update: &Update) -> Result<Change, AllocError>
     ensures { IfOk result (λ c. c ≡ change_of update.now) }
 {

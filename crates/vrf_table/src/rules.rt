@@ -2,7 +2,7 @@
 
 ghost use Rattle.std.specs.Prelude.{◌≡◌, find, ◌&&◌, ◌==◌, not, option_copied, option_map, bytes_eq};
 ghost use Rattle.std.specs.List.{list_any};
-ghost use Rattle.ipam_data.specs.Shelf.{least};
+ghost use Rattle.ipam_data.specs.RowList.{least};
 ghost use Rattle.ipam_data.specs.Vrfs.{vrf_id, vrf_fault, same_rd, is_rd_rival, is_enforcing, is_enforcing_vrf, has_name, has_name_too, ids_named};
 
 use ipam_data::kinds::Table;

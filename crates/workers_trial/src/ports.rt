@@ -50,10 +50,10 @@ fn port_of<R: Net<Listener = TcpListener, Stream = TcpStream> + Clock + Sync>(
     alloc: Global,
     connections: u32,
 ) -> Option<(u16, TcpDoor<'_, R>)> {
-    let mut doors = TcpDoors::new(rt, alloc, Duration::from_millis(BASE));
-    doors.bind(b"127.0.0.1:0", connections).ok()?;
-    let port = doors.port()?;
-    let lane = doors.lane().ok()?;
+    let mut listener = TcpDoors::new(rt, alloc, Duration::from_millis(BASE));
+    listener.bind(b"127.0.0.1:0", connections).ok()?;
+    let port = listener.port()?;
+    let lane = listener.lane().ok()?;
     Some((port, lane))
 }
 
@@ -144,7 +144,7 @@ fn serve_slow<R: Threads + Wait + Sync, A: Lane + Send + Drop>(
 
 /// What came of two slow clients and the next one.
 #[derive(Drop)]
-struct Came {
+struct LoadOutcome {
     bytes: u32,
     answer: String,
 }
@@ -153,7 +153,7 @@ struct Came {
 fn slow_clients<R: Threads + Wait + Net<Listener = TcpListener, Stream = TcpStream> + Clock + Sync>(
     rt: &R,
     alloc: Global,
-) -> Option<Came> {
+) -> Option<LoadOutcome> {
     let (port, lane) = port_of(rt, alloc, 3)?;
     let silent = client_of(rt, port, &ASKED[..20])?;
     let slow = client_of(rt, port, b"x")?;
@@ -161,7 +161,7 @@ fn slow_clients<R: Threads + Wait + Net<Listener = TcpListener, Stream = TcpStre
     let bytes = serve_slow(rt, alloc, lane, &slow)?;
     drop(silent);
     let answer = answer_to(alloc, next)?;
-    Some(Came { bytes, answer })
+    Some(LoadOutcome { bytes, answer })
 }
 
 #[test]

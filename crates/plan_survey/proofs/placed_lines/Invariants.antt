@@ -4,4 +4,4 @@ use Rattle.plan_survey.specs.Digits.{placed_row}
 use Rattle.plan_survey.proofs.placed_lines.Given as goal
 
 abbrev pub invariant-prefixes : goal.invariant-prefixes
-invariant-prefixes l = l.placed.items ≡ map (placed_row (state_of l.shelves)) (take l.index l.shelves.prefixes.rows)
+invariant-prefixes l = l.placed.items ≡ map (placed_row (state_of l.row_tables)) (take l.index l.row_tables.prefixes.rows)

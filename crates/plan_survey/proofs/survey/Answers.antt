@@ -8,4 +8,4 @@ use Rattle.plan_survey.proofs.survey.Goals as goal
 pub returns : goal.returns
 returns c =
     let same = subst (λ (ps : List Placed). IsPermutation ps c.sort.new.placed.items) c.in_ok-placed.ensures c.sort.ensures.same in
-    c.in_ok-lines.ensures ∙ ap (λ (ps : List Placed). map (λ (p : Placed). p.line) ps) c.as_slice.ensures.value ∙ survey_is (state_of c.args.shelves.now) c.sort.new.placed.items c.requires same c.sort.ensures.sorted
+    c.in_ok-lines.ensures ∙ ap (λ (ps : List Placed). map (λ (p : Placed). p.line) ps) c.as_slice.ensures.value ∙ survey_is (state_of c.args.row_tables.now) c.sort.new.placed.items c.requires same c.sort.ensures.sorted

@@ -1,6 +1,6 @@
 use Rattle.std.proofs.Common.{◌≡◌, ◌∙◌, sym, ap, arith, Option, Some, None, option_map}
 use Rattle.ipam_data.specs.declared.aggregate.Aggregate.{Aggregate}
-use Rattle.ipam_data.specs.Shelf.{is_rival}
+use Rattle.ipam_data.specs.RowList.{is_rival}
 use Rattle.ipam_data.specs.Rows.{aggregate_id}
 use Rattle.ipam_data.specs.Aggregates.{overlaps}
 use Rattle.placed_book.proofs.Searches.{some_within, take_no, take_yes}

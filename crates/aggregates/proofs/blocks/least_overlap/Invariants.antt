@@ -1,5 +1,5 @@
 use Rattle.std.proofs.Common.{◌≡◌, None, find, take}
-use Rattle.ipam_data.specs.Shelf.{is_rival}
+use Rattle.ipam_data.specs.RowList.{is_rival}
 use Rattle.ipam_data.specs.Rows.{aggregate_id}
 use Rattle.ipam_data.specs.Aggregates.{overlaps}
 use Rattle.aggregates.proofs.blocks.least_overlap.Given as goal

@@ -1,6 +1,6 @@
 use Rattle.std.proofs.Common.{◌+◌, ◌∙◌, sym, subst, List}
 use Rattle.ipam_data.specs.declared.prefix.Prefix.{Prefix}
-use Rattle.ipam_data.specs.Shelf.{AllBelow}
+use Rattle.ipam_data.specs.RowList.{AllBelow}
 use Rattle.ipam_data.specs.Prefixes.{prefix_id}
 use Rattle.placed_book.proofs.Places.{below_with}
 use Rattle.book_trial.proofs.prefix_rules_tests.add.Goals as goal

@@ -6,7 +6,7 @@ use Rattle.command_files.proofs.export.run_export.Goals as goal
 
 pub returns-in-Ok-text : goal.returns-in-Ok-text
 returns-in-Ok-text g c = λ input.
-    of_printed _ _ _ _ _ c.as_slice.result.now (state_of c.in-Ok.shelves, c.in-Ok.ensures.state, c.as_slice.ensures.value ∙ c.in-Ok-text.ensures) c.end_with.ensures.ends
+    of_printed _ _ _ _ _ c.as_slice.result.now (state_of c.in-Ok.row_tables, c.in-Ok.ensures.state, c.as_slice.ensures.value ∙ c.in-Ok-text.ensures) c.end_with.ensures.ends
     (record { input = refl; errors = refl; stored = back_after _ _ _ _ _ _ _ c.in-Ok.ensures.lent c.in-Ok.ensures.stays (search rules) c.in-Ok.ensures.told c.done.ensures.returned })
     (record {
       streams = record { input = omega arith; output = c.end_with.ensures.later; errors = omega arith };

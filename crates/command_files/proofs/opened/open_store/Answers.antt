@@ -1,5 +1,5 @@
 use Rattle.command_session.proofs.Refused.{back_after}
 use Rattle.command_files.proofs.opened.open_store.Goals as goal
 
-pub returns-in-Err-open_shelves-clause-same : goal.returns-in-Err-open_shelves-clause-same
-returns-in-Err-open_shelves-clause-same g c = back_after _ _ _ _ _ _ _ c.in-Ok.ensures.ok c.start_keeper.ensures.stays c.in-Err-open_shelves.ensures.err_told c.in-Ok.ensures.told c.done.ensures.returned
+pub returns-in-Err-open_row_tables-clause-same : goal.returns-in-Err-open_row_tables-clause-same
+returns-in-Err-open_row_tables-clause-same g c = back_after _ _ _ _ _ _ _ c.in-Ok.ensures.ok c.start_keeper.ensures.stays c.in-Err-open_row_tables.ensures.err_told c.in-Ok.ensures.told c.done.ensures.returned

@@ -8,7 +8,7 @@ use Rattle.command_files.proofs.report.run_report.Goals as goal
 pub returns-in-Ok-text : goal.returns-in-Ok-text
 returns-in-Ok-text g c = λ input.
     of_printing _ _ _ _ _ (of_printed _ _ _ _ _ c.as_slice.result.now
-    (state_of c.in-Ok.shelves, c.in-Ok.ensures.state, c.in-Ok-text.ensures.ok ∙ ap Some (sym c.as_slice.ensures.value)) c.end_with.ensures.ends
+    (state_of c.in-Ok.row_tables, c.in-Ok.ensures.state, c.in-Ok-text.ensures.ok ∙ ap Some (sym c.as_slice.ensures.value)) c.end_with.ensures.ends
     (record { input = refl; errors = refl; stored = back_after _ _ _ _ _ _ _ c.in-Ok.ensures.lent c.in-Ok.ensures.stays (search rules) c.in-Ok.ensures.told c.done.ensures.returned })
     (record {
       streams = record { input = omega arith; output = c.end_with.ensures.later; errors = omega arith };
@@ -17,7 +17,7 @@ returns-in-Ok-text g c = λ input.
 
 pub returns-in-Err-text : goal.returns-in-Err-text
 returns-in-Err-text g c = λ input.
-    of_stop _ _ _ _ _ c.in-Err-text.stop (state_of c.in-Ok.shelves) c.in-Ok.ensures.state c.in-Err-text.ensures.stop c.say_stop.ensures.said
+    of_stop _ _ _ _ _ c.in-Err-text.stop (state_of c.in-Ok.row_tables) c.in-Ok.ensures.state c.in-Err-text.ensures.stop c.say_stop.ensures.said
     (record { input = refl; output = refl; stored = back_after _ _ _ _ _ _ _ c.in-Ok.ensures.lent c.in-Ok.ensures.stays (search rules) c.in-Ok.ensures.told c.done.ensures.returned })
     (record {
       streams = record { input = omega arith; output = omega arith; errors = c.say_stop.ensures.later };

@@ -38,4 +38,4 @@ returns-clause-came g c =
     let shares = shares_kept _ c.each_claims.new.claimers c.each_claims.ensures.all c.each_claims.ensures.claimed ∙ (ap (sum_by (λ w. w.share)) c.as_mut_slice.ensures.value ∙ c.hire-seat.ensures.shares) in
     let sum = over (λ l. sum_by (λ w. w.share) l ≡ c.args.count) c.each_claims.new.claimers _ _ (search rules) shares in
     all_claimed c.args.count c.args.workers _ _ c.args.seat c.hire-seat.result c.dismiss-seat.result.0 c.ask_figure-seat.result.0 c.dismiss-seat.result.1 c.dismiss-seat.result.2 c.ask_figure-seat.result.1 _
-    c.came_of.ensures c.ask_figure-seat.ensures.asked c.ask_figure-seat.ensures.same d.dismissed many d.whole sum (f.0, f.2, f.3) (d.seat.2, d.seat.3) d.own d.seen
+    c.load_outcome_of.ensures c.ask_figure-seat.ensures.asked c.ask_figure-seat.ensures.same d.dismissed many d.whole sum (f.0, f.2, f.3) (d.seat.2, d.seat.3) d.own d.seen

@@ -10,7 +10,7 @@ pub returns-clause-told : goal.returns-clause-told
 returns-clause-told g c =
     let w = g.S.Sink.written c.args.sink.now in
     let reply = c.args.reply.now in
-    let h0 : IsGathered w w c.new-pen.result.end c.new-pen.result.gathered.items [] = rw c.new-pen.ensures.0 ([], Appends-nil w, sym c.new-pen.ensures.1) in
+    let h0 : IsGathered w w c.new-answer_writer.result.end c.new-answer_writer.result.gathered.items [] = rw c.new-answer_writer.ensures.0 ([], Appends-nil w, sym c.new-answer_writer.ensures.1) in
     let h1 = c.put.ensures.told w [] h0 in
     let h2 = c.put-2.ensures.told w _ h1 in
     let h3 = c.put_line.ensures.told w _ h2 in

@@ -1,5 +1,5 @@
 use Rattle.std.proofs.Common.{◌≡◌, drop}
-use Rattle.ipam_data.specs.Shelf.{least_pair}
+use Rattle.ipam_data.specs.RowList.{least_pair}
 use Rattle.ipam_data.specs.Rows.{address_id}
 use Rattle.ipam_data.specs.Addresses.{clash_in}
 use Rattle.ip_addresses.proofs.AddressBookAddressRules.clash_of.Given as goal

@@ -1,6 +1,6 @@
 use Rattle.std.proofs.Common.{◌≡◌, ◌∙◌, sym, ap, arith, Option, Some, None, option_map}
 use Rattle.ipam_data.specs.declared.address.IpAddress.{IpAddress}
-use Rattle.ipam_data.specs.Shelf.{is_rival}
+use Rattle.ipam_data.specs.RowList.{is_rival}
 use Rattle.ipam_data.specs.Rows.{address_id}
 use Rattle.ipam_data.specs.Addresses.{clashes}
 use Rattle.placed_book.proofs.Searches.{some_within, from_no, from_yes}

@@ -1,5 +1,5 @@
 use Rattle.std.proofs.Common.{◌≡◌, ◌-◌, None, find, take, drop}
-use Rattle.ipam_data.specs.Shelf.{is_rival}
+use Rattle.ipam_data.specs.RowList.{is_rival}
 use Rattle.ipam_data.specs.Rows.{address_id}
 use Rattle.ipam_data.specs.Addresses.{clashes}
 use Rattle.ip_addresses.proofs.clashes.clash_from.Given as goal

@@ -1,7 +1,7 @@
 use Rattle.std.proofs.Common.{◌≡◌, ap, sym, subst, ◌∙◌, option_copied, Some}
 use Rattle.ipam_data.specs.declared.range.IpRange.{IpRange}
 use Rattle.ipam_data.specs.Rows.{range_id}
-use Rattle.ipam_data.specs.Shelf.{row_at}
+use Rattle.ipam_data.specs.RowList.{row_at}
 use Rattle.placed_book.specs.RowBook.{Book}
 use Rattle.ip_ranges.proofs.Rows.{found_there}
 use Rattle.ip_ranges.proofs.RangeBook.pieces.Goals as goal

@@ -2,7 +2,7 @@ use Rattle.std.proofs.Common.{◌≡◌, None, sym, subst}
 use Rattle.ipam_data.specs.declared.range.IpRange.{IpRange}
 use Rattle.ipam_data.specs.Rows.{range_id}
 use Rattle.ipam_data.specs.Ranges.{crosses}
-use Rattle.ipam_data.specs.Shelf.{least_rival}
+use Rattle.ipam_data.specs.RowList.{least_rival}
 use Rattle.placed_book.specs.RowBook.{Book}
 use Rattle.ip_ranges.proofs.Spanned.{no_rival}
 use Rattle.ip_ranges.proofs.RangeBook.rival.Goals as goal

@@ -1,7 +1,7 @@
 use Rattle.std.proofs.Common.{ℕ, List, ap, sym, subst, ◌∙◌}
 use Rattle.ipam_data.specs.declared.range.IpRange.{IpRange}
 use Rattle.ipam_data.specs.Rows.{range_id}
-use Rattle.ipam_data.specs.Shelf.{Rises}
+use Rattle.ipam_data.specs.RowList.{Rises}
 use Rattle.placed_book.specs.RowBook.{Book}
 use Rattle.ip_ranges.specs.declared.Which.{Which}
 use Rattle.ip_ranges.specs.declared.Which.TheVariants.{All, Marked}

@@ -1,6 +1,6 @@
 use Rattle.std.proofs.Common.{◌+◌, sym, subst, List}
 use Rattle.ipam_data.specs.declared.range.IpRange.{IpRange}
-use Rattle.ipam_data.specs.Shelf.{AllBelow}
+use Rattle.ipam_data.specs.RowList.{AllBelow}
 use Rattle.ipam_data.specs.Rows.{range_id}
 use Rattle.ip_ranges.proofs.Rows.{below_with}
 use Rattle.ip_ranges.proofs.tests.add.Goals as goal

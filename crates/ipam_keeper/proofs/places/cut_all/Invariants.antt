@@ -1,5 +1,5 @@
 use Rattle.std.proofs.Common.{◌≡◌, fold, take}
-use Rattle.ipam_data.specs.Shelf.{Rises}
+use Rattle.ipam_data.specs.RowList.{Rises}
 use Rattle.stored_tables.specs.Stored.{row_place, without_stored}
 use Rattle.ipam_keeper.proofs.places.cut_all.Given as goal
 

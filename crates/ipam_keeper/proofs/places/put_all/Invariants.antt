@@ -1,6 +1,6 @@
 use Rattle.std.proofs.Common.{◌≡◌, ◌+◌, ◌≤◌, fold, vec_len, vec_capacity}
 use Rattle.std.specs.Vec.Iter.{into_iter_items, into_iter_len}
-use Rattle.ipam_data.specs.Shelf.{Rises, placed}
+use Rattle.ipam_data.specs.RowList.{Rises, placed}
 use Rattle.ipam_keeper.proofs.places.put_all.Given as goal
 
 abbrev pub invariant-loop-item : goal.invariant-loop-item

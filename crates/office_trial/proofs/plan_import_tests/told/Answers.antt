@@ -4,4 +4,4 @@ use Rattle.stored_tables.proofs.OpenLaws.{empty_lawful}
 use Rattle.office_trial.proofs.plan_import_tests.told.Goals as goal
 
 pub make_rows-made-requires-clause-lawful : goal.make_rows-made-requires-clause-lawful
-make_rows-made-requires-clause-lawful c = subst IsLawful (sym c.new-shelves.ensures) (empty_lawful true)
+make_rows-made-requires-clause-lawful c = subst IsLawful (sym c.new-row_tables.ensures) (empty_lawful true)

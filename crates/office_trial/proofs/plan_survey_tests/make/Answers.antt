@@ -30,12 +30,12 @@ planned plan p u reply e h = subst (λ (q : Planned). IsPlanned plan q) e h
 
 pub commit-requires-clause-can : goal.commit-requires-clause-can
 commit-requires-clause-can c =
-    let s = state_of c.args.shelves.now in
+    let s = state_of c.args.row_tables.now in
     let is = planned (create_plan s c.args.draft.now) _ c.in-Change.update c.in-Change.reply c.in-Change.is c.in_ok-planned.ensures in
     can s c.args.draft.now c.in-Change.update c.in-Change.reply is c.requires c.bounds.ensures
 
 pub commit-requires-clause-lawful : goal.commit-requires-clause-lawful
 commit-requires-clause-lawful c =
-    let s = state_of c.args.shelves.now in
+    let s = state_of c.args.row_tables.now in
     let is = planned (create_plan s c.args.draft.now) _ c.in-Change.update c.in-Change.reply c.in-Change.is c.in_ok-planned.ensures in
     lawful s c.args.draft.now c.in-Change.update c.in-Change.reply is c.requires c.bounds.ensures

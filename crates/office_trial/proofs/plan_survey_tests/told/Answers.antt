@@ -4,4 +4,4 @@ use Rattle.stored_tables.proofs.OpenLaws.{empty_lawful}
 use Rattle.office_trial.proofs.plan_survey_tests.told.Goals as goal
 
 pub told_in-told-requires : goal.told_in-told-requires
-told_in-told-requires c = subst IsLawful (sym c.new-shelves.ensures) (empty_lawful true)
+told_in-told-requires c = subst IsLawful (sym c.new-row_tables.ensures) (empty_lawful true)

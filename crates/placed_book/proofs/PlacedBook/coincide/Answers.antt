@@ -1,6 +1,6 @@
 use Rattle.std.proofs.Common.{◌≡◌, ◌+◌, ◌∙◌, true, false, None, Some, sym, ap, subst, arith, drop, length, List}
 use Rattle.ipam_data.specs.declared.kinds.Table.{Table}
-use Rattle.ipam_data.specs.Shelf.{least_pair}
+use Rattle.ipam_data.specs.RowList.{least_pair}
 use Rattle.ipam_data.specs.Tables.{table_of, same_table}
 use Rattle.placed_book.specs.Book.{TabledRows}
 use Rattle.placed_book.specs.Rivals.{coincide_in}

@@ -1,5 +1,5 @@
 use Rattle.std.proofs.Common.{◌≡◌, drop}
-use Rattle.ipam_data.specs.Shelf.{least_pair}
+use Rattle.ipam_data.specs.RowList.{least_pair}
 use Rattle.placed_book.specs.Rivals.{coincide_in}
 use Rattle.placed_book.proofs.PlacedBook.coincide.Given as goal
 

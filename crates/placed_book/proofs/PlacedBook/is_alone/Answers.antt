@@ -1,6 +1,6 @@
 use Rattle.std.proofs.Common.{◌≡◌, None, IsSome, arith, ap, ◌∙◌, sym, subst}
 use mir.Val.{bool_byte}
-use Rattle.ipam_data.specs.Shelf.{least}
+use Rattle.ipam_data.specs.RowList.{least}
 use Rattle.ipam_data.specs.Tables.{table_of}
 use Rattle.placed_book.specs.Book.{TabledRows, IsInOrder}
 use Rattle.placed_book.specs.Rivals.{is_rival}

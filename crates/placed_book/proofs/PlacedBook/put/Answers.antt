@@ -2,7 +2,7 @@ use Rattle.std.proofs.Common.{◌≡◌, true, false, List, ◌≤◌, ◌+◌, 
 use Rattle.std.specs.HashMap.{spare}
 use Rattle.inet_num.specs.Net.{Cidr}
 use Rattle.ipam_data.specs.declared.kinds.Table.{Table}
-use Rattle.ipam_data.specs.Shelf.{without}
+use Rattle.ipam_data.specs.RowList.{without}
 use Rattle.ipam_data.specs.Tables.{table_of}
 use Rattle.placed_book.specs.Book.{Placed, TabledRows, spare_of, IsInOrder, AreInOrder, AreAll}
 use Rattle.placed_book.specs.RowBook.{IsFitting}

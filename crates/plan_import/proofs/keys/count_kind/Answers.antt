@@ -7,7 +7,7 @@ use Rattle.plan_import.proofs.keys.count_kind.Goals as goal
 pub count-requires : goal.count-requires
 count-requires g c = λ n e.
     let rules = g.T.Registered.rules in
-    let rows = (rules.shelf (state_of c.args.shelves.now)).rows in
+    let rows = (rules.row_list (state_of c.args.row_tables.now)).rows in
     let counted : List (List ℕ) = map (key_of_row rules) (take c.records.index rows) in
     let small : n ≤ length counted = left_small c.records.left c.requires.0 counted c.deref.result.now n (c.records.invariant c.requires.0 c.requires.1) e in
     let few : length counted ≤ length rows = few_taken (key_of_row rules) c.records.index rows in
@@ -17,7 +17,7 @@ count-requires g c = λ n e.
 pub records-preserved : goal.records-preserved
 records-preserved g c = λ keys left.
     let rules = g.T.Registered.rules in
-    let rows = (rules.shelf (state_of c.args.shelves.now)).rows in
+    let rows = (rules.row_list (state_of c.args.row_tables.now)).rows in
     let counted : List (List ℕ) = map (key_of_row rules) (take c.records.index rows) in
     count_next rules c.count.new.self keys rows c.records.index c.record_at-row.result.now c.deref.result.now
     (sym c.record_at-row.ensures) (c.deref.ensures ∙ c.in_ok-key.ensures)

@@ -5,4 +5,4 @@ use Rattle.plan_import.specs.Ready.{key_of_row}
 use Rattle.plan_import.proofs.keys.count_kind.Given as goal
 
 abbrev pub invariant-records : goal.invariant-records
-invariant-records g l = (keys : List (List ℕ)) → IsLeft l.fn.left keys [] [] → IsLeft l.left keys (map (key_of_row g.T.Registered.rules) (take l.index (g.T.Registered.rules.shelf (state_of l.shelves)).rows)) []
+invariant-records g l = (keys : List (List ℕ)) → IsLeft l.fn.left keys [] [] → IsLeft l.left keys (map (key_of_row g.T.Registered.rules) (take l.index (g.T.Registered.rules.row_list (state_of l.row_tables)).rows)) []

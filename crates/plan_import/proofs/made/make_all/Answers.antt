@@ -16,7 +16,7 @@ use Rattle.plan_import.proofs.made.make_all.Goals as goal
 
 pub loop-row-init : goal.loop-row-init
 loop-row-init c =
-    let old : State = state_of c.args.shelves.now in
+    let old : State = state_of c.args.row_tables.now in
     let lines : List ImportRow = c.args.lines.now in
     let are : c.deref.result.now ≡ ready_rows old lines = c.deref.ensures.value ∙ c.in_ok-rows.ensures in
     record {
@@ -29,7 +29,7 @@ loop-row-init c =
 
 pub take_row-requires-clause-told : goal.take_row-requires-clause-told
 take_row-requires-clause-told c = λ f.
-    let old : State = state_of c.args.shelves.now in
+    let old : State = state_of c.args.row_tables.now in
     let lines : List ImportRow = c.args.lines.now in
     let i : ℕ = c.loop-row.row-index in
     let rows : List Ready = c.deref-row-items.result.now in
@@ -39,7 +39,7 @@ take_row-requires-clause-told c = λ f.
 
 pub loop-row-preserved : goal.loop-row-preserved
 loop-row-preserved c =
-    let old : State = state_of c.args.shelves.now in
+    let old : State = state_of c.args.row_tables.now in
     let lines : List ImportRow = c.args.lines.now in
     let i : ℕ = c.loop-row.row-index in
     let rows : List Ready = c.deref-row-items.result.now in
@@ -50,8 +50,8 @@ loop-row-preserved c =
     let number = c.loop-row.invariant.number in
     record {
       come =
-          next old c.args.kind lines rows i (state_of c.loop-row.shelves) c.loop-row.made.items c.loop-row.left h c.row-item.result are low c.row-item.is
-          (state_of c.take_row.new.shelves) c.take_row.new.made.items c.take_row.new.left
+          next old c.args.kind lines rows i (state_of c.loop-row.row_tables) c.loop-row.made.items c.loop-row.left h c.row-item.result are low c.row-item.is
+          (state_of c.take_row.new.row_tables) c.take_row.new.made.items c.take_row.new.left
           (c.in-Ok.ensures.step (keys_of (ready_rows old lines)) (record_keys old c.args.kind) h.spent h.is_left any)
           (c.in-Ok.ensures.left (keys_of (ready_rows old lines)) (record_keys old c.args.kind) h.spent h.is_left);
       lawful = c.in-Ok.ensures.lawful;
@@ -60,7 +60,7 @@ loop-row-preserved c =
 
 pub returns-in-Err-clause-halted : goal.returns-in-Err-clause-halted
 returns-in-Err-clause-halted c =
-    let old : State = state_of c.args.shelves.now in
+    let old : State = state_of c.args.row_tables.now in
     let lines : List ImportRow = c.args.lines.now in
     let i : ℕ = c.loop-row.row-index in
     let rows : List Ready = c.deref-row-items.result.now in
@@ -71,6 +71,6 @@ returns-in-Err-clause-halted c =
     let number : i + 1 ≡ c.loop-row.n + 1 = (let k = c.loop-row.invariant.number in omega arith) in
     subst (λ (halt : Halt). IsHaltBy (first (row_verdicts old c.args.kind (begun old) 1 lines)) halt)
     (ap (λ (n : ℕ). halt_at n c.in-Err.halt) number ∙ sym c.stopped_at.ensures)
-    (come_halt old c.args.kind lines i (state_of c.loop-row.shelves) c.loop-row.made.items c.loop-row.left h c.row-item.result (row_at old lines rows i c.row-item.result are low c.row-item.is)
-    c.in-Err.halt (state_of c.take_row.new.shelves) c.take_row.new.made.items
+    (come_halt old c.args.kind lines i (state_of c.loop-row.row_tables) c.loop-row.made.items c.loop-row.left h c.row-item.result (row_at old lines rows i c.row-item.result are low c.row-item.is)
+    c.in-Err.halt (state_of c.take_row.new.row_tables) c.take_row.new.made.items
     (c.in-Err.ensures.step (keys_of (ready_rows old lines)) (record_keys old c.args.kind) h.spent h.is_left any))

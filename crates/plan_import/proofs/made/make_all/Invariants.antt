@@ -6,7 +6,7 @@ use Rattle.plan_import.proofs.made.make_all.Given as goal
 
 abbrev pub invariant-loop-row : goal.invariant-loop-row
 invariant-loop-row l = record {
-  come : HasComeTo (state_of l.fn.shelves) l.fn.kind l.lines l.row-index (state_of l.shelves) l.made.items l.left;
-  lawful : IsLawful (state_of l.shelves);
+  come : HasComeTo (state_of l.fn.row_tables) l.fn.kind l.lines l.row-index (state_of l.row_tables) l.made.items l.left;
+  lawful : IsLawful (state_of l.row_tables);
   number : l.n ≡ l.row-index;
 }

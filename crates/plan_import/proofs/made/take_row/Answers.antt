@@ -17,14 +17,14 @@ none_left before key keys records spent there f found left any = ap not (sym (fo
 pub returns-in-Err-clause-step : goal.returns-in-Err-clause-step
 returns-in-Err-clause-step c = λ keys records spent left any.
     taken_halt (not (nat_lt (count_by (bytes_eq c.args.row.now.key) spent) (count_by (bytes_eq c.args.row.now.key) records))) c.args.row.now
-    (state_of c.args.shelves.now) (state_of c.make.new.shelves) c.args.made.now.items c.args.made.now.items c.in-Err.halt
+    (state_of c.args.row_tables.now) (state_of c.make.new.row_tables) c.args.made.now.items c.args.made.now.items c.in-Err.halt
     (none_left c.args.left.now c.args.row.now.key keys records spent c.stands.result c.if-stands.false c.stands.ensures.found left any)
     c.in_default.is c.in-Err.ensures.err
 
 pub returns-clause-step : goal.returns-clause-step
 returns-clause-step c = λ keys records spent left any.
     taken_made (not (nat_lt (count_by (bytes_eq c.args.row.now.key) spent) (count_by (bytes_eq c.args.row.now.key) records))) c.args.row.now
-    (state_of c.args.shelves.now) (state_of c.make.new.shelves) c.args.made.now.items c.keep.new.made.items
+    (state_of c.args.row_tables.now) (state_of c.make.new.row_tables) c.args.made.now.items c.keep.new.made.items
     (none_left c.args.left.now c.args.row.now.key keys records spent c.stands.result c.if-stands.false c.stands.ensures.found left any)
     c.in_default.is c.in-Ok.ensures.free c.in-Ok.ensures.state
     (c.in_ok-keep.ensures ∙ ap (λ (v : View). c.args.made.now.items ++ v ∷ []) c.in-Ok.ensures.made)

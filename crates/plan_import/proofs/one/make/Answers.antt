@@ -6,16 +6,16 @@ use Rattle.plan_import.proofs.one.make.Goals as goal
 
 pub overflow_add-id : goal.overflow_add-id
 overflow_add-id c =
-    let room : next_for (state_of c.args.shelves.now) c.args.draft.now + 1 ≤ 4294967295 = next_room (state_of c.args.shelves.now) c.args.draft.now (sym c.refused.ensures ∙ c.in-None.is) in
+    let room : next_for (state_of c.args.row_tables.now) c.args.draft.now + 1 ≤ 4294967295 = next_room (state_of c.args.row_tables.now) c.args.draft.now (sym c.refused.ensures ∙ c.in-None.is) in
     omega arith
 
 pub returns-clause-state : goal.returns-clause-state
 returns-clause-state c =
-    put_leads (state_of c.args.shelves.now) (state_of c.put_record.new.shelves) c.args.draft.now c.in_ok-view.view c.kind_of.result c.next_id-id.result
+    put_leads (state_of c.args.row_tables.now) (state_of c.put_record.new.row_tables) c.args.draft.now c.in_ok-view.view c.kind_of.result c.next_id-id.result
     c.in_ok-view.ensures c.kind_of.ensures c.next_id-id.ensures c.in_ok-put_record.ensures
 
 pub returns-clause-lawful : goal.returns-clause-lawful
 returns-clause-lawful c =
-    made_lawful (state_of c.args.shelves.now) (state_of c.put_record.new.shelves) c.args.draft.now c.requires.lawful c.bounds.ensures (sym c.refused.ensures ∙ c.in-None.is)
-    (put_leads (state_of c.args.shelves.now) (state_of c.put_record.new.shelves) c.args.draft.now c.in_ok-view.view c.kind_of.result c.next_id-id.result
+    made_lawful (state_of c.args.row_tables.now) (state_of c.put_record.new.row_tables) c.args.draft.now c.requires.lawful c.bounds.ensures (sym c.refused.ensures ∙ c.in-None.is)
+    (put_leads (state_of c.args.row_tables.now) (state_of c.put_record.new.row_tables) c.args.draft.now c.in_ok-view.view c.kind_of.result c.next_id-id.result
     c.in_ok-view.ensures c.kind_of.ensures c.next_id-id.ensures c.in_ok-put_record.ensures)

@@ -3,4 +3,4 @@ use Rattle.plan_import.proofs.Records.{checks_are}
 use Rattle.plan_import.proofs.one.refused.Goals as goal
 
 pub returns : goal.returns
-returns c = checks_are (state_of c.args.shelves.now) c.args.draft.now c.args.view.now c.check_view.result c.requires.told c.requires.made c.check_view.ensures
+returns c = checks_are (state_of c.args.row_tables.now) c.args.draft.now c.args.view.now c.check_view.result c.requires.told c.requires.made c.check_view.ensures

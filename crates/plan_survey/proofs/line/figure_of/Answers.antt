@@ -5,9 +5,9 @@ use Rattle.plan_survey.proofs.line.figure_of.Goals as goal
 
 pub figure_in-figure-requires : goal.figure_in-figure-requires
 figure_in-figure-requires c =
-    (prefix_figure (state_of c.args.shelves.now) c.args.row.now, figure_read (state_of c.args.shelves.now) c.args.row.now c.plan_utilization-planned.result c.requires.lawful.prefixes.shelf.ordered c.requires.there c.plan_utilization-planned.ensures)
+    (prefix_figure (state_of c.args.row_tables.now) c.args.row.now, figure_read (state_of c.args.row_tables.now) c.args.row.now c.plan_utilization-planned.result c.requires.lawful.prefixes.row_list.ordered c.requires.there c.plan_utilization-planned.ensures)
 
 pub returns : goal.returns
 returns c =
-    same_figure c.plan_utilization-planned.result c.figure_in-figure.result (prefix_figure (state_of c.args.shelves.now) c.args.row.now) c.figure_in-figure.ensures
-    (figure_read (state_of c.args.shelves.now) c.args.row.now c.plan_utilization-planned.result c.requires.lawful.prefixes.shelf.ordered c.requires.there c.plan_utilization-planned.ensures)
+    same_figure c.plan_utilization-planned.result c.figure_in-figure.result (prefix_figure (state_of c.args.row_tables.now) c.args.row.now) c.figure_in-figure.ensures
+    (figure_read (state_of c.args.row_tables.now) c.args.row.now c.plan_utilization-planned.result c.requires.lawful.prefixes.row_list.ordered c.requires.there c.plan_utilization-planned.ensures)

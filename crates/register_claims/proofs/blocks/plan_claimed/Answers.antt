@@ -16,7 +16,7 @@ use Rattle.register_claims.proofs.blocks.plan_claimed.Goals as goal
 
 pub returns-in-Some-clause-plan : goal.returns-in-Some-clause-plan
 returns-in-Some-clause-plan c =
-    let s = state_of c.args.shelves.now in
+    let s = state_of c.args.row_tables.now in
     let row = c.args.row.now in
     let items = c.args.items.now in
     claim_told prefix_rules s c.args.answered (flat_map (told_of_block s row) items) (length items)
@@ -24,7 +24,7 @@ returns-in-Some-clause-plan c =
 
 pub fits-requires-clause-lengths : goal.fits-requires-clause-lengths
 fits-requires-clause-lengths c =
-    let s = state_of c.args.shelves.now in
+    let s = state_of c.args.row_tables.now in
     let row = c.args.row.now in
     let items = c.args.items.now in
     let lens : c.as_slice.result.now ≡ lengths_of items = c.as_slice.ensures.value ∙ c.in_ok-wanted.ensures in
@@ -33,7 +33,7 @@ fits-requires-clause-lengths c =
 
 pub returns-in-Ok-clause-plan : goal.returns-in-Ok-clause-plan
 returns-in-Ok-clause-plan c =
-    let s = state_of c.args.shelves.now in
+    let s = state_of c.args.row_tables.now in
     let row = c.args.row.now in
     let items = c.args.items.now in
     let kids = child_blocks s.prefixes.rows row in
@@ -43,12 +43,12 @@ returns-in-Ok-clause-plan c =
     c.as_slice-in-Ok.ensures.value ∙ c.in-Ok.ensures.ok.0 ∙ ap (λ (ls : List ℕ). fits_of row.block kids ls) lens in
     let each : length c.as_slice-in-Ok.result.now ≡ length items =
     ap (λ (bs : List Cidr). length bs) c.as_slice-in-Ok.ensures.value ∙ c.in-Ok.ensures.ok.1 ∙ ap (λ (ls : List ℕ). length ls) lens ∙ length-map items (λ (item : BlockItem). item.len) in
-    blocks_planned s row c.args.answered items (state_of c.fits.new.shelves) (fits_of row.block kids (lengths_of items)) c.as_slice-in-Ok.result.now c.plan_rows.result
+    blocks_planned s row c.args.answered items (state_of c.fits.new.row_tables) (fits_of row.block kids (lengths_of items)) c.as_slice-in-Ok.result.now c.plan_rows.result
     c.fits.ensures.state found each asked c.plan_rows.ensures
 
 pub returns-clause-plan : goal.returns-clause-plan
 returns-clause-plan c =
-    let s = state_of c.args.shelves.now in
+    let s = state_of c.args.row_tables.now in
     let row = c.args.row.now in
     let items = c.args.items.now in
     let kids = child_blocks s.prefixes.rows row in

@@ -11,27 +11,27 @@ use Rattle.register_claims.proofs.blocks.plan_rows.Goals as goal
 
 pub returns-in-Some : goal.returns-in-Some
 returns-in-Some c =
-    let shelves = c.args.shelves.now in
+    let row_tables = c.args.row_tables.now in
     let items = c.args.items.now in
-    let count : c.len-count.result ≡ length shelves.prefixes.rows = (let a = c.len-count.ensures.len in let b = c.prefixes.ensures.book in cc) in
-    let place : c.no_place.result ≡ first (no_place prefix_rules (state_of shelves) (length items)) = (rw (count, c.next-next.ensures, c.spent.ensures) at c.no_place.ensures) in
-    let all : length (claimed_prefixes c.args.row.now shelves.next_prefix items c.args.blocks.now) ≡ length items =
-    claimed_length c.args.row.now shelves.next_prefix items c.args.blocks.now (omega (arith, c.requires.each)) ∙ c.requires.each in
-    untold_placed prefix_rules (state_of shelves) c.args.answered (length items) (claimed_prefixes c.args.row.now shelves.next_prefix items c.args.blocks.now) c.requires.few all
+    let count : c.len-count.result ≡ length row_tables.prefixes.rows = (let a = c.len-count.ensures.len in let b = c.prefixes.ensures.book in cc) in
+    let place : c.no_place.result ≡ first (no_place prefix_rules (state_of row_tables) (length items)) = (rw (count, c.next-next.ensures, c.spent.ensures) at c.no_place.ensures) in
+    let all : length (claimed_prefixes c.args.row.now row_tables.next_prefix items c.args.blocks.now) ≡ length items =
+    claimed_length c.args.row.now row_tables.next_prefix items c.args.blocks.now (omega (arith, c.requires.each)) ∙ c.requires.each in
+    untold_placed prefix_rules (state_of row_tables) c.args.answered (length items) (claimed_prefixes c.args.row.now row_tables.next_prefix items c.args.blocks.now) c.requires.few all
     ∙ sym place ∙ c.in-Some.is
 
 pub returns : goal.returns
 returns c =
-    let shelves = c.args.shelves.now in
+    let row_tables = c.args.row_tables.now in
     let row = c.args.row.now in
     let items = c.args.items.now in
     let blocks = c.args.blocks.now in
-    let count : c.len-count.result ≡ length shelves.prefixes.rows = (let a = c.len-count.ensures.len in let b = c.prefixes.ensures.book in cc) in
-    let place : c.no_place.result ≡ first (no_place prefix_rules (state_of shelves) (length items)) = (rw (count, c.next-next.ensures, c.spent.ensures) at c.no_place.ensures) in
-    let all : length (claimed_prefixes row shelves.next_prefix items blocks) ≡ length items =
-    claimed_length row shelves.next_prefix items blocks (omega (arith, c.requires.each)) ∙ c.requires.each in
+    let count : c.len-count.result ≡ length row_tables.prefixes.rows = (let a = c.len-count.ensures.len in let b = c.prefixes.ensures.book in cc) in
+    let place : c.no_place.result ≡ first (no_place prefix_rules (state_of row_tables) (length items)) = (rw (count, c.next-next.ensures, c.spent.ensures) at c.no_place.ensures) in
+    let all : length (claimed_prefixes row row_tables.next_prefix items blocks) ≡ length items =
+    claimed_length row row_tables.next_prefix items blocks (omega (arith, c.requires.each)) ∙ c.requires.each in
     let named = ap (λ (n : ℕ). map prefix_rules.view (claimed_prefixes row n items blocks)) c.next-next.ensures in
-    rows_planned prefix_rules (state_of shelves) c.args.answered (length items) (c.next-next.result + length items) Prefixes (claimed_prefixes row shelves.next_prefix items blocks)
+    rows_planned prefix_rules (state_of row_tables) c.args.answered (length items) (c.next-next.result + length items) Prefixes (claimed_prefixes row row_tables.next_prefix items blocks)
     c.in_ok-puts.puts.items c.served-reply.result c.changed.result c.requires.few all (sym place ∙ c.in-None.is) (c.in_ok-puts.ensures ∙ named)
     (c.served-reply.ensures ∙ ap (λ (views : List View). served c.args.answered views) (c.in_ok-again.ensures ∙ named)) refl
     (ap (λ (n : ℕ). n + length items) c.next-next.ensures) c.changed.ensures

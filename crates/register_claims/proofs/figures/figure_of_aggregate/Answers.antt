@@ -13,11 +13,11 @@ use Rattle.register_claims.proofs.figures.figure_of_aggregate.Goals as goal
 
 pub of_aggregate-requires-clause-long : goal.of_aggregate-requires-clause-long
 of_aggregate-requires-clause-long c =
-    (c.requires.lawful.aggregates.each c.args.row.now (found_there aggregate_id c.args.shelves.now.aggregates.rows c.args.row.now.id c.args.row.now c.requires.there).0).mask
+    (c.requires.lawful.aggregates.each c.args.row.now (found_there aggregate_id c.args.row_tables.now.aggregates.rows c.args.row.now.id c.args.row.now c.requires.there).0).mask
 
 pub returns : goal.returns
 returns c =
-    let rows = c.args.shelves.now.prefixes.rows in
+    let rows = c.args.row_tables.now.prefixes.rows in
     let row = c.args.row.now in
-    let beside = all_in c.prefixes.result.now c.args.shelves.now.prefixes c.family.result row.block.family _ c.prefixes.ensures.book c.family.ensures.family c.all.ensures.blocks in
+    let beside = all_in c.prefixes.result.now c.args.row_tables.now.prefixes c.family.result row.block.family _ c.prefixes.ensures.book c.family.ensures.family c.all.ensures.blocks in
     c.of_aggregate.ensures ∙ ap (λ (n : ℕ). percent_of n (size_of row.block)) (covered_beside row.block false (blocks_in_all rows row.block.family) _ (aggregated_blocks rows row) beside (aggregate_counted rows c.requires.lawful.prefixes.each row))

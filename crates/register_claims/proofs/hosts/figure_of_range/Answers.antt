@@ -29,5 +29,5 @@ of_range-requires-clause-few c =
 
 pub returns : goal.returns
 returns c =
-    range_percent (state_of c.args.shelves.now) c.addresses.result.now.rows c.args.row.now _ c.start-2.result.value c.end.result.value c.of_range.result (ap (λ (b : TabledRows IpAddress). b.rows) c.addresses.ensures.book)
+    range_percent (state_of c.args.row_tables.now) c.addresses.result.now.rows c.args.row.now _ c.start-2.result.value c.end.result.value c.of_range.result (ap (λ (b : TabledRows IpAddress). b.rows) c.addresses.ensures.book)
     c.hosts_of_range-hosts.ensures.hosts (ap (λ (a : Address). a.value) c.start-2.ensures.start) (ap (λ (a : Address). a.value) c.end.ensures.end) c.if-row.false c.of_range.ensures

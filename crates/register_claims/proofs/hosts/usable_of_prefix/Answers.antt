@@ -12,4 +12,4 @@ use Rattle.register_claims.proofs.hosts.usable_of_prefix.Goals as goal
 pub returns : goal.returns
 returns c =
     subst (λ (xs : List ℕ). IfOk c.available_addrs.result (λ v. v.items ≡ take c.args.limit (addressed c.args.row.now.block.family xs)))
-    (usable_of_rows (state_of c.args.shelves.now) c.addresses.result.now.rows c.args.row.now _ c.args.held.now (ap (λ (b : TabledRows IpAddress). b.rows) c.addresses.ensures.book) c.hosts_of_prefix-hosts.ensures.hosts c.requires) c.available_addrs.ensures
+    (usable_of_rows (state_of c.args.row_tables.now) c.addresses.result.now.rows c.args.row.now _ c.args.held.now (ap (λ (b : TabledRows IpAddress). b.rows) c.addresses.ensures.book) c.hosts_of_prefix-hosts.ensures.hosts c.requires) c.available_addrs.ensures

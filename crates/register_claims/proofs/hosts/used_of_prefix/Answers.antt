@@ -11,5 +11,5 @@ use Rattle.register_claims.proofs.hosts.used_of_prefix.Goals as goal
 
 pub returns : goal.returns
 returns c =
-    hosts_percent (state_of c.args.shelves.now) c.addresses.result.now.rows c.args.row.now _ c.args.marked.now c.of_hosts.result (ap (λ (b : TabledRows IpAddress). b.rows) c.addresses.ensures.book)
+    hosts_percent (state_of c.args.row_tables.now) c.addresses.result.now.rows c.args.row.now _ c.args.marked.now c.of_hosts.result (ap (λ (b : TabledRows IpAddress). b.rows) c.addresses.ensures.book)
     c.hosts_of_prefix-hosts.ensures.hosts c.requires.spans c.requires.unmarked c.requires.plain c.of_hosts.ensures

@@ -1,6 +1,6 @@
 use Rattle.std.proofs.Common.{◌≡◌, Some, sym, subst}
 use Rattle.ipam_data.specs.declared.range.IpRange.{IpRange}
-use Rattle.ipam_data.specs.Shelf.{AllAre, row_at}
+use Rattle.ipam_data.specs.RowList.{AllAre, row_at}
 use Rattle.ipam_data.specs.Rows.{range_id}
 use Rattle.ipam_data.specs.Lawful.{IsRange}
 use Rattle.placed_book.specs.RowBook.{Book}

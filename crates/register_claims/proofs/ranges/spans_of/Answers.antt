@@ -1,6 +1,6 @@
 use Rattle.std.proofs.Common.{sym, subst}
 use Rattle.ipam_data.specs.declared.range.IpRange.{IpRange}
-use Rattle.ipam_data.specs.Shelf.{AllAre, IsApart}
+use Rattle.ipam_data.specs.RowList.{AllAre, IsApart}
 use Rattle.ipam_data.specs.Rows.{range_id}
 use Rattle.ipam_data.specs.Ranges.{ShareAddress}
 use Rattle.ipam_data.specs.Lawful.{IsRange}

@@ -1,6 +1,6 @@
 use Rattle.std.proofs.Common.{ℕ, ◌≡◌, ◌<◌, ◌≤◌, ◌^◌, arith}
 use Rattle.ipam_data.specs.declared.kinds.Kind.TheVariants.{Vrfs, Rirs, Roles, Aggregates, Prefixes, Ranges, Addresses}
-use Rattle.ipam_data.specs.Shelf.{last_next}
+use Rattle.ipam_data.specs.RowList.{last_next}
 use Rattle.register_core.proofs.passes.bare.Goals as goal
 
 -- a number of 32 bits is no greater than the last next id

@@ -4,7 +4,7 @@ use Rattle.register_core.proofs.Loading.{IsFilling}
 use Rattle.register_core.proofs.passes.fill.Given as goal
 
 abbrev pub invariant-loop-view : goal.invariant-loop-view
-invariant-loop-view l = IsFilling (state_of l.fn.shelves) l.fn.views.items l.shelves (into_iter_items l.rest)
+invariant-loop-view l = IsFilling (state_of l.fn.row_tables) l.fn.views.items l.row_tables (into_iter_items l.rest)
 
 abbrev pub decreases-loop-view : goal.decreases-loop-view
 decreases-loop-view l = into_iter_len l.rest

@@ -5,5 +5,5 @@ use Rattle.register_plans.proofs.calls.take_all.Given as goal
 
 abbrev pub invariant-rows : goal.invariant-rows
 invariant-rows g l =
-    (l.met ≡ count_by (g.T.Registered.meets l.filter) (take l.index (g.T.Registered.rules.shelf (state_of l.shelves)).rows))
-    × (l.views.items ≡ page_of g.T.Registered.rules.view (g.T.Registered.meets l.filter) l.limit l.offset (take l.index (g.T.Registered.rules.shelf (state_of l.shelves)).rows))
+    (l.met ≡ count_by (g.T.Registered.meets l.filter) (take l.index (g.T.Registered.rules.row_list (state_of l.row_tables)).rows))
+    × (l.views.items ≡ page_of g.T.Registered.rules.view (g.T.Registered.meets l.filter) l.limit l.offset (take l.index (g.T.Registered.rules.row_list (state_of l.row_tables)).rows))

@@ -6,5 +6,5 @@ use Rattle.register_plans.proofs.calls.take_found.Given as goal
 
 abbrev pub invariant-found : goal.invariant-found
 invariant-found g l =
-    (l.met ≡ count_by (g.T.Registered.meets l.filter) (rows_of g.T.Registered.rules.id (g.T.Registered.rules.shelf (state_of l.shelves)).rows (take l.id-index l.ids)))
-    × (l.views.items ≡ page_of g.T.Registered.rules.view (g.T.Registered.meets l.filter) l.limit l.offset (rows_of g.T.Registered.rules.id (g.T.Registered.rules.shelf (state_of l.shelves)).rows (take l.id-index l.ids)))
+    (l.met ≡ count_by (g.T.Registered.meets l.filter) (rows_of g.T.Registered.rules.id (g.T.Registered.rules.row_list (state_of l.row_tables)).rows (take l.id-index l.ids)))
+    × (l.views.items ≡ page_of g.T.Registered.rules.view (g.T.Registered.meets l.filter) l.limit l.offset (rows_of g.T.Registered.rules.id (g.T.Registered.rules.row_list (state_of l.row_tables)).rows (take l.id-index l.ids)))

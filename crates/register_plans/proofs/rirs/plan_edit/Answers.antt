@@ -8,5 +8,5 @@ use Rattle.register_plans.proofs.rirs.plan_edit.Goals as goal
 
 pub returns : goal.returns
 returns c =
-    change_planned rir_rules (state_of c.args.shelves.now) c.args.id (edited_rir c.args.edit.now) c.in-Some.old.now c.in_ok-row-in-Some.row c.plan_replace.result
+    change_planned rir_rules (state_of c.args.row_tables.now) c.args.id (edited_rir c.args.edit.now) c.in-Some.old.now c.in_ok-row-in-Some.row c.plan_replace.result
     (sym c.found.ensures ∙ rw c.in-Some.is refl) c.in_ok-row-in-Some.ensures (rir_stays c.args.edit.now c.in-Some.old.now) c.plan_replace.ensures

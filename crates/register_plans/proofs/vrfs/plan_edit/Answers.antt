@@ -8,5 +8,5 @@ use Rattle.register_plans.proofs.vrfs.plan_edit.Goals as goal
 
 pub returns : goal.returns
 returns c =
-    change_planned vrf_rules (state_of c.args.shelves.now) c.args.id (edited_vrf c.args.edit.now) c.in-Some.old.now c.in_ok-row-in-Some.row c.plan_replace.result
+    change_planned vrf_rules (state_of c.args.row_tables.now) c.args.id (edited_vrf c.args.edit.now) c.in-Some.old.now c.in_ok-row-in-Some.row c.plan_replace.result
     (sym c.found.ensures ∙ rw c.in-Some.is refl) c.in_ok-row-in-Some.ensures (vrf_stays c.args.edit.now c.in-Some.old.now) c.plan_replace.ensures

@@ -1,5 +1,5 @@
 use Rattle.std.proofs.Common.{drop}
-use Rattle.ipam_data.specs.Shelf.{Rises}
+use Rattle.ipam_data.specs.RowList.{Rises}
 use Rattle.stored_tables.specs.Stored.{row_place}
 use Rattle.sqlite_keeper.proofs.order.rows_rise.Given as goal
 

@@ -18,7 +18,7 @@ returns c =
     let asked : IpAddress → Bool = λ row. is_asked c.in-Addresses.vrf_id c.area_of.result (placed_address row) in
     IfOk-weaker c.ids_asked.result _ _
     (λ found p. IfSome_then found p
-    (λ v h. narrower address_id asked (address_meets c.args.filter.now) c.args.shelves.now.addresses.rows v.items
+    (λ v h. narrower address_id asked (address_meets c.args.filter.now) c.args.row_tables.now.addresses.rows v.items
     (address_met c.args.filter.now _ _ _ _ _ _ c.area_of.result c.in-Addresses.is c.area_of.ensures)
     (subst (λ (b : TabledRows IpAddress). AreCandidates address_id asked b.rows v.items) c.addresses.ensures.book h)))
     c.ids_asked.ensures

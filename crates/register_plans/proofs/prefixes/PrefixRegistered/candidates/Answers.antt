@@ -18,7 +18,7 @@ returns c =
     let asked : Prefix → Bool = λ row. is_asked c.in-Prefixes.vrf_id c.area_asked-area.result (placed_prefix row) in
     IfOk-weaker c.ids_asked.result _ _
     (λ found p. IfSome_then found p
-    (λ v h. narrower prefix_id asked (prefix_meets c.args.filter.now) c.args.shelves.now.prefixes.rows v.items
+    (λ v h. narrower prefix_id asked (prefix_meets c.args.filter.now) c.args.row_tables.now.prefixes.rows v.items
     (prefix_met c.args.filter.now _ _ _ _ _ _ _ _ c.area_asked-area.result c.in-Prefixes.is c.area_asked-area.ensures)
     (subst (λ (b : TabledRows Prefix). AreCandidates prefix_id asked b.rows v.items) c.prefixes.ensures.book h)))
     c.ids_asked.ensures

@@ -1,0 +1,12 @@
+use Rattle.std.proofs.Common.{◌+◌, ◌∙◌, sym, subst, List}
+use Rattle.ipam_data.specs.declared.address.IpAddress.{IpAddress}
+use Rattle.ipam_data.specs.RowList.{AllBelow}
+use Rattle.ipam_data.specs.Rows.{address_id}
+use Rattle.placed_book.proofs.Places.{below_with}
+use Rattle.book_trial.proofs.ip_addresses_tests.add.Goals as goal
+
+pub returns-clause-below : goal.returns-clause-below
+returns-clause-below c =
+    let same = c.in_ok-reserve_table.ensures.rows ∙ c.in_ok-reserve.ensures.rows in
+    let below = subst (λ (rows : List IpAddress). AllBelow address_id c.args.row.id rows) (sym same) c.requires.above in
+    subst (λ (rows : List IpAddress). AllBelow address_id (c.args.row.id + 1) rows) (sym c.put.ensures.rows) (below_with address_id _ c.args.row below)

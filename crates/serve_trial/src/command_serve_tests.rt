@@ -1,0 +1,175 @@
+//! `serve` over connections and a store in memory, over a listener without lanes, and over tables that are refused.
+ghost use Rattle.std.specs.Prelude.{◌≡◌, ◌≤◌, [], IfOk, length};
+ghost use Rattle.ipam_listen.specs.ListLanes.{lane_told};
+ghost use Rattle.ipam_listen.specs.ListListeners.{listener_returned, listener_lanes};
+
+use command_serve::run_serve;
+use command_words::{Command, Serving, read_words};
+use ipam_edge::{BytesSink, BytesSource};
+use ipam_keeper::empty::empty_tables;
+use ipam_keeper::memory::MemoryKeeper;
+use ipam_keeper::opener::MemoryOpener;
+use ipam_listen::{ListLane, ListListener, Listener};
+use std::alloc::{AllocError, Global};
+use std::marker::Sync;
+use std::str;
+use std::sync::Wait;
+use std::test::Fail;
+use std::thread::Threads;
+use stored_tables::tables::{Tables, Text};
+
+/// What the clients ask, a line each: three prefixes are made.
+const CLIENTS: [&str; 2] = [
+    "POST /api/ipam/prefixes/ HTTP/1.1\r\nHost: ipam\r\nContent-Length: 24\r\n\r\n{\"prefix\":\"10.1.0.0/16\"}\
+     POST /api/ipam/prefixes/ HTTP/1.1\r\nHost: ipam\r\nContent-Length: 24\r\n\r\n{\"prefix\":\"10.2.0.0/16\"}\
+     POST /api/ipam/prefixes/ HTTP/1.1\r\nHost: ipam\r\nContent-Length: 24\r\n\r\n{\"prefix\":\"10.3.0.0/16\"}",
+    "POST /api/ipam/prefixes/ HTTP/1.1\r\nHost: ipam\r\nContent-Length: 24\r\n\r\n{\"prefix\":\"10.4.0.0/16\"}\
+     POST /api/ipam/prefixes/ HTTP/1.1\r\nHost: ipam\r\nContent-Length: 24\r\n\r\n{\"prefix\":\"10.5.0.0/16\"}\
+     POST /api/ipam/prefixes/ HTTP/1.1\r\nHost: ipam\r\nContent-Length: 24\r\n\r\n{\"prefix\":\"10.6.0.0/16\"}",
+];
+
+/// What a run left: its status, the output, the messages.
+#[derive(Drop)]
+struct Left {
+    status: u8,
+    output: Vec<u8>,
+    errors: Vec<u8>,
+}
+
+/// A lane with one connection, which asks for this.
+fn lane_of(alloc: Global, asked: &str) -> Result<ListLane, AllocError>
+    ensures { IfOk result (λ l. lane_told l ≡ []) }
+{
+    let source = BytesSource::new(
+        Vec::from_slice(alloc, asked.as_bytes())?,
+        Vec::new(alloc),
+        1000,
+    );
+    let sink = BytesSink::new(alloc, Vec::new(alloc), 1000, 4096)?;
+    let mut pairs = Vec::new(alloc);
+    pairs.push((source, sink))?;
+    ListLane::new(alloc, pairs, Vec::new(alloc))
+}
+
+/// A listener with a lane for each client.
+fn listener_of(alloc: Global) -> Result<ListListener, AllocError>
+    ensures { IfOk result (λ l. (listener_returned l ≡ []) × (listener_lanes l ≡ 0)) }
+{
+    let mut lanes = Vec::new(alloc);
+    lanes.push(lane_of(alloc, CLIENTS[0])?)?;
+    lanes.push(lane_of(alloc, CLIENTS[1])?)?;
+    ListListener::new(alloc, lanes)
+}
+
+/// Puts what was written to the connections of the lanes that came back at the end of a text.
+fn tell(listener: &ListListener, told: &mut String) -> Result<(), AllocError> {
+    for lane in listener.returned() {
+        for handed in lane.handed() {
+            if let Some(pair) = handed.finished() {
+                told.push_str(str::from_utf8(pair.1.bytes()).unwrap_or(""))?;
+            }
+        }
+    }
+    Ok(())
+}
+
+/// How often a part stands in a text.
+fn times<'a>(text: &'a str, part: &'a str) -> usize {
+    text.split(part).count().saturating_sub(1)
+}
+
+/// An opener that has tables of this version under the path `a`.
+fn opener_of(alloc: Global, version: u32) -> Result<MemoryOpener, AllocError> {
+    let tables = MemoryKeeper::new(empty_tables(alloc)?, Vec::new(alloc)).into_tables();
+    let tables = Tables {
+        version,
+        next: tables.next,
+        rows: tables.rows,
+    };
+    let mut stored = Vec::new(alloc);
+    stored.push((Text::of(String::from_str(alloc, "a")?), tables))?;
+    Ok(MemoryOpener::new(stored, Vec::new(alloc)))
+}
+
+/// Runs `serve` for as many workers as may be asked for.
+fn run_few<R: Threads + Wait + Sync, L: Listener>(
+    rt: &R,
+    alloc: Global,
+    serving: &Serving,
+    streams: (&mut BytesSink, &mut BytesSink),
+    listener: &mut L,
+    opener: &mut MemoryOpener,
+) -> u8
+    requires { length (L.returned listener.old) ≤ L.lanes listener.old }
+{
+    if serving.workers == 0 || serving.workers > 32 {
+        return 9;
+    }
+    let (output, errors) = streams;
+    run_serve(rt, alloc, serving, output, errors, listener, opener)
+}
+
+/// Runs these words of `serve`.
+fn ran<R: Threads + Wait + Sync, L: Listener>(
+    rt: &R,
+    alloc: Global,
+    words: &[&str],
+    listener: &mut L,
+    opener: &mut MemoryOpener,
+) -> Result<Left, AllocError>
+    requires { length (L.returned listener.old) ≤ L.lanes listener.old }
+{
+    let mut output = BytesSink::new(alloc, Vec::new(alloc), 1000, 4096)?;
+    let mut errors = BytesSink::new(alloc, Vec::new(alloc), 1000, 4096)?;
+    let Some(Command::Serve(serving)) = read_words(alloc, words)? else {
+        return Err(AllocError);
+    };
+    let status = run_few(
+        rt,
+        alloc,
+        &serving,
+        (&mut output, &mut errors),
+        listener,
+        opener,
+    );
+    Ok(Left {
+        status,
+        output: output.into_bytes(),
+        errors: errors.into_bytes(),
+    })
+}
+
+#[test]
+fn who_is_served_and_who_is_not(rt: HostRuntime) -> Result<(), Fail> {
+    let alloc = rt.alloc();
+    let words = [
+        "serve",
+        "--bind",
+        "x",
+        "--workers=2",
+        "--connections=1",
+        "--db=a",
+    ];
+    let mut opener = opener_of(alloc, 1)?;
+    let mut listener = listener_of(alloc)?;
+    let left = ran(&rt, alloc, &words, &mut listener, &mut opener)?;
+    assert!(rt; left.status == 0 && left.errors.is_empty());
+    assert!(rt; left.output.as_slice() == b"entries 6\n".as_slice());
+    let mut told = String::new(alloc);
+    tell(&listener, &mut told)?;
+    assert_eq!(rt;
+        times(told.as_str(), "HTTP/1.1 201 Created\r\n"),
+        6,
+        "{told}"
+    );
+    let mut listener = ListListener::new(alloc, Vec::new(alloc))?;
+    let left = ran(&rt, alloc, &words, &mut listener, &mut opener)?;
+    assert!(rt; left.status == 3 && left.errors.is_empty());
+    assert!(rt; left.output.as_slice() == b"entries 0\n".as_slice());
+    let mut opener = opener_of(alloc, 9)?;
+    let mut listener = ListListener::new(alloc, Vec::new(alloc))?;
+    let left = ran(&rt, alloc, &words, &mut listener, &mut opener)?;
+    assert!(rt; left.status == 1 && left.output.is_empty());
+    assert!(rt; left.errors.as_slice() == b"store: version 9\n".as_slice());
+    Ok(())
+}
