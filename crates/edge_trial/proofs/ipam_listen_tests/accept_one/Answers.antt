@@ -1,7 +1,7 @@
 use Rattle.std.proofs.Common.{IfSome, List, Option, sym, subst}
 use Rattle.ipam_listen.specs.Connections.{Connection, Ends, IsLastOut, ends_of}
 use Rattle.ipam_listen.proofs.Told.{out_after}
-use Rattle.edge_trial.proofs.ipam_doors_tests.accept_one.Goals as goal
+use Rattle.edge_trial.proofs.ipam_listen_tests.accept_one.Goals as goal
 
 pub finish-requires : goal.finish-requires
 finish-requires g c =
