@@ -3,14 +3,16 @@
 under it have its colour. Crates of the kit are not drawn.
 
     python3 docs/layers.py            writes docs/layers.svg
-    python3 docs/layers.py --check    ends with 1 where docs/layers.svg is not what would be written
+    python3 docs/layers.py --check    ends with 1 where docs/layers.svg is not what would be written, or where the README or docs/ARCHITECTURE.md
+                                      do not list the layers of crates.txt with the same crates in the same order; prints nothing where all is well
 """
 import html
 import os
+import re
 import sys
 
 HERE = os.path.dirname(os.path.abspath(__file__))
-COLOURS = ["#dbe9f6", "#e2f0d9", "#fff2cc", "#fce4d6", "#e8e0f0", "#d9eeee", "#f4dbe6", "#ececec"]
+COLOURS = ["#dbe9f6", "#e2f0d9", "#fff2cc", "#fce4d6", "#e8e0f0", "#d9eeee", "#f4dbe6", "#ececec", "#e0e7d0", "#f0e0c8"]
 WIDE, HIGH, GAP, ABOVE, MARGIN, PER_LINE = 124, 24, 8, 26, 16, 9
 FONT = "font-family='DejaVu Sans, Verdana, sans-serif'"
 
@@ -72,13 +74,46 @@ def draw(crates, titles):
     return "\n".join([head, f"<rect width='{width}' height='{height}' fill='white'/>"] + parts + more + ["</svg>"]) + "\n"
 
 
+def layers_of(crates, titles):
+    """The layers of crates.txt as a title and the names of its crates."""
+    return [(title, [name for name in crates if crates[name][1] == number]) for number, title in enumerate(titles)]
+
+
+def read_readme(text):
+    """The layers of the README's table `| Layer | Crates |`."""
+    rows = text.partition("| Layer | Crates |\n|---|---|\n")[2].split("\n\n")[0].splitlines()
+    return [(cells[0].strip(), cells[1].strip().split(", ")) for cells in (row.strip("|").split("|") for row in rows)]
+
+
+def read_map(text):
+    """The layers of docs/ARCHITECTURE.md: a heading, and below it a table whose rows begin with a crate."""
+    parts = re.split(r"^### (.*)$", text.partition("\n## The map\n")[2].partition("\n## ")[0], flags=re.M)[1:]
+    return [(title.replace("`", ""), re.findall(r"^\| ([a-z0-9_]+) \|", body, flags=re.M)) for title, body in zip(parts[::2], parts[1::2])]
+
+
+def differences(layers, others, page):
+    """A line for each layer that the page lacks or lists otherwise."""
+    said = dict(others)
+    lines = [f"layers: {page} lists `{title}` as {', '.join(said.get(title, ['nothing']))}; crates.txt has {', '.join(names)}" for title, names in layers if said.get(title) != names]
+    return lines or ([f"layers: {page} has the layers in another order, or one more"] if layers != others else [])
+
+
+def check(text, path, layers):
+    """Each page that is not that of crates.txt, a line each."""
+    top = os.path.join(HERE, "..")
+    lines = [] if os.path.exists(path) and open(path).read() == text else ["layers: docs/layers.svg is not that of crates.txt; python3 docs/layers.py writes it"]
+    lines += differences(layers, read_readme(open(os.path.join(top, "README.md")).read()), "README.md")
+    return lines + differences(layers, read_map(open(os.path.join(HERE, "ARCHITECTURE.md")).read()), "docs/ARCHITECTURE.md")
+
+
 def main():
-    text = draw(*read_crates(os.path.join(HERE, "..", "crates.txt")))
+    crates, titles = read_crates(os.path.join(HERE, "..", "crates.txt"))
+    text = draw(crates, titles)
     path = os.path.join(HERE, "layers.svg")
     if sys.argv[1:] == ["--check"]:
-        if not os.path.exists(path) or open(path).read() != text:
-            sys.exit("layers: docs/layers.svg is not that of crates.txt; python3 docs/layers.py writes it")
-        print("layers: docs/layers.svg is that of crates.txt")
+        lines = check(text, path, layers_of(crates, titles))
+        if lines:
+            sys.exit("\n".join(lines))
         return
     with open(path, "w") as file:
         file.write(text)
