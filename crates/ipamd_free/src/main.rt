@@ -27,13 +27,13 @@ pub fn run<So: Source, Si: Sink, Se: Sink>(
 ) -> u8
     ensures free { (within : Cidr) → Asks (map (λ w. w.now) words.now) (Free within)
         → IsFree within
-            (streams (told So.left So.faults input.old) (told Si.written Si.faults output.old) (told Se.written Se.faults errors.old))
-            (streams (told So.left So.faults input.new) (told Si.written Si.faults output.new) (told Se.written Se.faults errors.new)) result
+        (streams (told So.left So.faults input.old) (told Si.written Si.faults output.old) (told Se.written Se.faults errors.old))
+        (streams (told So.left So.faults input.new) (told Si.written Si.faults output.new) (told Se.written Se.faults errors.new)) result
         ⊎ (result ≡ 5) }
     ensures usage { ((within : Cidr) → ¬ Asks (map (λ w. w.now) words.now) (Free within))
         → IsUsage
-            (streams (told So.left So.faults input.old) (told Si.written Si.faults output.old) (told Se.written Se.faults errors.old))
-            (streams (told So.left So.faults input.new) (told Si.written Si.faults output.new) (told Se.written Se.faults errors.new)) result
+        (streams (told So.left So.faults input.old) (told Si.written Si.faults output.old) (told Se.written Se.faults errors.old))
+        (streams (told So.left So.faults input.new) (told Si.written Si.faults output.new) (told Se.written Se.faults errors.new)) result
         ⊎ (result ≡ 5) }
 {
     match read_words(alloc, words) {
