@@ -1,6 +1,6 @@
 use Rattle.std.proofs.Common.{arith}
 use Rattle.ip_addresses.proofs.Sharing.{next_pair, this_pair, no_more_pairs}
-use Rattle.ip_addresses.proofs.AddressBookAddressRules.clash_of.Goals as goal
+use Rattle.ip_addresses.proofs.AddressBookAddressRules.coincide.Goals as goal
 
 pub returns-in-Some : goal.returns-in-Some
 returns-in-Some g c =

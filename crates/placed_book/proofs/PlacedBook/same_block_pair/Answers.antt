@@ -5,8 +5,8 @@ use Rattle.ipam_data.specs.Tables.{table_of, same_table}
 use Rattle.placed_book.specs.Book.{TabledRows}
 use Rattle.placed_book.specs.Rivals.{coincide_in}
 use Rattle.placed_book.proofs.Meetings.{some_of, next_pair, this_pair, no_more_pairs, pair_in_no_table, pair_found, pair_none}
-use Rattle.placed_book.proofs.PlacedBook.coincide.Goals.{in-Some+then-is_one_table+in_default-least_rival, in-Some+else-is_one_table, in_default}
-use Rattle.placed_book.proofs.PlacedBook.coincide.Goals as goal
+use Rattle.placed_book.proofs.PlacedBook.same_block_pair.Goals.{in-Some+then-is_one_table+in_default-least_rival, in-Some+else-is_one_table, in_default}
+use Rattle.placed_book.proofs.PlacedBook.same_block_pair.Goals as goal
 
 pub returns-in-Some-least_rival : goal.returns-in-Some-least_rival
 returns-in-Some-least_rival g c =
