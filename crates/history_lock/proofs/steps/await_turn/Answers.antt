@@ -5,7 +5,7 @@ use Rattle.history_lock.specs.declared.views.View.{View}
 use Rattle.history_lock.specs.Moves.{IsTaken}
 use Rattle.history_lock.specs.Machines.{meaning}
 use Rattle.history_lock.proofs.Keeps.{looks, rings, full_of, taken_by}
-use Rattle.history_lock.proofs.steps.take_turn.Goals as goal
+use Rattle.history_lock.proofs.steps.await_turn.Goals as goal
 
 pub load-turn-requires : goal.load-turn-requires
 load-turn-requires g c = let d = c.draw-ticket.ensures.drawn in (search rules, search rules, looks _ _ _ _ _ d.0 (ap (λ m. m.0.stage) (c.loop.invariant.2 ∙ d.2)))
