@@ -1,6 +1,7 @@
 #!/bin/sh
-# Copies the program, its manual page and its systemd unit below a prefix: PREFIX/bin, PREFIX/share/man/man1, PREFIX/lib/systemd/system. The program
-# is built first where it is not there yet, which takes half a minute where the gate passed on the machine, and half an hour or more from nothing; IPAMD=PROGRAM installs one that is built. Nothing is started, and no user is made.
+# Copies the program, its manual page and its systemd unit below a prefix: PREFIX/bin, PREFIX/share/man/man1, PREFIX/lib/systemd/system.
+# The program is built first where it is not built yet (./build); IPAMD=PROGRAM installs one that is built. Nothing is started, and no
+# user is made.
 # usage: ./install.sh PREFIX, as ./install.sh /usr/local
 set -eu
 [ $# -eq 1 ] || { echo "usage: ./install.sh PREFIX" >&2; exit 2; }
@@ -8,7 +9,7 @@ top=$(cd "$(dirname "$0")" && pwd)
 # the newest version has the first heading of CHANGES.md, and stands nowhere else
 version=$(sed -n 's/^## \([0-9][0-9.]*\).*/\1/p' "$top/CHANGES.md" | head -n 1)
 program=${IPAMD:-$top/crates/ipamd/out/ipamd}
-[ -n "${IPAMD:-}" ] || "$top/ipamd" free 10.0.0.0/8 < /dev/null > /dev/null
+[ -n "${IPAMD:-}" ] || "$top/build"
 mkdir -p "$1"
 prefix=$(cd "$1" && pwd)
 install -d "$prefix/bin" "$prefix/share/man/man1" "$prefix/lib/systemd/system"

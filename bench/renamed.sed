@@ -87,3 +87,4 @@ s/\bPenLemmas\b/AnswerWriterLemmas/g
 s/\bdeclared\.came\.LoadOutcome\b/declared.load_outcome.LoadOutcome/g
 s/\bcrate::came::/crate::load_outcome::/g
 s/\bproofs\.came\b/proofs.load_outcome/g
+s/\boffice_trial\b/csv_trial/g

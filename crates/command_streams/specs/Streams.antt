@@ -1,5 +1,5 @@
 -- What is seen of the input, the output and the messages of a command, before it and after it.
-use Rattle.std.specs.Prelude.{◌≡◌, ℕ, ◌≤◌, ◌⊎◌, List, Option}
+use Rattle.std.specs.Prelude.{◌≡◌, ℕ, ◌≤◌, ◌⊎◌, ◌++◌, ◌∷◌, [], List, Option, codes}
 use Rattle.std.specs.Io.KnownBytes.{Appends, Keeps}
 use Rattle.ipam_edge.specs.Faults.{Rose}
 use Rattle.ipam_edge.specs.Writing.{AppendsFront}
@@ -52,3 +52,14 @@ pub record NeverFalls (old new : Streams) : Type 0 where
 abbrev pub EndsWith : Told → Told → List ℕ → ℕ → ℕ → Type 0
 EndsWith old new message wanted status =
     ((status ≡ wanted) × Gains old new message) ⊎ ((status ≡ 3) × Failed old new × GainsFront old new message)
+
+-- what is said where the words ask for no command
+abbrev pub usage_text : List ℕ
+usage_text = codes "usage: ipamd COMMAND" ++ 10 ∷ []
+
+-- the usage line is on the messages, as far as that could be, and nothing else was used
+pub record IsUsage (old new : Streams) (status : ℕ) : Type 0 where
+  pub input : new.input ≡ old.input
+  pub output : new.output ≡ old.output
+  pub said : EndsWith old.errors new.errors usage_text 2 status
+  pub later : NeverFalls old new

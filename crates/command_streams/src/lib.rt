@@ -2,8 +2,11 @@
 #![tactic(auto)]
 
 ghost use Rattle.std.specs.Prelude.{◌≡◌, ◌≤◌};
-ghost use Rattle.command_streams.specs.Streams.{EndsWith, told};
+ghost use Rattle.command_streams.specs.Streams.{EndsWith, IsUsage, Told, streams, told};
 
+mod arguments;
+
+pub use arguments::{NoArguments, words_given};
 use ipam_edge::{Sink, write_all};
 
 /// Done.
@@ -28,4 +31,15 @@ pub fn end_with<Se: Sink>(errors: &mut Se, message: &[u8], status: u8) -> u8
         Ok(()) => status,
         Err(_) => FAULT,
     }
+}
+
+/// What is said where the words ask for no command.
+const USAGE_TEXT: &[u8] = b"usage: ipamd COMMAND\n";
+
+/// Says the usage line; nothing else is used.
+pub fn say_usage<Se: Sink>(errors: &mut Se) -> u8
+    ensures { (input output : Told) → IsUsage (streams input output (told Se.written Se.faults errors.old))
+        (streams input output (told Se.written Se.faults errors.new)) result }
+{
+    end_with(errors, USAGE_TEXT, USAGE)
 }

@@ -1,6 +1,8 @@
 //! The steps of a call, of a split and of a join.
 //!
-//! A call draws a ticket, waits until the turn is that ticket, takes the machine out of the slot, publishes what the machine did, puts it back, and passes the turn to the next ticket. Tickets and turns are words that wrap: no more than 65,536 tickets are ever out, so two of them are never mistaken for one.
+//! A call waits at the door while a ticket is out, draws a ticket, waits until the turn is that ticket, takes the machine out of the slot, publishes what the machine did, puts it back, and passes the turn to the next ticket. Tickets and turns are words that wrap: no more than 65,536 tickets are ever out, so two of them are never mistaken for one.
+//!
+//! The door keeps the line of tickets short. A ticket is served in its order alone, so each holder that sleeps holds up all behind it; with the door nearly every holder is a thread that runs. This restricts who may queue, as in D. Dice and A. Kogan, "Avoiding Scalability Collapse by Restricting Concurrency", Euro-Par 2019, and D. Dice, "Malthusian Locks", EuroSys 2017. The door is no part of the rule: a look at it needs no seat, and its bell is one that the rule says nothing of.
 ghost use Rattle.std.specs.Prelude.{◌≡◌, ℕ, ◌%◌, ◌^◌, ◌<◌, ◌≤◌, ◌+◌, [], ◌∷◌, length, true, None};
 ghost use Rattle.history_lock.specs.Views.{waiting, leading, rested, told, offering, kept_part, new_part, joined, IsSoundView};
 ghost use Rattle.history_lock.specs.Moves.{IsTaken};
@@ -30,13 +32,80 @@ const COUNT: usize = 2;
 /// The first of the words that waiting seats sleep on.
 const BELLS: usize = 3;
 
-const BELL_COUNT: u64 = 16;
+const BELL_COUNT: u64 = 15;
+
+/// The bell of the door: the word on which callers without a ticket sleep.
+const DOOR: usize = 18;
+
+/// While so many tickets are out, a caller waits at the door.
+const MOST_OUT: u64 = 1;
+
+/// How often a caller looks before it sleeps at the door.
+const LOOKS: u32 = 12;
+
+/// A caller that has slept so often at the door draws a ticket, however many are out. So none waits for ever behind newcomers.
+const MOST_SLEEPS: u32 = 4;
 
 /// The word on which the seat with this ticket sleeps.
 fn bell_of(ticket: u64) -> usize
     ensures { (i : ℕ) × (result ≡ 3 + i) × (result < 19) }
 {
     BELLS + (ticket % BELL_COUNT) as usize
+}
+
+/// Whether a caller has to wait at the door.
+fn is_crowded<M: Machine>(top: &Top<M>) -> bool
+    requires words { top.now.table_id.words ≡ 19 }
+{
+    let turn = top.peek(TURN);
+    top.peek(TICKET).wrapping_sub(turn) >= MOST_OUT
+}
+
+/// Waits at the door while tickets are out: looks a few times, then sleeps on the door's bell.
+///
+/// More than `MOST_OUT` tickets may still be drawn, since two callers can pass at once.
+fn wait_at_door<M: Machine, R: Wait>(rt: &R, top: &Top<M>, place: &mut Place<M>)
+    requires table { (place.old.table_id ≡ top.now.table_id) × (top.now.table_id.words ≡ 19) }
+    ensures table { (place.new.table_id ≡ place.old.table_id) × (place.new.id ≡ place.old.id) }
+    ensures view { place.new.me ≡ place.old.me }
+{
+    let backoff = Backoff::new();
+    let mut looks = 0u32;
+    let mut sleeps = 0u32;
+    let mut rung = false;
+    for _ in rt.forever() {
+        if sleeps >= MOST_SLEEPS || !is_crowded(top) {
+            if sleeps > 0 {
+                // Only one was woken, and its waker took the bell down: others may sleep there still.
+                top.swap::<RingBell>(place, DOOR, 1);
+            }
+            return;
+        }
+        if looks < LOOKS {
+            looks += 1;
+            backoff.spin();
+        } else if rung {
+            top.park(rt, DOOR, 1);
+            rung = false;
+            sleeps += 1;
+        } else {
+            // Whoever passes the turn on sees the bell, or the next look sees that no ticket is out.
+            top.swap::<RingBell>(place, DOOR, 1);
+            rung = true;
+        }
+    }
+    unreachable!()
+}
+
+/// Wakes one caller that sleeps at the door. Costs no system call where nobody has rung there.
+fn wake_at_door<M: Machine>(top: &Top<M>, place: &mut Place<M>)
+    requires table { (place.old.table_id ≡ top.now.table_id) × (top.now.table_id.words ≡ 19) }
+    ensures table { (place.new.table_id ≡ place.old.table_id) × (place.new.id ≡ place.old.id) }
+    ensures view { place.new.me ≡ place.old.me }
+{
+    if top.peek(DOOR) != 0 && top.swap::<RingBell>(place, DOOR, 0) != 0 {
+        top.wake_one(DOOR);
+    }
 }
 
 /// Draws a ticket.
@@ -49,10 +118,10 @@ fn draw<M: Machine>(top: &Top<M>, place: &mut Place<M>) -> u64
     top.fetch_add::<Draw>(place, TICKET, 1)
 }
 
-/// Waits for the seat's turn, and takes the machine out of the slot.
+/// Draws a ticket, waits for its turn, and takes the machine out of the slot.
 ///
 /// It spins, then yields, then sleeps on the bell of its ticket, so that a waiting thread costs no processor while the machine is slow.
-pub(crate) fn take_turn<M: Machine, R: Wait>(rt: &R, top: &Top<M>, place: &mut Place<M>) -> M
+fn await_turn<M: Machine, R: Wait>(rt: &R, top: &Top<M>, place: &mut Place<M>) -> M
     requires table { (place.old.table_id ≡ top.now.table_id) × (top.now.table_id.words ≡ 19) }
     requires idle { (place.old.me.0.stage ≡ Idle) × (0 < place.old.me.0.weight) × (place.old.me.1 ≡ []) }
     ensures table { (place.new.table_id ≡ place.old.table_id) × (place.new.id ≡ place.old.id) }
@@ -62,7 +131,7 @@ pub(crate) fn take_turn<M: Machine, R: Wait>(rt: &R, top: &Top<M>, place: &mut P
     let ticket = draw(top, place);
     let backoff = Backoff::new();
     let bell = bell_of(ticket);
-    let mut told = false;
+    let mut rung = false;
     for _ in rt.forever() {
         let turn = top.load::<Look>(place, TURN);
         if turn == ticket {
@@ -73,16 +142,28 @@ pub(crate) fn take_turn<M: Machine, R: Wait>(rt: &R, top: &Top<M>, place: &mut P
         }
         if !backoff.is_completed() {
             backoff.snooze();
-        } else if told {
+        } else if rung {
             top.park(rt, bell, 1);
-            told = false;
+            rung = false;
         } else {
             // Whoever passes the turn on sees the bell, or the next look sees the turn.
             top.swap::<RingBell>(place, bell, 1);
-            told = true;
+            rung = true;
         }
     }
     unreachable!()
+}
+
+/// Waits at the door and then for the seat's turn, and takes the machine out of the slot.
+pub(crate) fn take_turn<M: Machine, R: Wait>(rt: &R, top: &Top<M>, place: &mut Place<M>) -> M
+    requires table { (place.old.table_id ≡ top.now.table_id) × (top.now.table_id.words ≡ 19) }
+    requires idle { (place.old.me.0.stage ≡ Idle) × (0 < place.old.me.0.weight) × (place.old.me.1 ≡ []) }
+    ensures table { (place.new.table_id ≡ place.old.table_id) × (place.new.id ≡ place.old.id) }
+    ensures machine { IsTaken (meaning M.opening M.state M.log M.faults M.step) place.old.me.0 result }
+    ensures view { (t : ℕ) × (place.new.me ≡ (leading (meaning M.opening M.state M.log M.faults M.step) t result place.old.me.0, (0, None) ∷ [])) }
+{
+    wait_at_door(rt, top, place);
+    await_turn(rt, top, place)
 }
 
 /// Wakes the seat with this ticket where it sleeps. Costs no system call where nobody sleeps on its bell.
@@ -140,6 +221,7 @@ pub(crate) fn finish<M: Machine>(
     let None = held else { unreachable!() };
     let turn = top.fetch_add::<Pass>(place, TURN, 1);
     wake(top, place, turn.wrapping_add(1));
+    wake_at_door(top, place);
 }
 
 /// Gives a share of the seat's numbers and of its weight to a new seat.

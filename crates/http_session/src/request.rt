@@ -98,11 +98,14 @@ impl Inbox {
     }
 }
 
-/// Whether no request follows: after the 1,000th item none does.
+/// The number of the last item of a connection, counted from 0: it has 1,000 at most.
+const LAST_ITEM: u32 = 999;
+
+/// Whether no request follows: after the last item none does.
 fn closes(asked: bool, number: u32) -> bool
     ensures { result ≡ (asked || nat_le 999 number) }
 {
-    asked || number >= 999
+    asked || number >= LAST_ITEM
 }
 
 /// Drops so many bytes from the front.

@@ -36,7 +36,7 @@ pub trait AddressRules {
 
     /// The least ids of two addresses of the table that may not stand in one that enforces, or `None`: the lesser id is the least of
     /// one that has a later one that clashes with it. It looks at later rows only of a row whose host is there more than once.
-    fn clash_of(&self, table: Table) -> Option<(u32, u32)>
+    fn coincide(&self, table: Table) -> Option<(u32, u32)>
         requires { ordered self.now }
         ensures { result ≡ clash_of (rows self.now) table };
 }
@@ -68,7 +68,7 @@ impl<S: Space + Drop> AddressRules for AddressBook<S> {
         }
     }
 
-    fn clash_of(&self, table: Table) -> Option<(u32, u32)> {
+    fn coincide(&self, table: Table) -> Option<(u32, u32)> {
         let count = self.len();
         'rows: for index in 0..count {
             if let Some(pair) = pair_at(self, index, table) {

@@ -12,7 +12,7 @@ use Rattle.command_words.specs.declared.asked.Report.{Report as ReportName}
 use Rattle.command_words.specs.declared.asked.Store.{Store}
 use Rattle.command_words.specs.declared.asked.Serving.{Serving}
 use Rattle.command_words.specs.Asked.{Asks, IsNoCommand}
-use Rattle.command_streams.specs.Streams.{Gains, Failed}
+use Rattle.command_streams.specs.Streams.{Gains, Failed, usage_text}
 use Rattle.command_free.specs.declared.free.LineFault.{LineFault}
 use Rattle.command_free.specs.Free.{IsRefusedLine}
 use Rattle.command_free.specs.Run.{PrintsFree, NamesLine, FailsToRead, FailsToPrint, FailsToSay}
@@ -25,7 +25,7 @@ use Rattle.command_files.specs.Files.{kind_named}
 use Rattle.command_files.specs.Import.{PrintsCounts, NamesRefusal, NamesTables, NamesStore, IsStored, IsImport}
 use Rattle.command_files.specs.Export.{IsExportText, Prints as PrintsText, IsExport}
 use Rattle.command_files.specs.Report.{IsReportText, NamesAbsent, IsReport}
-use Rattle.ipam_command.specs.Runs.{usage_text, Runs}
+use Rattle.ipam_command.specs.Runs.{Runs}
 
 -- the words ask for what a block leaves
 abbrev pub AsksFree : List (List ℕ) → Cidr → Type 0

@@ -3,7 +3,7 @@ use Rattle.std.specs.Prelude.{◌≡◌, ℕ, ◌⊎◌, ◌++◌, List, [], ◌
 use Rattle.command_words.specs.declared.asked.Command.{Command}
 use Rattle.command_words.specs.declared.asked.Command.TheVariants.{Free, Session, Serve, Import, Export, Report, Load}
 use Rattle.command_words.specs.Asked.{Asks, IsNoCommand}
-use Rattle.command_streams.specs.Streams.{Streams, EndsWith, NeverFalls}
+use Rattle.command_streams.specs.Streams.{Streams, IsUsage}
 use Rattle.command_free.specs.Run.{IsFree}
 use Rattle.command_session.specs.Outside.{Outside}
 use Rattle.command_session.specs.Session.{IsSession}
@@ -25,18 +25,7 @@ Answers (Report report store) old new before after status = IsReport report stor
 Answers (Load count workers) old new before after status =
     IsLoad count workers old.streams.output new.streams.output status × (new.streams.input ≡ old.streams.input) × (new.streams.errors ≡ old.streams.errors) × (new.stores ≡ old.stores) × (after ≡ before)
 
--- what is said where the words ask for no command
-abbrev pub usage_text : List ℕ
-usage_text = codes "usage: ipamd COMMAND" ++ 10 ∷ []
-
--- the usage line is on the messages, as far as that could be, and nothing else was used
-pub record IsUsage (old new : Streams) (status : ℕ) : Type 0 where
-  pub input : new.input ≡ old.input
-  pub output : new.output ≡ old.output
-  pub said : EndsWith old.errors new.errors usage_text 2 status
-  pub later : NeverFalls old new
-
--- and the opener and the listener were not used
+-- the usage line is on the messages, and the opener and the listener were not used
 abbrev pub SaysUsage : Outside → Outside → ListenerView → ListenerView → ℕ → Type 0
 SaysUsage old new before after status = IsUsage old.streams new.streams status × (new.stores ≡ old.stores) × (after ≡ before)
 

@@ -3,11 +3,11 @@
 
 ghost use Rattle.std.specs.Prelude.{◌≤◌, List, length, map, ℕ};
 ghost use Rattle.command_words.specs.Asked.{Asks};
-ghost use Rattle.command_streams.specs.Streams.{Told, streams, told};
+ghost use Rattle.command_streams.specs.Streams.{streams, told};
 ghost use Rattle.ipam_command.specs.Clauses.{RunsHaveClauses};
 ghost use Rattle.command_session.specs.Outside.{Stores, outside, stores};
 ghost use Rattle.command_serve.specs.Serve.{listener_view};
-ghost use Rattle.ipam_command.specs.Runs.{Answers, IsUsage, Runs};
+ghost use Rattle.ipam_command.specs.Runs.{Answers, Runs};
 
 mod entry;
 
@@ -16,7 +16,7 @@ use command_free::run_free;
 use command_load::run_load;
 use command_serve::run_serve;
 use command_session::run_session;
-use command_streams::{MEMORY, USAGE, end_with};
+use command_streams::{MEMORY, say_usage};
 use command_words::{Command, read_words};
 pub use entry::program;
 use ipam_edge::{Sink, Source};
@@ -26,17 +26,6 @@ use std::alloc::Global;
 use std::marker::Sync;
 use std::sync::Wait;
 use std::thread::Threads;
-
-/// What is said where the words ask for no command.
-pub(crate) const USAGE_TEXT: &[u8] = b"usage: ipamd COMMAND\n";
-
-/// Says the usage line; nothing else is used.
-fn run_none<Se: Sink>(errors: &mut Se) -> u8
-    ensures { (input output : Told) → IsUsage (streams input output (told Se.written Se.faults errors.old))
-        (streams input output (told Se.written Se.faults errors.new)) result }
-{
-    end_with(errors, USAGE_TEXT, USAGE)
-}
 
 /// Runs a command that was read.
 fn run_command<
@@ -111,7 +100,7 @@ pub fn run<R: Threads + Wait + Sync, So: Source, Si: Sink, Se: Sink, L: Listener
         Ok(Some(command)) => run_command(
             rt, alloc, &command, input, output, errors, listener, opener,
         ),
-        Ok(None) => run_none(errors),
+        Ok(None) => say_usage(errors),
         Err(_) => MEMORY,
     }
 }

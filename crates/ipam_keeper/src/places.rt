@@ -7,6 +7,7 @@ ghost use Rattle.placed_book.specs.RowBook.{place, IsAt};
 
 use ipam_data::kinds::Kind;
 use stored_tables::tables::Row;
+use stored_tables::writing::number_of_kind;
 
 /// What stands in a list by a number from 1.
 pub(crate) trait HasPlace {
@@ -17,29 +18,12 @@ pub(crate) trait HasPlace {
         ensures low { 1 ≤ number self.now };
 }
 
-/// The place of a kind among the kinds, from 1.
-fn number_of(kind: Kind) -> u64
-    ensures is { result ≡ kind_number kind }
-    ensures low { 1 ≤ kind_number kind }
-    ensures high { kind_number kind ≤ 7 }
-{
-    match kind {
-        Kind::Vrfs => 1,
-        Kind::Rirs => 2,
-        Kind::Roles => 3,
-        Kind::Aggregates => 4,
-        Kind::Prefixes => 5,
-        Kind::Ranges => 6,
-        Kind::Addresses => 7,
-    }
-}
-
 /// Where a row of this kind and id stands among all rows.
 pub(crate) fn place_among(kind: Kind, id: u32) -> u64
     ensures is { result ≡ place_of kind id }
     ensures low { 1 ≤ place_of kind id }
 {
-    number_of(kind) * 4294967296 + id as u64
+    number_of_kind(kind) * 4294967296 + id as u64
 }
 
 impl HasPlace for Row {
@@ -54,7 +38,7 @@ impl HasPlace for (Kind, u32) {
     ghost number = { next_place };
 
     fn place(&self) -> u64 {
-        number_of(self.0)
+        number_of_kind(self.0)
     }
 }
 

@@ -1,16 +1,70 @@
-//! `ipamd` once more, without files and without a network, run on lines of which one is refused; `ipamd` itself is run on a
-//! conversation that ends well, so that more than one status is seen.
+//! `ipamd free` as a program of its own, which is built in minutes: the same answers and statuses as `ipamd` has for `free`, and for
+//! words that ask for nothing. It has no other command.
 #![tactic(auto)]
 
-use ipam_command::program;
-use ipam_keeper::opener::MemoryOpener;
-use ipam_listen::ListListener;
+ghost use Rattle.std.specs.Prelude.{◌≡◌, ◌×◌, ◌⊎◌, ¬, ℕ, List, map};
+ghost use Rattle.inet_num.specs.Net.{Cidr};
+ghost use Rattle.command_words.specs.declared.asked.Command.TheVariants.{Free};
+ghost use Rattle.command_words.specs.Asked.{Asks};
+ghost use Rattle.command_streams.specs.Streams.{IsUsage, streams, told};
+ghost use Rattle.command_free.specs.Run.{IsFree};
+
+use command_free::run_free;
+use command_streams::{MEMORY, NoArguments, say_usage, words_given};
+use command_words::{Command, read_words};
+use ipam_edge::{Sink, Source, standard_error, standard_input, standard_output};
+use std::alloc::Global;
 use std::process::ExitCode;
 
+/// Runs the words: `free`, or the usage line where they ask for no command or for another one. It gives the status: 0 done, 1 a line
+/// is refused, 2 the words are no such command, 3 the input, the output or the messages failed, 5 out of memory.
+pub fn run<So: Source, Si: Sink, Se: Sink>(
+    alloc: Global,
+    words: &[&str],
+    input: &mut So,
+    output: &mut Si,
+    errors: &mut Se,
+) -> u8
+    ensures free { (within : Cidr) → Asks (map (λ w. w.now) words.now) (Free within)
+        → IsFree within
+        (streams (told So.left So.faults input.old) (told Si.written Si.faults output.old) (told Se.written Se.faults errors.old))
+        (streams (told So.left So.faults input.new) (told Si.written Si.faults output.new) (told Se.written Se.faults errors.new)) result
+        ⊎ (result ≡ 5) }
+    ensures usage { ((within : Cidr) → ¬ Asks (map (λ w. w.now) words.now) (Free within))
+        → IsUsage
+        (streams (told So.left So.faults input.old) (told Si.written Si.faults output.old) (told Se.written Se.faults errors.old))
+        (streams (told So.left So.faults input.new) (told Si.written Si.faults output.new) (told Se.written Se.faults errors.new)) result
+        ⊎ (result ≡ 5) }
+{
+    match read_words(alloc, words) {
+        Ok(Some(Command::Free(within))) => run_free(alloc, &within, input, output, errors),
+        Ok(_) => say_usage(errors),
+        Err(_) => MEMORY,
+    }
+}
+
+/// Runs the words over the standard streams.
+fn run_words(rt: &HostRuntime, given: &[String]) -> u8 {
+    let mut words = Vec::new(rt.alloc());
+    for word in given {
+        if words.push(word.as_str()).is_err() {
+            return MEMORY;
+        }
+    }
+    run(
+        rt.alloc(),
+        &words,
+        &mut standard_input(rt),
+        &mut standard_output(rt),
+        &mut standard_error(rt),
+    )
+}
+
 fn main(rt: HostRuntime) -> ExitCode {
-    let Ok(mut listener) = ListListener::new(rt.alloc(), Vec::new(rt.alloc())) else {
-        return ExitCode::FAILURE;
+    let status = match words_given(&rt) {
+        Ok(given) => run_words(&rt, &given),
+        Err(NoArguments::NoText) => say_usage(&mut standard_error(&rt)),
+        Err(NoArguments::Memory) => MEMORY,
     };
-    let mut opener = MemoryOpener::new(Vec::new(rt.alloc()), Vec::new(rt.alloc()));
-    program(&rt, &rt, &mut listener, &mut opener)
+    ExitCode::from(status)
 }

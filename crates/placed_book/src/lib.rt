@@ -312,7 +312,7 @@ impl<T: Located + Drop, S: Space + Drop> PlacedBook<T, S> {
 
     /// The least ids of two rows of the table with one block, or `None` where it has each block once: the lesser id is the least
     /// of one that has a later one like it.
-    pub fn coincide(&self, table: Table) -> Option<(u32, u32)>
+    pub fn same_block_pair(&self, table: Table) -> Option<(u32, u32)>
         requires { IsInOrder T.placed self.now }
         ensures { result ≡ least_pair T.id_of (coincide_in T.placed table) self.now.rows }
     {

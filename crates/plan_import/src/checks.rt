@@ -2,27 +2,13 @@
 
 ghost use Rattle.std.specs.Prelude.{◌≡◌, []};
 ghost use Rattle.ipam_data.specs.ByKind.{by_view};
-ghost use Rattle.ipam_data.specs.Checks.{first, no_room};
+ghost use Rattle.ipam_data.specs.Checks.{first};
 ghost use Rattle.ipam_data.specs.Plans.{creation};
 ghost use Rattle.register_tables.specs.Held.{state_of};
 
-use ipam_data::kinds::{Kind, LAST_ID};
-use ipam_data::replies::{Refusal, View, Which};
-use register_plans::{Registered, broken};
+use ipam_data::replies::{Refusal, View};
+use register_plans::{Registered, broken, no_room_for_one};
 use register_tables::RowTables;
-
-/// Why a kind takes no further row, if so: it would have more than `most`, or no id is left.
-fn no_room_for_one(kind: Kind, most: u32, count: u32, next: u32) -> Option<Refusal>
-    ensures { result ≡ first (no_room kind most count next 1) }
-{
-    if count >= most {
-        return Some(Refusal::Limit(Which::Kind(kind), u64::from(most)));
-    }
-    if next > LAST_ID {
-        return Some(Refusal::Limit(Which::Ids, u64::from(LAST_ID)));
-    }
-    None
-}
 
 /// Why a row can't be made, if so, where nothing is told of its draft; the log has no say.
 fn check_row<T: Registered>(row_tables: &RowTables, row: &T) -> Option<Refusal>

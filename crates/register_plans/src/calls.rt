@@ -22,7 +22,7 @@ use register_tables::{Planned, RowTables};
 use std::alloc::{AllocError, Global};
 
 /// Why a kind takes no further row, if so: it would have more than `most`, or no id is left.
-fn no_room_for_one(kind: Kind, most: u32, count: u32, next: u32) -> Option<Refusal>
+pub fn no_room_for_one(kind: Kind, most: u32, count: u32, next: u32) -> Option<Refusal>
     ensures { result ≡ first (no_room kind most count next 1) }
 {
     if count >= most {

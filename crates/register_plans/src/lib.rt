@@ -16,6 +16,6 @@ mod roles;
 mod same;
 mod vrfs;
 
-pub use calls::broken;
+pub use calls::{broken, no_room_for_one};
 pub use dispatch::{broken_by_view, plan_draft, plan_edit, plan_gone, plan_one, plan_page};
 pub use registered::Registered;

@@ -71,10 +71,10 @@ fn coinciding(row_tables: &RowTables, row: &Vrf) -> Option<Rule>
     if !is_turned_on(row_tables, row) {
         return None;
     }
-    if let Some((a, b)) = row_tables.prefixes().coincidence_of(Table::Of(row.id)) {
+    if let Some((a, b)) = row_tables.prefixes().coincide(Table::Of(row.id)) {
         return Some(Rule::Coincide(Kind::Prefixes, a, b));
     }
-    match row_tables.addresses().clash_of(Table::Of(row.id)) {
+    match row_tables.addresses().coincide(Table::Of(row.id)) {
         Some((a, b)) => Some(Rule::Coincide(Kind::Addresses, a, b)),
         None => None,
     }

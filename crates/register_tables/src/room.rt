@@ -15,8 +15,8 @@ use placed_book::{Book, Located, PlacedBook};
 use radix_tree::Tree;
 use std::alloc::{AllocError, Global};
 
-/// How many rows an update may put: more of them want more memory than there is.
-const MOST_PUTS: usize = 500_000_000;
+/// How many rows an update may put, and a kind may have before one more is put: more of them want more memory than there is.
+const MOST_PUTS: u32 = 500_000_000;
 
 /// The place of a kind among the kinds.
 fn place(kind: Kind) -> u32
@@ -134,7 +134,7 @@ impl RowTables {
         ensures state { state_of self.new ≡ state_of self.old }
         ensures ok { OnOk result (HasRoom self.new views.now) }
     {
-        if views.len() > MOST_PUTS {
+        if views.len() > MOST_PUTS as usize {
             return Err(AllocError);
         }
         self.vrfs.reserve(count_of_kind(views, Kind::Vrfs) as u32)?;
@@ -158,13 +158,13 @@ impl RowTables {
     fn is_huge(&self) -> bool
         ensures { result ≡ false → HasAtMost 500000000 self.now }
     {
-        self.vrfs.len() > 500_000_000
-            || self.rirs.len() > 500_000_000
-            || self.roles.len() > 500_000_000
-            || self.aggregates.len() > 500_000_000
-            || self.prefixes.len() > 500_000_000
-            || self.ranges.len() > 500_000_000
-            || self.addresses.len() > 500_000_000
+        self.vrfs.len() > MOST_PUTS
+            || self.rirs.len() > MOST_PUTS
+            || self.roles.len() > MOST_PUTS
+            || self.aggregates.len() > MOST_PUTS
+            || self.prefixes.len() > MOST_PUTS
+            || self.ranges.len() > MOST_PUTS
+            || self.addresses.len() > MOST_PUTS
     }
 
     /// Makes room for a row.

@@ -1,7 +1,5 @@
-//! The register, tried over a keeper in memory: opened, changed, listed, and opened again.
+//! The register, tried over a keeper in memory: which tables are opened, and which are not.
 #![tactic(auto)]
 
-#[cfg(test)]
-mod act_tests;
 #[cfg(test)]
 mod tests;

@@ -4,6 +4,4 @@
 #[cfg(test)]
 mod claims;
 #[cfg(test)]
-mod command_load_tests;
-#[cfg(test)]
 mod command_serve_tests;

@@ -12,7 +12,7 @@ use ipam_data::update::Ids;
 use sqlite::{Alter, Connection, Row as FoundRow};
 use std::alloc::Global;
 use stored_tables::tables::{Row, Rows, Tables, Text, Texts};
-use stored_tables::writing::columns_of;
+use stored_tables::writing::column_names;
 
 /// A row of the table of numbers.
 #[derive(Drop)]
@@ -95,7 +95,7 @@ fn row_of(alloc: Global, kind: Kind, found: &FoundRow) -> Result<Row, StoreFault
     Ok(Row {
         kind,
         id: found.get(0)?,
-        fields: texts_of(alloc, found, columns_of(kind).len())?,
+        fields: texts_of(alloc, found, column_names(kind).len())?,
     })
 }
 

@@ -7,28 +7,13 @@ ghost use Rattle.stored_tables.specs.Order.{AreTables};
 
 use ipam_data::kinds::Kind;
 use stored_tables::tables::{Row, Tables};
-
-/// The place of a kind among the kinds, from 1.
-fn number_of(kind: Kind) -> u64
-    ensures is { result ≡ kind_number kind }
-    ensures high { kind_number kind ≤ 7 }
-{
-    match kind {
-        Kind::Vrfs => 1,
-        Kind::Rirs => 2,
-        Kind::Roles => 3,
-        Kind::Aggregates => 4,
-        Kind::Prefixes => 5,
-        Kind::Ranges => 6,
-        Kind::Addresses => 7,
-    }
-}
+use stored_tables::writing::number_of_kind;
 
 /// Where a row stands among all rows.
 fn place_of(row: &Row) -> u64
     ensures { result ≡ row_place row.now }
 {
-    number_of(row.kind) * 4_294_967_296 + row.id as u64
+    number_of_kind(row.kind) * 4_294_967_296 + row.id as u64
 }
 
 /// Whether rows stand in the order of their kinds and ids, none twice.
@@ -52,7 +37,7 @@ fn nexts_rise(nexts: &[(Kind, u32)]) -> bool
 {
     let mut last = 0u64;
     for next in nexts {
-        let place = number_of(next.0);
+        let place = number_of_kind(next.0);
         if place <= last {
             return false;
         }

@@ -2,7 +2,7 @@
 
 use ipam_data::kinds::Kind;
 use std::alloc::{AllocError, Global};
-use stored_tables::writing::columns_of;
+use stored_tables::writing::column_names;
 
 /// The version of the tables that this program writes.
 pub(crate) const VERSION: u32 = 1;
@@ -47,7 +47,7 @@ pub(crate) fn next_name_of(alloc: Global, kind: Kind) -> Result<String, AllocErr
 
 /// Adds a text for each column.
 fn push_columns(text: &mut String, kind: Kind, front: &str, back: &str) -> Result<(), AllocError> {
-    for column in columns_of(kind) {
+    for column in column_names(kind) {
         text.push_str(front)?;
         text.push_str(column)?;
         text.push_str(back)?;
@@ -85,11 +85,11 @@ pub(crate) fn put_text(alloc: Global, kind: Kind) -> Result<String, AllocError> 
     text.push_str(" (id")?;
     push_columns(&mut text, kind, ", ", "")?;
     text.push_str(") VALUES (?")?;
-    for _ in columns_of(kind) {
+    for _ in column_names(kind) {
         text.push_str(", ?")?;
     }
     text.push_str(") ON CONFLICT (id) DO UPDATE SET id = excluded.id")?;
-    for column in columns_of(kind) {
+    for column in column_names(kind) {
         text.push_str(", ")?;
         text.push_str(column)?;
         text.push_str(" = excluded.")?;

@@ -32,6 +32,18 @@ use Rattle.ipam_data.specs.ByKind.{by_kind}
 use Rattle.ipam_data.specs.Updates.{updated, CanUpdate}
 use Rattle.ipam_data.specs.Lawful.{IsLawful}
 
+-- ---- the columns of a kind
+
+-- the names under which a file keeps the texts of a row past its id, in the order of the texts
+abbrev pub stored_columns : Kind → List (List ℕ)
+stored_columns Vrfs = codes "name" ∷ codes "rd" ∷ codes "enforce_unique" ∷ codes "description" ∷ []
+stored_columns Rirs = codes "name" ∷ codes "slug" ∷ codes "is_private" ∷ codes "description" ∷ []
+stored_columns Roles = codes "name" ∷ codes "slug" ∷ codes "weight" ∷ codes "description" ∷ []
+stored_columns Aggregates = codes "prefix" ∷ codes "rir" ∷ codes "description" ∷ []
+stored_columns Prefixes = codes "prefix" ∷ codes "vrf" ∷ codes "status" ∷ codes "role" ∷ codes "is_pool" ∷ codes "mark_utilized" ∷ codes "description" ∷ []
+stored_columns Ranges = codes "start_address" ∷ codes "end_address" ∷ codes "vrf" ∷ codes "status" ∷ codes "role" ∷ codes "mark_utilized" ∷ codes "description" ∷ []
+stored_columns Addresses = codes "address" ∷ codes "vrf" ∷ codes "status" ∷ codes "role" ∷ codes "dns_name" ∷ codes "description" ∷ []
+
 -- ---- the texts of a column
 
 abbrev pub flag_text : Bool → List ℕ

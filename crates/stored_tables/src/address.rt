@@ -1,7 +1,8 @@
 //! Addresses as they are stored, and as they are read again.
 
-ghost use Rattle.std.specs.Prelude.{◌≡◌, ◌≤◌, ◌∷◌, [], IfOk};
-ghost use Rattle.stored_tables.specs.Stored.{stored_address};
+ghost use Rattle.std.specs.Prelude.{◌≡◌, ◌≤◌, ◌∷◌, [], IfOk, map};
+ghost use Rattle.ipam_data.specs.declared.kinds.Kind.TheVariants as Kind;
+ghost use Rattle.stored_tables.specs.Stored.{stored_address, stored_columns};
 ghost use Rattle.stored_tables.specs.Reading.{IsRead, IsTypedAddress, row_of};
 
 use crate::columns::{
@@ -18,7 +19,9 @@ use ipam_data::text::DescriptionBounds;
 use std::alloc::{AllocError, Global};
 
 /// The columns of addresses past the id, in the order of their texts.
-pub(crate) fn address_columns() -> &'static [&'static str] {
+pub(crate) fn address_columns() -> &'static [&'static str]
+    ensures { map (λ c. c.now) result.now ≡ stored_columns Kind.Addresses }
+{
     &[
         "address",
         "vrf",

@@ -1,7 +1,8 @@
 //! Prefixes as they are stored, and as they are read again.
 
-ghost use Rattle.std.specs.Prelude.{◌≡◌, ◌≤◌, ◌∷◌, [], IfOk};
-ghost use Rattle.stored_tables.specs.Stored.{stored_prefix};
+ghost use Rattle.std.specs.Prelude.{◌≡◌, ◌≤◌, ◌∷◌, [], IfOk, map};
+ghost use Rattle.ipam_data.specs.declared.kinds.Kind.TheVariants as Kind;
+ghost use Rattle.stored_tables.specs.Stored.{stored_prefix, stored_columns};
 ghost use Rattle.stored_tables.specs.Reading.{IsRead, IsTypedPrefix, row_of};
 
 use crate::columns::{read_block_text, read_flag, read_prefix_status, read_reference, read_text};
@@ -13,7 +14,9 @@ use ipam_data::text::DescriptionBounds;
 use std::alloc::{AllocError, Global};
 
 /// The columns of prefixes past the id, in the order of their texts.
-pub(crate) fn prefix_columns() -> &'static [&'static str] {
+pub(crate) fn prefix_columns() -> &'static [&'static str]
+    ensures { map (λ c. c.now) result.now ≡ stored_columns Kind.Prefixes }
+{
     &[
         "prefix",
         "vrf",

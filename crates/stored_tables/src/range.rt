@@ -1,7 +1,8 @@
 //! Ranges as they are stored, and as they are read again.
 
-ghost use Rattle.std.specs.Prelude.{◌≡◌, ◌≤◌, ◌∷◌, [], IfOk};
-ghost use Rattle.stored_tables.specs.Stored.{stored_range};
+ghost use Rattle.std.specs.Prelude.{◌≡◌, ◌≤◌, ◌∷◌, [], IfOk, map};
+ghost use Rattle.ipam_data.specs.declared.kinds.Kind.TheVariants as Kind;
+ghost use Rattle.stored_tables.specs.Stored.{stored_range, stored_columns};
 ghost use Rattle.stored_tables.specs.Reading.{IsRead, IsTypedRange, row_of};
 
 use crate::columns::{read_ends, read_flag, read_range_status, read_reference, read_text};
@@ -13,7 +14,9 @@ use ipam_data::text::DescriptionBounds;
 use std::alloc::{AllocError, Global};
 
 /// The columns of ranges past the id, in the order of their texts.
-pub(crate) fn range_columns() -> &'static [&'static str] {
+pub(crate) fn range_columns() -> &'static [&'static str]
+    ensures { map (λ c. c.now) result.now ≡ stored_columns Kind.Ranges }
+{
     &[
         "start_address",
         "end_address",

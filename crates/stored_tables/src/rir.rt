@@ -1,7 +1,8 @@
 //! RIRs as they are stored, and as they are read again.
 
-ghost use Rattle.std.specs.Prelude.{◌≡◌, ◌≤◌, ◌∷◌, [], IfOk};
-ghost use Rattle.stored_tables.specs.Stored.{stored_rir};
+ghost use Rattle.std.specs.Prelude.{◌≡◌, ◌≤◌, ◌∷◌, [], IfOk, map};
+ghost use Rattle.ipam_data.specs.declared.kinds.Kind.TheVariants as Kind;
+ghost use Rattle.stored_tables.specs.Stored.{stored_rir, stored_columns};
 ghost use Rattle.stored_tables.specs.Reading.{IsRead, IsTypedRir, row_of};
 
 use crate::columns::{read_flag, read_text};
@@ -13,7 +14,9 @@ use ipam_data::text::{DescriptionBounds, NameBounds, SlugBounds};
 use std::alloc::{AllocError, Global};
 
 /// The columns of RIRs past the id, in the order of their texts.
-pub(crate) fn rir_columns() -> &'static [&'static str] {
+pub(crate) fn rir_columns() -> &'static [&'static str]
+    ensures { map (λ c. c.now) result.now ≡ stored_columns Kind.Rirs }
+{
     &["name", "slug", "is_private", "description"]
 }
 

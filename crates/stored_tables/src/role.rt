@@ -1,7 +1,8 @@
 //! Roles as they are stored, and as they are read again.
 
-ghost use Rattle.std.specs.Prelude.{◌≡◌, ◌≤◌, ◌∷◌, [], IfOk};
-ghost use Rattle.stored_tables.specs.Stored.{stored_role};
+ghost use Rattle.std.specs.Prelude.{◌≡◌, ◌≤◌, ◌∷◌, [], IfOk, map};
+ghost use Rattle.ipam_data.specs.declared.kinds.Kind.TheVariants as Kind;
+ghost use Rattle.stored_tables.specs.Stored.{stored_role, stored_columns};
 ghost use Rattle.stored_tables.specs.Reading.{IsRead, IsTypedRole, row_of};
 
 use crate::columns::{read_text, read_weight};
@@ -13,7 +14,9 @@ use ipam_data::text::{DescriptionBounds, NameBounds, SlugBounds};
 use std::alloc::{AllocError, Global};
 
 /// The columns of roles past the id, in the order of their texts.
-pub(crate) fn role_columns() -> &'static [&'static str] {
+pub(crate) fn role_columns() -> &'static [&'static str]
+    ensures { map (λ c. c.now) result.now ≡ stored_columns Kind.Roles }
+{
     &["name", "slug", "weight", "description"]
 }
 

@@ -1,4 +1,4 @@
-//! Workers over one register, tried: sessions at once and one after another, the seats, and clients of a real port.
+//! Workers over one register, tried: sessions at once and one after another, and clients of a real port.
 #![tactic(auto)]
 
 #[cfg(test)]
@@ -10,8 +10,4 @@ mod register_server_tests;
 #[cfg(test)]
 mod registers;
 #[cfg(test)]
-mod seats;
-#[cfg(test)]
 mod serving;
-#[cfg(test)]
-mod shared_workers_tests;

@@ -44,4 +44,4 @@ returns-clause-view g c =
     let two : c.publish.new.place.me ≡ (w, (0, None) ∷ []) = c.publish.ensures.view ∙ ap (λ cs. (w, cs)) c.requires.empty in
     let full : Option g.row.M.Denot = Some c.args.machine in
     let three : c.exchange-held.new.seat.me ≡ (w, (0, full) ∷ []) = c.exchange-held.ensures.3 ∙ (λ i. ((two i).0, (0, full) ∷ rest (two i).1)) in
-    c.wake.ensures.view ∙ (c.fetch_add-turn.ensures.2 ∙ (λ i. let u : View g.row.M-State.Denot g.row.M-Said.Denot = rested (three i).0 in (u, [])))
+    c.wake_at_door.ensures.view ∙ (c.wake.ensures.view ∙ (c.fetch_add-turn.ensures.2 ∙ (λ i. let u : View g.row.M-State.Denot g.row.M-Said.Denot = rested (three i).0 in (u, []))))
