@@ -2,7 +2,7 @@
 //! words that ask for nothing. It has no other command.
 #![tactic(auto)]
 
-ghost use Rattle.std.specs.Prelude.{◌≡◌, ◌×◌, ◌⊎◌, ¬, ℕ, List, map};
+ghost use Rattle.std.specs.Prelude.{◌≡◌, ◌⊎◌, map};
 ghost use Rattle.inet_num.specs.Net.{Cidr};
 ghost use Rattle.command_words.specs.declared.asked.Command.TheVariants.{Free};
 ghost use Rattle.command_words.specs.Asked.{Asks};
