@@ -2,7 +2,7 @@
 """The commands of README.md, docs/USING.md, docs/CLIENTS.md and docs/OPERATING.md, run as they are written in a fresh clone, each with what it has to print. A
 command has to stand in its page, and each indented line of a page has to be a command that was run, a line that the run printed, or one that is
 named at the end with the reason why not. What wants systemd is in bench/systemd.sh. The clone takes the built program of this folder (IPAMD=PROGRAM
-takes another one); with --build its first command builds it, by the kit's `rt`. It needs curl and socat, and the port 8080.
+takes another one); with --build it is built there, the small program first, by the kit's `rt`. It needs curl and socat, and the port 8080.
 
     bench/pages.py [--build] [--quiet]
 """
@@ -270,7 +270,7 @@ class Folder:
         command = step.command.replace("/usr/local", f"{self.path}/here")
         done = subprocess.run(["bash", "-c", command], cwd=self.path, env=self.env, stdin=subprocess.DEVNULL, capture_output=True, timeout=1800)
         told = (done.stdout.decode() + done.stderr.decode()).replace(f"{self.path}/here", "/usr/local")
-        told = re.sub(r"^ipamd: (proving and building .*|built)\n", "", told, flags=re.M)
+        told = re.sub(r"^ipamd: (proving and building .*|built|the whole program is not built.*|\d+ of \d+ crates proved.*)\n", "", told, flags=re.M)
         if done.returncode != step.status or not re.search(step.wanted, told, re.S):
             sys.exit(f"pages: {step.page}: {step.command}\nstatus {done.returncode}, printed\n{told}\nwanted {step.wanted}")
         return told
@@ -313,6 +313,9 @@ def main():
                     sys.exit(f"pages: not in {step.page}: {step.command}")
                 printed = folder.run(step)
                 told[step.page].append(printed)
+                if step is steps[0] and "--build" in sys.argv[1:]:
+                    # the first command built the small program; a server is to listen at once
+                    subprocess.run(["./build"], cwd=folder.path, check=True)
                 if "--quiet" not in sys.argv[1:]:
                     first = printed.split("\n")[0].strip()
                     print(f"{step.page}: {step.command.splitlines()[0]}\n    status {step.status}: {first[:160]}", flush=True)
