@@ -2,10 +2,11 @@
 """The commands of README.md, docs/USING.md, docs/CLIENTS.md and docs/OPERATING.md, run as they are written in a fresh clone, each with what it has to print. A
 command has to stand in its page, and each indented line of a page has to be a command that was run, a line that the run printed, or one that is
 named at the end with the reason why not. What wants systemd is in bench/systemd.sh. The clone takes the built program of this folder (IPAMD=PROGRAM
-takes another one); with --build its first command builds it, by the kit's `rt`. It needs curl and socat, and the port 8080.
+takes another one); with --build it is built there, the small program first, by the kit's `rt`. It needs curl and socat, and the port 8080.
 
     bench/pages.py [--build] [--quiet]
 """
+import glob
 import os
 import re
 import shutil
@@ -53,6 +54,12 @@ def file(name, text):
     return lambda folder: open(os.path.join(folder, name), "w", newline="").write(text)
 
 
+def forget_office(folder):
+    """Removes the register of the last step and its log."""
+    for path in glob.glob(os.path.join(folder, "office.db*")):
+        os.remove(path)
+
+
 def serving(folder):
     """A register in memory that all following commands ask, until the next one takes its place."""
     return ["./ipamd", "serve", "--bind", "127.0.0.1:8080", "--workers", "8"]
@@ -82,12 +89,13 @@ KINDS = "vrfs rirs roles aggregates prefixes ip-ranges ip-addresses"
 # steps in their order; a function makes a file, or gives the words of a register that serves from there on; None ends what runs
 STEPS = [
     readme(r"printf '10.0.0.0/24\n10.0.4.0/22\n' | ./ipamd free 10.0.0.0/16", r"\A10\.0\.1\.0/24\n(.*\n){5}10\.0\.128\.0/17\n\Z"),
-    file("assigned.txt", "2001:db8:8000::/33\n"),
-    readme("./ipamd free 2001:db8::/32 < assigned.txt", r"\A2001:db8::/33\n\Z"),
-    readme(POST, r'\AHTTP/1.1 201 Created\r\n(.*\r\n)*Ipam-Place: 0\r\n\r\n\{"children":0,"depth":0,.*"vrf":null\}\Z'),
-    readme(SOCAT, "", stays=True),
-    readme(TWO, rf"\A{RED}{RED}\Z"),
+    readme("./ipamd serve --bind 127.0.0.1:8080 --workers 4 --db office.db &", "", stays=True),
+    readme("""curl -s -d '{"prefix":"10.0.0.0/24"}' http://127.0.0.1:8080/api/ipam/prefixes/""", r'"id":1,.*"prefix":"10\.0\.0\.0/24"'),
+    readme("""curl -s -d '{}' http://127.0.0.1:8080/api/ipam/prefixes/1/available-ips/ | grep -o '"address":"[^"]*"'""", r'\A"address":"10\.0\.0\.1/24"\n\Z'),
     None,
+    forget_office,
+    file("assigned.txt", "2001:db8:8000::/33\n"),
+    using("./ipamd free 2001:db8::/32 < assigned.txt", r"\A2001:db8::/33\n\Z"),
     file("prefixes.csv", "id,prefix,vrf\n1,10.0.0.0/9,\n2,10.128.0.0/10,\n"),
     using("tail -n +2 prefixes.csv | cut -d, -f2 | ./ipamd free 10.0.0.0/8", r"\A10\.192\.0\.0/10\n\Z"),
     using("""python3 -c 'import csv, sys; [print(row["prefix"]) for row in csv.DictReader(sys.stdin)]' < prefixes.csv | ./ipamd free 10.0.0.0/8""", r"\A10\.192\.0\.0/10\n\Z"),
@@ -262,7 +270,7 @@ class Folder:
         command = step.command.replace("/usr/local", f"{self.path}/here")
         done = subprocess.run(["bash", "-c", command], cwd=self.path, env=self.env, stdin=subprocess.DEVNULL, capture_output=True, timeout=1800)
         told = (done.stdout.decode() + done.stderr.decode()).replace(f"{self.path}/here", "/usr/local")
-        told = re.sub(r"^ipamd: (proving and building .*|built)\n", "", told, flags=re.M)
+        told = re.sub(r"^ipamd: (proving and building .*|built|the whole program is not built.*|\d+ of \d+ crates proved.*)\n", "", told, flags=re.M)
         if done.returncode != step.status or not re.search(step.wanted, told, re.S):
             sys.exit(f"pages: {step.page}: {step.command}\nstatus {done.returncode}, printed\n{told}\nwanted {step.wanted}")
         return told
@@ -305,6 +313,9 @@ def main():
                     sys.exit(f"pages: not in {step.page}: {step.command}")
                 printed = folder.run(step)
                 told[step.page].append(printed)
+                if step is steps[0] and "--build" in sys.argv[1:]:
+                    # the first command built the small program; a server is to listen at once
+                    subprocess.run(["./build"], cwd=folder.path, check=True)
                 if "--quiet" not in sys.argv[1:]:
                     first = printed.split("\n")[0].strip()
                     print(f"{step.page}: {step.command.splitlines()[0]}\n    status {step.status}: {first[:160]}", flush=True)

@@ -1,10 +1,11 @@
 #!/usr/bin/env python3
-"""Draws the crates as layers, from crates.txt: a crate stands above all that it stands on, and the crates that a comment of crates.txt has
-under it have its colour. Crates of the kit are not drawn.
+"""Draws the crates in layers, from crates.txt: a band for each of its comments, the last one on top. A crate depends on crates of its own band and of those
+below; dependencies that go up are listed at the foot. Crates of tests are dashed. Crates of the kit are not drawn. The picture is 800 pixels wide and has a
+background of its own, so that it can be read in a light and in a dark theme.
 
     python3 docs/layers.py            writes docs/layers.svg
-    python3 docs/layers.py --check    ends with 1 where docs/layers.svg is not what would be written, or where the README or docs/ARCHITECTURE.md
-                                      do not list the layers of crates.txt with the same crates in the same order; prints nothing where all is well
+    python3 docs/layers.py --check    ends with 1 if docs/layers.svg is not what would be written, or if the README or docs/ARCHITECTURE.md
+                                      do not list the layers of crates.txt with the same crates in the same order; prints nothing if all is well
 """
 import html
 import os
@@ -13,12 +14,13 @@ import sys
 
 HERE = os.path.dirname(os.path.abspath(__file__))
 COLOURS = ["#dbe9f6", "#e2f0d9", "#fff2cc", "#fce4d6", "#e8e0f0", "#d9eeee", "#f4dbe6", "#ececec", "#e0e7d0", "#f0e0c8"]
-WIDE, HIGH, GAP, ABOVE, MARGIN, PER_LINE = 124, 24, 8, 26, 16, 9
-FONT = "font-family='DejaVu Sans, Verdana, sans-serif'"
+PAGE, MARGIN, HIGH, GAP, PER_LINE, TITLE = 800, 14, 26, 8, 6, 26
+WIDE = (PAGE - 4 * MARGIN - (PER_LINE - 1) * GAP) / PER_LINE
+FONT = "font-family='DejaVu Sans, Verdana, Helvetica, sans-serif'"
 
 
 def read_crates(path):
-    """The crates as name, what each stands on, and the number of the group; and the titles of the groups."""
+    """The crates as name, what each depends on, and the number of the group; and the titles of the groups."""
     crates, titles = {}, []
     with open(path) as file:
         for line in file:
@@ -31,47 +33,44 @@ def read_crates(path):
     return crates, titles
 
 
-def level_of(name, crates, known):
-    """0 where it stands on no crate of this repository, else one more than the highest below."""
-    if name not in known:
-        below = [level_of(one, crates, known) for one in crates[name][0] if one in crates]
-        known[name] = 1 + max(below, default=-1)
-    return known[name]
+def box(name, left, top, below):
+    words = html.escape(f"{name} depends on " + (", ".join(below) if below else "nothing"))
+    dashed, ink = (" stroke-dasharray='4 3'", "#555") if name.endswith("_trial") else ("", "#111")
+    return (f"<g><title>{words}</title><rect x='{left:.1f}' y='{top}' width='{WIDE:.1f}' height='{HIGH}' rx='4' fill='white' stroke='#666'{dashed}/>"
+            f"<text x='{left + WIDE / 2:.1f}' y='{top + 17}' text-anchor='middle' font-size='12' fill='{ink}' {FONT}>{html.escape(name)}</text></g>")
 
 
-def box(name, group, left, top, below):
-    words = html.escape(f"{name} stands on " + (", ".join(below) if below else "nothing"))
-    return (f"<g><title>{words}</title><rect x='{left}' y='{top}' width='{WIDE}' height='{HIGH}' rx='4' fill='{COLOURS[group % len(COLOURS)]}' stroke='#777'/>"
-            f"<text x='{left + WIDE // 2}' y='{top + 16}' text-anchor='middle' font-size='11' {FONT}>{html.escape(name)}</text></g>")
+def band(number, title, crates, top):
+    """A layer with its title and its crates, and its height."""
+    names = [name for name in crates if crates[name][1] == number]
+    lines = (len(names) + PER_LINE - 1) // PER_LINE
+    high = TITLE + lines * (HIGH + GAP) + 4
+    parts = [f"<rect x='{MARGIN}' y='{top}' width='{PAGE - 2 * MARGIN}' height='{high}' rx='6' fill='{COLOURS[number % len(COLOURS)]}'/>",
+             f"<text x='{2 * MARGIN}' y='{top + 18}' font-size='14' font-weight='bold' fill='#111' {FONT}>{html.escape(title)}</text>"]
+    for place, name in enumerate(names):
+        left = 2 * MARGIN + place % PER_LINE * (WIDE + GAP)
+        parts.append(box(name, left, top + TITLE + place // PER_LINE * (HIGH + GAP), crates[name][0]))
+    return parts, high
 
 
-def legend(titles, top):
-    """A line of colour and text for each group, and the height of all."""
-    parts = []
-    for number, title in enumerate(titles):
-        at = top + number * 20
-        parts.append(f"<rect x='{MARGIN}' y='{at}' width='24' height='14' fill='{COLOURS[number % len(COLOURS)]}' stroke='#777'/>"
-                     f"<text x='{MARGIN + 32}' y='{at + 11}' font-size='12' {FONT}>{html.escape(title)}</text>")
-    return parts, len(titles) * 20
+def foot(crates):
+    """A line on dashed crates, and one for each dependency on a layer above."""
+    upward = [f"{name} also depends on {other}." for name in crates for other in crates[name][0] if other in crates and crates[other][1] > crates[name][1]]
+    return ["A crate depends on crates of its own layer and of those below. Dashed: crates of tests."] + upward
 
 
 def draw(crates, titles):
-    levels = {}
-    for name in crates:
-        level_of(name, crates, levels)
     parts, top = [], MARGIN
-    for level in range(max(levels.values()), -1, -1):
-        names = [name for name in crates if levels[name] == level]
-        parts.append(f"<text x='{MARGIN}' y='{top + 16}' font-size='12' fill='#555' {FONT}>{level}</text>")
-        for place, name in enumerate(names):
-            left = MARGIN + 28 + place % PER_LINE * (WIDE + GAP)
-            parts.append(box(name, crates[name][1], left, top + place // PER_LINE * (HIGH + GAP), crates[name][0]))
-        lines = (len(names) + PER_LINE - 1) // PER_LINE
-        top += lines * (HIGH + GAP) - GAP + ABOVE - 10
-    more, high = legend(titles, top + 8)
-    width, height = MARGIN * 2 + 28 + PER_LINE * (WIDE + GAP) - GAP, top + 8 + high + MARGIN
-    head = f"<svg xmlns='http://www.w3.org/2000/svg' viewBox='0 0 {width} {height}' width='{width}' height='{height}'>"
-    return "\n".join([head, f"<rect width='{width}' height='{height}' fill='white'/>"] + parts + more + ["</svg>"]) + "\n"
+    for number in reversed(range(len(titles))):
+        more, high = band(number, titles[number], crates, top)
+        parts += more
+        top += high + GAP
+    for line in foot(crates):
+        top += 18
+        parts.append(f"<text x='{MARGIN}' y='{top}' font-size='13' fill='#111' {FONT}>{html.escape(line)}</text>")
+    height = top + MARGIN
+    head = f"<svg xmlns='http://www.w3.org/2000/svg' viewBox='0 0 {PAGE} {height}' width='{PAGE}' height='{height}'>"
+    return "\n".join([head, f"<rect width='{PAGE}' height='{height}' fill='white'/>"] + parts + ["</svg>"]) + "\n"
 
 
 def layers_of(crates, titles):
