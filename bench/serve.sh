@@ -1,15 +1,19 @@
 #!/usr/bin/env bash
 # `serve` under load, by the built program (./ipamd builds it; IPAMD=PROGRAM takes another one): answers a second of a GET of one prefix, of a
-# list of 50 addresses, of a creation and of a claim of one address, with 1, 4 and 16 connections and as many workers, in memory and over a
+# list of 50 addresses, of a creation and of a claim of one address, with 1, 4, 16 and 32 connections and as many workers, in memory and over a
 # file; beside it a peer that sends a file of the size of the GET's answer. The client is wrk where it is found, and else a small one in C, a
 # thread a connection; the peer is nginx with as many workers, where it is found, and else a file server in C, a thread a connection, which
-# the output names. It needs curl and a C compiler.   bench/serve.sh [SECONDS [PORT]]
+# the output names. Each figure is the median of RUNS runs (RUNS=5 bench/serve.sh; 1 where it is not set; MEMORY_ONLY=yes leaves out what is over a file). With wrk a second line has the 99th
+# percentile of the time to an answer (the median of the runs) and the longest answer of all runs, in milliseconds.
+# It needs curl and a C compiler.   bench/serve.sh [SECONDS [PORT]]
 set -euo pipefail
 top=$(cd "$(dirname "$0")/.." && pwd)
 program=${IPAMD:-$top/crates/ipamd/out/ipamd}
 [ -x "$program" ] || { echo "build the program first: ./ipamd free 10.0.0.0/8 </dev/null" >&2; exit 1; }
 seconds=${1:-3}
 port=${2:-18070}
+runs=${RUNS:-1}
+counts="1 4 16 32"
 folder=$(mktemp -d)
 chmod 755 "$folder" # a worker of nginx is another user
 server=
@@ -224,15 +228,35 @@ function request()
 end
 L
 
-# answers a second: connections, method, target, body
+# answers a second, and with wrk the 99th percentile and the longest answer in milliseconds: connections, method, target, body
 load() {
     if command -v wrk > /dev/null; then
-        wrk -t "$1" -c "$1" -d "${seconds}s" -s "$folder/parts.lua" "http://127.0.0.1:$port$3" -- "$2" "$4" > "$folder/told"
+        wrk --latency -t "$1" -c "$1" -d "${seconds}s" -s "$folder/parts.lua" "http://127.0.0.1:$port$3" -- "$2" "$4" > "$folder/told"
         grep -q 'Non-2xx' "$folder/told" && fail "$2 $3: $(cat "$folder/told")"
-        awk '/Requests\/sec/ { printf "%.0f\n", $2 }' "$folder/told"
+        awk 'function ms(text) { return text ~ /us$/ ? text / 1000 : text ~ /ms$/ ? text + 0 : text * 1000 }
+            $1 == "Latency" && NF == 5 { most = ms($4) } $1 == "99%" { late = ms($2) } /Requests\/sec/ { printf "%.0f %.2f %.1f\n", $2, late, most }' "$folder/told"
     else
         "$folder/client" "$port" "$1" "$seconds" "$2" "$3" "$4" || fail "$2 $3 with $1 connections"
     fi
+}
+
+# of lines of figures: the median of the first and of the second column, and the greatest of the third
+summary() {
+    local middle=$(((runs + 1) / 2))
+    echo "$(sort -n "$1" | sed -n "${middle}p" | cut -d' ' -f1) $(cut -s -d' ' -f2 "$1" | sort -n | sed -n "${middle}p") $(cut -s -d' ' -f3 "$1" | sort -n | tail -n 1)"
+}
+
+# a line of answers a second, and one of times where there are some: the name, and a summary for each number of connections
+print_row() {
+    printf '%-28s' "$1"
+    local one
+    for one in "${@:2}"; do printf ' %16s' "${one%% *}"; done
+    echo
+    case $2 in *' '[0-9]*)
+        printf '%-28s' "  99th percentile, longest"
+        for one in "${@:2}"; do printf ' %16s' "$(echo "$one" | awk '{ print $2 ", " $3 }')"; done
+        echo ;;
+    esac
 }
 
 # ---- the servers
@@ -269,27 +293,30 @@ fill() {
     curl -s -f --max-time 20 -o /dev/null -d "[$(printf '{},%.0s' $(seq 49)){}]" "http://127.0.0.1:$port$A/prefixes/1/available-ips/" || fail "the addresses"
 }
 
-# a line: what, where, and the answers a second with 1, 4 and 16 connections, each over a register of its own
+# a line: what, where, and the answers a second with each number of connections, each run over a register of its own
 row() {
-    local figures=() figure connections
-    for connections in 1 4 16; do
-        rm -f "$folder"/office.db*
-        start "$connections" "${@:5}"
-        fill
-        figure=$(load "$connections" "$2" "$3" "$4")
-        figures+=("$figure")
-        stop
+    local figures=() connections
+    for connections in $counts; do
+        : > "$folder/figures"
+        for _ in $(seq "$runs"); do
+            rm -f "$folder"/office.db*
+            start "$connections" "${@:5}"
+            fill
+            load "$connections" "$2" "$3" "$4" >> "$folder/figures"
+            stop
+        done
+        figures+=("$(summary "$folder/figures")")
     done
-    printf '%-28s %10s %10s %10s\n' "$1" "${figures[@]}"
+    print_row "$1" "${figures[@]}"
 }
 
 peer_row() {
-    local figures=() figure connections name
+    local figures=() connections name
     start 1
     fill
     curl -s "http://127.0.0.1:$port$A/prefixes/1/" > "$folder/1" || fail "curl is wanted"
     stop
-    for connections in 1 4 16; do
+    for connections in $counts; do
         if command -v nginx > /dev/null; then
             name="nginx, a file"
             cat > "$folder/nginx.conf" <<N
@@ -304,21 +331,23 @@ N
         fi
         server=$!
         wait_for
-        figure=$(load "$connections" GET /1 "")
-        figures+=("$figure")
+        : > "$folder/figures"
+        for _ in $(seq "$runs"); do load "$connections" GET /1 "" >> "$folder/figures"; done
+        figures+=("$(summary "$folder/figures")")
         stop
     done
-    printf '%-28s %10s %10s %10s\n' "$name" "${figures[@]}"
+    print_row "$name" "${figures[@]}"
 }
 
 echo "answers a second by $(command -v wrk > /dev/null && echo wrk || echo 'a client in C, a thread a connection'), $seconds seconds each, as many workers as connections"
-printf '%-28s %10s %10s %10s\n' '' 1 4 16
+[ "$runs" = 1 ] || echo "median of $runs runs"
+printf '%-28s %16s %16s %16s %16s\n' '' $counts
 rows() {
     row "GET, $1" GET "$A/prefixes/1/" "" "${@:2}"
     row "list of 50, $1" GET "$A/ip-addresses/?limit=50" "" "${@:2}"
     row "creation, $1" POST "$A/prefixes/" '{"prefix":"%.0/32"}' "${@:2}"
     row "claim, $1" POST "$A/prefixes/1/available-ips/" '{}' "${@:2}"
 }
-rows "in memory"
-rows "over a file" --db "$folder/office.db"
 peer_row
+rows "in memory"
+[ -n "${MEMORY_ONLY:-}" ] || rows "over a file" --db "$folder/office.db"
