@@ -10,15 +10,15 @@ rows=${1:-500000}
 scratch=${SCRATCH:-$(mktemp -d)}
 [ -n "${SCRATCH:-}" ] || trap 'rm -rf "$scratch"' EXIT
 mkdir -p "$scratch/crates"
-for crate in inet_num ipam_data row_book indexed_book; do
+for crate in inet_num ipam_data block_space placed_book; do
     if [ ! -d "$scratch/crates/$crate" ]; then
         cp -r "$top/crates/$crate" "$scratch/crates/"
         rm -rf "$scratch/crates/$crate/must-fail"
     fi
 done
 cp "$top/HANDLES" "$scratch/"
-grep -E '^(inet_num|ipam_data|row_book|indexed_book):' "$top/crates.txt" > "$scratch/crates.txt"
-echo 'book_bench: ipam_data row_book indexed_book anyhow' >> "$scratch/crates.txt"
+grep -E '^(inet_num|ipam_data|block_space|placed_book):' "$top/crates.txt" > "$scratch/crates.txt"
+echo 'book_bench: ipam_data placed_book anyhow' >> "$scratch/crates.txt"
 bench=$scratch/crates/book_bench
 mkdir -p "$bench/src" "$bench/proofs"
 cat > "$bench/src/main.rt" <<'E2'
@@ -26,9 +26,8 @@ cat > "$bench/src/main.rt" <<'E2'
 //! fastest and the slowest removal of five at the front, of five in the middle, and the sum of all answers.
 #![tactic(auto)]
 
-use placed_book::IndexedBook;
 use ipam_data::kinds::Row;
-use placed_book::RowBook;
+use placed_book::{IndexedBook, RowBook};
 use std::alloc::AllocError;
 use std::env;
 use std::time::Instant;
@@ -196,7 +195,7 @@ cat > "$bench/proofs/Above.antt" <<'E2'
 -- Where no row is past an id, all ids are below the next one.
 use Rattle.std.proofs.Common.{◌≡◌, ◌-◌, ◌≤◌, ◌<◌, ℕ, ◌+◌, nat_lt, Bool, true, false, cond, List, [], ◌∷◌, Option, Some, None, refl, arith}
 use Rattle.std.proofs.lemmas.Bool.Decides.{nat_tests}
-use Rattle.ipam_data.specs.Shelf.{row_after, AllBelow}
+use Rattle.ipam_data.specs.RowList.{row_after, AllBelow}
 
 module _ {T : Type 0} (id : T → ℕ) where
   pub all_below : (n m : ℕ) (xs : List T) → n < m → row_after id xs n ≡ None → AllBelow id m xs

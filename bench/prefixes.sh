@@ -11,7 +11,7 @@ prefixes=${1:-200000}
 scratch=${SCRATCH:-$(mktemp -d)}
 [ -n "${SCRATCH:-}" ] || trap 'rm -rf "$scratch"' EXIT
 mkdir -p "$scratch/crates"
-crates='inet_num ipam_data block_space block_list node_pool radix_tree row_book indexed_book placed_book prefix_rules'
+crates='inet_num ipam_data block_space block_list node_pool radix_tree placed_book prefix_rules'
 for crate in $crates; do
     if [ ! -d "$scratch/crates/$crate" ]; then
         mkdir "$scratch/crates/$crate"
@@ -20,7 +20,7 @@ for crate in $crates; do
 done
 cp "$top/HANDLES" "$scratch/"
 grep -E "^(${crates// /|}):" "$top/crates.txt" > "$scratch/crates.txt"
-echo 'prefix_bench: inet_num ipam_data block_space radix_tree row_book placed_book prefix_rules anyhow' >> "$scratch/crates.txt"
+echo 'prefix_bench: inet_num ipam_data block_space radix_tree placed_book prefix_rules anyhow' >> "$scratch/crates.txt"
 bench=$scratch/crates/prefix_bench
 mkdir -p "$bench/src" "$bench/proofs/add" "$bench/proofs/fill"
 cat > "$bench/src/main.rt" <<'E'
@@ -29,7 +29,7 @@ cat > "$bench/src/main.rt" <<'E'
 #![tactic(auto)]
 
 ghost use Rattle.std.specs.Prelude.{◌≡◌, ℕ, ◌+◌, ◌≤◌, IfOk, OnOk};
-ghost use Rattle.ipam_data.specs.Shelf.{AllBelow};
+ghost use Rattle.ipam_data.specs.RowList.{AllBelow};
 ghost use Rattle.ipam_data.specs.Prefixes.{prefix_id};
 ghost use Rattle.prefix_rules.specs.Book.{IsInOrder};
 
@@ -168,7 +168,7 @@ E
 cat > "$bench/proofs/add/Answers.antt" <<'E'
 use Rattle.std.proofs.Common.{◌+◌, ◌∙◌, sym, subst, List}
 use Rattle.ipam_data.specs.declared.prefix.Prefix.{Prefix}
-use Rattle.ipam_data.specs.Shelf.{AllBelow}
+use Rattle.ipam_data.specs.RowList.{AllBelow}
 use Rattle.ipam_data.specs.Prefixes.{prefix_id}
 use Rattle.placed_book.proofs.Places.{below_with}
 use Rattle.prefix_bench.proofs.add.Goals as goal
@@ -181,7 +181,7 @@ returns-clause-below c =
 E
 cat > "$bench/proofs/fill/Invariants.antt" <<'E'
 use Rattle.std.proofs.Common.{◌+◌}
-use Rattle.ipam_data.specs.Shelf.{AllBelow}
+use Rattle.ipam_data.specs.RowList.{AllBelow}
 use Rattle.ipam_data.specs.Prefixes.{prefix_id}
 use Rattle.prefix_rules.specs.Book.{IsInOrder}
 use Rattle.prefix_bench.proofs.fill.Given as goal
