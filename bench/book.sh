@@ -26,7 +26,7 @@ cat > "$bench/src/main.rt" <<'E2'
 //! fastest and the slowest removal of five at the front, of five in the middle, and the sum of all answers.
 #![tactic(auto)]
 
-use ipam_data::kinds::Row;
+use ipam_data::kinds::HasId;
 use placed_book::{IndexedBook, RowBook};
 use std::alloc::AllocError;
 use std::env;
@@ -38,7 +38,7 @@ struct Wide {
     words: [u64; 18],
 }
 
-impl Row for Wide {
+impl HasId for Wide {
     ghost id_of = { λ r. r.id };
 
     fn id(&self) -> u32 {
