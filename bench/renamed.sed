@@ -5,7 +5,7 @@
 # row_book and indexed_book are in placed_book
 s/Rattle\.row_book\.specs\.Book\b/Rattle.placed_book.specs.RowBook/g
 s/Rattle\.row_book\.proofs\.Places\b/Rattle.placed_book.proofs.RowPlaces/g
-s/Rattle\.row_book\.proofs\.(seek|found|RowBookBook)\b/Rattle.placed_book.proofs.rows.\1/g
+s/Rattle\.row_book\.proofs\.(seek|found|RowBookBook)\b/Rattle.placed_book.proofs.row_book.\1/g
 s/Rattle\.indexed_book\.specs\.declared\./Rattle.placed_book.specs.declared.indexed./g
 s/Rattle\.indexed_book\.proofs\.(resettle|IndexedBookBook)\b/Rattle.placed_book.proofs.indexed.\1/g
 s/Rattle\.indexed_book\./Rattle.placed_book./g
@@ -23,6 +23,7 @@ s/Rattle\.load_text\.specs\.Load\b/Rattle.command_load.specs.LoadText/g
 s/Rattle\.load_text\./Rattle.command_load./g
 s/\bload_text::/command_load::/g
 s/Rattle\.load_claims\.proofs\.(claims_in_order|claims_of_many|tallies_of_many|notes_of_one|load_has_room)\b/Rattle.command_load.proofs.laws.\1/g
+s/Rattle\.load_claims\.proofs\.Figures\b/Rattle.command_load.proofs.ClaimFigures/g
 s/Rattle\.load_claims\./Rattle.command_load./g
 s/\bload_claims\b/command_load/g
 s/\bregister_load\b/command_load/g

@@ -14,7 +14,7 @@ use Rattle.ipam_data.specs.State.{State, empty_state}
 use Rattle.ipam_data.specs.Steps.{plain_step}
 use Rattle.command_load.specs.Claims.{block_of, claimed_state, creation_of, figure_call}
 use Rattle.command_load.specs.Histories.{HasRoomFor, IsLoadHistory}
-use Rattle.command_load.proofs.Figures.{figure_of_claims}
+use Rattle.command_load.proofs.ClaimFigures.{figure_of_claims}
 use Rattle.command_load.proofs.Histories.{history_leads}
 use Rattle.command_load.proofs.Room.{room as room_for}
 use Rattle.command_load.specs.declared.figures.Figures.{Figures}

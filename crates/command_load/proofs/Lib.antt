@@ -13,7 +13,7 @@ pub mod Lengths
 pub mod Runs
 pub mod Hosts
 pub mod Steps
-pub mod Figures
+pub mod ClaimFigures
 pub mod Histories
 pub mod Tallies
 pub mod Notes

@@ -6,7 +6,7 @@ ghost use Rattle.ipam_data.specs.RowList.{Rises};
 ghost use Rattle.placed_book.specs.Indexed.{entry_id, resettled, IsOnlyFor};
 
 use crate::contract::Book;
-use crate::rows::{found, seek};
+use crate::row_book::{found, seek};
 use ipam_data::kinds::HasId;
 use std::alloc::{AllocError, Global};
 use std::marker::Model;

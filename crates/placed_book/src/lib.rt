@@ -24,7 +24,7 @@ mod firsts;
 mod indexed;
 mod kinds;
 mod rivals;
-mod rows;
+mod row_book;
 mod spaces;
 mod tables;
 
@@ -36,7 +36,7 @@ use inet_num::{Block, Family};
 use ipam_data::kinds::{HasId, Table, is_one_table};
 pub use kinds::host_block;
 use rivals::{first_rival, ids_among, is_in_place, least_rival};
-pub use rows::RowBook;
+pub use row_book::RowBook;
 use spaces::TableSpaces;
 use std::alloc::{AllocError, Global};
 use std::collections::HashMap;

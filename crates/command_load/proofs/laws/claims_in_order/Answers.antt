@@ -1,5 +1,5 @@
 use Rattle.command_load.proofs.Steps.{made_first, claim_next, claims_lead}
-use Rattle.command_load.proofs.Figures.{figure_of_claims}
+use Rattle.command_load.proofs.ClaimFigures.{figure_of_claims}
 use Rattle.command_load.proofs.laws.claims_in_order.Goals as goal
 
 pub returns : goal.returns

@@ -1,7 +1,7 @@
 use Rattle.std.proofs.Common.{sym, ap}
 use Rattle.placed_book.specs.RowBook.{Book}
 use Rattle.placed_book.proofs.RowPlaces.{look_at}
-use Rattle.placed_book.proofs.rows.RowBookBook.get.Goals as goal
+use Rattle.placed_book.proofs.row_book.RowBookBook.get.Goals as goal
 
 pub returns-in-Some : goal.returns-in-Some
 returns-in-Some g c =

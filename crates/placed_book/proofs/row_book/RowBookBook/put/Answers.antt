@@ -1,7 +1,7 @@
 use Rattle.std.proofs.Common.{sym, ap, arith}
 use Rattle.placed_book.specs.RowBook.{Book}
 use Rattle.placed_book.proofs.RowPlaces.{set_at, with_row_new, rises_with}
-use Rattle.placed_book.proofs.rows.RowBookBook.put.Goals as goal
+use Rattle.placed_book.proofs.row_book.RowBookBook.put.Goals as goal
 
 pub invariant_of-self : goal.invariant_of-self
 invariant_of-self g c =

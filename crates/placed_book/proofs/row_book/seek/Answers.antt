@@ -1,6 +1,6 @@
 use Rattle.std.proofs.Common.{ℕ, ◌+◌, ◌-◌, ◌<◌, ◌/◌, length, arith, ap}
 use Rattle.placed_book.proofs.RowPlaces.{place_short, place_past, place_upto}
-use Rattle.placed_book.proofs.rows.seek.Goals as goal
+use Rattle.placed_book.proofs.row_book.seek.Goals as goal
 
 pub loop-low-init : goal.loop-low-init
 loop-low-init g c = let id = g.T.HasId.id_of in record { high = omega arith; past = omega arith; upto = place_short id c.args.id c.args.items.now }

@@ -1,6 +1,6 @@
 use Rattle.std.proofs.Common.{◌≢◌, arith, ap, sym, ◌∙◌}
 use Rattle.placed_book.proofs.RowPlaces.{place_short, place_from, none_at_place, nothing_from, is_at}
-use Rattle.placed_book.proofs.rows.found.Goals as goal
+use Rattle.placed_book.proofs.row_book.found.Goals as goal
 
 pub returns-then-at-items-clause-none : goal.returns-then-at-items-clause-none
 returns-then-at-items-clause-none g c = nothing_from g.T.HasId.id_of c.args.id c.args.items.now c.requires (sym c.seek-at.ensures ∙ c.if-at-items.true)

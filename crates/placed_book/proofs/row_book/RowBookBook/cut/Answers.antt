@@ -1,7 +1,7 @@
 use Rattle.std.proofs.Common.{sym, ap, arith}
 use Rattle.placed_book.specs.RowBook.{Book}
 use Rattle.placed_book.proofs.RowPlaces.{look_at, remove_at, rises_without, without_none}
-use Rattle.placed_book.proofs.rows.RowBookBook.cut.Goals as goal
+use Rattle.placed_book.proofs.row_book.RowBookBook.cut.Goals as goal
 
 pub invariant_of-self : goal.invariant_of-self
 invariant_of-self g c =

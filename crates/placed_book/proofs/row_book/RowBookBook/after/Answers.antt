@@ -1,7 +1,7 @@
 use Rattle.std.proofs.Common.{sym, ap, arith}
 use Rattle.placed_book.specs.RowBook.{Book}
 use Rattle.placed_book.proofs.RowPlaces.{after_place, get_within, get_past}
-use Rattle.placed_book.proofs.rows.RowBookBook.after.Goals as goal
+use Rattle.placed_book.proofs.row_book.RowBookBook.after.Goals as goal
 
 pub returns-then-at-len : goal.returns-then-at-len
 returns-then-at-len g c =

@@ -1,6 +1,6 @@
 use Rattle.std.proofs.Common.{◌-◌, ◌≤◌, length}
 use Rattle.placed_book.specs.RowBook.{place}
-use Rattle.placed_book.proofs.rows.seek.Given as goal
+use Rattle.placed_book.proofs.row_book.seek.Given as goal
 
 abbrev pub invariant-loop-low : goal.invariant-loop-low
 invariant-loop-low g l = record {
