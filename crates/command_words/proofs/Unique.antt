@@ -13,7 +13,7 @@ use Rattle.command_words.specs.declared.asked.Store.{Store}
 use Rattle.command_words.specs.declared.asked.Serving.{Serving}
 use Rattle.command_words.specs.declared.asked.Command.{Command}
 use Rattle.command_words.specs.declared.asked.Command.TheVariants as command
-use Rattle.command_words.specs.Grammar.{given}
+use Rattle.command_grammar.specs.Grammar.{given}
 use Rattle.command_words.specs.Values.{most_workers, most_connections, most_claims, most_id, IsBlockValue, IsNumberValue, IsNumberOr, IsTextValue, IsYesValue, IsKindValue, IsReportValue, kind_word}
 use Rattle.command_words.specs.Asked.{name_of, app_for, IsStore, IsServing, HasValues, WordsAskForOne}
 

@@ -7,7 +7,7 @@ use Rattle.command_words.specs.declared.asked.Store.{Store}
 use Rattle.command_words.specs.declared.asked.Serving.{Serving}
 use Rattle.command_words.specs.declared.asked.Command.{Command}
 use Rattle.command_words.specs.declared.asked.Command.TheVariants.{Free, Session, Serve, Import, Export, Report, Load}
-use Rattle.command_words.specs.Grammar.{Takes, given, free_app, session_app, serve_app, import_app, export_app, report_app, load_app}
+use Rattle.command_grammar.specs.Grammar.{Takes, given, free_app, session_app, serve_app, import_app, export_app, report_app, load_app}
 use Rattle.command_words.specs.Values.{most_workers, most_connections, most_claims, IsBlockValue, IsNumberValue, IsNumberOr, IsTextValue, IsTextOrNone, IsYesValue, IsKindValue, IsReportValue}
 
 -- the first word

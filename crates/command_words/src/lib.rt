@@ -5,7 +5,6 @@ ghost use Rattle.std.specs.Prelude.{◌≡◌, ◌↔◌, ◌∷◌, [], ℕ, Li
 ghost use Rattle.command_words.specs.Asked.{Asks, IsNoCommand, WordsAskForOne};
 
 mod asked;
-mod builder;
 mod readers;
 mod values;
 

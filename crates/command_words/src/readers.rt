@@ -5,14 +5,14 @@ ghost use Rattle.clap.specs.Words.{found_of, rows_of};
 ghost use Rattle.command_words.specs.Asked.{IsReadAs, IsServing};
 
 use crate::asked::{Command, Serving};
-use crate::builder::{
-    export_command, free_command, import_command, load_command, parse, report_command,
-    serve_command, session_command, value,
-};
 use crate::values::{
     block_value, kind_value, number_or, number_value, report_value, store_value, text_value,
 };
 use clap::ArgMatches;
+use command_grammar::{
+    export_command, free_command, import_command, load_command, parse, report_command,
+    serve_command, session_command, value,
+};
 use std::alloc::{AllocError, Global};
 
 /// The most workers.
@@ -23,7 +23,7 @@ const MOST_CONNECTIONS: u32 = 1_000_000_000;
 const MOST_CLAIMS: u32 = 100_000;
 
 /// Reads the words of `free`. `Err` means out of memory.
-#[tactic(auto, using(crate::proofs::Plain::free_is_plain))]
+#[tactic(auto, using(command_grammar::proofs::Plain::free_is_plain))]
 pub(crate) fn read_free<'a>(
     alloc: Global,
     words: &'a [&'a str],
@@ -41,7 +41,7 @@ pub(crate) fn read_free<'a>(
 }
 
 /// Reads the words of `session`. `Err` means out of memory.
-#[tactic(auto, using(crate::proofs::Plain::session_is_plain))]
+#[tactic(auto, using(command_grammar::proofs::Plain::session_is_plain))]
 pub(crate) fn read_session<'a>(
     alloc: Global,
     words: &'a [&'a str],
@@ -87,7 +87,7 @@ fn serving_value<'a>(alloc: Global, matches: &ArgMatches<'a>) -> Result<Option<S
 }
 
 /// Reads the words of `serve`. `Err` means out of memory.
-#[tactic(auto, using(crate::proofs::Plain::serve_is_plain))]
+#[tactic(auto, using(command_grammar::proofs::Plain::serve_is_plain))]
 pub(crate) fn read_serve<'a>(
     alloc: Global,
     words: &'a [&'a str],
@@ -105,7 +105,7 @@ pub(crate) fn read_serve<'a>(
 }
 
 /// Reads the words of `import`. `Err` means out of memory.
-#[tactic(auto, using(crate::proofs::Plain::import_is_plain))]
+#[tactic(auto, using(command_grammar::proofs::Plain::import_is_plain))]
 pub(crate) fn read_import<'a>(
     alloc: Global,
     words: &'a [&'a str],
@@ -126,7 +126,7 @@ pub(crate) fn read_import<'a>(
 }
 
 /// Reads the words of `export`. `Err` means out of memory.
-#[tactic(auto, using(crate::proofs::Plain::export_is_plain))]
+#[tactic(auto, using(command_grammar::proofs::Plain::export_is_plain))]
 pub(crate) fn read_export<'a>(
     alloc: Global,
     words: &'a [&'a str],
@@ -147,7 +147,7 @@ pub(crate) fn read_export<'a>(
 }
 
 /// Reads the words of `report`. `Err` means out of memory.
-#[tactic(auto, using(crate::proofs::Plain::report_is_plain))]
+#[tactic(auto, using(command_grammar::proofs::Plain::report_is_plain))]
 pub(crate) fn read_report<'a>(
     alloc: Global,
     words: &'a [&'a str],
@@ -168,7 +168,7 @@ pub(crate) fn read_report<'a>(
 }
 
 /// Reads the words of `load`. `Err` means out of memory.
-#[tactic(auto, using(crate::proofs::Plain::load_is_plain))]
+#[tactic(auto, using(command_grammar::proofs::Plain::load_is_plain))]
 pub(crate) fn read_load<'a>(
     alloc: Global,
     words: &'a [&'a str],

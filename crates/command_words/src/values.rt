@@ -7,8 +7,8 @@ ghost use Rattle.command_words.specs.Values.{IsBlockValue, IsNumberValue, IsNumb
 ghost use Rattle.command_words.specs.Asked.{IsStore};
 
 use crate::asked::{KindName, Report, Store, WordText};
-use crate::builder::value;
 use clap::ArgMatches;
+use command_grammar::value;
 use inet_num::{Block, read_block};
 use itoa::Buffer;
 use std::alloc::{AllocError, Global};

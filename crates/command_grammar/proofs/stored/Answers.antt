@@ -1,7 +1,7 @@
 use Rattle.std.proofs.Common.{◌≡◌, ◌∙◌, IfOk, ap, ap₂, subst}
 use Rattle.clap.specs.Words.{app_of}
 use Rattle.clap.specs.Simple.{App, with_rule}
-use Rattle.command_words.proofs.builder.stored.Goals as goal
+use Rattle.command_grammar.proofs.stored.Goals as goal
 
 pub returns : goal.returns
 returns c =

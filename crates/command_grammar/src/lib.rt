@@ -1,9 +1,10 @@
-//! How clap is asked: a command of places and options, and what words give to them.
+//! The words of each command as clap takes them: a command of places and options, and what words give to them.
+#![tactic(auto)]
 
 ghost use Rattle.std.specs.Prelude.{◌≡◌, ◌↔◌, Option, IfOk, IsTrue, MatchOption, map, option_map, true, false, codes};
 ghost use Rattle.clap.specs.Words.{app_of, first_of, found_of, kind_of, rows_of, rule_of};
 ghost use Rattle.clap.specs.Simple.{App, with_rule};
-ghost use Rattle.command_words.specs.Grammar.{IsPlainCommand, Takes, given, command_app, option_rule, needed_rule, place_rule, with_store, free_app, session_app, serve_app, import_app, export_app, report_app, load_app};
+ghost use Rattle.command_grammar.specs.Grammar.{IsPlainCommand, Takes, given, command_app, option_rule, needed_rule, place_rule, with_store, free_app, session_app, serve_app, import_app, export_app, report_app, load_app};
 
 use clap::error::ErrorKind;
 use clap::{Arg, ArgAction, ArgMatches, Error};
@@ -61,7 +62,7 @@ fn stored<'a>(alloc: Global, command: clap::Command<'a>) -> Result<clap::Command
 
 /// `free P`. `Err` means out of memory.
 #[tactic(auto, unfolding(crate::specs::Grammar::free_app))]
-pub(crate) fn free_command<'a>(alloc: Global) -> Result<clap::Command<'a>, AllocError>
+pub fn free_command<'a>(alloc: Global) -> Result<clap::Command<'a>, AllocError>
     ensures { IfOk result (λ c. app_of c ≡ free_app) }
 {
     with(plain_command(alloc, "free"), place(alloc, "block"))
@@ -69,7 +70,7 @@ pub(crate) fn free_command<'a>(alloc: Global) -> Result<clap::Command<'a>, Alloc
 
 /// `session`. `Err` means out of memory.
 #[tactic(auto, unfolding(crate::specs::Grammar::session_app))]
-pub(crate) fn session_command<'a>(alloc: Global) -> Result<clap::Command<'a>, AllocError>
+pub fn session_command<'a>(alloc: Global) -> Result<clap::Command<'a>, AllocError>
     ensures { IfOk result (λ c. app_of c ≡ session_app) }
 {
     stored(alloc, plain_command(alloc, "session"))
@@ -77,7 +78,7 @@ pub(crate) fn session_command<'a>(alloc: Global) -> Result<clap::Command<'a>, Al
 
 /// `serve --bind HOST:PORT --workers N`. `Err` means out of memory.
 #[tactic(auto, unfolding(crate::specs::Grammar::serve_app))]
-pub(crate) fn serve_command<'a>(alloc: Global) -> Result<clap::Command<'a>, AllocError>
+pub fn serve_command<'a>(alloc: Global) -> Result<clap::Command<'a>, AllocError>
     ensures { IfOk result (λ c. app_of c ≡ serve_app) }
 {
     let command = with(plain_command(alloc, "serve"), needed(alloc, "bind"))?;
@@ -88,7 +89,7 @@ pub(crate) fn serve_command<'a>(alloc: Global) -> Result<clap::Command<'a>, Allo
 
 /// `import KIND`. `Err` means out of memory.
 #[tactic(auto, unfolding(crate::specs::Grammar::import_app))]
-pub(crate) fn import_command<'a>(alloc: Global) -> Result<clap::Command<'a>, AllocError>
+pub fn import_command<'a>(alloc: Global) -> Result<clap::Command<'a>, AllocError>
     ensures { IfOk result (λ c. app_of c ≡ import_app) }
 {
     let command = with(plain_command(alloc, "import"), place(alloc, "kind"))?;
@@ -97,7 +98,7 @@ pub(crate) fn import_command<'a>(alloc: Global) -> Result<clap::Command<'a>, All
 
 /// `export KIND`. `Err` means out of memory.
 #[tactic(auto, unfolding(crate::specs::Grammar::export_app))]
-pub(crate) fn export_command<'a>(alloc: Global) -> Result<clap::Command<'a>, AllocError>
+pub fn export_command<'a>(alloc: Global) -> Result<clap::Command<'a>, AllocError>
     ensures { IfOk result (λ c. app_of c ≡ export_app) }
 {
     let command = with(plain_command(alloc, "export"), place(alloc, "kind"))?;
@@ -106,7 +107,7 @@ pub(crate) fn export_command<'a>(alloc: Global) -> Result<clap::Command<'a>, All
 
 /// `report NAME`. `Err` means out of memory.
 #[tactic(auto, unfolding(crate::specs::Grammar::report_app))]
-pub(crate) fn report_command<'a>(alloc: Global) -> Result<clap::Command<'a>, AllocError>
+pub fn report_command<'a>(alloc: Global) -> Result<clap::Command<'a>, AllocError>
     ensures { IfOk result (λ c. app_of c ≡ report_app) }
 {
     let command = with(plain_command(alloc, "report"), place(alloc, "name"))?;
@@ -116,7 +117,7 @@ pub(crate) fn report_command<'a>(alloc: Global) -> Result<clap::Command<'a>, All
 
 /// `load N`. `Err` means out of memory.
 #[tactic(auto, unfolding(crate::specs::Grammar::load_app))]
-pub(crate) fn load_command<'a>(alloc: Global) -> Result<clap::Command<'a>, AllocError>
+pub fn load_command<'a>(alloc: Global) -> Result<clap::Command<'a>, AllocError>
     ensures { IfOk result (λ c. app_of c ≡ load_app) }
 {
     let command = with(plain_command(alloc, "load"), place(alloc, "count"))?;
@@ -132,7 +133,7 @@ fn is_memory(error: &Error) -> bool
 
 /// What the words give, or none where the command does not take them. `Err` means out of memory.
 #[tactic(auto, unfolding(crate::specs::Grammar::IsPlainCommand, crate::specs::Grammar::Takes, crate::specs::Grammar::given))]
-pub(crate) fn parse<'a>(
+pub fn parse<'a>(
     command: clap::Command<'a>,
     words: &'a [&'a str],
 ) -> Result<Option<ArgMatches<'a>>, AllocError>
@@ -152,7 +153,7 @@ pub(crate) fn parse<'a>(
 }
 
 /// What was given to a place or an option.
-pub(crate) fn value<'a>(matches: &ArgMatches<'a>, name: &str) -> Option<&'a str>
+pub fn value<'a>(matches: &ArgMatches<'a>, name: &str) -> Option<&'a str>
     ensures { option_map (λ t. t.now) result ≡ first_of name.now (rows_of (found_of matches.now)) }
 {
     matches.get_str(name)

@@ -1,6 +1,6 @@
 -- Each command is one of those that clap's definition speaks of.
 use Rattle.std.proofs.Common.{refl}
-use Rattle.command_words.specs.Grammar.{IsPlainCommand, free_app, session_app, serve_app, import_app, export_app, report_app, load_app}
+use Rattle.command_grammar.specs.Grammar.{IsPlainCommand, free_app, session_app, serve_app, import_app, export_app, report_app, load_app}
 
 pub free_is_plain : IsPlainCommand free_app
 unfolding IsPlainCommand free_app
