@@ -1,5 +1,5 @@
 -- Where a text is cut: at its first line feed, or at its first space.
-use Rattle.std.proofs.Common.{◌≡◌, ◌≢◌, ℕ, suc, ◌+◌, ◌-◌, ◌<◌, ◌≤◌, refl, sym, ◌∙◌, ap, subst, arith, Bool, true, false, not, cond, All, List, [], ◌∷◌, ◌++◌, length, get_or, take, drop}
+use Rattle.std.proofs.Common.{◌≡◌, ◌≢◌, ℕ, suc, ◌+◌, ◌-◌, ◌<◌, ◌≤◌, refl, sym, ◌∙◌, ap, subst, arith, Bool, true, false, not, cond, All, List, [], ◌∷◌, ◌++◌, length, get_or, take, drop, append_assoc}
 use Rattle.std.specs.List.{list_any, position_or_len, before_first, slice_split}
 use Rattle.std.proofs.lemmas.Bool.Decides.{nat_tests}
 use Rattle.std.proofs.lemmas.Grind.{get_or_default_zero}
@@ -24,8 +24,8 @@ pub first_line : (text : List ℕ) (i : ℕ) → i < length text → IsClear tex
 first_line text i l before here =
     let at = at_feed text i l before here in
     slice_split_first is_feed text 0 (omega arith)
-        ∙ ap (λ (k : ℕ). take k text ∷ lines_of (drop (k + 1) text)) at
-        ∙ ap (λ (r : List ℕ). take i text ∷ lines_of r) (sym (take_rest text (i + 1)))
+    ∙ ap (λ (k : ℕ). take k text ∷ lines_of (drop (k + 1) text)) at
+    ∙ ap (λ (r : List ℕ). take i text ∷ lines_of r) (sym (take_rest text (i + 1)))
 
 pub last_line : (text : List ℕ) (i : ℕ) → length text ≤ i → IsClear text i 10 → lines_of text ≡ text ∷ []
 last_line text i all before = slice_split_none is_feed text (λ k d l.
@@ -65,3 +65,15 @@ word-append (x ∷ xs) ys h = go (is_space x) refl (word-append xs ys) where
   go false e later =
       let rest : list_any is_space xs ≡ false = (let step : list_any is_space (x ∷ xs) ≡ list_any is_space xs = rw e refl in sym step ∙ h) in
       word-cons x (xs ++ 32 ∷ ys) e ∙ ap (λ (zs : List ℕ). x ∷ zs) (later rest)
+
+-- ---- pieces put one behind another
+
+pub joined_three : (out a b d e1 e2 e3 : List ℕ) → e1 ≡ out ++ a → e2 ≡ e1 ++ b → e3 ≡ e2 ++ d → e3 ≡ out ++ (a ++ b ++ d)
+joined_three out a b d e1 e2 e3 p q r = r ∙ ap (λ (t : List ℕ). t ++ d) (q ∙ ap (λ (t : List ℕ). t ++ b) p) ∙ regroup out a b d where
+  regroup : (out a b d : List ℕ) → ((out ++ a) ++ b) ++ d ≡ out ++ (a ++ b ++ d)
+  regroup out a b d = simp append_assoc
+
+pub joined_four : (out a b d f e1 e2 e3 e4 : List ℕ) → e1 ≡ out ++ a → e2 ≡ e1 ++ b → e3 ≡ e2 ++ d → e4 ≡ e3 ++ f → e4 ≡ out ++ (a ++ b ++ d ++ f)
+joined_four out a b d f e1 e2 e3 e4 p q r s = s ∙ ap (λ (t : List ℕ). t ++ f) (r ∙ ap (λ (t : List ℕ). t ++ d) (q ∙ ap (λ (t : List ℕ). t ++ b) p)) ∙ regroup out a b d f where
+  regroup : (out a b d f : List ℕ) → (((out ++ a) ++ b) ++ d) ++ f ≡ out ++ (a ++ b ++ d ++ f)
+  regroup out a b d f = simp append_assoc

@@ -1,5 +1,5 @@
 -- Sets of addresses as sets of numbers of one family, and what the fewest blocks of such a set say of lists.
-use Rattle.std.proofs.Common.{◌≡◌, ◌≢◌, ◌↔◌, ◌⊎◌, ℕ, ◌+◌, ◌-◌, ◌<◌, ◌≤◌, refl, sym, ◌∙◌, ap, subst, arith, inl, inr, Bool, true, false, not, ◌&&◌, ◌||◌, IsTrue, List, [], ◌∷◌, ◌++◌, length, get_or, Result, Ok, Err, IfOk}
+use Rattle.std.proofs.Common.{◌≡◌, ◌≢◌, ◌↔◌, ◌⊎◌, ℕ, ◌+◌, ◌-◌, ◌<◌, ◌≤◌, refl, sym, ◌∙◌, ap, subst, arith, inl, inr, Bool, true, false, not, ◌&&◌, ◌||◌, IsTrue, List, [], ◌∷◌, ◌++◌, length, get_or, Result, Ok, Err, IfOk, IfErr}
 use Rattle.std.specs.List.{AllByRecursion}
 use Rattle.std.specs.List.Sorted.{IsPermutation}
 use Rattle.std.proofs.lemmas.List.Elements.{recursion_from_All, All-from_recursion}
@@ -55,8 +55,8 @@ pub just : (set : Spans) (test : Address → Bool) (bs : List Cidr) → IsSetOf 
 just set test bs is family members a = elim (cases_family a.family set.family) [
   | inl same ↦
       subst (λ (f : Family). addresses_of_list bs (at f a.value) ≡ test (at f a.value)) (sym same)
-          (list_has set.family bs a.value family ∙ same_test (is_taken bs a.value) (test (at set.family a.value))
-              (λ h. (is.numbers a.value).0 ((members a.value).1 h)) (λ h. (members a.value).0 ((is.numbers a.value).1 h)))
+      (list_has set.family bs a.value family ∙ same_test (is_taken bs a.value) (test (at set.family a.value))
+      (λ h. (is.numbers a.value).0 ((members a.value).1 h)) (λ h. (members a.value).0 ((is.numbers a.value).1 h)))
   | inr other ↦ list_has_not set.family bs a family other ∙ sym (is.own a other)
 ]
 
@@ -70,7 +70,7 @@ added_more old new c bs was added n =
     let span = between_of_block c n in
     let more = taken_more bs c n in
     let parts : (is_taken bs n ≡ true) ⊎ (has_address c n ≡ true) → is_taken (bs ++ c ∷ []) n ≡ true =
-      λ h. elim h [ inl k ↦ more ∙ or_left (is_taken bs n) (has_address c n) k | inr k ↦ more ∙ or_right (is_taken bs n) (has_address c n) k ] in (
+    λ h. elim h [ inl k ↦ more ∙ or_left (is_taken bs n) (has_address c n) k | inr k ↦ more ∙ or_right (is_taken bs n) (has_address c n) k ] in (
       (λ h. elim ((added n).0 h) [
         | inl k ↦ (let t = (was n).0 k in to_test (parts (inl (from_test t))))
         | inr k ↦ (let t = span.0 k in to_test (parts (inr (has_as_test c n t))))
@@ -147,8 +147,7 @@ is_beyond_set set family have by e of of_by members = record {
   own = λ a other. rw (list_has_not family have a of (λ same. other (same ∙ sym e))) refl;
   numbers = λ n.
       let has : addresses_of_list have (at set.family n) ≡ is_taken have n = subst (λ (f : Family). addresses_of_list have (at f n) ≡ is_taken have n) (sym e) (list_has family have n of) in
-      let has_by : addresses_of_list by (at set.family n) ≡ is_taken by n = subst (λ (f : Family). addresses_of_list by (at f n) ≡ is_taken by n) (sym e) (list_has family by n of_by) in
-      (
+      let has_by : addresses_of_list by (at set.family n) ≡ is_taken by n = subst (λ (f : Family). addresses_of_list by (at f n) ≡ is_taken by n) (sym e) (list_has family by n of_by) in (
         (λ h. (let p = (members n).0 h in to_test (and_not _ _ (has ∙ from_test p.0) (has_by ∙ p.1)))),
         (λ h. (let p = both _ _ (from_test h) in (members n).1 (to_test (sym has ∙ p.0), sym has_by ∙ p.1))),
       );
@@ -187,3 +186,7 @@ in_any_order set bs cs p members n =
 pub of_any_order : (family : Family) (bs cs : List Cidr) → IsPermutation bs cs → AreOf family bs → AreOf family cs
 of_any_order family bs cs p h =
     recursion_from_All (λ (b : Cidr). b.family ≡ family) cs (All-permutation (λ (b : Cidr). b.family ≡ family) bs cs p (All-from_recursion (λ (b : Cidr). b.family ≡ family) bs h))
+
+pub err_one : {T E : Type 0} (r : Result T E) {P Q : E → Type 0} → ((x : E) → P x → Q x) → IfErr r P → IfErr r Q
+err_one (Ok x) f h = tt
+err_one (Err e) f h = f e h

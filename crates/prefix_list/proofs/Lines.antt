@@ -1,5 +1,5 @@
 -- One line: what follows its front, and the block that it names.
-use Rattle.std.proofs.Common.{◌≡◌, ◌≢◌, ℕ, ◌<◌, refl, sym, ◌∙◌, ap, subst, List, [], ◌∷◌, ◌++◌, IsTrue, Option, Some, None, IfSome, IfNone}
+use Rattle.std.proofs.Common.{◌≡◌, ◌≢◌, ℕ, ◌<◌, refl, sym, ◌∙◌, ap, subst, List, [], ◌∷◌, ◌++◌, IsTrue, Option, Some, None, MatchOption, IfSome, IfNone}
 use Rattle.std.proofs.lemmas.List.{append_cancel_left}
 use Rattle.inet_num.specs.declared.Family.{Family}
 use Rattle.inet_num.specs.Net.{Cidr}
@@ -74,3 +74,15 @@ line_matches style name family form of line b h = record {
       (subst (λ (front : List ℕ). IsFormed style front form.family line b) (sym of.front_is)
       (subst (λ (f : Family). IsFormed style (front_of style name family) f line b) (sym of.family_is) h.formed));
 }
+
+pub at_some : {T : Type 0} (r : Option T) (x : T) (P : Type 0) (Q : T → Type 0) → r ≡ Some x → MatchOption r P Q → Q x
+at_some {T} r x P Q e h = subst (λ (o : Option T). MatchOption o P Q) e h
+
+pub at_none : {T : Type 0} (r : Option T) (P : Type 0) (Q : T → Type 0) → r ≡ None → MatchOption r P Q → P
+at_none {T} r P Q e h = subst (λ (o : Option T). MatchOption o P Q) e h
+
+pub if_some : {T : Type 0} (r : Option T) (x : T) (P : T → Type 0) → r ≡ Some x → IfSome r P → P x
+if_some {T} r x P e h = subst (λ (o : Option T). IfSome o P) e h
+
+pub if_none : {T : Type 0} (r : Option T) (P : Type 0) → r ≡ None → IfNone r P → P
+if_none {T} r P e h = subst (λ (o : Option T). IfNone o P) e h

@@ -1,5 +1,5 @@
 -- Numbers of one to ten digits, and what follows them on a line.
-use Rattle.std.proofs.Common.{◌≡◌, ◌≢◌, ℕ, ◌+◌, ◌^◌, ◌<◌, ◌≤◌, refl, sym, ◌∙◌, ap, subst, arith, inl, inr, Bool, true, false, not, ◌&&◌, nat_le, nat_lt, List, [], ◌∷◌, ◌++◌, length, get_or, decimal, codes, append_assoc}
+use Rattle.std.proofs.Common.{◌≡◌, ◌≢◌, ℕ, ◌+◌, ◌^◌, ◌<◌, ◌≤◌, refl, sym, ◌∙◌, ap, subst, arith, inl, inr, Bool, true, false, not, ◌&&◌, nat_le, nat_lt, nat_eq, List, [], ◌∷◌, ◌++◌, length, get_or, decimal, codes, append_assoc, Option, Some, None, MatchOption, IfSome, IfNone, Bor}
 use Rattle.std.specs.Char.{is_ascii_digit}
 use Rattle.std.specs.List.{list_any, list_all, before_first}
 use Rattle.std.specs.Str.Parse.{digits_value}
@@ -21,7 +21,7 @@ tests : IsDigitsTest AreDigits
 tests = record {
   empty = refl;
   parts = λ c cs h. (let p = and_parts (is_ascii_digit c) (list_all is_ascii_digit cs) h in let e = p.0 in ((grind (arith, nat_tests), grind (arith, nat_tests)), p.1));
-  more = λ c cs (low, high) h. and_from (is_ascii_digit c) (list_all is_ascii_digit cs) (grind (arith, nat_tests)) h;
+  more = λ c cs r h. (let low = r.0 in let high = r.1 in and_from (is_ascii_digit c) (list_all is_ascii_digit cs) (grind (arith, nat_tests)) h);
 }
 
 own : IsNumeralModel AreDigits (digits_value 10)
@@ -52,6 +52,10 @@ parts text h =
       digits = a.1;
     }
 
+and_false : (t : Bool) → (t && false) ≡ false
+and_false true = refl
+and_false false = refl
+
 joined : (text : List ℕ) → IsShort text → is_number text ≡ true
 joined text h =
     let some : nat_le 1 (length text) ≡ true = (let s = h.some in grind (arith, nat_tests)) in
@@ -60,10 +64,8 @@ joined text h =
       | inl long ↦ (let other = h.lead long in let two : nat_eq (get_or text 0 0) 48 ≡ false = grind (arith, nat_tests) in rw two (and_false (nat_lt 1 (length text))))
       | inr le ↦ (let one : nat_lt 1 (length text) ≡ false = grind (arith, nat_tests) in rw one refl)
     ] in
-    rw (some, few, lead, h.digits) refl where
-      and_false : (t : Bool) → (t && false) ≡ false
-      and_false true = refl
-      and_false false = refl
+    let digits = h.digits in
+    rw (some, few, lead, digits) refl
 
 -- the text of a number below ten to the ten is one to ten digits without a leading zero
 pub number_from : (text : List ℕ) (n : ℕ) → n < 10000000000 → text ≡ decimal n → is_number text ≡ true
@@ -83,9 +85,12 @@ number_to text h =
     let p = parts text h in
     let few = p.few in
     let some = p.some in
-    let short : digits_value 10 text < 10 ^ 10 = digits_value_short own text 10 p.digits p.few in
-    (digits_value 10 text, omega arith, sym (decimal-digits_value own text p.digits (omega arith)
-        (λ z. (elim (cases_lt 1 (length text)) [ inl long ↦ absurd (p.lead long z) | inr le ↦ omega arith ])) (omega arith)))
+    let short : digits_value 10 text < 10 ^ 10 = digits_value_short own text 10 p.digits p.few in (
+      digits_value 10 text,
+      omega arith,
+      sym (decimal-digits_value own text p.digits (omega arith)
+          (λ z. (elim (cases_lt 1 (length text)) [ inl long ↦ absurd (p.lead long z) | inr le ↦ omega arith ])) (omega arith)),
+    )
 
 -- ---- what follows a number
 
@@ -122,7 +127,7 @@ pub no_permit : (text word more : List ℕ) → word ≡ before_first is_space t
 no_permit text word more is whole none n rest small e =
     let same : word ≡ decimal n = is ∙ word_is text rest n small e in
     none rest (append_cancel_left (decimal n) more (codes " permit " ++ rest)
-        (sym (ap (λ (w : List ℕ). w ++ more) same) ∙ sym whole ∙ e ∙ append_assoc (decimal n) (codes " permit ") rest))
+    (sym (ap (λ (w : List ℕ). w ++ more) same) ∙ sym whole ∙ e ∙ append_assoc (decimal n) (codes " permit ") rest))
 
 -- what follows the number is one text
 pub behind_is_one : (style : Style) (m n : ℕ) (s t : List ℕ) → m < 10000000000 → n < 10000000000 → number_of style m ++ s ≡ number_of style n ++ t → s ≡ t
@@ -133,3 +138,15 @@ behind_is_one Ios m n s t p q e =
     let other = word_is (number_of Ios m ++ s) t n q e in
     let same : decimal m ≡ decimal n = sym one ∙ other in
     append_cancel_left (decimal n ++ codes " permit ") s t (sym (ap (λ (d : List ℕ). (d ++ codes " permit ") ++ s) same) ∙ e)
+
+-- where the first word is a number, what follows `permit` in the rest
+pub permit_some : (text word more : List ℕ) (r : Option (Bor (List ℕ))) → MatchOption r ((rest : List ℕ) → more ≢ codes " permit " ++ rest) (λ x. more ≡ codes " permit " ++ x.now)
+    → text ≡ word ++ more → is_number word ≡ true → IfSome r (λ rest. (n : ℕ) × (n < 10000000000) × (text ≡ (decimal n ++ codes " permit ") ++ rest.now))
+permit_some text word more (Some x) h whole good = (let n = number_to word good in (n.0, n.1, joined_word text word more x.now n.0 whole n.2 h))
+permit_some text word more None h whole good = tt
+
+pub permit_none : (text word more : List ℕ) (r : Option (Bor (List ℕ))) → MatchOption r ((rest : List ℕ) → more ≢ codes " permit " ++ rest) (λ x. more ≡ codes " permit " ++ x.now)
+    → word ≡ before_first is_space text → text ≡ word ++ more
+    → IfNone r ((n : ℕ) (rest : List ℕ) → n < 10000000000 → text ≢ (decimal n ++ codes " permit ") ++ rest)
+permit_none text word more (Some x) h is whole = tt
+permit_none text word more None h is whole = no_permit text word more is whole h

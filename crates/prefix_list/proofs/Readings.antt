@@ -1,5 +1,6 @@
 -- What is known of lines that were read, one after another, and that bytes have one reading.
-use Rattle.std.proofs.Common.{◌≡◌, ◌≢◌, ◌⊎◌, ℕ, zero, suc, ◌+◌, ◌≤◌, refl, sym, ◌∙◌, ap, subst, arith, inl, inr, List, [], ◌∷◌, ◌++◌, length, Result, Ok, Err, IfOk, IfErr, Vec, append_assoc}
+use Rattle.std.proofs.Common.{◌≡◌, ◌≢◌, ◌⊎◌, ℕ, zero, suc, ◌+◌, ◌≤◌, refl, sym, ◌∙◌, ap, subst, arith, inl, inr, List, [], ◌∷◌, ◌++◌, length, Result, Ok, Err, IfOk, IfErr, append_assoc}
+use Rattle.std.specs.Prelude.{Vec}
 use Rattle.std.specs.List.{AllByRecursion}
 use Rattle.std.specs.declared.alloc.Global.{Global}
 use Rattle.inet_num.specs.declared.Family.{Family}
@@ -38,7 +39,7 @@ pub names_more : (form : Form) (number : ℕ) (ls : List (List ℕ)) (line : Lis
     → ((line ≡ []) × (new ≡ old)) ⊎ ((line ≢ []) × (b : Cidr) × Matches form line b × (new ≡ old ++ b ∷ [])) → LinesName (Matches form) (ls ++ line ∷ []) new
 names_more form number ls line old new h (inl (none, same)) =
     subst (λ (l : List ℕ). LinesName (Matches form) (ls ++ l ∷ []) new) (sym none)
-        (names_skip (Matches form) ls new (subst (LinesName (Matches form) ls) (sym same) h))
+    (names_skip (Matches form) ls new (subst (LinesName (Matches form) ls) (sym same) h))
 names_more form number ls line old new h (inr (written, b, is, e)) =
     subst (LinesName (Matches form) (ls ++ line ∷ [])) (sym e) (names_written (Matches form) ls old line b h written is)
 
@@ -70,7 +71,7 @@ pub at_end : (form : Form) (bytes rest line : List ℕ) (number : ℕ) (old new 
     → ((line ≡ []) × (new ≡ old)) ⊎ ((line ≢ []) × (b : Cidr) × Matches form line b × (new ≡ old ++ b ∷ [])) → LinesName (Matches form) (lines_of bytes) new
 at_end form bytes rest line number old new at cut taken =
     subst (λ (ls : List (List ℕ)). LinesName (Matches form) ls new) (sym (at.split ∙ ap (λ (ls : List (List ℕ)). at.before ++ ls) cut))
-        (names_more form number at.before line old new at.named taken)
+    (names_more form number at.before line old new at.named taken)
 
 -- a line that is refused
 pub at_refused : (P : List ℕ → Cidr → Type 0) (bytes rest line : List ℕ) (after : List (List ℕ)) (number n : ℕ) (blocks : List Cidr) → IsAt P bytes rest number blocks
@@ -172,7 +173,7 @@ line_is_one style name family l b c h k = formed_is_one style (front_of style na
 refusals : (style : Style) (name : List ℕ) (family : Family) (bytes : List ℕ) (m n : ℕ) → IsRefused style name family bytes m → IsRefused style name family bytes n → m ≡ n
 refusals style name family bytes m n h k =
     h.number_is ∙ ap (λ (i : ℕ). i + 1) (one_place (IsLine style name family) h.before h.line h.after k.before k.line k.after h.blocks k.blocks
-        (sym h.split ∙ k.split) h.named k.named h.written k.written h.none k.none) ∙ sym k.number_is
+    (sym h.split ∙ k.split) h.named k.named h.written k.written h.none k.none) ∙ sym k.number_is
 
 apart : (style : Style) (name : List ℕ) (family : Family) (bytes : List ℕ) (bs : List Cidr) (n : ℕ) → IsList style name family bytes bs → ¬ IsRefused style name family bytes n
 apart style name family bytes bs n h k =

@@ -41,7 +41,7 @@ none_before : (from : ℕ) (bs : List Cidr) (n : ℕ) → InOrder from bs → n 
 none_before from [] n h less = refl
 none_before from (b ∷ bs) n h less =
     or_from (has_address b n) (is_taken bs n) (has_not_before b n (let l = h.0 in omega arith))
-        (none_before (b.first + size_of b) bs n h.1 (let l = h.0 in omega arith))
+    (none_before (b.first + size_of b) bs n h.1 (let l = h.0 in omega arith))
 
 taken_append : (xs ys : List Cidr) (n : ℕ) → is_taken (xs ++ ys) n ≡ (is_taken xs n || is_taken ys n)
 taken_append xs ys n = list_any-append (λ b. has_address b n) xs ys
@@ -53,7 +53,7 @@ clear_before : (xs : List Cidr) (c : Cidr) (ys : List Cidr) (n : ℕ) → InOrde
 clear_before xs c ys n order none less =
     let back = order_back 0 xs (c ∷ ys) order in
     taken_append xs (c ∷ ys) n ∙ or_from (is_taken xs n) (is_taken (c ∷ ys) n) none
-        (or_from (has_address c n) (is_taken ys n) (has_not_before c n less) (none_before (c.first + size_of c) ys n back.1 (omega arith)))
+    (or_from (has_address c n) (is_taken ys n) (has_not_before c n less) (none_before (c.first + size_of c) ys n back.1 (omega arith)))
 
 taken_there : (xs : List Cidr) (c : Cidr) (ys : List Cidr) (n : ℕ) → HasAddress c n → is_taken (xs ++ c ∷ ys) n ≡ true
 taken_there xs c ys n h =
@@ -79,7 +79,7 @@ below_none old block by n = ((λ h. inl h), (λ h. elim h [ inl k ↦ k | inr k 
 pub past_more : (xs : List Cidr) (c : Cidr) (at end next : ℕ) → IsPast xs at → c.first + size_of c ≤ end + 1 → next ≡ max at (end + 1) → IsPast (xs ++ c ∷ []) next
 past_more xs c at end next past le is n h =
     taken_append xs (c ∷ []) n ∙ or_from (is_taken xs n) (is_taken (c ∷ []) n) (past n (omega arith))
-        (or_from (has_address c n) false (has_not_behind c n (omega arith)) refl)
+    (or_from (has_address c n) false (has_not_behind c n (omega arith)) refl)
 
 -- one more block, which ends within
 pub below_more : (old set new : Spans) (block : Cidr) (by xs : List Cidr) (c : Cidr) (ys : List Cidr) (at end next : ℕ) → InOrder 0 by → by ≡ xs ++ c ∷ ys
@@ -92,8 +92,12 @@ below_more old set new block by xs c ys at end next order e below past low ends 
         | inr k ↦
             let l = k.0 in
             let u = k.1 in
-            inr (omega arith, omega arith, subst (λ (bs : List Cidr). is_taken bs n ≡ false) (sym e)
-                (clear_before xs c ys n (subst (InOrder 0) e order) (past n l) u))
+            inr (
+              omega arith,
+              omega arith,
+              subst (λ (bs : List Cidr). is_taken bs n ≡ false) (sym e)
+                  (clear_before xs c ys n (subst (InOrder 0) e order) (past n l) u),
+            )
       ]),
       (λ h. elim h [
         | inl k ↦ (gains n).1 (inl ((below n).1 (inl k)))
@@ -123,8 +127,11 @@ rest_ended old set new block by xs c ys at order e below past low begins ends hi
     | inr k ↦
         let l = k.0 in
         let u = k.1 in
-        inr ((omega arith, omega arith), subst (λ (bs : List Cidr). is_taken bs n ≡ false) (sym e)
-            (clear_before xs c ys n (subst (InOrder 0) e order) (past n l) u))
+        inr (
+          (omega arith, omega arith),
+          subst (λ (bs : List Cidr). is_taken bs n ≡ false) (sym e)
+              (clear_before xs c ys n (subst (InOrder 0) e order) (past n l) u),
+        )
   ]),
   (λ h. elim h [
     | inl k ↦ (gains n).1 (inl ((below n).1 (inl k)))

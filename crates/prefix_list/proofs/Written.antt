@@ -106,10 +106,12 @@ no_feed_protocol V6 = refl
 no_feed_front : (style : Style) (name : List ℕ) (family : Family) → IsListName name → HasNoFeed (front_of style name family)
 no_feed_front Plain name family h = refl
 no_feed_front Ios name family h =
-    no_feed_more (protocol_of family) (codes " prefix-list " ++ name ++ codes " seq ") (no_feed_protocol family)
-        (no_feed_more (codes " prefix-list ") (name ++ codes " seq ") refl (no_feed_more name (codes " seq ") (no_feed_letters name h.letters) refl))
+    let begin = no_feed_more (protocol_of family) (codes " prefix-list ") (no_feed_protocol family) refl in
+    let middle = no_feed_more (protocol_of family ++ codes " prefix-list ") name begin (no_feed_letters name h.letters) in
+    no_feed_more (protocol_of family ++ codes " prefix-list " ++ name) (codes " seq ") middle refl
 no_feed_front Junos name family h =
-    no_feed_more (codes "set policy-options prefix-list ") (name ++ codes " ") refl (no_feed_more name (codes " ") (no_feed_letters name h.letters) refl)
+    let begin = no_feed_more (codes "set policy-options prefix-list ") name refl (no_feed_letters name h.letters) in
+    no_feed_more (codes "set policy-options prefix-list " ++ name) (codes " ") begin refl
 
 -- the style has numbers of at most ten digits for the blocks from this number on
 abbrev IsNumbered : Style → ℕ → List Cidr → Type 0
@@ -146,7 +148,7 @@ is_line style name family n b bs named lawful own h =
 no_feed_line : (style : Style) (name : List ℕ) (n : ℕ) (b : Cidr) (bs : List Cidr) → IsListName name → IsBlock b → IsNumbered style n (b ∷ bs) → HasNoFeed (line_of style name n b)
 no_feed_line style name n b bs named lawful h =
     no_feed_more (front_of style name b.family) (number_of style n ++ block_text_of b) (no_feed_front style name b.family named)
-        (no_feed_more (number_of style n) (block_text_of b) (no_feed_number style n b bs h) (no_feed_block b lawful))
+    (no_feed_more (number_of style n) (block_text_of b) (no_feed_number style n b bs h) (no_feed_block b lawful))
 
 -- a line is not empty
 some_line : (style : Style) (name : List ℕ) (n : ℕ) (b : Cidr) → line_of style name n b ≢ []
@@ -175,8 +177,8 @@ read style name family n (b ∷ bs) named lawful own h =
     let line = line_of style name n b in
     let rest = lines_from style name (n + 5) bs in
     subst (λ (ls : List (List ℕ)). LinesName (IsLine style name family) ls (b ∷ bs)) (sym (lines_cons line rest (no_feed_line style name n b bs named lawful.0 h)))
-        (names_cons (IsLine style name family) line (lines_of rest) b bs (some_line style name n b) (is_line style name family n b bs named lawful.0 own.0 h)
-            (read style name family (n + 5) bs named lawful.1 own.1 (numbered_more style n b bs h)))
+    (names_cons (IsLine style name family) line (lines_of rest) b bs (some_line style name n b) (is_line style name family n b bs named lawful.0 own.0 h)
+    (read style name family (n + 5) bs named lawful.1 own.1 (numbered_more style n b bs h)))
 
 counted : (style : Style) (bs : List Cidr) → IsCounted style bs → IsNumbered style 5 bs
 counted Plain bs h = tt
@@ -190,10 +192,13 @@ written_is_read style name family bs named lawful own h = read style name family
 
 pub lines_more : (style : Style) (name : List ℕ) (n : ℕ) (bs : List Cidr) (b : Cidr)
     → lines_from style name n (bs ++ b ∷ []) ≡ lines_from style name n bs ++ line_of style name (n + 5 * length bs) b ++ 10 ∷ []
-lines_more style name n [] b = ap (λ (k : ℕ). line_of style name k b ++ 10 ∷ []) (omega arith)
+lines_more style name n [] b = (let e : n ≡ n + 5 * 0 = omega arith in ap (λ (k : ℕ). line_of style name k b ++ 10 ∷ []) e)
 lines_more style name n (c ∷ bs) b =
     let rest = lines_more style name (n + 5) bs b in
     let number : n + 5 + 5 * length bs ≡ n + 5 * length (c ∷ bs) = omega arith in
-    let last = line_of style name (n + 5 * length (c ∷ bs)) b ++ 10 ∷ [] in
-    ap (λ (t : List ℕ). line_of style name n c ++ 10 ∷ t) (rest ∙ ap (λ (k : ℕ). lines_from style name (n + 5) bs ++ line_of style name k b ++ 10 ∷ []) number)
-        ∙ sym (append_assoc (line_of style name n c) (10 ∷ lines_from style name (n + 5) bs) last)
+    let begin = line_of style name n c in
+    let middle = 10 ∷ lines_from style name (n + 5) bs in
+    let last = line_of style name (n + 5 * length (c ∷ bs)) b in
+    ap (λ (t : List ℕ). begin ++ 10 ∷ t) (rest ∙ ap (λ (k : ℕ). lines_from style name (n + 5) bs ++ line_of style name k b ++ 10 ∷ []) number)
+    ∙ sym (append_assoc begin (middle ++ last) (10 ∷ []))
+    ∙ ap (λ (t : List ℕ). t ++ 10 ∷ []) (sym (append_assoc begin middle last))

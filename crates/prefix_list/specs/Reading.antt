@@ -31,7 +31,7 @@ pub record IsFormed (style : Style) (front : List ℕ) (family : Family) (line :
   pub number : ℕ
   pub text : List ℕ
   pub short : number < 10000000000
-  pub form : line ≡ front ++ number_of style number ++ text
+  pub form : line ≡ front ++ (number_of style number ++ text)
   pub block : IsBlockText text b
   pub family_is : b.family ≡ family
 

@@ -28,7 +28,7 @@ number_of Junos n = []
 
 -- the line of a block, with this number
 abbrev pub line_of : Style → List ℕ → ℕ → Cidr → List ℕ
-line_of style name n b = front_of style name b.family ++ number_of style n ++ block_text_of b
+line_of style name n b = front_of style name b.family ++ (number_of style n ++ block_text_of b)
 
 -- the lines of blocks, the first one with this number
 abbrev pub lines_from : Style → List ℕ → ℕ → List Cidr → List ℕ

@@ -5,12 +5,10 @@ mod names;
 mod reading;
 mod sets;
 mod styles;
-#[cfg(test)]
-mod tests;
 mod writing;
 
-pub use sets::{fewest, uncovered};
 pub use names::is_list_name;
 pub use reading::{ListFault, read_list, reading_is_one, written_is_read};
+pub use sets::{fewest, uncovered};
 pub use styles::Style;
 pub use writing::{write_lines, write_list};

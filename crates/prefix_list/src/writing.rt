@@ -1,6 +1,8 @@
 //! A prefix list as text.
 
 ghost use Rattle.std.specs.Prelude.{◌≡◌, ◌+◌, ◌*◌, ◌^◌, ◌<◌, ◌∷◌, [], ◌++◌, length, IfOk, OnOk, OnErr};
+ghost use Rattle.inet_num.specs.declared.Family.{Family as AnyFamily};
+ghost use Rattle.prefix_list.specs.declared.styles.Style.TheVariants.{Ios, Junos};
 ghost use Rattle.prefix_list.specs.Styles.{protocol_of, front_of, number_of, line_of, lines_from, list_text_of};
 
 use crate::styles::Style;
@@ -22,6 +24,27 @@ fn protocol(family: Family) -> &'static [u8]
     }
 }
 
+/// Appends what each line begins with in the style of IOS.
+fn push_ios_front(name: &str, family: Family, out: &mut Vec<u8>) -> Result<(), AllocError>
+    ensures { OnOk result (out.new.items ≡ out.old.items ++ front_of Ios name.now family) }
+{
+    out.extend_from_slice(protocol(family))?;
+    out.extend_from_slice(b" prefix-list ")?;
+    out.extend_from_slice(name.as_bytes())?;
+    out.extend_from_slice(b" seq ")?;
+    Ok(())
+}
+
+/// Appends what each line begins with in the style of Junos.
+fn push_junos_front(name: &str, out: &mut Vec<u8>) -> Result<(), AllocError>
+    ensures { (family : AnyFamily) → OnOk result (out.new.items ≡ out.old.items ++ front_of Junos name.now family) }
+{
+    out.extend_from_slice(b"set policy-options prefix-list ")?;
+    out.extend_from_slice(name.as_bytes())?;
+    out.extend_from_slice(b" ")?;
+    Ok(())
+}
+
 /// Appends what each line of a list begins with.
 pub(crate) fn push_front(
     style: Style,
@@ -33,17 +56,8 @@ pub(crate) fn push_front(
 {
     match style {
         Style::Plain => Ok(()),
-        Style::Ios => {
-            out.extend_from_slice(protocol(family))?;
-            out.extend_from_slice(b" prefix-list ")?;
-            out.extend_from_slice(name.as_bytes())?;
-            out.extend_from_slice(b" seq ")
-        }
-        Style::Junos => {
-            out.extend_from_slice(b"set policy-options prefix-list ")?;
-            out.extend_from_slice(name.as_bytes())?;
-            out.extend_from_slice(b" ")
-        }
+        Style::Ios => push_ios_front(name, family, out),
+        Style::Junos => push_junos_front(name, out),
     }
 }
 

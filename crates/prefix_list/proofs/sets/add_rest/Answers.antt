@@ -19,9 +19,9 @@ returns-then-last-first-clause-added c =
     let high = c.walk.invariant.high in
     let behind = c.if-last-first.true in
     on_ok c.add_from.result
-        (λ gains. rest_added c.args.set.now c.walk.set c.add_from.new.set block by c.walk.at c.walk.invariant.below c.walk.invariant.low (omega arith)
-            (λ n le less. none_up_to by (take i by) taken (drop (i + 1) by) c.walk.at n c.requires.ordered e c.walk.invariant.past le (omega arith)) gains)
-        c.add_from.ensures.added
+    (λ gains. rest_added c.args.set.now c.walk.set c.add_from.new.set block by c.walk.at c.walk.invariant.below c.walk.invariant.low (omega arith)
+    (λ n le less. none_up_to by (take i by) taken (drop (i + 1) by) c.walk.at n c.requires.ordered e c.walk.invariant.past le (omega arith)) gains)
+    c.add_from.ensures.added
 
 pub returns-then-last-end-clause-added : goal.returns-then-last-end-clause-added
 returns-then-last-end-clause-added c =
@@ -39,9 +39,9 @@ returns-then-last-end-clause-added c =
     let begins = c.if-last-first.false in
     let ends = c.if-last-end.true in
     let gains : GainsUpTo c.walk.set c.add_up_to.new.set c.walk.at taken.first =
-      subst (λ (t : ℕ). GainsUpTo c.walk.set c.add_up_to.new.set c.walk.at t) first c.in_ok-add_up_to.ensures.added in
+    subst (λ (t : ℕ). GainsUpTo c.walk.set c.add_up_to.new.set c.walk.at t) first c.in_ok-add_up_to.ensures.added in
     rest_ended c.args.set.now c.walk.set c.add_up_to.new.set block by (take i by) taken (drop (i + 1) by) c.walk.at c.requires.ordered e
-        c.walk.invariant.below c.walk.invariant.past c.walk.invariant.low (omega arith) (omega arith) (omega arith) gains
+    c.walk.invariant.below c.walk.invariant.past c.walk.invariant.low (omega arith) (omega arith) (omega arith) gains
 
 pub walk-preserved : goal.walk-preserved
 walk-preserved c =
@@ -60,7 +60,7 @@ walk-preserved c =
     let within = c.if-last-end.false in
     let next = c.max-at.ensures in
     let gains : GainsUpTo c.walk.set c.add_up_to.new.set c.walk.at taken.first =
-      subst (λ (t : ℕ). GainsUpTo c.walk.set c.add_up_to.new.set c.walk.at t) first c.in_ok-add_up_to.ensures.added in
+    subst (λ (t : ℕ). GainsUpTo c.walk.set c.add_up_to.new.set c.walk.at t) first c.in_ok-add_up_to.ensures.added in
     let more : take (i + 1) by ≡ take i by ++ taken ∷ [] = take_more by i taken c.walk-test.true ∙ ap (λ (b : Cidr). take i by ++ b ∷ []) (sym c.taken-item.is) in
     record {
       family = c.in_ok-add_up_to.ensures.family ∙ c.walk.invariant.family;

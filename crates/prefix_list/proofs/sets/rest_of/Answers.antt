@@ -17,7 +17,26 @@ each-init c = record {
 }
 
 pub each-preserved : goal.each-preserved
-each-preserved c = ?
+each-preserved c =
+    let have = c.args.have.now in
+    let by = c.args.by.now in
+    let i = c.each.block-index in
+    let block = c.block-item.result in
+    let left = c.each.left.now in
+    let next = c.reaching-left.result.now in
+    let e = split_at have i block c.each-test.true c.block-item.is in
+    let e2 : drop i have ≡ block ∷ drop (i + 1) have = drop_more have i block c.each-test.true ∙ ap (λ (b : Cidr). b ∷ drop (i + 1) have) (sym c.block-item.is) in
+    let first : c.value.result ≡ block.first = c.value.ensures.value ∙ ap (λ (a : Address). a.value) c.first.ensures in
+    let same : IsSameFrom next left block.first = subst (λ (f : ℕ). IsSameFrom next left f) first c.reaching-left.ensures.same in
+    let here : IsSameFrom next by block.first = same_here left next by block (drop (i + 1) have) same (subst (AllByRecursion (λ h. IsSameFrom left by h.first)) e2 c.each.invariant.same) in
+    let more : take (i + 1) have ≡ take i have ++ block ∷ [] = take_more have i block c.each-test.true ∙ ap (λ (b : Cidr). take i have ++ b ∷ []) (sym c.block-item.is) in
+    record {
+      family = c.in_ok-add_rest.ensures.family ∙ c.each.invariant.family;
+      ordered = c.reaching-left.ensures.ordered;
+      same = same_more left next by have i block c.requires.have_ordered e e2 same c.each.invariant.same;
+      members = subst (λ (bs : List Cidr). IsBeyond c.add_rest.new.set bs by) (sym more)
+          (beyond_more c.each.set c.add_rest.new.set (take i have) by next block c.each.invariant.members here c.in_ok-add_rest.ensures.added);
+    }
 
 pub reaching-left-requires : goal.reaching-left-requires
 reaching-left-requires c = c.each.invariant.ordered

@@ -19,7 +19,7 @@ loop-block-preserved c =
     let Adds : ℕ → ℕ → Type 0 = λ f l. (n : ℕ) → IsIn new n ↔ (IsIn old n ⊎ IsBetween f l n) in
     let added_there : Adds c.span_of.result.first.value c.span_of.result.last.value = c.in_ok-add.ensures.added in
     let added : Adds (first_of block).value (last_of block).value =
-      subst (λ (l : ℕ). Adds (first_of block).value l) last (subst (λ (f : ℕ). Adds f c.span_of.result.last.value) first added_there) in
+    subst (λ (l : ℕ). Adds (first_of block).value l) last (subst (λ (f : ℕ). Adds f c.span_of.result.last.value) first added_there) in
     let taken : take (i + 1) blocks ≡ take i blocks ++ block ∷ [] = take_more blocks i block c.loop-block-test.true ∙ ap (λ (b : Cidr). take i blocks ++ b ∷ []) (sym c.block-item.is) in
     record {
       family = c.in_ok-add.ensures.family ∙ c.loop-block.invariant.family;

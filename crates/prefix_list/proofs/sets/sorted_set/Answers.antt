@@ -15,6 +15,6 @@ pub returns-clause-members : goal.returns-clause-members
 returns-clause-members c =
     let HasJustThose : List Cidr → Spans → Type 0 = λ bs set. (n : ℕ) → IsIn set n ↔ IsTrue (is_taken bs n) in
     ok_one c.set_of.result
-        (λ set members. subst (λ (bs : List Cidr). HasJustThose bs set) c.in_ok-sorted.ensures.items
-            (in_any_order set _ _ c.sort_unstable_by_key.ensures.permutation (subst (λ (bs : List Cidr). HasJustThose bs set) c.deref.ensures.value members)))
-        c.set_of.ensures.members
+    (λ set members. subst (λ (bs : List Cidr). HasJustThose bs set) c.in_ok-sorted.ensures.items
+    (in_any_order set _ _ c.sort_unstable_by_key.ensures.permutation (subst (λ (bs : List Cidr). HasJustThose bs set) c.deref.ensures.value members)))
+    c.set_of.ensures.members

@@ -3,9 +3,9 @@
 ghost use Rattle.std.specs.Prelude.{◌≡◌, IfOk, IfSome};
 ghost use Rattle.prefix_list.specs.Lists.{AreOf};
 
-use crate::{ListFault, Style, fewest, is_list_name, read_list, uncovered, write_list};
 use inet_num::{Block, Family};
 use ipam_data::text::Text;
+use prefix_list::{ListFault, Style, fewest, is_list_name, read_list, uncovered, write_list};
 use std::alloc::{AllocError, Global};
 use std::test::Fail;
 
