@@ -11,7 +11,8 @@ use std::test::Fail;
 
 /// A case to a line: a call, a style, a family, a name, one list, another list, and what has to come. In lists `;` is a line feed and `~` a carriage
 /// return. `fewest` and `uncovered` have plain lists, `write` a plain one and its text, `read` a text and its plain list, or the line that is refused.
-const CASES: &str = "fewest||4||10.0.0.0/24;10.0.1.0/24;10.0.1.128/25;10.0.2.0/24||10.0.0.0/23;10.0.2.0/24;
+const CASES: &str =
+    "fewest||4||10.0.0.0/24;10.0.1.0/24;10.0.1.128/25;10.0.2.0/24||10.0.0.0/23;10.0.2.0/24;
 fewest||4||128.0.0.0/1;0.0.0.0/1||0.0.0.0/0;
 fewest||6||::/1;8000::/1||::/0;
 fewest||4||0.0.0.0/0;10.0.0.0/8||0.0.0.0/0;
@@ -146,12 +147,7 @@ fn fewest_text(alloc: Global, family: Family, first: &str) -> Result<Vec<u8>, Fa
 }
 
 /// The plain text of what the first list has beyond the second.
-fn beyond_text(
-    alloc: Global,
-    family: Family,
-    first: &str,
-    second: &str,
-) -> Result<Vec<u8>, Fail> {
+fn beyond_text(alloc: Global, family: Family, first: &str, second: &str) -> Result<Vec<u8>, Fail> {
     let have = plain_blocks(alloc, family, first)?;
     let by = plain_blocks(alloc, family, second)?;
     let few = uncovered(alloc, &have, &by)?;
