@@ -1,12 +1,13 @@
 -- The PTR lines of a prefix: one for each address in it that has a name, by address and then by id.
-use Rattle.std.specs.Prelude.{◌≡◌, ◌⊎◌, ◌&&◌, ℕ, ◌+◌, ◌<◌, Bool, List, Option, Some, None, length, is_some, unwrap_or, []}
+use Rattle.std.specs.Prelude.{◌≡◌, ◌⊎◌, ◌&&◌, ℕ, ◌<◌, Bool, List, [], Option, length, is_some}
+use Rattle.std.specs.Option.{unwrap_or}
 use Rattle.std.specs.List.{filter, flat_map, AllAdjacentBelow}
 use Rattle.std.specs.List.Sorted.{IsPermutation}
 use Rattle.ipam_data.specs.declared.prefix.Prefix.{Prefix}
 use Rattle.ipam_data.specs.declared.address.IpAddress.{IpAddress}
 use Rattle.ipam_data.specs.State.{State}
 use Rattle.ipam_data.specs.Claims.{is_child_address}
-use Rattle.reverse_zone.specs.Names.{ptr_name_of, fits_dns}
+use Rattle.reverse_zone.specs.Names.{ptr_name_of}
 use Rattle.reverse_zone.specs.Records.{line_of}
 
 -- the name that the DNS has for the row
@@ -34,3 +35,7 @@ row_line_of row = line_of row.host.addr (unwrap_or (row_name_of row) [])
 -- the lines of a prefix are those of its zone's rows
 abbrev pub zone_text_of : List IpAddress → List ℕ
 zone_text_of rows = flat_map row_line_of rows
+
+-- a state has one list of rows for the zone of a prefix, and so one text
+abbrev pub ZoneHasOneOrder : Type 0
+ZoneHasOneOrder = (s : State) (prefix : Prefix) (one other : List IpAddress) → AreZoneRows s prefix one → AreZoneRows s prefix other → one ≡ other

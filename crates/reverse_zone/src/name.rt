@@ -44,6 +44,7 @@ fn are_labels_short(text: &[u8]) -> bool
 
 /// Whether the DNS can hold the name: it is a host's name in lower case without a star and without a final period, of at
 /// most 253 bytes, and no label has more than 63 (RFC 1035 2.3.4). It takes no memory.
+#[tactic(auto, unfolding(crate::specs::Names::fits_dns))]
 pub fn fits(name: &str) -> bool
     ensures { result ≡ fits_dns name.now }
 {

@@ -1,6 +1,8 @@
 //! The PTR record of a line.
 
 ghost use Rattle.std.specs.Prelude.{◌≡◌, ◌≢◌, ◌++◌, ℕ, List, codes, Some, None, IfOk, IfSome, IfNone, IsTrue, map};
+ghost use Rattle.std.specs.Char.{is_ascii_digit};
+ghost use Rattle.std.specs.List.{list_all};
 ghost use Rattle.reverse_zone.specs.declared.record.Pair.{Pair as PairValue};
 ghost use Rattle.reverse_zone.specs.Names.{fits_dns};
 ghost use Rattle.reverse_zone.specs.Records.{is_ttl, is_in_ptr, fields_of, IsRecord, IsRecordOf};
@@ -22,13 +24,18 @@ pub struct Pair {
 /// The most digits of a time to live.
 const MOST_TTL_DIGITS: usize = 10;
 
+/// Whether all bytes are digits.
+fn are_digits(word: &[u8]) -> bool
+    ensures { result ≡ list_all is_ascii_digit word.now }
+{
+    word.iter().all(|byte| byte.is_ascii_digit())
+}
+
 /// Whether the word is a time to live: one to ten digits.
 fn is_ttl_word(word: &[u8]) -> bool
     ensures { result ≡ is_ttl word.now }
 {
-    !word.is_empty()
-        && word.len() <= MOST_TTL_DIGITS
-        && word.iter().all(|byte| byte.is_ascii_digit())
+    !word.is_empty() && word.len() <= MOST_TTL_DIGITS && are_digits(word)
 }
 
 /// Whether the two words are the class and the type of a PTR record, in lower case.
