@@ -1,7 +1,7 @@
 -- The labels of an owner: how they are put together, and that they spell one number.
-use Rattle.std.proofs.Common.{◌≡◌, ◌≢◌, ℕ, zero, suc, ◌+◌, ◌-◌, ◌*◌, ◌/◌, ◌%◌, ◌^◌, ◌<◌, ◌≤◌, Bool, true, false, not, ◌&&◌, ◌||◌, ◌==◌, nat_le, nat_lt, List, [], ◌∷◌, ◌++◌, length, get_or, refl, ap, sym, ◌∙◌, subst, arith, append_assoc, decimal, lit<, mul_comm}
-use Rattle.std.specs.List.{AllByRecursion, list_all}
-use Rattle.std.specs.Char.{digit_char, digit_value, to_ascii_lowercase}
+use Rattle.std.proofs.Common.{◌≡◌, ◌≢◌, ℕ, zero, suc, ◌+◌, ◌-◌, ◌*◌, ◌/◌, ◌%◌, ◌^◌, ◌<◌, ◌≤◌, Bool, true, not, ◌&&◌, ◌||◌, ◌==◌, nat_le, nat_lt, List, [], ◌∷◌, ◌++◌, length, get_or, refl, ap, sym, ◌∙◌, subst, arith, append_assoc, decimal, lit<, mul_comm}
+use Rattle.std.specs.List.{list_all}
+use Rattle.std.specs.Char.{digit_char, to_ascii_lowercase}
 use Rattle.std.proofs.lemmas.Bool.{and_parts}
 use Rattle.std.specs.Str.Parse.{AllDigits}
 use Rattle.std.proofs.lemmas.Bool.Decides.{nat_tests}
@@ -63,8 +63,8 @@ pub labels_more : (family : Family) (count digit high : ℕ) → 0 < count → d
 labels_more family count digit high some small =
     let base = base_of family in
     sym (labels_step family count (high * base + digit) some
-      ∙ ap (λ (d : ℕ). label_of family d ++ 46 ∷ labels_of family (count - 1) ((high * base + digit) / base)) (mod-mul-add high base digit small)
-      ∙ ap (λ (n : ℕ). label_of family digit ++ 46 ∷ labels_of family (count - 1) n) (div-mul-add high base digit small))
+    ∙ ap (λ (d : ℕ). label_of family d ++ 46 ∷ labels_of family (count - 1) ((high * base + digit) / base)) (mod-mul-add high base digit small)
+    ∙ ap (λ (n : ℕ). label_of family digit ++ 46 ∷ labels_of family (count - 1) n) (div-mul-add high base digit small))
 
 pow_step : (base count : ℕ) → 0 < count → base ^ count ≡ base ^ (count - 1) * base
 pow_step base zero some = absurd (omega arith)
@@ -168,12 +168,12 @@ labels_once family (suc count) m n low less e =
     let some : 0 < suc count = omega arith in
     let less-one : suc count - 1 ≡ count = omega arith in
     let parts = cut_once 46 (label_of family (m % base)) (labels_of family count (m / base)) (label_of family (n % base)) (labels_of family count (n / base))
-      (label_lacks family (m % base) (mod_below m base (base_positive family))) (label_lacks family (n % base) (mod_below n base (base_positive family)))
-      (sym (labels_suc family count m) ∙ e ∙ labels_suc family count n) in
+    (label_lacks family (m % base) (mod_below m base (base_positive family))) (label_lacks family (n % base) (mod_below n base (base_positive family)))
+    (sym (labels_suc family count m) ∙ e ∙ labels_suc family count n) in
     let lows : m % base ≡ n % base = label_once family (m % base) (n % base) (mod_below m base (base_positive family)) (mod_below n base (base_positive family)) parts.0 in
     let highs : m / base ≡ n / base = labels_once family count (m / base) (n / base)
-      (subst (λ (k : ℕ). m / base < base ^ k) less-one (number_less family (suc count) m some low))
-      (subst (λ (k : ℕ). n / base < base ^ k) less-one (number_less family (suc count) n some less)) parts.1 in
+    (subst (λ (k : ℕ). m / base < base ^ k) less-one (number_less family (suc count) m some low))
+    (subst (λ (k : ℕ). n / base < base ^ k) less-one (number_less family (suc count) n some less)) parts.1 in
     sym (div-add-mod' m base) ∙ ap (λ (k : ℕ). k * base + m % base) highs ∙ ap (λ (k : ℕ). n / base * base + k) lows ∙ div-add-mod' n base
 
 other_byte : (c d : ℕ) → c ≡ 110 → d ≡ 46 → c ≢ d
@@ -186,8 +186,8 @@ labels_apart zero most m n less e =
 labels_apart (suc count) most m n less e =
     let low : suc count ≤ most = omega arith in
     let parts = cut_once 46 (label_of V4 (m % 256)) (labels_of V4 count (m / 256)) (label_of V6 (n % 16)) (labels_of V6 (most - 1) (n / 16))
-      (label_lacks V4 (m % 256) (mod_below m 256 (lit< tt))) (label_lacks V6 (n % 16) (mod_below n 16 (lit< tt)))
-      (sym (labels_suc V4 count m) ∙ e ∙ labels_step V6 most n (omega arith)) in
+    (label_lacks V4 (m % 256) (mod_below m 256 (lit< tt))) (label_lacks V6 (n % 16) (mod_below n 16 (lit< tt)))
+    (sym (labels_suc V4 count m) ∙ e ∙ labels_step V6 most n (omega arith)) in
     labels_apart count (most - 1) (m / 256) (n / 16) (omega arith) parts.1
 
 owners_once : (f g : Family) (m n : ℕ) → m < 2 ^ width_of f → n < 2 ^ width_of g → labels_of f (label_count_of f) m ≡ labels_of g (label_count_of g) n
@@ -250,8 +250,8 @@ labels_plain family zero number = subst AllPlain (sym (labels_end family number)
 labels_plain family (suc count) number =
     subst AllPlain (sym (labels_suc family count number))
     (plain_append (label_of family (number % base_of family)) (46 ∷ labels_of family count (number / base_of family))
-      (label_plain family (number % base_of family) (mod_below number (base_of family) (base_positive family)))
-      (plain_byte 46 dot_plain, labels_plain family count (number / base_of family)))
+    (label_plain family (number % base_of family) (mod_below number (base_of family) (base_positive family)))
+    (plain_byte 46 dot_plain, labels_plain family count (number / base_of family)))
 
 pub owner_plain : (a : Address) → AllPlain (owner_of a)
 owner_plain a = labels_plain a.family (label_count_of a.family) a.value

@@ -1,6 +1,6 @@
 -- Lines of a text, and the words of a line that was written.
-use Rattle.std.proofs.Common.{◌≡◌, ◌≢◌, ℕ, zero, suc, ◌+◌, ◌-◌, ◌<◌, ◌≤◌, Bool, true, false, cond, ◌==◌, ◌||◌, nat_lt, nat_le, List, [], ◌∷◌, ◌++◌, length, get_or, take, map, refl, ap, sym, ◌∙◌, subst, arith, codes, append_assoc}
-use Rattle.std.specs.List.{AllByRecursion, All, filter, list_all, slice_split}
+use Rattle.std.proofs.Common.{◌≡◌, ◌≢◌, ℕ, ◌-◌, ◌<◌, ◌≤◌, Bool, true, false, cond, ◌==◌, nat_lt, nat_le, List, [], ◌∷◌, ◌++◌, length, get_or, take, map, refl, ap, sym, ◌∙◌, arith, codes, append_assoc}
+use Rattle.std.specs.List.{AllByRecursion, filter, list_all, slice_split}
 use Rattle.std.specs.Char.{to_ascii_lowercase}
 use Rattle.std.specs.Str.Lines.{lines, lines_of_parts, strip_carriage_return}
 use Rattle.std.proofs.lemmas.Bool.Decides.{nat_tests}
@@ -12,7 +12,7 @@ use Rattle.reverse_zone.specs.Records.{is_blank, words_of, is_skipped}
 use Rattle.reverse_zone.proofs.Cuts.{Lacks}
 use Rattle.reverse_zone.proofs.Labels.{plain_byte, plain_text, plain_test, dot_plain}
 use Rattle.std.proofs.lemmas.Bool.{and_parts}
-use Rattle.reverse_zone.proofs.HostBytes.{IsPlainByte, AllPlain, plain_lower, plain_append}
+use Rattle.reverse_zone.proofs.HostBytes.{AllPlain, plain_lower, plain_append}
 
 -- ---- lines
 
@@ -88,10 +88,10 @@ four_words a b c d pa pb pc pd sa sb sc sd =
     let split : slice_split is_blank (a ++ 32 ∷ (b ++ 32 ∷ (c ++ 32 ∷ d))) ≡ a ∷ b ∷ c ∷ d ∷ [] =
     one_word a (b ++ 32 ∷ (c ++ 32 ∷ d)) pa
     ∙ ap (λ (words : List (List ℕ)). a ∷ words) (one_word b (c ++ 32 ∷ d) pb
-      ∙ ap (λ (words : List (List ℕ)). b ∷ words) (one_word c d pc ∙ ap (λ (words : List (List ℕ)). c ∷ words) (last_word d pd))) in
+    ∙ ap (λ (words : List (List ℕ)). b ∷ words) (one_word c d pc ∙ ap (λ (words : List (List ℕ)). c ∷ words) (last_word d pd))) in
     ap (filter is_word) split ∙ keep a (b ∷ c ∷ d ∷ []) sa
     ∙ ap (λ (words : List (List ℕ)). a ∷ words) (keep b (c ∷ d ∷ []) sb
-      ∙ ap (λ (words : List (List ℕ)). b ∷ words) (keep c (d ∷ []) sc ∙ ap (λ (words : List (List ℕ)). c ∷ words) (keep d [] sd)))
+    ∙ ap (λ (words : List (List ℕ)). b ∷ words) (keep c (d ∷ []) sc ∙ ap (λ (words : List (List ℕ)). c ∷ words) (keep d [] sd)))
 
 -- ---- a line that was written
 

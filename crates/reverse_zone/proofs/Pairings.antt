@@ -1,9 +1,9 @@
 -- The pairs of lines: each line that is not skipped has one, in order.
-use Rattle.std.proofs.Common.{◌≡◌, ◌≢◌, ℕ, zero, suc, ◌+◌, ◌<◌, ◌≤◌, Bool, true, false, not, cond, List, [], ◌∷◌, ◌++◌, length, Option, Some, refl, ap, sym, ◌∙◌, subst, arith, codes, add-zero, append_assoc}
+use Rattle.std.proofs.Common.{◌≡◌, ℕ, ◌+◌, Bool, true, false, not, cond, List, [], ◌∷◌, ◌++◌, length, Some, refl, ap, sym, ◌∙◌, subst, arith, codes, append_assoc}
 use Rattle.std.specs.List.{filter, AllZip}
 use Rattle.std.proofs.lemmas.List.{append_cancel_right, length-append}
 use Rattle.std.proofs.lemmas.List.Elements.{filter-append}
-use Rattle.inet_num.specs.Net.{Address, IsAddress}
+use Rattle.inet_num.specs.Net.{Address}
 use Rattle.reverse_zone.specs.declared.record.Pair.{Pair}
 use Rattle.reverse_zone.specs.Owners.{owner_of}
 use Rattle.reverse_zone.specs.Records.{IsRecord, IsRecordOf, is_skipped}
@@ -76,7 +76,7 @@ pub input_has_one_answer : InputHasOneAnswer
 input_has_one_answer = record {
   pairs = λ lines one other h k. zip_once (filter is_kept lines) one other h k;
   refusals = λ lines m n h k.
-    (let same : length h.before ≡ length k.before = refused_once h.before k.before h.line k.line h.after k.after h.pairs k.pairs (sym h.split ∙ k.split) h.read k.read h.refused k.refused in
+      (let same : length h.before ≡ length k.before = refused_once h.before k.before h.line k.line h.after k.after h.pairs k.pairs (sym h.split ∙ k.split) h.read k.read h.refused k.refused in
       h.number_is ∙ ap (λ (n : ℕ). n + 1) same ∙ sym k.number_is);
   apart = λ lines pairs n h k. none_refused k.before k.line k.after pairs k.refused (subst (λ (ls : List (List ℕ)). ArePairsOf ls pairs) k.split h);
 }
@@ -123,8 +123,8 @@ read_pair all left rest line number pairs pair e kept one h = record {
   split = split_more h.before line all left rest h.split e;
   counted = counted_more h.before line number h.counted;
   read = subst (λ (ls : List (List ℕ)). AllZip IsRecordOf ls (pairs ++ pair ∷ []))
-    (sym (filter-append is_kept h.before (line ∷ []) ∙ ap (λ (ls : List (List ℕ)). filter is_kept h.before ++ ls) (one_kept line kept)))
-    (zip_push (filter is_kept h.before) pairs line pair h.read one);
+      (sym (filter-append is_kept h.before (line ∷ []) ∙ ap (λ (ls : List (List ℕ)). filter is_kept h.before ++ ls) (one_kept line kept)))
+      (zip_push (filter is_kept h.before) pairs line pair h.read one);
 }
 
 pub skip_line : (all left rest : List (List ℕ)) (line : List ℕ) (number : ℕ) (pairs : List Pair) → left ≡ line ∷ rest → is_skipped line ≡ true
@@ -134,8 +134,8 @@ skip_line all left rest line number pairs e skipped h = record {
   split = split_more h.before line all left rest h.split e;
   counted = counted_more h.before line number h.counted;
   read = subst (λ (ls : List (List ℕ)). AllZip IsRecordOf ls pairs)
-    (sym (filter-append is_kept h.before (line ∷ []) ∙ ap (λ (ls : List (List ℕ)). filter is_kept h.before ++ ls) (none_kept line skipped) ∙ append_none (filter is_kept h.before)))
-    h.read;
+      (sym (filter-append is_kept h.before (line ∷ []) ∙ ap (λ (ls : List (List ℕ)). filter is_kept h.before ++ ls) (none_kept line skipped) ∙ append_none (filter is_kept h.before)))
+      h.read;
 }
 
 pub refuse_line : (all left rest : List (List ℕ)) (line : List ℕ) (number : ℕ) (pairs : List Pair) → left ≡ line ∷ rest → is_skipped line ≡ false → ((pair : Pair) → ¬ IsRecordOf line pair)

@@ -1,16 +1,14 @@
 -- What is written of pairs is read as these pairs.
-use Rattle.std.proofs.Common.{◌≡◌, ℕ, ◌+◌, ◌<◌, ◌≤◌, Bool, true, false, not, cond, List, [], ◌∷◌, ◌++◌, length, map, Option, Some, refl, ap, sym, ◌∙◌, subst, arith, codes, IsTrue, append_assoc}
-use Rattle.std.specs.List.{AllByRecursion, AllZip, filter, flat_map}
-use Rattle.std.specs.Char.{to_ascii_lowercase}
+use Rattle.std.proofs.Common.{◌≡◌, ℕ, Bool, false, not, cond, List, [], ◌∷◌, ◌++◌, ap, sym, ◌∙◌, subst, append_assoc}
+use Rattle.std.specs.List.{AllByRecursion, AllZip, filter}
 use Rattle.std.specs.Str.Lines.{lines}
 use Rattle.std.proofs.lemmas.List.{append_cancel_right}
-use Rattle.inet_num.specs.Net.{IsAddress}
 use Rattle.reverse_zone.specs.declared.record.Pair.{Pair}
 use Rattle.reverse_zone.specs.Owners.{owner_of}
-use Rattle.reverse_zone.specs.Records.{fields_of, words_of, line_of, is_skipped, IsRecord, IsRecordOf}
-use Rattle.reverse_zone.specs.Inputs.{ArePairsOf, IsFirstRefused}
-use Rattle.reverse_zone.specs.Laws.{IsWritable, pair_line_of, lines_text_of, IsReadBack, WrittenLinesAreRead, LineHasOnePair}
-use Rattle.reverse_zone.proofs.HostBytes.{AllPlain, fit_plain}
+use Rattle.reverse_zone.specs.Records.{fields_of, is_skipped, IsRecordOf}
+use Rattle.reverse_zone.specs.Inputs.{ArePairsOf}
+use Rattle.reverse_zone.specs.Laws.{IsWritable, pair_line_of, lines_text_of, WrittenLinesAreRead, LineHasOnePair}
+use Rattle.reverse_zone.proofs.HostBytes.{fit_plain}
 use Rattle.reverse_zone.proofs.Labels.{owner_plain, owner_some}
 use Rattle.reverse_zone.proofs.LineWords.{body_of, body_line, body_words, body_lacks, body_kept, body_read, line_first}
 use Rattle.reverse_zone.proofs.Pairings.{record_once, input_has_one_answer}

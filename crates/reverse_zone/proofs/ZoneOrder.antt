@@ -1,12 +1,10 @@
 -- A prefix's zone has one order: two ordered lists of the same rows are one.
-use Rattle.std.proofs.Common.{◌≡◌, ◌⊎◌, inl, inr, ℕ, zero, suc, ◌+◌, ◌<◌, ◌≤◌, List, [], ◌∷◌, length, get_or, refl, ap, sym, ◌∙◌, subst, arith}
+use Rattle.std.proofs.Common.{◌≡◌, ◌⊎◌, inl, inr, ℕ, zero, suc, ◌+◌, ◌<◌, List, [], ◌∷◌, length, get_or, refl, sym, ◌∙◌, subst, arith}
 use Rattle.std.specs.List.{AllByRecursion, AllAdjacentBelow, Contains, filter}
 use Rattle.std.specs.List.Sorted.{IsPermutation}
 use Rattle.std.proofs.lemmas.List.Sorted.{Contains-permutation, IsPermutation-sym}
-use Rattle.ipam_data.specs.declared.prefix.Prefix.{Prefix}
 use Rattle.ipam_data.specs.declared.address.IpAddress.{IpAddress}
-use Rattle.ipam_data.specs.State.{State}
-use Rattle.reverse_zone.specs.Zones.{IsBefore, is_zone_row, AreZoneRows, ZoneHasOneOrder}
+use Rattle.reverse_zone.specs.Zones.{IsBefore, is_zone_row, ZoneHasOneOrder}
 
 -- ---- the order
 
@@ -88,8 +86,8 @@ same_rows (x ∷ xs) [] h k to from = absurd (to x (inl refl))
 same_rows (x ∷ xs) (y ∷ ys) h k to from =
     let first : x ≡ y = same_first x y xs ys h.0 k.0 (to x (inl refl)) (from y (inl refl)) in
     let rest : xs ≡ ys = same_rows xs ys h.1 k.1
-      (λ z in_xs. behind x y z xs ys first h.0 in_xs (to z (inr in_xs)))
-      (λ z in_ys. behind y x z ys xs (sym first) k.0 in_ys (from z (inr in_ys))) in cc
+    (λ z in_xs. behind x y z xs ys first h.0 in_xs (to z (inr in_xs)))
+    (λ z in_ys. behind y x z ys xs (sym first) k.0 in_ys (from z (inr in_ys))) in cc
 
 pub zone_has_one_order : ZoneHasOneOrder
 zone_has_one_order s prefix one other h k =

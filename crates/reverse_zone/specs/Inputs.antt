@@ -1,6 +1,6 @@
 -- What an input says, over whole lines as std's `lines` gives them: a line ends with a line feed and loses a carriage return before
 -- it, and what follows the last line feed is a line where it is not empty.
-use Rattle.std.specs.Prelude.{◌≡◌, ℕ, ◌+◌, false, List, [], ◌∷◌, ◌++◌, length, not}
+use Rattle.std.specs.Prelude.{◌≡◌, ℕ, ◌+◌, false, List, ◌∷◌, ◌++◌, length, not}
 use Rattle.std.specs.List.{filter, AllZip}
 use Rattle.reverse_zone.specs.declared.record.Pair.{Pair}
 use Rattle.reverse_zone.specs.Records.{IsRecordOf, is_skipped}

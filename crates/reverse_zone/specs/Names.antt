@@ -1,5 +1,5 @@
 -- Names that the DNS can hold (RFC 1035 2.3.4), and the name that it has for a row's `dns_name`.
-use Rattle.std.specs.Prelude.{ℕ, ◌-◌, ◌==◌, ◌&&◌, not, nat_le, Bool, true, false, Option, Some, None, List, [], ◌∷◌, length, slice_index, if◌then◌else◌}
+use Rattle.std.specs.Prelude.{ℕ, ◌-◌, ◌==◌, ◌&&◌, not, nat_le, Bool, false, Option, Some, None, List, [], ◌∷◌, length, slice_index, if◌then◌else◌}
 use Rattle.std.specs.Char.{is_ascii_uppercase}
 use Rattle.std.specs.List.{list_any, list_all, slice_split}
 use Rattle.ipam_data.specs.HostNames.{is_dot, bare, is_dns_name}

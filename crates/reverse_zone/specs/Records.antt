@@ -1,5 +1,5 @@
 -- Lines of a zone file: OWNER [TTL] IN PTR NAME (RFC 1035 5.1), with all its parts written out.
-use Rattle.std.specs.Prelude.{◌≡◌, ℕ, ◌==◌, ◌||◌, ◌&&◌, nat_le, nat_lt, Bool, true, false, Option, Some, None, List, [], ◌∷◌, ◌++◌, length, codes, bytes_eq, map, IsTrue, if◌then◌else◌}
+use Rattle.std.specs.Prelude.{◌≡◌, ℕ, ◌==◌, ◌||◌, ◌&&◌, nat_le, nat_lt, Bool, true, Option, Some, None, List, [], ◌∷◌, ◌++◌, length, codes, bytes_eq, map, IsTrue, if◌then◌else◌}
 use Rattle.std.specs.Char.{to_ascii_lowercase, is_ascii_digit}
 use Rattle.std.specs.List.{filter, list_all, slice_split}
 use Rattle.inet_num.specs.Net.{Address, IsAddress}

@@ -7,10 +7,9 @@ mod line;
 mod name;
 mod owner;
 mod record;
-mod words;
-
 #[cfg(test)]
 mod tests;
+mod words;
 
 pub use input::{PtrFault, read_ptrs};
 pub use line::write_ptr;

@@ -161,11 +161,7 @@ fn write_row(alloc: Global, dns_name: &str, out: &mut Vec<u8>) -> Result<(), All
 }
 
 /// What the cases give beside what they are to give, each on a line.
-fn given(
-    alloc: Global,
-    cases: &str,
-    table: Table,
-) -> Result<(Vec<u8>, Vec<u8>), AllocError> {
+fn given(alloc: Global, cases: &str, table: Table) -> Result<(Vec<u8>, Vec<u8>), AllocError> {
     let mut found = Vec::new(alloc);
     let mut wanted = Vec::new(alloc);
     for case in cases.lines() {

@@ -1,9 +1,9 @@
-use Rattle.std.proofs.Common.{◌≡◌, ℕ, ◌+◌, ◌<◌, ◌≤◌, ◌++◌, ◌∷◌, [], List, length, Option, Some, None, inl, inr, true, refl, sym, ◌∙◌, ap, subst, arith, ◌==◌}
+use Rattle.std.proofs.Common.{◌≡◌, ℕ, ◌+◌, ◌∷◌, [], List, length, Option, inr, true, refl, sym, ◌∙◌, subst, arith, ◌==◌}
 use Rattle.std.specs.Option.{IfSome, IfNone}
 use Rattle.std.proofs.lemmas.Bool.Decides.{nat_tests}
 use Rattle.std.specs.Str.Lines.{lines}
 use Rattle.reverse_zone.specs.declared.record.Pair.{Pair}
-use Rattle.reverse_zone.specs.Records.{is_skipped, IsRecordOf}
+use Rattle.reverse_zone.specs.Records.{IsRecordOf}
 use Rattle.reverse_zone.proofs.Pairings.{HasRead, begin, read_pair, skip_line, refuse_line, read_end}
 use Rattle.reverse_zone.proofs.input.read_ptrs.Goals as goal
 
@@ -18,9 +18,12 @@ pub returns-in_default-clause-err : goal.returns-in_default-clause-err
 returns-in_default-clause-err c =
     let line = c.first_line.result.0.now in
     let none : (pair : Pair) → ¬ IsRecordOf line pair = subst (λ (found : Option Pair). IfNone found ((pair : Pair) → ¬ IsRecordOf line pair)) c.in_default.is c.in_ok-pair.ensures.none in
-    inr (c.loop-rest.number + 1, refl,
+    inr (
+      c.loop-rest.number + 1,
+      refl,
       refuse_line (lines c.args.bytes.now) (lines c.loop-rest.rest.now) (lines c.first_line.result.1.now) line c.loop-rest.number c.loop-rest.pairs.items
-      c.first_line.ensures.line (sym c.is_skipped_line.ensures ∙ c.if-not-is_skipped_line.true) none c.loop-rest.invariant.read)
+          c.first_line.ensures.line (sym c.is_skipped_line.ensures ∙ c.if-not-is_skipped_line.true) none c.loop-rest.invariant.read,
+    )
 
 pub loop-rest-preserved-in_ok-push : goal.loop-rest-preserved-in_ok-push
 loop-rest-preserved-in_ok-push c =
@@ -28,7 +31,7 @@ loop-rest-preserved-in_ok-push c =
     let pair = c.in-Some.pair in
     let one : IsRecordOf line pair = subst (λ (found : Option Pair). IfSome found (IsRecordOf line)) c.in-Some.is c.in_ok-pair.ensures.some in
     let read = read_pair (lines c.args.bytes.now) (lines c.loop-rest.rest.now) (lines c.first_line.result.1.now) line c.loop-rest.number c.loop-rest.pairs.items pair
-      c.first_line.ensures.line (sym c.is_skipped_line.ensures ∙ c.if-not-is_skipped_line.true) one c.loop-rest.invariant.read in
+    c.first_line.ensures.line (sym c.is_skipped_line.ensures ∙ c.if-not-is_skipped_line.true) one c.loop-rest.invariant.read in
     record {
       read = subst (λ (pairs : List Pair). HasRead (lines c.args.bytes.now) (lines c.first_line.result.1.now) (c.loop-rest.number + 1) pairs) (sym c.in_ok-push.ensures.items) read;
       few = (let few = c.loop-rest.invariant.few in let shorter = c.first_line.ensures.shorter in omega arith);
@@ -37,7 +40,7 @@ loop-rest-preserved-in_ok-push c =
 pub loop-rest-preserved : goal.loop-rest-preserved
 loop-rest-preserved c = record {
   read = skip_line (lines c.args.bytes.now) (lines c.loop-rest.rest.now) (lines c.first_line.result.1.now) c.first_line.result.0.now c.loop-rest.number c.loop-rest.pairs.items
-    c.first_line.ensures.line (sym c.is_skipped_line.ensures ∙ c.if-not-is_skipped_line.false) c.loop-rest.invariant.read;
+      c.first_line.ensures.line (sym c.is_skipped_line.ensures ∙ c.if-not-is_skipped_line.false) c.loop-rest.invariant.read;
   few = (let few = c.loop-rest.invariant.few in let shorter = c.first_line.ensures.shorter in omega arith);
 }
 

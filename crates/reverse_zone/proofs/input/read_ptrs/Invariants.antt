@@ -1,4 +1,4 @@
-use Rattle.std.proofs.Common.{◌≡◌, ◌+◌, ◌≤◌, length}
+use Rattle.std.proofs.Common.{◌+◌, ◌≤◌, length}
 use Rattle.std.specs.Str.Lines.{lines}
 use Rattle.reverse_zone.proofs.Pairings.{HasRead}
 use Rattle.reverse_zone.proofs.input.read_ptrs.Given as goal

@@ -1,6 +1,5 @@
-use Rattle.std.proofs.Common.{◌≡◌, ◌≢◌, ℕ, ◌+◌, ◌-◌, ◌*◌, ◌^◌, ◌<◌, Option, Some, None, IfNone, sym, ◌∙◌, subst, arith}
+use Rattle.std.proofs.Common.{◌≡◌, ℕ, ◌+◌, ◌*◌, ◌^◌, ◌<◌, Option, Some, None, IfNone, sym, ◌∙◌, arith}
 use Rattle.std.proofs.lemmas.Slice.Eq.{bytes_eq-Decides}
-use Rattle.reverse_zone.specs.Owners.{base_of, labels_of}
 use Rattle.reverse_zone.proofs.Labels.{zone_read, zone_only, no_labels, no_digit, no_rest, labels_read, number_read, sum_fits, product_fits}
 use Rattle.reverse_zone.proofs.owner.+read_labels.Goals as goal
 

@@ -1,7 +1,5 @@
-use Rattle.std.proofs.Common.{◌≡◌, ℕ, ◌+◌, ◌-◌, ◌%◌, ◌/◌, ◌<◌, ◌++◌, ◌∷◌, [], List, ap, ◌∙◌, sym, subst, arith, append_assoc}
-use Rattle.inet_num.specs.declared.Family.{Family}
-use Rattle.reverse_zone.specs.Owners.{base_of, label_of, zone_of, labels_of}
-use Rattle.reverse_zone.proofs.Labels.{labels_step, labels_end, one_more, all_put}
+use Rattle.std.proofs.Common.{arith}
+use Rattle.reverse_zone.proofs.Labels.{one_more, all_put}
 use Rattle.reverse_zone.proofs.owner.push_owner.Goals as goal
 
 pub loop-count-preserved : goal.loop-count-preserved

@@ -1,4 +1,4 @@
-use Rattle.std.proofs.Common.{◌≡◌, ◌∷◌, ◌∙◌, ap, sym, List, ℕ, length, arith}
+use Rattle.std.proofs.Common.{◌∷◌, ◌∙◌, ap, sym, List, ℕ, length, arith}
 use Rattle.std.proofs.lemmas.List.{take_rest, drop_all}
 use Rattle.std.specs.Str.Lines.{lines}
 use Rattle.reverse_zone.proofs.LineWords.{line_first, line_last}
