@@ -6,4 +6,4 @@ pub returns-in-Ok-Some : goal.returns-in-Ok-Some
 returns-in-Ok-Some g c = runs_asked _ _ c.in-Ok-Some.command _ _ _ _ _ c.in-Ok-Some.field-0-is c.in-Ok-Some.ensures c.run_command.ensures
 
 pub returns-in-Ok-None : goal.returns-in-Ok-None
-returns-in-Ok-None g c = runs_none _ _ _ _ _ _ _ c.in-Ok-None.field-0-is c.in-Ok-None.ensures (c.run_none.ensures _ _, refl, refl)
+returns-in-Ok-None g c = runs_none _ _ _ _ _ _ _ c.in-Ok-None.field-0-is c.in-Ok-None.ensures (c.say_usage.ensures _ _, refl, refl)
