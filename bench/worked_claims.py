@@ -229,4 +229,39 @@ NESTED = Group("128 prefixes, each around the next", [made("prefixes", prefix=f"
     post("the one beside the last", "prefixes/@n127/available-prefixes/", '{"prefix_length":128}', 201, {"prefix": "::1/128"}),
 ])
 
-CLAIM_GROUPS = [BLOCKS, SIX, CONTAINER, HOSTS, RANGES, FIGURES, BODIES, NESTED]
+MORE = Group("more claims, edits and figures", [
+    made("prefixes", prefix="10.0.0.0/16", keep="office"),
+    post("a list whose second length is the prefix's own", "prefixes/@office/available-prefixes/", '[{"prefix_length":24},{"prefix_length":16}]', 400, NOT_FIT),
+    get("makes nothing", "prefixes/@office/", 200, {"children": 0}),
+    post("a block of one address", "prefixes/@office/available-prefixes/", '{"prefix_length":32}', 201, {"prefix": "10.0.0.0/32"}),
+    made("prefixes", prefix="255.255.255.254/31", keep="link"),
+    post("both addresses of a link", "prefixes/@link/available-ips/", "[{},{}]", 201, ["255.255.255.254/31", "255.255.255.255/31"]),
+    post("a further one", "prefixes/@link/available-ips/", "{}", 409, no_space(0)),
+    made("prefixes", prefix="192.0.2.0/24", keep="marked"),
+    made("ip-ranges", start_address="192.0.2.10/24", end_address="192.0.2.19/24", mark_utilized=True, keep="ten"),
+    made("ip-addresses", address="192.0.2.10/24", keep="inside"),
+    made("ip-addresses", address="192.0.2.200/24", keep="outside"),
+    get("a marked range with an address in it, and one beside it: 11 of 254", "prefixes/@marked/utilization/", 200, figure(4)),
+    get("the range's own figure", "ip-ranges/@ten/utilization/", 200, figure(100)),
+    patch("the prefix is marked", "prefixes/@marked/", {"mark_utilized": True}, 200),
+    get("and is full", "prefixes/@marked/utilization/", 200, figure(100)),
+    made("prefixes", prefix="::/1", keep="half"),
+    made("prefixes", prefix="::/128", keep="first"),
+    get("127 blocks: ::1/128, ::2/127 and so on up to 4000::/2", "prefixes/@half/available-prefixes/", 200,
+        [f"{IPv6Address(2 ** n)}/{128 - n}" for n in range(127)]),
+    post("the last of them", "prefixes/@half/available-prefixes/", '{"prefix_length":2}', 201, {"prefix": "4000::/2"}),
+    post("a name in lower case", "ip-addresses/", {"address": "10.9.0.1/24", "dns_name": "WWW.Example.COM"}, 201, {"dns_name": "www.example.com"}),
+    post("a star as the first label", "ip-addresses/", {"address": "10.9.0.2/24", "dns_name": "*.a"}, 201, {"dns_name": "*.a"}),
+    post("a period at the end", "ip-addresses/", {"address": "10.9.0.3/24", "dns_name": "a.example."}, 201, {"dns_name": "a.example."}),
+    post("a shared role", "ip-addresses/", {"address": "10.9.0.4/24", "role": "vip"}, 201, {"address": "10.9.0.4/24"}, keep="vip"),
+    post("another one, with another mask", "ip-addresses/", {"address": "10.9.0.4/32", "role": "carp"}, 201,
+         {"address": "10.9.0.4/32", "role": {"label": "CARP", "value": "carp"}}),
+    post("and no role", "ip-addresses/", {"address": "10.9.0.4/24"}, 400, no("duplicate", "coincides with @vip")),
+    made("vrfs", name="red", keep="red"),
+    made("prefixes", prefix="10.8.0.0/24", vrf="@red", keep="inred"),
+    made("prefixes", prefix="10.8.0.0/24", keep="outred"),
+    patch("a move into a table that has the block", "prefixes/@outred/", {"vrf": "@red"}, 400, no("duplicate", "coincides with @inred")),
+    get("leaves the row", "prefixes/@outred/", 200, {"vrf": None, "prefix": "10.8.0.0/24"}),
+])
+
+CLAIM_GROUPS = [BLOCKS, SIX, CONTAINER, HOSTS, RANGES, FIGURES, BODIES, NESTED, MORE]

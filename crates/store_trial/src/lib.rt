@@ -1,5 +1,7 @@
-//! The store over SQLite, tried on a database in memory: what is stored, loaded and refused.
+//! The store over SQLite, tried on databases in memory: what is stored, loaded and refused.
 #![tactic(auto)]
 
+#[cfg(test)]
+mod database;
 #[cfg(test)]
 mod tests;

@@ -1,9 +1,12 @@
-//! Keepers over databases in memory.
+//! Keepers over databases: what they load, and that what they hold after changes is what a keeper in memory holds.
 
+use crate::database::keeper_of_file;
 use ipam_data::kinds::Kind;
 use ipam_data::update::Ids;
+use ipam_keeper::empty::empty_tables;
 use ipam_keeper::keeper::{KeepFault, Keeper};
-use sqlite::{Connection, MemStore};
+use ipam_keeper::memory::MemoryKeeper;
+use sqlite::{Alter, Connection};
 use sqlite_keeper::SqliteKeeper;
 use std::alloc::{AllocError, Global};
 use std::test::Fail;
@@ -20,13 +23,20 @@ CREATE TABLE meta (name TEXT PRIMARY KEY, value INTEGER NOT NULL) STRICT; INSERT
 CREATE TABLE meta (name TEXT PRIMARY KEY, value INTEGER NOT NULL) STRICT; INSERT INTO meta (name, value) VALUES ('version', -1)|Failed
 ";
 
-/// A change of VRFs, and what is loaded after it: the rows that come, the ids that go, the next id, and whether it is stored.
+/// Changes one after another, each with its answer: the rows that come, the ids that go, the next ids. The first one makes what bench/tables.sql
+/// makes; the third one changes every column. Where `many` come they are VRFs.
 const CHANGES: &str = "\
-1 red 65000:1 true office/2 blue 65000:2 false home||3|done 1:3,1,1,1,1,1,1,:Vrfs 1 red 65000:1 true office;Vrfs 2 blue 65000:2 false home;
-3 green 65000:3|1|4|Failed 1:3,1,1,1,1,1,1,:Vrfs 1 red 65000:1 true office;Vrfs 2 blue 65000:2 false home;
-2 green 65000:3 true home/9 black 65000:9 true far|1|10|done 1:10,1,1,1,1,1,1,:Vrfs 2 green 65000:3 true home;Vrfs 9 black 65000:9 true far;
-||10|done 1:10,1,1,1,1,1,1,:Vrfs 2 green 65000:3 true home;Vrfs 9 black 65000:9 true far;
+done|vrfs,1,red,65000:1,false,office;vrfs,2,blue,65000:2,true,guests;rirs,1,ARIN,arin,true,north;rirs,2,RIPE NCC,ripe,false,east;roles,1,LAN,lan,10,cables;roles,2,WAN,wan,32767,links;aggregates,1,10.0.0.0/8,2,own;aggregates,2,2001:db8::/32,1,six;prefixes,1,10.0.0.0/16,1,container,2,true,false,halls;prefixes,2,2001:db8::/48,2,reserved,1,false,true,rooms;ip-ranges,1,10.0.0.10/24,10.0.0.19/24,1,reserved,2,true,printers;ip-ranges,2,2001:db8::a/64,2001:db8::f/64,2,deprecated,1,false,phones;ip-addresses,1,10.0.0.1/24,1,dhcp,vip,gw.example.org,gateway;ip-addresses,2,2001:db8::5/64,2,slaac,carp,b.example.org,host||vrfs,3;rirs,4;roles,5;aggregates,6;prefixes,7;ip-ranges,8;ip-addresses,9
+Failed|vrfs,3,green,65000:3|vrfs,1|vrfs,9
+done|vrfs,1,green,65000:7,true,lab;vrfs,9,black,65000:8,false,far;rirs,1,APNIC,apnic,false,south;rirs,9,LACNIC,lacnic,true,west;roles,1,MAN,man,11,rings;roles,9,VPN,vpn,12,tunnels;aggregates,1,172.16.0.0/12,1,private;aggregates,9,192.168.0.0/16,2,home;prefixes,1,10.1.0.0/16,2,deprecated,1,false,true,floors;prefixes,9,10.2.0.0/16,3,active,4,true,false,roofs;ip-ranges,1,10.0.1.10/25,10.0.1.20/25,2,active,1,false,cameras;ip-ranges,9,10.0.2.30/26,10.0.2.40/26,3,reserved,4,true,doors;ip-addresses,1,10.0.0.2/25,2,reserved,hsrp,m.example.org,mail;ip-addresses,9,10.0.0.3/26,3,deprecated,glbp,n.example.org,news||vrfs,30;rirs,31;roles,32;aggregates,33;prefixes,34;ip-ranges,35;ip-addresses,36
+done|||
+done||vrfs,2;rirs,2;roles,2;aggregates,2;prefixes,2;ip-ranges,2;ip-addresses,2|
+done|roles,9,MAN,man,13,;prefixes,4,10.3.0.0/16,,active,,false,false,|aggregates,9;ip-ranges,1|prefixes,4294967295;rirs,31
+done|many||vrfs,2000
 ";
+
+/// How many VRFs are many.
+const MANY: u32 = 1_100;
 
 fn text_of(alloc: Global, text: &str) -> Result<Text, AllocError> {
     Ok(Text::of(String::from_str(alloc, text)?))
@@ -55,7 +65,7 @@ fn written(alloc: Global, tables: &Tables) -> Result<String, AllocError> {
 }
 
 /// What is loaded, or why not.
-fn loaded(alloc: Global, keeper: &mut SqliteKeeper<MemStore>) -> Result<String, AllocError> {
+fn loaded<K: Keeper>(alloc: Global, keeper: &mut K) -> Result<String, AllocError> {
     match keeper.load() {
         Ok(tables) => written(alloc, &tables),
         Err(fault) => format!(in alloc; "{fault:?}"),
@@ -84,82 +94,153 @@ fn databases_are_loaded(rt: HostRuntime) -> Result<(), Fail> {
     Ok(())
 }
 
-/// A row of these words, the first of which is its id.
-fn row_of(alloc: Global, words: &str) -> Result<Row, AllocError> {
-    let mut fields = Vec::new(alloc);
-    for word in words.split(' ').skip(1) {
-        fields.push(text_of(alloc, word)?)?;
+/// The kind of this name.
+fn kind_of(name: Option<&str>) -> Kind {
+    match name.unwrap_or("") {
+        "vrfs" => Kind::Vrfs,
+        "rirs" => Kind::Rirs,
+        "roles" => Kind::Roles,
+        "aggregates" => Kind::Aggregates,
+        "prefixes" => Kind::Prefixes,
+        "ip-ranges" => Kind::Ranges,
+        _ => Kind::Addresses,
     }
-    Ok(Row {
-        kind: Kind::Vrfs,
-        id: number_of(words.split(' ').next()),
-        fields: Texts::of(fields),
-    })
 }
 
 fn number_of(word: Option<&str>) -> u32 {
     word.unwrap_or("").parse::<u32>().unwrap_or(0)
 }
 
-/// The rows of these texts, with a slash between them.
-fn rows_of(alloc: Global, text: &str) -> Result<Rows, AllocError> {
+/// A row of these words: its kind, its id and its fields.
+fn row_of(alloc: Global, words: &str) -> Result<Row, AllocError> {
+    let mut fields = Vec::new(alloc);
+    for word in words.split(',').skip(2) {
+        fields.push(text_of(alloc, word)?)?;
+    }
+    Ok(Row {
+        kind: kind_of(words.split(',').next()),
+        id: number_of(words.split(',').nth(1)),
+        fields: Texts::of(fields),
+    })
+}
+
+/// Many VRFs.
+fn many_rows(alloc: Global) -> Result<Rows, AllocError> {
     let mut rows = Vec::new(alloc);
-    if !text.is_empty() {
-        for words in text.split('/') {
-            rows.push(row_of(alloc, words)?)?;
-        }
+    for id in 100..100 + MANY {
+        let words = format!(in alloc; "vrfs,{id},name {id},65000:{id},true,row {id}")?;
+        rows.push(row_of(alloc, words.as_str())?)?;
     }
     Ok(Rows::of(rows))
 }
 
-/// An id of a VRF, or none.
-fn ids_of(alloc: Global, word: &str) -> Result<Ids, AllocError> {
+/// The rows of these texts.
+fn rows_of(alloc: Global, text: &str) -> Result<Rows, AllocError> {
+    if text == "many" {
+        return many_rows(alloc);
+    }
+    let mut rows = Vec::new(alloc);
+    for words in text.split(';').filter(|words| !words.is_empty()) {
+        rows.push(row_of(alloc, words)?)?;
+    }
+    Ok(Rows::of(rows))
+}
+
+/// The numbers of these texts, each with its kind.
+fn ids_of(alloc: Global, text: &str) -> Result<Ids, AllocError> {
     let mut ids = Vec::new(alloc);
-    if !word.is_empty() {
-        ids.push((Kind::Vrfs, number_of(Some(word))))?;
+    for words in text.split(';').filter(|words| !words.is_empty()) {
+        let kind = kind_of(words.split(',').next());
+        ids.push((kind, number_of(words.split(',').nth(1))))?;
     }
     Ok(Ids::of(ids))
 }
 
-/// What a keeper answers to the change of a line, and what it loads then.
-fn changed(
+/// The change of a line.
+fn change_of(alloc: Global, line: &str) -> Result<Change, AllocError> {
+    Ok(Change {
+        puts: rows_of(alloc, line.split('|').nth(1).unwrap_or(""))?,
+        cuts: ids_of(alloc, line.split('|').nth(2).unwrap_or(""))?,
+        next: ids_of(alloc, line.split('|').nth(3).unwrap_or(""))?,
+    })
+}
+
+fn word_of(answer: Result<(), KeepFault>) -> &'static str {
+    match answer {
+        Ok(()) => "done",
+        Err(KeepFault::Failed) => "Failed",
+        Err(KeepFault::Memory) => "Memory",
+    }
+}
+
+/// Whether a keeper over a database answers the change of a line as the line says, and then loads what a keeper in memory loads, which makes the
+/// change where it is done.
+fn is_alike<S: Alter>(
     alloc: Global,
-    keeper: &mut SqliteKeeper<MemStore>,
+    keeper: &mut SqliteKeeper<S>,
+    memory: &mut MemoryKeeper,
     line: &str,
-) -> Result<String, AllocError> {
-    let mut parts = line.split('|');
-    let change = Change {
-        puts: rows_of(alloc, parts.next().unwrap_or(""))?,
-        cuts: ids_of(alloc, parts.next().unwrap_or(""))?,
-        next: ids_of(alloc, parts.next().unwrap_or(""))?,
-    };
-    let mut text = match keeper.apply(&change) {
-        Ok(()) => format!(in alloc; "done ")?,
-        Err(fault) => format!(in alloc; "{fault:?} ")?,
-    };
-    text.push_str(loaded(alloc, keeper)?.as_str())?;
-    Ok(text)
+) -> Result<bool, AllocError> {
+    let change = change_of(alloc, line)?;
+    let answer = word_of(keeper.apply(&change));
+    let is_told = answer != "done" || memory.apply(&change).is_ok();
+    let found = loaded(alloc, keeper)?;
+    let wanted = loaded(alloc, memory)?;
+    Ok(is_told && line.starts_with(answer) && found.as_str() == wanted.as_str())
 }
 
 /// A keeper that a second one follows over the same database.
-fn followed(alloc: Global, keeper: SqliteKeeper<MemStore>) -> SqliteKeeper<MemStore> {
+fn followed<S: Alter>(alloc: Global, keeper: SqliteKeeper<S>) -> SqliteKeeper<S> {
     SqliteKeeper::adopt(alloc, keeper.into_connection())
+}
+
+/// A keeper in memory after the changes of these lines.
+fn memory_after(alloc: Global, lines: &str) -> Result<MemoryKeeper, AllocError> {
+    let mut memory = MemoryKeeper::new(empty_tables(alloc)?, Vec::new(alloc));
+    for line in lines.lines() {
+        let change = change_of(alloc, line)?;
+        if memory.apply(&change).is_err() {
+            return Err(AllocError);
+        }
+    }
+    Ok(memory)
+}
+
+/// The lines whose changes leave other tables in a keeper over a database than in one in memory, behind these lines. Both begin alike.
+fn wrong_lines<S: Alter + Drop>(
+    alloc: Global,
+    mut keeper: SqliteKeeper<S>,
+    before: &str,
+    lines: &str,
+) -> Result<String, AllocError> {
+    let mut memory = memory_after(alloc, before)?;
+    let mut wrong = String::new(alloc);
+    if loaded(alloc, &mut keeper)? != loaded(alloc, &mut memory)? {
+        wrong.push_str("other tables at first")?;
+    }
+    for line in lines.lines() {
+        if !is_alike(alloc, &mut keeper, &mut memory, line)? {
+            wrong.push_str(line)?;
+        }
+        keeper = followed(alloc, keeper);
+    }
+    Ok(wrong)
 }
 
 #[test]
 fn changes_are_stored_whole_or_not_at_all(rt: HostRuntime) -> Result<(), Fail> {
     let conn = Connection::open_in_memory(rt.alloc())?;
-    let mut keeper = SqliteKeeper::adopt(rt.alloc(), conn);
-    let mut found = loaded(rt.alloc(), &mut keeper)?;
-    found.clear();
-    for line in CHANGES.lines() {
-        found.push_str(changed(rt.alloc(), &mut keeper, line)?.as_str())?;
-        found.push('\n')?;
-        keeper = followed(rt.alloc(), keeper);
-    }
-    for (line, want) in found.lines().zip(CHANGES.lines()) {
-        assert!(rt; want.ends_with(line), "{line}");
-    }
-    assert!(rt; found.lines().count() == 4, "{found}");
+    let keeper = SqliteKeeper::adopt(rt.alloc(), conn);
+    let wrong = wrong_lines(rt.alloc(), keeper, "", CHANGES)?;
+    assert!(rt; wrong.is_empty(), "{wrong}");
+    Ok(())
+}
+
+#[test]
+fn a_database_of_sqlite3_is_loaded_and_changed(rt: HostRuntime) -> Result<(), Fail> {
+    let keeper = keeper_of_file(rt.alloc())?;
+    let (first, rest) = CHANGES.split_once('\n').unwrap_or(("", ""));
+    let wrong = wrong_lines(rt.alloc(), keeper, first, rest)?;
+    assert!(rt; wrong.is_empty(), "{wrong}");
     Ok(())
 }

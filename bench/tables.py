@@ -1,0 +1,50 @@
+"""The database that the program sqlite3 makes of bench/tables.sql, as the test of the store over SQLite has it.
+
+    python3 bench/tables.py            says whether crates/store_trial/src/database.rt has the bytes that sqlite3 makes
+    python3 bench/tables.py --write    writes them there
+
+Two versions of sqlite3 may make different bytes: the number of the version is in the file. Those in the test are of sqlite3 3.40.1.
+"""
+import os
+import re
+import subprocess
+import sys
+import tempfile
+import textwrap
+
+TOP = os.path.join(os.path.dirname(os.path.abspath(__file__)), "..")
+TEST = os.path.join(TOP, "crates/store_trial/src/database.rt")
+TEXT = re.compile(r'(const FILE: &str = "\\\n)(.*?)(";\n)', re.S)
+
+
+def database():
+    """The bytes that sqlite3 makes of the text."""
+    with tempfile.TemporaryDirectory() as folder:
+        path = os.path.join(folder, "register.db")
+        with open(os.path.join(TOP, "bench/tables.sql")) as text:
+            subprocess.run(["sqlite3", path], stdin=text, check=True)
+        with open(path, "rb") as file:
+            return file.read()
+
+
+def words_of(data):
+    """The bytes in hexadecimal digits, at most 48 a word; `0*N` are N bytes that are zero, three or more."""
+    words = []
+    for zeros, others in re.findall(rb"(\x00{3,})|((?:(?!\x00{3,})[\s\S])+)", data):
+        words += [f"0*{len(zeros)}"] if zeros else [others[at:at + 48].hex() for at in range(0, len(others), 48)]
+    return textwrap.fill(" ".join(words), 150) + "\n"
+
+
+def main():
+    with open(TEST) as file:
+        test = file.read()
+    found = TEXT.sub(lambda match: match[1] + words_of(database()) + match[3], test)
+    if sys.argv[1:] == ["--write"]:
+        with open(TEST, "w") as file:
+            file.write(found)
+    elif found != test:
+        sys.exit("tables: the test has other bytes; bench/tables.py --write writes them")
+
+
+if __name__ == "__main__":
+    main()
