@@ -1,0 +1,5 @@
+//! Prefix lists tried by a table.
+#![tactic(auto)]
+
+#[cfg(test)]
+mod prefix_list_tests;
