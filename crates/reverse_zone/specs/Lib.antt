@@ -1,0 +1,6 @@
+pub mod Owners
+pub mod Names
+pub mod Records
+pub mod Inputs
+pub mod Laws
+pub mod Zones
