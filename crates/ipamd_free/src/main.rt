@@ -2,10 +2,9 @@
 //! words that ask for nothing. It has no other command.
 #![tactic(auto)]
 
-ghost use Rattle.std.specs.Prelude.{◌≡◌, ◌⊎◌, map};
+ghost use Rattle.std.specs.Prelude.{◌≡◌};
 ghost use Rattle.inet_num.specs.Net.{Cidr};
 ghost use Rattle.command_words.specs.declared.asked.Command.TheVariants.{Free};
-ghost use Rattle.command_words.specs.Asked.{Asks};
 ghost use Rattle.command_streams.specs.Streams.{IsUsage, streams, told};
 ghost use Rattle.command_free.specs.Run.{IsFree};
 
@@ -16,29 +15,41 @@ use ipam_edge::{Sink, Source, standard_error, standard_input, standard_output};
 use std::alloc::Global;
 use std::process::ExitCode;
 
-/// Runs the words: `free`, or the usage line where they ask for no command or for another one. It gives the status: 0 done, 1 a line
-/// is refused, 2 the words are no such command, 3 the input, the output or the messages failed, 5 out of memory.
-pub fn run<So: Source, Si: Sink, Se: Sink>(
+/// Runs `free`; for another command it says the usage line. It gives the status: 0 done, 1 a line is refused, 2 the command is another one,
+/// 3 the input, the output or the messages failed, 5 out of memory.
+fn run_command<So: Source, Si: Sink, Se: Sink>(
+    alloc: Global,
+    command: &Command,
+    input: &mut So,
+    output: &mut Si,
+    errors: &mut Se,
+) -> u8
+    ensures free { (within : Cidr) → command.now ≡ Free within
+        → IsFree within
+        (streams (told So.left So.faults input.old) (told Si.written Si.faults output.old) (told Se.written Se.faults errors.old))
+        (streams (told So.left So.faults input.new) (told Si.written Si.faults output.new) (told Se.written Se.faults errors.new)) result }
+    ensures usage { ((within : Cidr) → ¬ (command.now ≡ Free within))
+        → IsUsage
+        (streams (told So.left So.faults input.old) (told Si.written Si.faults output.old) (told Se.written Se.faults errors.old))
+        (streams (told So.left So.faults input.new) (told Si.written Si.faults output.new) (told Se.written Se.faults errors.new)) result }
+{
+    match command {
+        Command::Free(within) => run_free(alloc, within, input, output, errors),
+        _ => say_usage(errors),
+    }
+}
+
+/// Runs the command that the words ask for; where they ask for none it says the usage line.
+fn run<So: Source, Si: Sink, Se: Sink>(
     alloc: Global,
     words: &[&str],
     input: &mut So,
     output: &mut Si,
     errors: &mut Se,
-) -> u8
-    ensures free { (within : Cidr) → Asks (map (λ w. w.now) words.now) (Free within)
-        → IsFree within
-        (streams (told So.left So.faults input.old) (told Si.written Si.faults output.old) (told Se.written Se.faults errors.old))
-        (streams (told So.left So.faults input.new) (told Si.written Si.faults output.new) (told Se.written Se.faults errors.new)) result
-        ⊎ (result ≡ 5) }
-    ensures usage { ((within : Cidr) → ¬ Asks (map (λ w. w.now) words.now) (Free within))
-        → IsUsage
-        (streams (told So.left So.faults input.old) (told Si.written Si.faults output.old) (told Se.written Se.faults errors.old))
-        (streams (told So.left So.faults input.new) (told Si.written Si.faults output.new) (told Se.written Se.faults errors.new)) result
-        ⊎ (result ≡ 5) }
-{
+) -> u8 {
     match read_words(alloc, words) {
-        Ok(Some(Command::Free(within))) => run_free(alloc, &within, input, output, errors),
-        Ok(_) => say_usage(errors),
+        Ok(Some(command)) => run_command(alloc, &command, input, output, errors),
+        Ok(None) => say_usage(errors),
         Err(_) => MEMORY,
     }
 }
