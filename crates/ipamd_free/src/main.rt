@@ -2,12 +2,6 @@
 //! words that ask for nothing. It has no other command.
 #![tactic(auto)]
 
-ghost use Rattle.std.specs.Prelude.{◌≡◌};
-ghost use Rattle.inet_num.specs.Net.{Cidr};
-ghost use Rattle.command_words.specs.declared.asked.Command.TheVariants.{Free};
-ghost use Rattle.command_streams.specs.Streams.{IsUsage, streams, told};
-ghost use Rattle.command_free.specs.Run.{IsFree};
-
 use command_free::run_free;
 use command_streams::{MEMORY, NoArguments, say_usage, words_given};
 use command_words::{Command, read_words};
@@ -23,16 +17,7 @@ fn run_command<So: Source, Si: Sink, Se: Sink>(
     input: &mut So,
     output: &mut Si,
     errors: &mut Se,
-) -> u8
-    ensures free { (within : Cidr) → command.now ≡ Free within
-        → IsFree within
-        (streams (told So.left So.faults input.old) (told Si.written Si.faults output.old) (told Se.written Se.faults errors.old))
-        (streams (told So.left So.faults input.new) (told Si.written Si.faults output.new) (told Se.written Se.faults errors.new)) result }
-    ensures usage { ((within : Cidr) → ¬ (command.now ≡ Free within))
-        → IsUsage
-        (streams (told So.left So.faults input.old) (told Si.written Si.faults output.old) (told Se.written Se.faults errors.old))
-        (streams (told So.left So.faults input.new) (told Si.written Si.faults output.new) (told Se.written Se.faults errors.new)) result }
-{
+) -> u8 {
     match command {
         Command::Free(within) => run_free(alloc, within, input, output, errors),
         _ => say_usage(errors),
