@@ -2,6 +2,12 @@
 //! words that ask for nothing. It has no other command.
 #![tactic(auto)]
 
+ghost use Rattle.std.specs.Prelude.{◌≡◌};
+ghost use Rattle.inet_num.specs.Net.{Cidr};
+ghost use Rattle.command_words.specs.declared.asked.Command.TheVariants.{Free};
+ghost use Rattle.command_streams.specs.Streams.{IsUsage, streams, told};
+ghost use Rattle.command_free.specs.Run.{IsFree};
+
 use command_free::run_free;
 use command_streams::{MEMORY, NoArguments, say_usage, words_given};
 use command_words::{Command, read_words};
@@ -17,10 +23,27 @@ fn run_command<So: Source, Si: Sink, Se: Sink>(
     input: &mut So,
     output: &mut Si,
     errors: &mut Se,
-) -> u8 {
+) -> u8
+    ensures free { (within : Cidr) → command.now ≡ Free within
+        → IsFree within
+        (streams (told So.left So.faults input.old) (told Si.written Si.faults output.old) (told Se.written Se.faults errors.old))
+        (streams (told So.left So.faults input.new) (told Si.written Si.faults output.new) (told Se.written Se.faults errors.new)) result }
+    ensures usage { ((within : Cidr) → ¬ (command.now ≡ Free within))
+        → IsUsage
+        (streams (told So.left So.faults input.old) (told Si.written Si.faults output.old) (told Se.written Se.faults errors.old))
+        (streams (told So.left So.faults input.new) (told Si.written Si.faults output.new) (told Se.written Se.faults errors.new)) result }
+{
     match command {
         Command::Free(within) => run_free(alloc, within, input, output, errors),
-        _ => say_usage(errors),
+        Command::Session(_) => say_usage(errors),
+        Command::Serve(_) => say_usage(errors),
+        Command::Import(_, _) => say_usage(errors),
+        Command::Export(_, _) => say_usage(errors),
+        Command::Report(_, _) => say_usage(errors),
+        Command::Load {
+            count: _,
+            workers: _,
+        } => say_usage(errors),
     }
 }
 

@@ -1,0 +1,19 @@
+use Rattle.ipamd_free.proofs.run_command.Goals as goal
+
+pub returns-in-Session-clause-usage : goal.returns-in-Session-clause-usage
+returns-in-Session-clause-usage g c = λ _. c.say_usage.ensures _ _
+
+pub returns-in-Serve-clause-usage : goal.returns-in-Serve-clause-usage
+returns-in-Serve-clause-usage g c = λ _. c.say_usage-in-Serve.ensures _ _
+
+pub returns-in-Import-clause-usage : goal.returns-in-Import-clause-usage
+returns-in-Import-clause-usage g c = λ _. c.say_usage-in-Import.ensures _ _
+
+pub returns-in-Export-clause-usage : goal.returns-in-Export-clause-usage
+returns-in-Export-clause-usage g c = λ _. c.say_usage-in-Export.ensures _ _
+
+pub returns-in-Report-clause-usage : goal.returns-in-Report-clause-usage
+returns-in-Report-clause-usage g c = λ _. c.say_usage-in-Report.ensures _ _
+
+pub returns-in-Load-clause-usage : goal.returns-in-Load-clause-usage
+returns-in-Load-clause-usage g c = λ _. c.say_usage-in-Load.ensures _ _
