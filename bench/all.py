@@ -32,6 +32,7 @@ BENCHES = [
     Bench("pages", ["pages.py", "--quiet"], ["pages.py", "--quiet"], 300, ["curl", "socat"]),
     Bench("systemd", ["systemd.sh"], ["systemd.sh"], 600, ["debootstrap", "systemd-nspawn"]),
     Bench("proxy", ["proxy.sh"], ["proxy.sh"], 400, ["curl", "nginx", "openssl"]),
+    Bench("keepalive", ["keepalive.sh"], ["keepalive.sh"], 400),
     Bench("kill", ["kill.sh", "3"], ["kill.sh", "1"], 600),
     Bench("fuzz", ["fuzz.py", "--session", "2000", "--serve", "20000"], ["fuzz.py", "--session", "200", "--serve", "2000"], 1800),
     Bench("limits", ["limits.sh"], ["limits.sh"], 900, ["/usr/bin/time"]),

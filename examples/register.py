@@ -1,12 +1,12 @@
-"""A small client of a register over HTTP, with Python's library alone. It keeps one connection, and makes a new one before the register may
-end the old one, so that no change is ever sent over a connection that is just being closed."""
+"""A small client of a register over HTTP, with Python's library alone. It keeps one connection, and makes a new one where the register may
+be ending the old one, so that no change is ever sent over a connection that is just being closed."""
 import http.client
 import json
 import time
 import urllib.parse
 
-# The register gives a client 30 seconds, and more the more it sends.
-OLDEST_CONNECTION = 20.0
+# The register lets a connection go over which no request comes for 30 seconds behind an answer.
+LONGEST_IDLE = 20.0
 LONGEST_PAGE = 1000
 
 
@@ -22,16 +22,16 @@ class Register:
     def __init__(self, url):
         parts = urllib.parse.urlsplit(url)
         self.host, self.port = parts.hostname, parts.port or 80
-        self.connection, self.since = None, 0.0
+        self.connection, self.answered = None, 0.0
 
     def connected(self):
-        """The connection, or a new one where the old one is closed or too old."""
-        if self.connection is not None and time.monotonic() - self.since > OLDEST_CONNECTION:
+        """The connection, or a new one where the old one is closed or was idle for long."""
+        if self.connection is not None and time.monotonic() - self.answered > LONGEST_IDLE:
             self.connection.close()
             self.connection = None
         if self.connection is None:
             self.connection = http.client.HTTPConnection(self.host, self.port, timeout=60)
-            self.since = time.monotonic()
+            self.answered = time.monotonic()
         return self.connection
 
     def ask(self, method, path, body=None):
@@ -39,6 +39,7 @@ class Register:
         connection = self.connected()
         connection.request(method, "/api/ipam/" + path, None if body is None else json.dumps(body))
         answer = connection.getresponse()
+        self.answered = time.monotonic()
         text = answer.read()
         if answer.will_close:
             connection.close()

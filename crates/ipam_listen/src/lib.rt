@@ -7,6 +7,7 @@ mod lane;
 mod list_lane;
 mod list_listener;
 mod listener;
+mod mark;
 mod patience;
 mod tcp;
 
@@ -15,4 +16,4 @@ pub use lane::Lane;
 pub use list_lane::{Handed, ListLane};
 pub use list_listener::ListListener;
 pub use listener::Listener;
-pub use tcp::{TcpDoor, TcpDoors, TcpIn};
+pub use tcp::{TcpDoor, TcpDoors, TcpIn, TcpOut};

@@ -1,15 +1,19 @@
 //! Connections over TCP. They tell nothing of content, and keep their counts.
-ghost use Rattle.std.specs.Prelude.{◌≡◌, ◌<◌, ◌≤◌, ◌+◌, ◌^◌, IfOk, IfSome, None, [], map, length, vec_len, vec_capacity};
+ghost use Rattle.std.specs.Prelude.{◌≡◌, ◌<◌, ◌≤◌, ◌+◌, ◌^◌, min, IfOk, IfSome, MatchResult, None, [], map, length, vec_len, vec_capacity};
+ghost use Rattle.std.specs.Io.KnownBytes.{ReadConsumes};
+ghost use Rattle.ipam_edge.specs.Faults.{HasCause};
+ghost use Rattle.ipam_edge.specs.Streams.{sink_stream_faults};
 ghost use Rattle.ipam_listen.specs.Tcp.{returned_door};
 
 use crate::lane::Lane;
 use crate::listener::Listener;
+use crate::mark::AnswerMark;
 use crate::patience::patience_left;
-use ipam_edge::{Failed, Source, StdSink};
+use ipam_edge::{Failed, Sink, Source, StdSink};
 use std::alloc::Global;
 use std::io::Read;
 use std::marker::Sync;
-use std::net::{Net, Shutdown, TcpListener, TcpStream};
+use std::net::{Net, OpenStream, Shutdown, TcpListener, TcpStream};
 use std::time::{Clock, Duration, Instant};
 use std::{io, str, thread};
 
@@ -22,30 +26,52 @@ const LAST_SECONDS: u64 = 1;
 /// How many milliseconds a lane waits after an accept that failed, so that a socket that fails for ever costs no processor.
 const MOMENT: u64 = 20;
 
-/// What a client sends, who has a base time and a second for every 500 bytes that it sent.
+/// What a client sends. It has a base time for each request to come whole, counted from the beginning of the connection or from the first
+/// write behind the last read, and a second more for every 500 bytes of the request.
 #[derive(Drop)]
-pub struct TcpIn<'a, R> {
+pub struct TcpIn<'a, R, S> {
     clock: &'a R,
-    stream: TcpStream,
-    since: Instant,
+    stream: S,
+    began: Instant,
+    answered: AnswerMark,
     base: Duration,
+    /// When this request began, from the beginning of the connection.
+    since: Duration,
+    /// How many bytes came before it.
+    before: u64,
+    /// How many bytes came in all.
     bytes: u64,
     faults: u64,
 }
 
-impl<'a, R: Clock> TcpIn<'a, R> {
-    /// Reads, and waits for as long as the client has left.
-    fn read_in_time(&self, into: &mut [u8]) -> io::Result<usize>
-        ensures { IfOk result (λ n. n ≤ length into.new) }
+impl<'a, R: Clock, S: Read + OpenStream> TcpIn<'a, R, S> {
+    /// Where the client was answered since the last read, its next request begins.
+    fn begin_request(&mut self)
+        ensures { self.new ≡ record self.old { since = self.new.since; before = self.new.before } }
     {
-        let taken = self.since.elapsed(self.clock)?;
-        let Some(left) = patience_left(self.base, self.bytes, taken) else {
+        if let Some(answered) = self.answered.take() {
+            self.since = answered;
+            self.before = self.bytes;
+        }
+    }
+
+    /// Reads, and waits for as long as the client has left.
+    fn read_in_time(&mut self, into: &mut [u8]) -> io::Result<usize>
+        ensures most { IfOk result (λ n. n ≤ length into.new) }
+        ensures took { ReadConsumes (S.remaining self.old.stream) (S.remaining self.new.stream) result into.new }
+        ensures kept { (self.new.bytes ≡ self.old.bytes) × (self.new.faults ≡ self.old.faults) }
+    {
+        let taken = self.began.elapsed(self.clock)?.saturating_sub(self.since);
+        let bytes = self.bytes.saturating_sub(self.before);
+        let Some(left) = patience_left(self.base, bytes, taken) else {
             return Err(io::Error::from(io::ErrorKind::TimedOut));
         };
         self.stream.set_read_timeout(Some(left))?;
-        (&self.stream).read(into)
+        self.stream.read(into)
     }
+}
 
+impl<'a, R: Clock> TcpIn<'a, R, TcpStream> {
     /// Says that no answer follows, and reads on for a while: a client that still sends would lose the answers if the connection
     /// were cut while its bytes are unread.
     fn let_go(&self) -> io::Result<()> {
@@ -70,12 +96,23 @@ impl<'a, R: Clock> TcpIn<'a, R> {
     }
 }
 
-impl<'a, R: Clock> Source for TcpIn<'a, R> {
-    ghost left = { λ s. None };
+impl<'a, R: Clock, S: Read + OpenStream> Source for TcpIn<'a, R, S> {
+    ghost left = { λ s. S.remaining s.stream };
 
     ghost faults = { λ s. s.faults };
 
-    fn read(&mut self, into: &mut [u8]) -> Result<usize, Failed> {
+    fn read(&mut self, into: &mut [u8]) -> Result<usize, Failed>
+        ensures most { IfOk result (λ n. n ≤ length into.new) }
+
+        // It gives what the stream gave.
+        ensures took { ReadConsumes (S.remaining self.old.stream) (S.remaining self.new.stream) result into.new }
+        ensures step { Unit {0} }
+        ensures cause { HasCause self.old.faults self.new.faults result }
+
+        // The count of bytes grows by as many as it gives.
+        ensures counted { MatchResult result (λ n. self.new.bytes ≡ min (self.old.bytes + n) u64.MAX) (λ _. self.new.bytes ≡ self.old.bytes) }
+    {
+        self.begin_request();
         match self.read_in_time(into) {
             Ok(n) => {
                 self.bytes = self.bytes.saturating_add(n as u64);
@@ -89,40 +126,82 @@ impl<'a, R: Clock> Source for TcpIn<'a, R> {
     }
 }
 
+/// What a client is answered. The first write behind the last read is noted for the end that reads.
+#[derive(Drop)]
+pub struct TcpOut<'a, R> {
+    clock: &'a R,
+    sink: StdSink<TcpStream>,
+    began: Instant,
+    answered: AnswerMark,
+}
+
+impl<'a, R: Clock> TcpOut<'a, R> {
+    /// Notes when the client was answered. Where the clock fails nothing is noted: the next read meets the same clock.
+    fn note(&self) {
+        if self.answered.is_set() {
+            return;
+        }
+        if let Ok(at) = self.began.elapsed(self.clock) {
+            self.answered.set(at);
+        }
+    }
+}
+
+impl<'a, R: Clock> Sink for TcpOut<'a, R> {
+    ghost written = { λ s. None };
+
+    ghost faults = { λ s. sink_stream_faults s.sink };
+
+    fn write(&mut self, from: &[u8]) -> Result<usize, Failed> {
+        self.note();
+        self.sink.write(from)
+    }
+}
+
 /// A lane over a TCP listener.
 #[derive(Drop)]
 pub struct TcpDoor<'a, R> {
     clock: &'a R,
     listener: TcpListener,
+    answered: AnswerMark,
     base: Duration,
     accepts: u32,
     faults: u64,
 }
 
 impl<'a, R: Clock> TcpDoor<'a, R> {
-    /// The next connection, which sends what it is given at once.
-    fn next_connection(&self) -> io::Result<(TcpIn<'a, R>, StdSink<TcpStream>)> {
+    /// The next connection, which sends what it is given at once. One mark serves all connections of the lane, which come one after another.
+    fn next_connection(&self) -> io::Result<(TcpIn<'a, R, TcpStream>, TcpOut<'a, R>)> {
         let (stream, _) = self.listener.accept()?;
-        let since = Instant::now(self.clock)?;
+        let began = Instant::now(self.clock)?;
         stream.set_write_timeout(Some(self.base))?;
         stream.set_nodelay(true)?;
-        let other = stream.try_clone()?;
+        let sink = TcpOut {
+            clock: self.clock,
+            sink: StdSink::new(stream.try_clone()?),
+            began,
+            answered: self.answered.share()?,
+        };
+        let _ = self.answered.take();
         let source = TcpIn {
             clock: self.clock,
             stream,
-            since,
+            began,
+            answered: self.answered.share()?,
             base: self.base,
+            since: Duration::ZERO,
+            before: 0,
             bytes: 0,
             faults: 0,
         };
-        Ok((source, StdSink::new(other)))
+        Ok((source, sink))
     }
 }
 
 impl<'a, R: Clock + Sync> Lane for TcpDoor<'a, R> {
-    type In = TcpIn<'a, R>;
+    type In = TcpIn<'a, R, TcpStream>;
 
-    type Out = StdSink<TcpStream>;
+    type Out = TcpOut<'a, R>;
 
     ghost told = { λ d. None };
 
@@ -130,7 +209,7 @@ impl<'a, R: Clock + Sync> Lane for TcpDoor<'a, R> {
 
     ghost faults = { λ d. d.faults };
 
-    fn accept(&mut self) -> Result<Option<(TcpIn<'a, R>, StdSink<TcpStream>)>, Failed> {
+    fn accept(&mut self) -> Result<Option<(TcpIn<'a, R, TcpStream>, TcpOut<'a, R>)>, Failed> {
         if self.accepts == 0 {
             return Ok(None);
         }
@@ -145,7 +224,7 @@ impl<'a, R: Clock + Sync> Lane for TcpDoor<'a, R> {
         }
     }
 
-    fn finish(&mut self, source: TcpIn<'a, R>, sink: StdSink<TcpStream>) {
+    fn finish(&mut self, source: TcpIn<'a, R, TcpStream>, sink: TcpOut<'a, R>) {
         drop(sink);
         // What the client does now changes no answer.
         let _ = source.let_go();
@@ -156,6 +235,7 @@ impl<'a, R: Clock + Sync> Lane for TcpDoor<'a, R> {
 #[derive(Drop)]
 pub struct TcpDoors<'a, R> {
     rt: &'a R,
+    alloc: Global,
     base: Duration,
     socket: Option<TcpListener>,
     bound: u32,
@@ -167,13 +247,14 @@ pub struct TcpDoors<'a, R> {
 }
 
 impl<'a, R: Net<Listener = TcpListener, Stream = TcpStream> + Clock> TcpDoors<'a, R> {
-    /// A listener that is not bound yet. `base` is how long a client may be silent at first, and how long a write waits for it.
+    /// A listener that is not bound yet. `base` is how long a client has for a request at first, and how long a write waits for it.
     pub fn new(rt: &'a R, alloc: Global, base: Duration) -> TcpDoors<'a, R>
         ensures faults { result.faults ≡ 0 }
         ensures unbound { (result.bound ≡ 0) × (result.lanes ≡ 0) × (result.back.items ≡ []) }
     {
         TcpDoors {
             rt,
+            alloc,
             base,
             socket: None,
             bound: 0,
@@ -209,9 +290,11 @@ impl<'a, R: Net<Listener = TcpListener, Stream = TcpStream> + Clock> TcpDoors<'a
         self.back.reserve(wanted - self.back.len()).ok()?;
         let socket = self.socket.as_ref()?;
         let listener = socket.try_clone().ok()?;
+        let answered = AnswerMark::new(self.alloc).ok()?;
         Some(TcpDoor {
             clock: self.rt,
             listener,
+            answered,
             base: self.base,
             accepts: self.bound,
             faults: 0,

@@ -4,7 +4,7 @@ use Rattle.std.proofs.Common.{ℕ, ◌≤◌, subst, sym, rules}
 use Rattle.std.proofs.lemmas.List.{length-map}
 use Rattle.ipam_listen.proofs.tcp.TcpDoor.TheSendSync as door
 use Rattle.ipam_listen.proofs.tcp.TcpIn.TheSendSync as source
-use Rattle.ipam_edge.proofs.streams.StdSink.TheSendSync as sink
+use Rattle.ipam_listen.proofs.tcp.TcpOut.TheSendSync as sink
 use Rattle.std.proofs.net.tcp.TcpStream.TheSendSync as stream
 use Rattle.ipamd.proofs.run_over.Goals as goal
 
@@ -14,9 +14,9 @@ program-requires g c κs =
     let fewer = c.new-listener.result.fewer in (
       param_send 3 _ (arg_send _ no _ (door.the_send _ _ c.type_bounds.sync-R)),
       (
-        param_send 4 _ (arg_send _ no _ (source.the_send _ _ c.type_bounds.sync-R)),
+        param_send 4 _ (arg_send _ no _ (source.the_send _ _ _ c.type_bounds.sync-R stream.the_send)),
         (
-          param_send 5 _ (arg_send _ no _ (sink.the_send _ stream.the_send)),
+          param_send 5 _ (arg_send _ no _ (sink.the_send _ _ c.type_bounds.sync-R)),
           (
             param_send 6 _ c.type_bounds.send-O-Kept,
             (

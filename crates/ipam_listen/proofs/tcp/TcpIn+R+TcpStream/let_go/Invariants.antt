@@ -1,4 +1,4 @@
-use Rattle.ipam_listen.proofs.tcp.TcpIn.let_go.Given as goal
+use Rattle.ipam_listen.proofs.tcp.TcpIn+R+TcpStream.let_go.Given as goal
 
 abbrev pub decreases-loop-left : goal.decreases-loop-left
 decreases-loop-left g l = l.left
