@@ -7,25 +7,25 @@ use Rattle.register_server.specs.declared.ending.Listening.TheVariants.{Whole, B
 use Rattle.command_words.specs.declared.asked.Serving.{Serving}
 use Rattle.command_streams.specs.Streams.{Gains, GainsFront, Failed, EndsWith}
 use Rattle.command_session.specs.Outside.{Outside}
-use Rattle.command_serve.specs.Serve.{ListenerView, ListeningFailed, AllCame, ServesStore, entries_line, listening_status, IsServe}
+use Rattle.command_serve.specs.Serve.{ListenerView, ListeningFailed, AllCame, NoneFailed, IsBoundBy, ServesStore, entries_line, listening_status, IsServe}
 use Rattle.command_serve.proofs.Unserved.{Whatever}
 
 -- the count of the changes is on the output
 printed : (serving : Serving) (old new : Outside) (before after : ListenerView) (entries : ℕ) (listening : Listening) (status : ℕ)
     → Whatever serving old new before after → ServesStore serving old new before after entries
-    → IsListening (AllCame serving before after) (ListeningFailed before after) listening
+    → IsListening (AllCame serving before after × NoneFailed before after) (ListeningFailed before after) listening
     → status ≡ listening_status listening → Gains old.streams.output new.streams.output (entries_line entries)
     → IsServe serving old new before after status
 printed serving old new before after entries Whole status all serves came zero said = record {
   statuses = inl zero;
-  done = λ z. record { all_came = came; entries = entries; serves = serves; said = said };
+  done = λ z. record { all_came = came.0; none_failed = came.1; entries = entries; serves = serves; said = said };
   refused = λ z. absurd (omega arith);
   fault = λ z. absurd (omega arith);
   store_fault = λ z. absurd (omega arith);
   memory = λ z. absurd (omega arith);
   unread = all.unread;
   lanes_back = all.lanes_back;
-  bound = all.bound;
+  bound = λ came. serves.bound;
   later = all.later;
   listener_later = all.listener_later;
 }
@@ -38,7 +38,7 @@ printed serving old new before after entries Broken status all serves failed thr
   memory = λ z. absurd (omega arith);
   unread = all.unread;
   lanes_back = all.lanes_back;
-  bound = all.bound;
+  bound = λ came. serves.bound;
   later = all.later;
   listener_later = all.listener_later;
 }
@@ -57,7 +57,7 @@ not_printed serving old new before after entries status all serves three failed 
   memory = λ z. absurd (omega arith);
   unread = all.unread;
   lanes_back = all.lanes_back;
-  bound = all.bound;
+  bound = λ came. serves.bound;
   later = all.later;
   listener_later = all.listener_later;
 }
@@ -66,8 +66,9 @@ not_printed serving old new before after entries status all serves three failed 
 serves_store : {K : Type 0} (told : K → Option Tables) (serving : Serving) (old new : Outside) (before after : ListenerView) (entries : ℕ)
     → IsServedFrom told serving.store.db serving.store.global_unique old.stores.stored new.stores.stored old.stores.faults new.stores.faults
     before.returned after.returned (AllCame serving before after) entries
-    → new.streams.errors ≡ old.streams.errors → ServesStore serving old new before after entries
-serves_store told serving old new before after entries from silent = record {
+    → IsBoundBy serving after → new.streams.errors ≡ old.streams.errors → ServesStore serving old new before after entries
+serves_store told serving old new before after entries from bound silent = record {
+  bound = bound;
   state = from.opening;
   loaded = from.opened;
   history = from.whole.history;
@@ -82,10 +83,11 @@ pub of_served : {K : Type 0} (told : K → Option Tables) (serving : Serving) (o
     → Whatever serving old new before after
     → IsServedFrom told serving.store.db serving.store.global_unique old.stores.stored new.stores.stored old.stores.faults new.stores.faults
     before.returned after.returned (AllCame serving before after) entries
-    → IsListening (AllCame serving before after) (ListeningFailed before after) listening → new.streams.errors ≡ old.streams.errors
+    → IsBoundBy serving after
+    → IsListening (AllCame serving before after × NoneFailed before after) (ListeningFailed before after) listening → new.streams.errors ≡ old.streams.errors
     → EndsWith old.streams.output new.streams.output (entries_line entries) (listening_status listening) status
     → IsServe serving old new before after status
-of_served told serving old new before after entries listening status all from heard silent (inl said) =
-    printed serving old new before after entries listening status all (serves_store told serving old new before after entries from silent) heard said.0 said.1
-of_served told serving old new before after entries listening status all from heard silent (inr said) =
-    not_printed serving old new before after entries status all (serves_store told serving old new before after entries from silent) said.0 said.1 said.2
+of_served told serving old new before after entries listening status all from bound heard silent (inl said) =
+    printed serving old new before after entries listening status all (serves_store told serving old new before after entries from bound silent) heard said.0 said.1
+of_served told serving old new before after entries listening status all from bound heard silent (inr said) =
+    not_printed serving old new before after entries status all (serves_store told serving old new before after entries from bound silent) said.0 said.1 said.2

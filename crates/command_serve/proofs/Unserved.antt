@@ -1,5 +1,5 @@
 -- What a run of `serve` leaves that served nobody, as the command's record has it.
-use Rattle.std.proofs.Common.{◌≡◌, ℕ, ◌+◌, ◌≤◌, ◌⊎◌, List, inl, inr, Option, Some, None, Err, length, refl, subst, sym, ◌∙◌, ap, arith}
+use Rattle.std.proofs.Common.{◌≡◌, ℕ, ◌+◌, ◌≤◌, ◌<◌, ◌⊎◌, List, inl, inr, Option, Some, None, Err, length, refl, subst, sym, ◌∙◌, ap, arith}
 use Rattle.ipam_edge.specs.Faults.{Rose as EdgeRose}
 use Rattle.stored_tables.specs.declared.tables.Tables.{Tables}
 use Rattle.stored_tables.specs.declared.opening.OpenFault.{OpenFault}
@@ -18,13 +18,12 @@ use Rattle.command_session.specs.Outside.{Outside, StoreFailed, AreSame, IsUnuse
 use Rattle.command_session.specs.FaultWords.{IsSaid, fault_line}
 use Rattle.command_session.specs.Session.{found_tables, IsBadStore}
 use Rattle.command_session.proofs.Refused.{back_again, unchanged}
-use Rattle.command_serve.specs.Serve.{ListenerView, ListeningFailed, AllCame, NobodyCame, IsLeft, IsUnserved, IsUnservedSaid, IsServe}
+use Rattle.command_serve.specs.Serve.{ListenerView, ListeningFailed, AllCame, NoneFailed, NobodyCame, IsBoundBy, IsLeft, IsUnserved, IsUnservedSaid, IsServe}
 
 -- what holds of a run whatever its status
 pub record Whatever (serving : Serving) (old new : Outside) (before after : ListenerView) : Type 0 where
   pub unread : new.streams.input ≡ old.streams.input
   pub lanes_back : length after.returned + before.lanes ≡ length before.returned + after.lanes
-  pub bound : AllCame serving before after → after.bound ≡ serving.connections
   pub later : NoCountFalls old new
   pub listener_later : before.faults ≤ after.faults
 
@@ -42,6 +41,14 @@ nobody before after same back =
     let e = ap (λ (l : List Returned). length l) same in
     record { lanes = omega arith; returned = same }
 
+-- nor where the listener was not used
+nobody_came : (before after : ListenerView) → after ≡ before → NobodyCame before after
+nobody_came before after idle = record { lanes = ap (λ (d : ListenerView). d.lanes) idle; returned = ap (λ (d : ListenerView). d.returned) idle }
+
+-- then no lane came that the listener would be bound for
+nobody_bound : (serving : Serving) (before after : ListenerView) → NobodyCame before after → before.lanes < after.lanes → IsBoundBy serving after
+nobody_bound serving before after none came = let same = none.lanes in absurd (omega arith)
+
 -- where the tables were refused, those of all paths are as they were
 left_same : (store : Store) (old new : Outside) (why : Unserved) → IsRefusal why → IsLeft store old new why → AreSame old.stores.stored new.stores.stored
 left_same store old new why refusal (inl same) = unchanged old.stores.stored new.stores.stored same
@@ -49,93 +56,93 @@ left_same store old new why refusal (inr (told, before, returned)) = back_again 
 
 -- for lack of memory
 of_memory : (serving : Serving) (old new : Outside) (before after : ListenerView) (status : ℕ) (why : Unserved) → Whatever serving old new before after
-    → new.streams.output ≡ old.streams.output → IsLeft serving.store old new why → NobodyCame before after
+    → new.streams.output ≡ old.streams.output → IsLeft serving.store old new why → after ≡ before
     → status ≡ 5 → new.streams.errors ≡ old.streams.errors → IsServe serving old new before after status
-of_memory serving old new before after status why all output left none five silent = record {
+of_memory serving old new before after status why all output left idle five silent = let none = nobody_came before after idle in record {
   statuses = inr (inr (inr (inr five)));
   done = λ z. absurd (omega arith);
   refused = λ z. absurd (omega arith);
   fault = λ z. absurd (omega arith);
   store_fault = λ z. absurd (omega arith);
-  memory = λ z. record { streams = same_streams old.streams new.streams all.unread output silent; why = why; left = left; nobody = none };
+  memory = λ z. (record { streams = same_streams old.streams new.streams all.unread output silent; why = why; left = left; nobody = none }, idle);
   unread = all.unread;
   lanes_back = all.lanes_back;
-  bound = all.bound;
+  bound = nobody_bound serving before after none;
   later = all.later;
   listener_later = all.listener_later;
 }
 
 -- since the store failed
 of_keeper : (serving : Serving) (old new : Outside) (before after : ListenerView) (status : ℕ) → Whatever serving old new before after
-    → StoreFailed old new → IsUnused old new → NobodyCame before after
+    → StoreFailed old new → IsUnused old new → after ≡ before
     → EndsWith old.streams.errors new.streams.errors (fault_line Keeper) 4 status → IsServe serving old new before after status
-of_keeper serving old new before after status all failed unused none (inl said) = let four = said.0 in record {
+of_keeper serving old new before after status all failed unused idle (inl said) = let four = said.0 in let none = nobody_came before after idle in record {
   statuses = inr (inr (inr (inl four)));
   done = λ z. absurd (omega arith);
   refused = λ z. absurd (omega arith);
   fault = λ z. absurd (omega arith);
-  store_fault = λ z. (record { failed = failed; said = said.1; unused = unused }, none);
+  store_fault = λ z. (record { failed = failed; said = said.1; unused = unused }, idle);
   memory = λ z. absurd (omega arith);
   unread = all.unread;
   lanes_back = all.lanes_back;
-  bound = all.bound;
+  bound = nobody_bound serving before after none;
   later = all.later;
   listener_later = all.listener_later;
 }
-of_keeper serving old new before after status all failed unused none (inr said) = let three = said.0 in record {
+of_keeper serving old new before after status all failed unused idle (inr said) = let three = said.0 in let none = nobody_came before after idle in record {
   statuses = inr (inr (inl three));
   done = λ z. absurd (omega arith);
   refused = λ z. absurd (omega arith);
-  fault = λ z. inr (inr (inr (record { failed = said.1; fault = Keeper; cause = inr (refl, failed); front = said.2; unused = unused }, none)));
+  fault = λ z. inr (inr (inr (record { failed = said.1; fault = Keeper; cause = inr (refl, failed); front = said.2; unused = unused }, idle)));
   store_fault = λ z. absurd (omega arith);
   memory = λ z. absurd (omega arith);
   unread = all.unread;
   lanes_back = all.lanes_back;
-  bound = all.bound;
+  bound = nobody_bound serving before after none;
   later = all.later;
   listener_later = all.listener_later;
 }
 
 -- for what the store holds
 of_bad : (serving : Serving) (old new : Outside) (before after : ListenerView) (status : ℕ) (fault : OpenFault) → Whatever serving old new before after
-    → IsBadStore serving.store old fault → IsUnused old new → NobodyCame before after
+    → IsBadStore serving.store old fault → IsUnused old new → after ≡ before
     → EndsWith old.streams.errors new.streams.errors (fault_line fault) 1 status → IsServe serving old new before after status
-of_bad serving old new before after status fault all bad unused none (inl said) = let one = said.0 in record {
+of_bad serving old new before after status fault all bad unused idle (inl said) = let one = said.0 in let none = nobody_came before after idle in record {
   statuses = inr (inl one);
   done = λ z. absurd (omega arith);
-  refused = λ z. (record { fault = fault; bad = bad; said = said.1; unused = unused }, none);
+  refused = λ z. (record { fault = fault; bad = bad; said = said.1; unused = unused }, idle);
   fault = λ z. absurd (omega arith);
   store_fault = λ z. absurd (omega arith);
   memory = λ z. absurd (omega arith);
   unread = all.unread;
   lanes_back = all.lanes_back;
-  bound = all.bound;
+  bound = nobody_bound serving before after none;
   later = all.later;
   listener_later = all.listener_later;
 }
-of_bad serving old new before after status fault all bad unused none (inr said) = let three = said.0 in record {
+of_bad serving old new before after status fault all bad unused idle (inr said) = let three = said.0 in let none = nobody_came before after idle in record {
   statuses = inr (inr (inl three));
   done = λ z. absurd (omega arith);
   refused = λ z. absurd (omega arith);
-  fault = λ z. inr (inr (inr (record { failed = said.1; fault = fault; cause = inl bad; front = said.2; unused = unused }, none)));
+  fault = λ z. inr (inr (inr (record { failed = said.1; fault = fault; cause = inl bad; front = said.2; unused = unused }, idle)));
   store_fault = λ z. absurd (omega arith);
   memory = λ z. absurd (omega arith);
   unread = all.unread;
   lanes_back = all.lanes_back;
-  bound = all.bound;
+  bound = nobody_bound serving before after none;
   later = all.later;
   listener_later = all.listener_later;
 }
 
 -- the tables of the store have a fault, which was said, or memory ran out to say it
 of_tables : (serving : Serving) (old new : Outside) (before after : ListenerView) (status : ℕ) (fault : OpenFault) → Whatever serving old new before after
-    → new.streams.output ≡ old.streams.output → IsLeft serving.store old new (Opening fault) → NobodyCame before after
+    → new.streams.output ≡ old.streams.output → IsLeft serving.store old new (Opening fault) → after ≡ before
     → IsBadStore serving.store old fault → IsUnused old new
     → EndsWith old.streams.errors new.streams.errors (fault_line fault) 1 status ⊎ ((status ≡ 5) × (new.streams.errors ≡ old.streams.errors))
     → IsServe serving old new before after status
-of_tables serving old new before after status fault all output left none bad unused (inl said) = of_bad serving old new before after status fault all bad unused none said
-of_tables serving old new before after status fault all output left none bad unused (inr said) =
-    of_memory serving old new before after status (Opening fault) all output left none said.0 said.1
+of_tables serving old new before after status fault all output left idle bad unused (inl said) = of_bad serving old new before after status fault all bad unused idle said
+of_tables serving old new before after status fault all output left idle bad unused (inr said) =
+    of_memory serving old new before after status (Opening fault) all output left idle said.0 said.1
 
 -- the place could not be had
 of_place : (serving : Serving) (old new : Outside) (before after : ListenerView) (status : ℕ) → Whatever serving old new before after
@@ -153,7 +160,7 @@ of_place serving old new before after status all output left none failed three s
   memory = λ z. absurd (omega arith);
   unread = all.unread;
   lanes_back = all.lanes_back;
-  bound = all.bound;
+  bound = nobody_bound serving before after none;
   later = all.later;
   listener_later = all.listener_later;
 }
@@ -167,26 +174,26 @@ unused serving old new before after why all output left refusal =
 of_why : (serving : Serving) (old new : Outside) (before after : ListenerView) (status : ℕ) (why : Unserved) → Whatever serving old new before after
     → new.streams.output ≡ old.streams.output → IsLeft serving.store old new why → NobodyCame before after
     → IsFaultOf (found_tables serving.store old) serving.store.global_unique old.stores.faults new.stores.faults why
-    → IsListened (AllCame serving before after) (ListeningFailed before after) (Err why)
+    → IsListened (AllCame serving before after × NoneFailed before after) (ListeningFailed before after) (after ≡ before) (Err why)
     → IsUnservedSaid why old.streams.errors new.streams.errors status → IsServe serving old new before after status
 of_why serving old new before after status (Opening Keeper) all output left none of heard said =
-    of_keeper serving old new before after status all (of.1 refl) (unused serving old new before after (Opening Keeper) all output left (λ same. absurd (cc))) none said
+    of_keeper serving old new before after status all (of.1 refl) (unused serving old new before after (Opening Keeper) all output left (λ same. absurd (cc))) heard said
 of_why serving old new before after status (Opening Memory) all output left none of heard said =
-    of_memory serving old new before after status (Opening Memory) all output left none said.0 said.1
+    of_memory serving old new before after status (Opening Memory) all output left heard said.0 said.1
 of_why serving old new before after status (Opening (BadTables kind n rule)) all output left none of heard said =
-    of_tables serving old new before after status (BadTables kind n rule) all output left none (record { of_tables = tt; refused = of.0 tt })
+    of_tables serving old new before after status (BadTables kind n rule) all output left heard (record { of_tables = tt; refused = of.0 tt })
     (unused serving old new before after (Opening (BadTables kind n rule)) all output left (λ same. absurd (cc))) said
 of_why serving old new before after status (Opening (BadRow kind n)) all output left none of heard said =
-    of_tables serving old new before after status (BadRow kind n) all output left none (record { of_tables = tt; refused = of.0 tt })
+    of_tables serving old new before after status (BadRow kind n) all output left heard (record { of_tables = tt; refused = of.0 tt })
     (unused serving old new before after (Opening (BadRow kind n)) all output left (λ same. absurd (cc))) said
 of_why serving old new before after status (Opening (Version n)) all output left none of heard said =
-    of_tables serving old new before after status (Version n) all output left none (record { of_tables = tt; refused = of.0 tt })
+    of_tables serving old new before after status (Version n) all output left heard (record { of_tables = tt; refused = of.0 tt })
     (unused serving old new before after (Opening (Version n)) all output left (λ same. absurd (cc))) said
 of_why serving old new before after status (Opening (BadNext kind)) all output left none of heard said =
-    of_tables serving old new before after status (BadNext kind) all output left none (record { of_tables = tt; refused = of.0 tt })
+    of_tables serving old new before after status (BadNext kind) all output left heard (record { of_tables = tt; refused = of.0 tt })
     (unused serving old new before after (Opening (BadNext kind)) all output left (λ same. absurd (cc))) said
 of_why serving old new before after status (Opening (Limit which n)) all output left none of heard said =
-    of_tables serving old new before after status (Limit which n) all output left none (record { of_tables = tt; refused = of.0 tt })
+    of_tables serving old new before after status (Limit which n) all output left heard (record { of_tables = tt; refused = of.0 tt })
     (unused serving old new before after (Opening (Limit which n)) all output left (λ same. absurd (cc))) said
 of_why serving old new before after status Place all output left none of heard said =
     of_place serving old new before after status all output left none heard said.0 said.1
@@ -197,28 +204,32 @@ left_of : {K : Type 0} (told : K → Option Tables) (store : Store) (old new : O
 left_of told store old new why (inl same) = inl same
 left_of told store old new why (inr (kept, before, returned)) = inr (told kept, before, returned)
 
+-- what is said of the listener's value is said of what it tells
+pub heard_of_view : (came failed : Type 0) (unused idle : Type 0) (why : Unserved) → (unused → idle) → IsListened came failed unused (Err why) → IsListened came failed idle (Err why)
+heard_of_view came failed unused idle (Opening fault) tell heard = tell heard
+heard_of_view came failed unused idle Place tell heard = heard
+
 -- nobody was served
 pub of_unserved : {K : Type 0} (told : K → Option Tables) (serving : Serving) (old new : Outside) (before after : ListenerView) (status : ℕ) (why : Unserved)
     → Whatever serving old new before after → new.streams.output ≡ old.streams.output
     → AreLeft told serving.store.db old.stores.stored new.stores.stored why × (after.returned ≡ before.returned)
     × IsFaultOf (found_tables serving.store old) serving.store.global_unique old.stores.faults new.stores.faults why
-    → IsListened (AllCame serving before after) (ListeningFailed before after) (Err why)
+    → IsListened (AllCame serving before after × NoneFailed before after) (ListeningFailed before after) (after ≡ before) (Err why)
     → IsUnservedSaid why old.streams.errors new.streams.errors status → IsServe serving old new before after status
 of_unserved told serving old new before after status why all output (left, returned, of) heard said =
     of_why serving old new before after status why all output (left_of told serving.store old new why left) (nobody before after returned all.lanes_back) of heard said
 
 -- where memory ran out before anything was used
-pub not_begun : (serving : Serving) (old new : Outside) (before after : ListenerView) (status : ℕ) → 1 ≤ serving.workers → status ≡ 5 → new ≡ old → after ≡ before
+pub not_begun : (serving : Serving) (old new : Outside) (before after : ListenerView) (status : ℕ) → status ≡ 5 → new ≡ old → after ≡ before
     → IsServe serving old new before after status
-not_begun serving old new before after status some five same same_listener =
+not_begun serving old new before after status five same same_listener =
     subst (λ (t : Outside). IsServe serving old t before after status) (sym same)
     (subst (λ (d : ListenerView). IsServe serving old old before d status) (sym same_listener)
     (of_memory serving old old before before status (Opening Memory)
     (record {
       unread = refl;
       lanes_back = refl;
-      bound = λ came. absurd (omega arith);
       later = record { streams = record { input = omega arith; output = omega arith; errors = omega arith }; stores = omega arith };
       listener_later = omega arith;
     })
-    refl (inl refl) (record { lanes = refl; returned = refl }) five refl))
+    refl (inl refl) refl five refl))

@@ -1,13 +1,13 @@
 -- What a run of the command `serve` promises of each status: a register over the store that the words name, or else in memory, served to
 -- all that connect.
-use Rattle.std.specs.Prelude.{◌≡◌, ℕ, ◌+◌, ◌++◌, ◌≤◌, ◌⊎◌, List, [], ◌∷◌, Option, Some, length, codes, decimal}
+use Rattle.std.specs.Prelude.{◌≡◌, ℕ, ◌+◌, ◌++◌, ◌≤◌, ◌<◌, ◌⊎◌, List, [], ◌∷◌, Option, Some, length, codes, decimal}
 use Rattle.ipam_edge.specs.Faults.{Rose}
 use Rattle.history_lock.specs.Replay.{replay}
 use Rattle.ipam_data.specs.State.{State}
 use Rattle.ipam_data.specs.Steps.{plain_step}
 use Rattle.stored_tables.specs.declared.tables.Tables.{Tables}
 use Rattle.ipam_keeper.specs.Keeping.{IsReturned}
-use Rattle.ipam_listen.specs.Connections.{Returned}
+use Rattle.ipam_listen.specs.Connections.{Binding, Returned, binding}
 use Rattle.shared_session.specs.Told.{Made}
 use Rattle.register_server.specs.Serving.{AreAsBefore, IsServedBy}
 use Rattle.register_server.specs.declared.ending.Listening.{Listening}
@@ -23,16 +23,16 @@ use Rattle.command_session.specs.Session.{found_tables, IsLoaded, Holds, NamesFa
 
 -- ---- what is seen of a listener
 
--- what it tells: how many connections each lane may accept, by the place that it was bound to last; how many lanes it handed out; the
+-- what it tells: what it was bound to last, a place and how many connections each lane may accept; how many lanes it handed out; the
 -- lanes that were given back; and its count of faults
 pub record ListenerView : Type 0 where
-  pub bound : ℕ
+  pub bound : Binding
   pub lanes : ℕ
   pub returned : List Returned
   pub faults : ℕ
 
 -- what a listener tells, by the members of its trait
-abbrev pub listener_view : {L : Type 0} → (L → ℕ) → (L → ℕ) → (L → List Returned) → (L → ℕ) → L → ListenerView
+abbrev pub listener_view : {L : Type 0} → (L → Binding) → (L → ℕ) → (L → List Returned) → (L → ℕ) → L → ListenerView
 listener_view bound lanes returned faults listener =
     record { bound = bound listener; lanes = lanes listener; returned = returned listener; faults = faults listener }
 
@@ -43,6 +43,14 @@ ListeningFailed before after = Rose before.faults after.faults
 -- as many lanes came as workers were asked for
 abbrev pub AllCame : Serving → ListenerView → ListenerView → Type 0
 AllCame serving before after = after.lanes ≡ before.lanes + serving.workers
+
+-- none of them failed, nor did the listener
+abbrev pub NoneFailed : ListenerView → ListenerView → Type 0
+NoneFailed before after = after.faults ≡ before.faults
+
+-- it is bound to the place of the words, and each lane may accept their number of connections
+abbrev pub IsBoundBy : Serving → ListenerView → Type 0
+IsBoundBy serving after = after.bound ≡ binding serving.bind serving.connections
 
 -- no lane was handed out, and none came back
 pub record NobodyCame (before after : ListenerView) : Type 0 where
@@ -60,8 +68,9 @@ abbrev pub listening_status : Listening → ℕ
 listening_status Whole = 0
 listening_status Broken = 3
 
--- the register of the store was served: behind all that the lanes tell is one history of so many changes
+-- the register of the store was served at the place of the words: behind all that the lanes tell is one history of so many changes
 pub record ServesStore (serving : Serving) (old new : Outside) (before after : ListenerView) (entries : ℕ) : Type 0 where
+  pub bound : IsBoundBy serving after
   pub state : State
   pub loaded : IsLoaded serving.store old state
   pub history : List Made
@@ -75,9 +84,10 @@ pub record ServesStore (serving : Serving) (old new : Outside) (before after : L
   -- nothing is said
   pub silent : new.streams.errors ≡ old.streams.errors
 
--- the listening went whole, and the count of the changes is on the output
+-- all lanes came and none failed, and the count of the changes is on the output
 pub record Counts (serving : Serving) (old new : Outside) (before after : ListenerView) : Type 0 where
   pub all_came : AllCame serving before after
+  pub none_failed : NoneFailed before after
   pub entries : ℕ
   pub serves : ServesStore serving old new before after entries
   pub said : Gains old.streams.output new.streams.output (entries_line entries)
@@ -123,24 +133,24 @@ IsUnservedSaid Place old new status = (status ≡ 3) × (new ≡ old)
 pub record IsServe (serving : Serving) (old new : Outside) (before after : ListenerView) (status : ℕ) : Type 0 where
   -- the status is one of these
   pub statuses : (status ≡ 0) ⊎ (status ≡ 1) ⊎ (status ≡ 3) ⊎ (status ≡ 4) ⊎ (status ≡ 5)
-  -- 0: all lanes came and were served to their end, and the count of the changes is on the output
+  -- 0: all lanes came, none failed, all were served to their end, and the count of the changes is on the output
   pub done : status ≡ 0 → Counts serving old new before after
-  -- 1: the opening was refused for what the store holds; no lane was taken
-  pub refused : status ≡ 1 → NamesFault serving.store old new × NobodyCame before after
+  -- 1: the opening was refused for what the store holds; the listener was not used
+  pub refused : status ≡ 1 → NamesFault serving.store old new × (after ≡ before)
   -- 3: the listener failed, and the count was printed; or the output failed; or the place could not be had; or what was to be said of the
   -- opening could not be
   pub fault : status ≡ 3 → BreaksOff serving old new before after ⊎ FailsToCount serving old new before after
-      ⊎ HasNoPlace serving.store old new before after ⊎ (FailsToSay serving.store old new × NobodyCame before after)
-  -- 4: the opening was refused since the store failed; no lane was taken
-  pub store_fault : status ≡ 4 → NamesFailure old new × NobodyCame before after
-  -- 5: nobody was served, and nothing was said
-  pub memory : status ≡ 5 → IsUnserved serving.store old new before after
+      ⊎ HasNoPlace serving.store old new before after ⊎ (FailsToSay serving.store old new × (after ≡ before))
+  -- 4: the opening was refused since the store failed; the listener was not used
+  pub store_fault : status ≡ 4 → NamesFailure old new × (after ≡ before)
+  -- 5: nobody was served, and nothing was said; the listener was not used, so no count of its faults rose
+  pub memory : status ≡ 5 → IsUnserved serving.store old new before after × (after ≡ before)
   -- the input is not read
   pub unread : new.streams.input ≡ old.streams.input
   -- every lane that was handed out was given back
   pub lanes_back : length after.returned + before.lanes ≡ length before.returned + after.lanes
-  -- where all lanes came, the listener was bound with the number of connections
-  pub bound : AllCame serving before after → after.bound ≡ serving.connections
+  -- where a lane came, the listener was bound to the place of the words, with their number of connections
+  pub bound : before.lanes < after.lanes → IsBoundBy serving after
   -- no count of faults falls
   pub later : NoCountFalls old new
   pub listener_later : before.faults ≤ after.faults

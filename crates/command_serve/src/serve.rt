@@ -1,7 +1,8 @@
 //! The command `serve`.
 
-ghost use Rattle.std.specs.Prelude.{◌≡◌, ◌≤◌, ◌+◌, length};
+ghost use Rattle.std.specs.Prelude.{◌≡◌, ◌≤◌, ◌+◌, IfOk, length};
 ghost use Rattle.ipam_edge.specs.Faults.{Rose};
+ghost use Rattle.ipam_listen.specs.Connections.{binding};
 ghost use Rattle.command_streams.specs.Streams.{Told, streams, told};
 ghost use Rattle.register_server.specs.Serving.{IsListened, IsServing};
 ghost use Rattle.command_session.specs.Outside.{outside, stores};
@@ -31,12 +32,11 @@ fn serve_store<R: Threads + Wait + Sync, L: Listener, O: KeeperOpener>(
     opener: &mut O,
 ) -> Result<Served, Unserved>
     requires few { (1 ≤ serving.now.workers) × (serving.now.workers ≤ 32) }
-    requires none_out { length (L.returned listener.old) ≤ L.lanes listener.old }
     ensures history { IsServing O.Kept.told serving.now.store.db serving.now.store.global_unique (O.stored opener.old) (O.stored opener.new) (O.faults opener.old) (O.faults opener.new)
         (L.returned listener.old) (L.returned listener.new) (L.lanes listener.new ≡ L.lanes listener.old + serving.now.workers) result }
     ensures lanes_back { length (L.returned listener.new) + L.lanes listener.old ≡ length (L.returned listener.old) + L.lanes listener.new }
-    ensures bound { L.lanes listener.new ≡ L.lanes listener.old + serving.now.workers → L.bound listener.new ≡ serving.now.connections }
-    ensures listened { IsListened (L.lanes listener.new ≡ L.lanes listener.old + serving.now.workers) (Rose (L.faults listener.old) (L.faults listener.new)) result }
+    ensures bound { IfOk result (λ _. L.bound listener.new ≡ binding serving.now.bind serving.now.connections) }
+    ensures listened { IsListened ((L.lanes listener.new ≡ L.lanes listener.old + serving.now.workers) × (L.faults listener.new ≡ L.faults listener.old)) (Rose (L.faults listener.old) (L.faults listener.new)) (listener.new ≡ listener.old) result }
     ensures opener_later { O.faults opener.old ≤ O.faults opener.new }
     ensures listener_later { L.faults listener.old ≤ L.faults listener.new }
 {
@@ -72,8 +72,7 @@ fn say_unserved<Se: Sink>(alloc: Global, why: Unserved, errors: &mut Se) -> u8
 }
 
 /// Runs `serve`: opens the register of the store, binds the listener, serves all that connect by as many workers as are asked for, one
-/// connection of each at a time, and prints how many changes were accepted. What a refused opening says goes to the messages. The listener
-/// got back no more lanes than it handed out before.
+/// connection of each at a time, and prints how many changes were accepted. What a refused opening says goes to the messages.
 pub fn run_serve<R: Threads + Wait + Sync, Si: Sink, Se: Sink, L: Listener, O: KeeperOpener>(
     rt: &R,
     alloc: Global,
@@ -84,7 +83,6 @@ pub fn run_serve<R: Threads + Wait + Sync, Si: Sink, Se: Sink, L: Listener, O: K
     opener: &mut O,
 ) -> u8
     requires few { (1 ≤ serving.now.workers) × (serving.now.workers ≤ 32) }
-    requires none_out { length (L.returned listener.old) ≤ L.lanes listener.old }
     ensures { (input : Told) → IsServe serving.now
         (outside (streams input (told Si.written Si.faults output.old) (told Se.written Se.faults errors.old)) (stores O.stored O.faults opener.old))
         (outside (streams input (told Si.written Si.faults output.new) (told Se.written Se.faults errors.new)) (stores O.stored O.faults opener.new))

@@ -1,7 +1,6 @@
 //! Runs, a line each: the call of a handed-in object that fails, if any; the status, what is written and said, and what the store has afterwards.
-ghost use Rattle.std.specs.Prelude.{◌≡◌, ◌≤◌, [], IfOk, length};
+ghost use Rattle.std.specs.Prelude.{◌≡◌, [], IfOk};
 ghost use Rattle.ipam_listen.specs.ListLanes.{lane_told};
-ghost use Rattle.ipam_listen.specs.ListListeners.{listener_returned, listener_lanes};
 
 use crate::command_files_tests::bytes_of;
 use crate::session_tests::part;
@@ -86,7 +85,6 @@ fn lane_of(alloc: Global, line: &str) -> Result<ListLane, AllocError>
 
 /// A listener with such a lane, where one comes.
 fn listener_of(alloc: Global, line: &str) -> Result<ListListener, AllocError>
-    ensures { IfOk result (λ l. (listener_returned l ≡ []) × (listener_lanes l ≡ 0)) }
 {
     let mut lanes = Vec::new(alloc);
     if !line.starts_with("nobody") {
@@ -162,7 +160,6 @@ fn ran<R: Threads + Wait + Sync>(
     opener: &mut MemoryOpener,
     line: &str,
 ) -> Result<Left, AllocError>
-    requires { length (listener_returned listener.old) ≤ listener_lanes listener.old }
 {
     let input = input_of(alloc, part(line, 2))?;
     let source = [failing(line, "input")];

@@ -1,8 +1,5 @@
 //! `run` over objects in memory.
 
-ghost use Rattle.std.specs.Prelude.{◌≤◌, length};
-ghost use Rattle.ipam_listen.specs.ListListeners.{listener_returned, listener_lanes};
-
 use ipam_command::run;
 use ipam_edge::{BytesSink, BytesSource};
 use ipam_keeper::opener::MemoryOpener;
@@ -31,7 +28,6 @@ pub fn run_with<R: Threads + Wait + Sync>(
     piece: usize,
     fails: [&[u32]; 3],
 ) -> Result<Left, AllocError>
-    requires { length (listener_returned listener.old) ≤ listener_lanes listener.old }
 {
     let piece = piece.max(1);
     let mut list = Vec::new(alloc);

@@ -56,7 +56,7 @@ fn trace_of(
     let mut lanes = Vec::new(alloc);
     lanes.push(lane)?;
     let mut listener = ListListener::new(alloc, lanes)?;
-    if listener.bind(b"here", bound).is_ok() {
+    if listener.bind(Vec::from_slice(alloc, b"here")?, bound).is_ok() {
         if let Ok(mut lane) = listener.lane() {
             for _ in 0..5 {
                 trace.push(accept_one(&mut lane))?;
@@ -126,7 +126,8 @@ fn listener<R: Net<Listener = TcpListener, Stream = TcpStream> + Clock + Sync>(
     alloc: Global,
 ) -> Option<(u16, TcpDoor<'_, R>)> {
     let mut listener = TcpDoors::new(rt, alloc, Duration::from_millis(200));
-    listener.bind(b"127.0.0.1:0", 100).ok()?;
+    let place = Vec::from_slice(alloc, b"127.0.0.1:0").ok()?;
+    listener.bind(place, 100).ok()?;
     let port = listener.port()?;
     let lane = listener.lane().ok()?;
     Some((port, lane))
@@ -141,4 +142,41 @@ fn no_client_holds_a_lane(rt: HostRuntime) {
     assert_eq!(rt; silent, Some(1));
     let answer = answer_of(&rt, rt.alloc(), port, &mut lane).expect(&rt, "an answer");
     assert_eq!(rt; answer.as_str(), "too large");
+}
+
+/// Two ports of 127.0.0.1 that nobody listens at.
+fn free_ports<R: Net<Listener = TcpListener, Stream = TcpStream>>(rt: &R) -> Option<(u16, u16)> {
+    let one = TcpListener::bind(rt, ("127.0.0.1", 0)).ok()?;
+    let other = TcpListener::bind(rt, ("127.0.0.1", 0)).ok()?;
+    Some((one.local_addr().ok()?.port(), other.local_addr().ok()?.port()))
+}
+
+/// Whether somebody listens at a port of a host.
+fn listens<R: Net<Listener = TcpListener, Stream = TcpStream>>(
+    rt: &R,
+    host: &str,
+    port: u16,
+) -> bool {
+    TcpStream::connect(rt, (host, port)).is_ok()
+}
+
+/// A listener that is bound to a port of 127.0.0.1, and another one that is free.
+fn bound_to_a_given_port<R: Net<Listener = TcpListener, Stream = TcpStream> + Clock + Sync>(
+    rt: &R,
+    alloc: Global,
+) -> Option<(TcpDoors<'_, R>, u16, u16)> {
+    let (port, other) = free_ports(rt)?;
+    let place = format!(in alloc; "127.0.0.1:{port}").ok()?;
+    let mut listener = TcpDoors::new(rt, alloc, Duration::from_millis(200));
+    listener.bind(place.into_bytes(), 1).ok()?;
+    Some((listener, port, other))
+}
+
+#[test]
+fn a_listener_is_at_its_place_alone(rt: HostRuntime) {
+    let (listener, port, other) = bound_to_a_given_port(&rt, rt.alloc()).expect(&rt, "a port");
+    assert_eq!(rt; listener.port(), Some(port));
+    assert!(rt; listens(&rt, "127.0.0.1", port));
+    assert!(rt; !listens(&rt, "127.0.0.2", port), "another address");
+    assert!(rt; !listens(&rt, "127.0.0.1", other), "another port");
 }

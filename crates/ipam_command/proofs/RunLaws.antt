@@ -30,7 +30,6 @@ use Rattle.ipam_command.proofs.Apart.{free_apart, serve_not_free, serve_not_sess
 use Rattle.ipam_command.proofs.OfficeLaws.{import_not_begun, export_not_begun, report_not_begun, tables_stay, of_import, of_export, of_report}
 use Rattle.command_session.proofs.Refused.{not_begun}
 use Rattle.command_serve.proofs.Unserved.{not_begun as none_served}
-use Rattle.ipam_command.proofs.Parts.{few_workers}
 
 -- where the blocks were printed no line is refused
 exact_done : (within : Cidr) (told : Option (List ℕ)) (Gained : List ℕ → Type 0) (Ended : Type 0) (status : ℕ) → status ≡ 0
@@ -217,8 +216,8 @@ of_serve words old new before after status serving asks s = record {
   ];
   free_fault = λ within a z. absurd (serve_not_free words serving within asks a);
   starved = λ store a z output errors. absurd (serve_not_session words serving store asks a);
-  store_fault = λ z. ((s.store_fault z).1, inl (inr (inl (serving, asks)), (s.store_fault z).0));
-  memory = λ z. (let t = (s.memory z).streams in (ap (λ (u : Streams). u.errors) t, inr (ap (λ (u : Streams). u.output) t)));
+  store_fault = λ z. (nobody before after (s.store_fault z).1, inl (inr (inl (serving, asks)), (s.store_fault z).0));
+  memory = λ z. (let t = (s.memory z).0.streams in (ap (λ (u : Streams). u.errors) t, inr (ap (λ (u : Streams). u.output) t)));
   nothing_else = λ within a. absurd (serve_not_free words serving within asks a);
   refuses = λ within number fault a. absurd (serve_not_free words serving within asks a);
   no_store = λ within a. absurd (serve_not_free words serving within asks a);
@@ -355,7 +354,7 @@ of_memory words old new before after status five same same_listener =
       no_listener = λ apart. same_listener;
       lanes_back = lanes_kept before after same_listener;
       load = λ count workers a. (unprinted count workers old.streams.output new.streams.output status five output, input, errors, same_stores, same_listener);
-      serve = λ serving a. none_served serving old new before after status (few_workers words serving a).0 five same same_listener;
+      serve = λ serving a. none_served serving old new before after status five same same_listener;
       session = λ store a. not_begun store old new status five same;
       empty = λ unique a well z. absurd (omega arith);
       import = λ kind store a. (import_not_begun (kind_named kind) store old new status five same, same_listener);

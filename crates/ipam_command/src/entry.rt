@@ -1,7 +1,5 @@
 //! The program: its real objects, and the words behind its name.
 
-ghost use Rattle.std.specs.Prelude.{◌≤◌, length};
-
 use crate::run;
 use command_streams::{MEMORY, NoArguments, say_usage, words_given};
 use ipam_edge::{standard_error, standard_input, standard_output};
@@ -20,7 +18,6 @@ fn run_args<R: Threads + Wait + Sync, L: Listener, O: KeeperOpener>(
     listener: &mut L,
     opener: &mut O,
 ) -> u8
-    requires { length (L.returned listener.old) ≤ L.lanes listener.old }
 {
     let alloc = rt.alloc();
     let mut words = Vec::new(alloc);
@@ -53,7 +50,6 @@ pub fn program<R: Threads + Wait + Sync, L: Listener, O: KeeperOpener>(
     listener: &mut L,
     opener: &mut O,
 ) -> ExitCode
-    requires { length (L.returned listener.old) ≤ L.lanes listener.old }
 {
     let status = match words_given(rt) {
         Ok(args) => run_args(rt, threads, &args, listener, opener),

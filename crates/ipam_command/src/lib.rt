@@ -1,7 +1,7 @@
 //! The commands of the program: what its words ask for is run over its input, output and messages.
 #![tactic(auto)]
 
-ghost use Rattle.std.specs.Prelude.{◌≤◌, List, length, map, ℕ};
+ghost use Rattle.std.specs.Prelude.{List, map, ℕ};
 ghost use Rattle.command_words.specs.Asked.{Asks};
 ghost use Rattle.command_streams.specs.Streams.{streams, told};
 ghost use Rattle.ipam_command.specs.Clauses.{RunsHaveClauses};
@@ -46,7 +46,6 @@ fn run_command<
     opener: &mut O,
 ) -> u8
     requires asked { (words : List (List ℕ)) × Asks words command.now }
-    requires none_out { length (L.returned listener.old) ≤ L.lanes listener.old }
     ensures { Answers command.now
         (outside (streams (told So.left So.faults input.old) (told Si.written Si.faults output.old) (told Se.written Se.faults errors.old)) (stores O.stored O.faults opener.old))
         (outside (streams (told So.left So.faults input.new) (told Si.written Si.faults output.new) (told Se.written Se.faults errors.new)) (stores O.stored O.faults opener.new))
@@ -77,8 +76,8 @@ fn run_command<
     }
 }
 
-/// Runs the program: the words behind its name, the input, the output, where messages go, a listener, and what opens stores. The listener
-/// got back no more lanes than it handed out before. It gives the status: 0 done, 1 the input or a store breaks a stated rule, 2 the words
+/// Runs the program: the words behind its name, the input, the output, where messages go, a listener, and what opens stores. It
+/// gives the status: 0 done, 1 the input or a store breaks a stated rule, 2 the words
 /// are no command, 3 the input, the output, the messages or the listener failed, 4 the store failed, 5 out of memory.
 pub fn run<R: Threads + Wait + Sync, So: Source, Si: Sink, Se: Sink, L: Listener, O: KeeperOpener>(
     rt: &R,
@@ -90,7 +89,6 @@ pub fn run<R: Threads + Wait + Sync, So: Source, Si: Sink, Se: Sink, L: Listener
     listener: &mut L,
     opener: &mut O,
 ) -> u8
-    requires none_out { length (L.returned listener.old) ≤ L.lanes listener.old }
     ensures { Runs (map (λ w. w.now) words.now)
         (outside (streams (told So.left So.faults input.old) (told Si.written Si.faults output.old) (told Se.written Se.faults errors.old)) (stores O.stored O.faults opener.old))
         (outside (streams (told So.left So.faults input.new) (told Si.written Si.faults output.new) (told Se.written Se.faults errors.new)) (stores O.stored O.faults opener.new))

@@ -1,2 +1,3 @@
+pub mod Rises
 pub mod Told
 pub mod Waiting

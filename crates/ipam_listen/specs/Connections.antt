@@ -51,6 +51,15 @@ IsNoneExactly accepts (Ok None) = accepts ≡ 0
 IsNoneExactly accepts (Ok (Some pair)) = 0 < accepts
 IsNoneExactly accepts (Err e) = 0 < accepts
 
+-- what a listener is bound to: a place, and how many connections each lane may accept
+pub record Binding : Type 0 where
+  pub place : List ℕ
+  pub connections : ℕ
+
+-- these two as one value
+abbrev pub binding : List ℕ → ℕ → Binding
+binding place connections = record { place = place; connections = connections }
+
 -- a lane that was given back: the connections that it tells, and the accepts that it had left
 pub record Returned : Type 0 where
   pub told : Option (List Connection)

@@ -1,3 +1,4 @@
+pub mod Back
 pub mod Connections
 pub mod ListLanes
 pub mod ListListeners

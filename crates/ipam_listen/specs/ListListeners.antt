@@ -1,6 +1,6 @@
 -- What a listener in memory holds.
 use Rattle.std.specs.Prelude.{◌≡◌, ℕ, List, ◌∷◌, reverse, Some}
-use Rattle.ipam_listen.specs.Connections.{Returned}
+use Rattle.ipam_listen.specs.Connections.{Binding, Returned, binding}
 use Rattle.ipam_listen.specs.ListLanes.{lane_told, lane_accepts}
 use Rattle.ipam_listen.specs.declared.list_lane.ListLane.{ListLane}
 use Rattle.ipam_listen.specs.declared.list_listener.ListListener.{ListListener}
@@ -17,9 +17,9 @@ listener_waiting l = reverse l.waiting.items
 abbrev pub listener_returned : ListListener → List ListLane
 listener_returned l = l.back.items
 
--- how many connections a lane may accept
-abbrev pub listener_bound : ListListener → ℕ
-listener_bound l = l.bound
+-- what it is bound to: a place, and how many connections each lane may accept
+abbrev pub listener_binding : ListListener → Binding
+listener_binding l = binding l.place.items l.bound
 
 -- how many lanes were handed out
 abbrev pub listener_lanes : ListListener → ℕ
@@ -33,4 +33,4 @@ listener_faults l = l.faults
 pub record IsHandedLane (old new : ListListener) (lane : ListLane) : Type 0 where
   pub first : ListLane
   pub waiting : listener_waiting old ≡ first ∷ listener_waiting new
-  pub lane_is : lane ≡ record first { accepts = listener_bound old }
+  pub lane_is : lane ≡ record first { accepts = (listener_binding old).connections }

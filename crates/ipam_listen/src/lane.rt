@@ -1,7 +1,6 @@
 //! Where one worker takes its connections from.
-ghost use Rattle.std.specs.Prelude.{option_map, ◌≡◌, ◌-◌, ℕ, List, Option, IfSome};
-ghost use Rattle.ipam_edge.specs.Faults.{HasCause};
-ghost use Rattle.ipam_listen.specs.Connections.{Connection, IsLastOut, IsNoneExactly, ends_of, last_finished, told_after_accept};
+ghost use Rattle.std.specs.Prelude.{option_map, ◌≡◌, ◌-◌, ◌<◌, ◌↔◌, ℕ, List, Option, IfSome, IsErr, IsTrue};
+ghost use Rattle.ipam_listen.specs.Connections.{Connection, IsLastOut, IsNoneExactly, RisesExactly, ends_of, last_finished, told_after_accept};
 
 use ipam_edge::{Failed, Sink, Source};
 use std::marker::Send;
@@ -24,12 +23,17 @@ pub trait Lane {
     /// How often it has failed so far: a count that never falls.
     ghost faults: { Self → ℕ };
 
-    /// Waits for the next connection. None exactly where no accept is left; each other accept, failed or not, spends one.
+    /// Waits for the next connection. None exactly where no accept is left; each other accept, failed or not, spends one. The count of
+    /// faults rises exactly where it fails.
     fn accept(&mut self) -> Result<Option<(Self::In, Self::Out)>, Failed>
         ensures none { IsNoneExactly (accepts self.old) result }
         ensures spends { accepts self.new ≡ accepts self.old - 1 }
         ensures told { told self.new ≡ told_after_accept (λ source sink. ends_of (Self.In.left source) (Self.Out.written sink) (Self.In.faults source) (Self.Out.faults sink)) (told self.old) result }
-        ensures cause { HasCause (faults self.old) (faults self.new) result };
+        ensures cause { RisesExactly (IsErr result) (faults self.old) (faults self.new) };
+
+    /// Whether an accept has failed so far.
+    fn has_failed(&self) -> bool
+        ensures { IsTrue result ↔ (0 < faults self.now) };
 
     /// Takes back the connection that `accept` gave last. It takes no memory.
     fn finish(&mut self, source: Self::In, sink: Self::Out)

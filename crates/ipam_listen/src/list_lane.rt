@@ -1,7 +1,6 @@
 //! A lane in memory, over a list of connections: for tests of what stands on it.
 ghost use Rattle.std.specs.Prelude.{◌≡◌, ◌<◌, ◌≤◌, ◌+◌, ◌-◌, ◌^◌, ◌++◌, ◌↔◌, ◌⊎◌, min, Contains, IsTrue, IsErr, IfOk, IfSome, Some, [], map, is_err, if◌then◌else◌, option_copied, option_map, vec_len, vec_capacity};
-ghost use Rattle.ipam_edge.specs.Faults.{HasCause};
-ghost use Rattle.ipam_listen.specs.Connections.{IsLastOut, IsNoneExactly, last_finished, told_after_accept};
+ghost use Rattle.ipam_listen.specs.Connections.{IsLastOut, IsNoneExactly, RisesExactly, last_finished, told_after_accept};
 
 use crate::lane::Lane;
 use ipam_edge::{BytesSink, BytesSource, Failed};
@@ -99,7 +98,7 @@ impl ListLane {
     /// Counts a failed accept.
     fn fail<T>(&mut self) -> Result<T, Failed>
         ensures counted { self.new ≡ record self.old { faults = min (self.old.faults + 1) u64.MAX } }
-        ensures cause { HasCause self.old.faults self.new.faults result }
+        ensures cause { RisesExactly (IsErr result) self.old.faults self.new.faults }
         ensures fails { IsErr result }
     {
         self.faults = self.faults.saturating_add(1);
@@ -135,7 +134,7 @@ impl Lane for ListLane {
         ensures none { IsNoneExactly (lane_accepts self.old) result }
         ensures spends { lane_accepts self.new ≡ lane_accepts self.old - 1 }
         ensures told { Some (lane_told self.new) ≡ told_after_accept (λ source sink. ends_of_pair (source, sink)) (Some (lane_told self.old)) result }
-        ensures cause { HasCause (lane_faults self.old) (lane_faults self.new) result }
+        ensures cause { RisesExactly (IsErr result) (lane_faults self.old) (lane_faults self.new) }
 
         // The first of the pairs that wait is handed out; an accept that fails keeps it for the next one.
         ensures waiting { lane_waiting self.old ≡ handed_by result ++ lane_waiting self.new }
@@ -165,6 +164,10 @@ impl Lane for ListLane {
             }
             None => self.fail(),
         }
+    }
+
+    fn has_failed(&self) -> bool {
+        self.faults > 0
     }
 
     fn finish(&mut self, source: BytesSource, sink: BytesSink)

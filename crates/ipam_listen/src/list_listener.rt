@@ -1,7 +1,6 @@
 //! A listener in memory, over a list of lanes: for tests of what stands on it.
 ghost use Rattle.std.specs.Prelude.{◌≡◌, ◌<◌, ◌≤◌, ◌+◌, ◌++◌, ◌∷◌, ◌↔◌, min, nat_lt, All, IfOk, IfSome, IsOk, IsErr, MatchResult, OnErr, [], is_err, if◌then◌else◌, length, map, vec_len, vec_capacity};
-ghost use Rattle.ipam_edge.specs.Faults.{HasCause};
-ghost use Rattle.ipam_listen.specs.Connections.{RisesExactly};
+ghost use Rattle.ipam_listen.specs.Connections.{RisesExactly, binding};
 ghost use Rattle.ipam_listen.specs.ListLanes.{lane_told};
 
 use crate::list_lane::ListLane;
@@ -14,6 +13,7 @@ use std::alloc::{AllocError, Global};
 pub struct ListListener {
     waiting: Vec<ListLane>,
     back: Vec<ListLane>,
+    place: Vec<u8>,
     bound: u32,
     lanes: u64,
     faults: u64,
@@ -23,7 +23,7 @@ pub struct ListListener {
 }
 
 impl ListListener {
-    ghost use Rattle.ipam_listen.specs.ListListeners.{listener_waiting, listener_returned, listener_bound, listener_lanes, listener_faults};
+    ghost use Rattle.ipam_listen.specs.ListListeners.{listener_waiting, listener_returned, listener_binding, listener_lanes, listener_faults};
 
     /// A listener that hands out these lanes in order; a `lane` past the last of them fails. None of them has handed out a connection
     /// before. It takes the memory for all that `give_back` takes in here, and none later.
@@ -31,7 +31,7 @@ impl ListListener {
         requires { All (λ l. lane_told l ≡ []) lanes.items }
         ensures waiting { IfOk result (λ l. listener_waiting l ≡ lanes.items) }
         ensures returned { IfOk result (λ l. listener_returned l ≡ []) }
-        ensures bound { IfOk result (λ l. listener_bound l ≡ 0) }
+        ensures bound { IfOk result (λ l. listener_binding l ≡ binding [] 0) }
         ensures lanes { IfOk result (λ l. listener_lanes l ≡ 0) }
         ensures faults { IfOk result (λ l. listener_faults l ≡ 0) }
     {
@@ -41,6 +41,7 @@ impl ListListener {
         Ok(ListListener {
             waiting,
             back,
+            place: Vec::new(alloc),
             bound: 0,
             lanes: 0,
             faults: 0,
@@ -57,12 +58,14 @@ impl ListListener {
 
 impl Listener for ListListener {
     ghost use Rattle.std.specs.Prelude.{Some};
+    ghost use Rattle.std.proofs.Common.{rules};
+    ghost use Rattle.ipam_listen.specs.Back.{read_within};
     ghost use Rattle.ipam_listen.specs.ListLanes.{lane_accepts, lane_faults};
-    ghost use Rattle.ipam_listen.specs.ListListeners.{IsHandedLane, listener_waiting, listener_returned, listener_bound, listener_lanes, listener_faults, returned_lane};
+    ghost use Rattle.ipam_listen.specs.ListListeners.{IsHandedLane, listener_waiting, listener_returned, listener_binding, listener_lanes, listener_faults, returned_lane};
 
     type Door = ListLane;
 
-    ghost bound = { λ l. listener_bound l };
+    ghost bound = { λ l. listener_binding l };
 
     ghost lanes = { λ l. listener_lanes l };
 
@@ -70,11 +73,11 @@ impl Listener for ListListener {
 
     ghost faults = { λ l. listener_faults l };
 
-    fn bind(&mut self, at: &[u8], connections: u32) -> Result<(), Failed>
-        ensures bound { MatchResult result (λ _. listener_bound self.new ≡ connections) (λ _. listener_bound self.new ≡ listener_bound self.old) }
+    fn bind(&mut self, at: Vec<u8>, connections: u32) -> Result<(), Failed>
+        ensures bound { MatchResult result (λ _. listener_binding self.new ≡ binding at.items connections) (λ _. listener_binding self.new ≡ listener_binding self.old) }
         ensures lanes { listener_lanes self.new ≡ listener_lanes self.old }
         ensures returned { map returned_lane (listener_returned self.new) ≡ map returned_lane (listener_returned self.old) }
-        ensures cause { HasCause (listener_faults self.old) (listener_faults self.new) result }
+        ensures cause { RisesExactly (IsErr result) (listener_faults self.old) (listener_faults self.new) }
 
         // It never fails.
         ensures fails { IsOk result }
@@ -82,17 +85,17 @@ impl Listener for ListListener {
         ensures kept { listener_returned self.new ≡ listener_returned self.old }
         ensures counted { listener_faults self.new ≡ listener_faults self.old }
     {
-        let _ = at;
+        self.place = at;
         self.bound = connections;
         Ok(())
     }
 
     fn lane(&mut self) -> Result<ListLane, Failed>
-        ensures fresh { IfOk result (λ lane. (lane_accepts lane ≡ listener_bound self.old) × IfSome (Some (lane_told lane)) (λ connections. connections ≡ [])) }
+        ensures fresh { IfOk result (λ lane. (lane_accepts lane ≡ (listener_binding self.old).connections) × IfSome (Some (lane_told lane)) (λ connections. connections ≡ [])) }
         ensures lanes { MatchResult result (λ _. listener_lanes self.new ≡ listener_lanes self.old + 1) (λ _. listener_lanes self.new ≡ listener_lanes self.old) }
-        ensures bound { listener_bound self.new ≡ listener_bound self.old }
+        ensures bound { listener_binding self.new ≡ listener_binding self.old }
         ensures returned { map returned_lane (listener_returned self.new) ≡ map returned_lane (listener_returned self.old) }
-        ensures cause { HasCause (listener_faults self.old) (listener_faults self.new) result }
+        ensures cause { RisesExactly (IsErr result) (listener_faults self.old) (listener_faults self.new) }
 
         // It fails exactly where no lane waits, and else hands out the first of those that wait.
         ensures fails { IsErr result ↔ (listener_waiting self.old ≡ []) }
@@ -117,7 +120,7 @@ impl Listener for ListListener {
         requires out { length (map returned_lane (listener_returned self.old)) < listener_lanes self.old }
         ensures returned { map returned_lane (listener_returned self.new) ≡ map returned_lane (listener_returned self.old) ++ returned_lane lane ∷ [] }
         ensures lanes { listener_lanes self.new ≡ listener_lanes self.old }
-        ensures bound { listener_bound self.new ≡ listener_bound self.old }
+        ensures bound { listener_binding self.new ≡ listener_binding self.old }
         ensures cause { RisesExactly (0 < lane_faults lane) (listener_faults self.old) (listener_faults self.new) }
 
         // The lane itself stands last among those that came back.
@@ -130,4 +133,6 @@ impl Listener for ListListener {
         }
         self.back.push_reserved(lane);
     }
+
+    ghost no_more_back = { λ l. read_within returned_lane l.back.items l.lanes (let fewer = l.fewer in Prim.search (rules, fewer)) };
 }

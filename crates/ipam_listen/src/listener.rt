@@ -1,7 +1,6 @@
 //! Where lanes come from.
-ghost use Rattle.std.specs.Prelude.{◌≡◌, ◌+◌, ◌<◌, ◌++◌, ◌∷◌, [], ℕ, List, length, IfOk, IfSome, MatchResult};
-ghost use Rattle.ipam_edge.specs.Faults.{HasCause};
-ghost use Rattle.ipam_listen.specs.Connections.{Returned, RisesExactly};
+ghost use Rattle.std.specs.Prelude.{◌≡◌, ◌+◌, ◌<◌, ◌≤◌, ◌++◌, ◌∷◌, [], ℕ, List, length, IfOk, IfSome, IsErr, MatchResult};
+ghost use Rattle.ipam_listen.specs.Connections.{Binding, Returned, RisesExactly, binding};
 
 use crate::lane::Lane;
 use ipam_edge::Failed;
@@ -12,8 +11,8 @@ pub trait Listener {
     /// What one worker takes its connections from.
     type Door: Lane + Send;
 
-    /// How many connections each lane may accept, by the last `bind` that answered Ok.
-    ghost bound: { Self → ℕ };
+    /// What it is bound to, by the last `bind` that answered Ok: a place, and how many connections each lane may accept.
+    ghost bound: { Self → Binding };
 
     /// How many lanes it handed out.
     ghost lanes: { Self → ℕ };
@@ -24,20 +23,21 @@ pub trait Listener {
     /// How often it has failed so far: a count that never falls.
     ghost faults: { Self → ℕ };
 
-    /// Binds it to a place; each lane from now on accepts so many connections.
-    fn bind(&mut self, at: &[u8], connections: u32) -> Result<(), Failed>
-        ensures bound { MatchResult result (λ _. bound self.new ≡ connections) (λ _. bound self.new ≡ bound self.old) }
+    /// Binds it to a place, a text `HOST:PORT`; each lane from now on accepts so many connections. The count of faults rises exactly where
+    /// it fails.
+    fn bind(&mut self, at: Vec<u8>, connections: u32) -> Result<(), Failed>
+        ensures bound { MatchResult result (λ _. bound self.new ≡ binding at.items connections) (λ _. bound self.new ≡ bound self.old) }
         ensures lanes { lanes self.new ≡ lanes self.old }
         ensures returned { returned self.new ≡ returned self.old }
-        ensures cause { HasCause (faults self.old) (faults self.new) result };
+        ensures cause { RisesExactly (IsErr result) (faults self.old) (faults self.new) };
 
-    /// Hands out a lane, which has handed out no connection yet.
+    /// Hands out a lane, which has handed out no connection yet. The count of faults rises exactly where it fails.
     fn lane(&mut self) -> Result<Self::Door, Failed>
-        ensures fresh { IfOk result (λ lane. (Self.Door.accepts lane ≡ bound self.old) × IfSome (Self.Door.told lane) (λ connections. connections ≡ [])) }
+        ensures fresh { IfOk result (λ lane. (Self.Door.accepts lane ≡ (bound self.old).connections) × IfSome (Self.Door.told lane) (λ connections. connections ≡ [])) }
         ensures lanes { MatchResult result (λ _. lanes self.new ≡ lanes self.old + 1) (λ _. lanes self.new ≡ lanes self.old) }
         ensures bound { bound self.new ≡ bound self.old }
         ensures returned { returned self.new ≡ returned self.old }
-        ensures cause { HasCause (faults self.old) (faults self.new) result };
+        ensures cause { RisesExactly (IsErr result) (faults self.old) (faults self.new) };
 
     /// Takes a lane back. It takes no memory. The count of faults rises exactly where the lane failed.
     fn give_back(&mut self, lane: Self::Door)
@@ -46,4 +46,7 @@ pub trait Listener {
         ensures lanes { lanes self.new ≡ lanes self.old }
         ensures bound { bound self.new ≡ bound self.old }
         ensures cause { RisesExactly (0 < Self.Door.faults lane) (faults self.old) (faults self.new) };
+
+    /// No more lanes came back than were handed out.
+    ghost no_more_back: { (x : Self) → length (returned x) ≤ lanes x };
 }

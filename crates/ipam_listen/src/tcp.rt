@@ -3,6 +3,7 @@ ghost use Rattle.std.specs.Prelude.{◌≡◌, ◌<◌, ◌≤◌, ◌+◌, ◌^
 ghost use Rattle.std.specs.Io.KnownBytes.{ReadConsumes};
 ghost use Rattle.ipam_edge.specs.Faults.{HasCause};
 ghost use Rattle.ipam_edge.specs.Streams.{sink_stream_faults};
+ghost use Rattle.ipam_listen.specs.Connections.{binding};
 ghost use Rattle.ipam_listen.specs.Tcp.{returned_door};
 
 use crate::lane::Lane;
@@ -224,6 +225,10 @@ impl<'a, R: Clock + Sync> Lane for TcpDoor<'a, R> {
         }
     }
 
+    fn has_failed(&self) -> bool {
+        self.faults > 0
+    }
+
     fn finish(&mut self, source: TcpIn<'a, R, TcpStream>, sink: TcpOut<'a, R>) {
         drop(sink);
         // What the client does now changes no answer.
@@ -238,6 +243,7 @@ pub struct TcpDoors<'a, R> {
     alloc: Global,
     base: Duration,
     socket: Option<TcpListener>,
+    place: Vec<u8>,
     bound: u32,
     lanes: u64,
     back: Vec<u32>,
@@ -250,13 +256,14 @@ impl<'a, R: Net<Listener = TcpListener, Stream = TcpStream> + Clock> TcpDoors<'a
     /// A listener that is not bound yet. `base` is how long a client has for a request at first, and how long a write waits for it.
     pub fn new(rt: &'a R, alloc: Global, base: Duration) -> TcpDoors<'a, R>
         ensures faults { result.faults ≡ 0 }
-        ensures unbound { (result.bound ≡ 0) × (result.lanes ≡ 0) × (result.back.items ≡ []) }
+        ensures unbound { (result.bound ≡ 0) × (result.place.items ≡ []) × (result.lanes ≡ 0) × (result.back.items ≡ []) }
     {
         TcpDoors {
             rt,
             alloc,
             base,
             socket: None,
+            place: Vec::new(alloc),
             bound: 0,
             lanes: 0,
             back: Vec::new(alloc),
@@ -281,7 +288,7 @@ impl<'a, R: Net<Listener = TcpListener, Stream = TcpStream> + Clock> TcpDoors<'a
         ensures fresh { IfSome result (λ d. d.accepts ≡ self.old.bound) }
         ensures room { IfSome result (λ d. (self.old.lanes < 2 ^ 40) × (self.old.lanes < vec_capacity self.new.back)) }
         ensures back { self.new.back.items ≡ self.old.back.items }
-        ensures kept { (self.new.lanes ≡ self.old.lanes) × (self.new.bound ≡ self.old.bound) × (self.new.faults ≡ self.old.faults) }
+        ensures kept { (self.new.lanes ≡ self.old.lanes) × (self.new.bound ≡ self.old.bound) × (self.new.place.items ≡ self.old.place.items) × (self.new.faults ≡ self.old.faults) }
     {
         if self.lanes >= 1 << 40 {
             return None;
@@ -304,11 +311,13 @@ impl<'a, R: Net<Listener = TcpListener, Stream = TcpStream> + Clock> TcpDoors<'a
 
 impl<'a, R: Net<Listener = TcpListener, Stream = TcpStream> + Clock + Sync> Listener
     for TcpDoors<'a, R> {
+    ghost use Rattle.std.proofs.Common.{rules};
+    ghost use Rattle.ipam_listen.specs.Back.{read_within};
     ghost use Rattle.ipam_listen.specs.Tcp.{returned_door};
 
     type Door = TcpDoor<'a, R>;
 
-    ghost bound = { λ l. l.bound };
+    ghost bound = { λ l. binding l.place.items l.bound };
 
     ghost lanes = { λ l. l.lanes };
 
@@ -316,10 +325,11 @@ impl<'a, R: Net<Listener = TcpListener, Stream = TcpStream> + Clock + Sync> List
 
     ghost faults = { λ l. l.faults };
 
-    fn bind(&mut self, at: &[u8], connections: u32) -> Result<(), Failed> {
-        match self.listen(at) {
+    fn bind(&mut self, at: Vec<u8>, connections: u32) -> Result<(), Failed> {
+        match self.listen(at.as_slice()) {
             Some(socket) => {
                 self.socket = Some(socket);
+                self.place = at;
                 self.bound = connections;
                 Ok(())
             }
@@ -349,4 +359,6 @@ impl<'a, R: Net<Listener = TcpListener, Stream = TcpStream> + Clock + Sync> List
         }
         self.back.push_reserved(lane.accepts);
     }
+
+    ghost no_more_back = { λ l. read_within returned_door l.back.items l.lanes (let fewer = l.fewer in Prim.search (rules, fewer)) };
 }

@@ -46,7 +46,7 @@ closed_history o v log shifts first numbers is ended none answered seats kept =
     }
 
 -- two that listened one after the other, and both together
-pub both_listened : (x y z : Listening) (P Q P' Q' : Type 0) → (z ≡ Whole → (x ≡ Whole) × (y ≡ Whole)) → (z ≡ Broken → (x ≡ Broken) ⊎ (y ≡ Broken))
-    → IsListening P Q x → (y ≡ Broken → Q') → (P → P') → (Q → Q') → IsListening P' Q' z
-both_listened x y Whole P Q P' Q' whole broken k second f g = f (subst (IsListening P Q) (whole refl).0 k)
-both_listened x y Broken P Q P' Q' whole broken k second f g = elim (broken refl) [ inl e ↦ g (subst (IsListening P Q) e k) | inr e ↦ second e ]
+pub both_listened : (x y z : Listening) (P Q R P' Q' : Type 0) → (z ≡ Whole → (x ≡ Whole) × (y ≡ Whole)) → (z ≡ Broken → (x ≡ Broken) ⊎ (y ≡ Broken))
+    → IsListening P Q x → (y ≡ Whole → R) → (y ≡ Broken → Q') → (P → R → P') → (Q → Q') → IsListening P' Q' z
+both_listened x y Whole P Q R P' Q' whole broken k both second f g = f (subst (IsListening P Q) (whole refl).0 k) (both (whole refl).1)
+both_listened x y Broken P Q R P' Q' whole broken k both second f g = elim (broken refl) [ inl e ↦ g (subst (IsListening P Q) e k) | inr e ↦ second e ]

@@ -101,13 +101,13 @@ IsServing told path global_unique stored_old stored_new faults_old faults_new ol
 IsServing told path global_unique stored_old stored_new faults_old faults_new old new none_left (Err why) =
     AreLeft told path stored_old stored_new why × (new ≡ old) × IsFaultOf (started stored_old path) global_unique faults_old faults_new why
 
--- how the listening ended: with all lanes, or with a fault
+-- how the listening ended: with all lanes and no fault, or with a fault
 abbrev pub IsListening : Type 0 → Type 0 → Listening → Type 0
 IsListening came failed Whole = came
 IsListening came failed Broken = failed
 
--- the listener's end of it: nothing is said of a register that was not opened
-abbrev pub IsListened : Type 0 → Type 0 → Result Served Unserved → Type 0
-IsListened came failed (Ok served) = IsListening came failed served.listening
-IsListened came failed (Err (Opening fault)) = Unit {0}
-IsListened came failed (Err Place) = failed
+-- the listener's end of it: it is not used where the register was not opened, or memory ran out
+abbrev pub IsListened : Type 0 → Type 0 → Type 0 → Result Served Unserved → Type 0
+IsListened came failed unused (Ok served) = IsListening came failed served.listening
+IsListened came failed unused (Err (Opening fault)) = unused
+IsListened came failed unused (Err Place) = failed

@@ -6,10 +6,9 @@ ghost use Rattle.register_server.specs.Hired.{AreNumberedDown, HasDismissed, IsH
 ghost use Rattle.register_server.specs.Serving.{IsListening};
 
 use crate::ending::Listening;
-use crate::watched::Watched;
 use history_lock::{Seat, Shared};
 use ipam_keeper::keeper::Keeper;
-use ipam_listen::Listener;
+use ipam_listen::{Lane, Listener};
 use register_core::Register;
 use shared_workers::Worker;
 
@@ -18,7 +17,7 @@ pub fn hire<K: Keeper, L: Listener>(
     shared: &Shared<Register<K>>,
     seat: Seat<Register<K>>,
     workers: u32,
-    hired: &mut Vec<Worker<K, Watched<L::Door>>>,
+    hired: &mut Vec<Worker<K, L::Door>>,
     listener: &mut L,
 ) -> (Seat<Register<K>>, Listening)
     requires seat { (seat.lock ≡ shared.now) × (seat.weight ≡ 65536) × (seat.spare ≡ 65536) }
@@ -29,11 +28,11 @@ pub fn hire<K: Keeper, L: Listener>(
     requires room { workers ≤ vec_capacity hired.old }
     ensures seat { (result.0.lock ≡ shared.now) × (result.0.weight + vec_len hired.new ≡ 65536) }
     ensures first { (result.0.opening ≡ seat.opening) × (result.0.base ≡ seat.base) × (result.0.ended ≡ []) × (result.0.seen ≡ []) × (result.0.faults ≡ 0) }
-    ensures hired { All (IsHired (λ lane. L.Door.told lane.lane) seat.opening seat.base shared.now) hired.new.items }
-    ensures fresh { All (IsFresh (λ lane. L.Door.told lane.lane)) hired.new.items }
+    ensures hired { All (IsHired L.Door.told seat.opening seat.base shared.now) hired.new.items }
+    ensures fresh { All (IsFresh L.Door.told) hired.new.items }
     ensures numbers { AreNumberedDown top_number hired.new.items }
     ensures lanes { L.lanes listener.new ≡ L.lanes listener.old + vec_len hired.new }
-    ensures all { IsListening (vec_len hired.new ≡ workers) ((vec_len hired.new < workers) × Rose (L.faults listener.old) (L.faults listener.new)) result.1 }
+    ensures all { IsListening ((vec_len hired.new ≡ workers) × (L.faults listener.new ≡ L.faults listener.old)) ((vec_len hired.new < workers) × Rose (L.faults listener.old) (L.faults listener.new)) result.1 }
     ensures bound { L.bound listener.new ≡ L.bound listener.old }
     ensures returned { L.returned listener.new ≡ L.returned listener.old }
     ensures later { L.faults listener.old ≤ L.faults listener.new }
@@ -46,7 +45,7 @@ pub fn hire<K: Keeper, L: Listener>(
                 seat = rest;
                 hired.push_reserved(Worker {
                     seat: Some(new),
-                    lane: Watched::new(lane),
+                    lane,
                 });
             }
             Err(_) => return (seat, Listening::Broken),
@@ -55,21 +54,34 @@ pub fn hire<K: Keeper, L: Listener>(
     (seat, Listening::Whole)
 }
 
+/// How the listening of a lane went: it broke where an accept failed.
+fn heard_of<A: Lane>(lane: &A) -> Listening
+    ensures whole { result ≡ Listening.Whole → A.faults lane.now ≡ 0 }
+    ensures broken { result ≡ Listening.Broken → 0 < A.faults lane.now }
+{
+    if lane.has_failed() {
+        Listening::Broken
+    } else {
+        Listening::Whole
+    }
+}
+
 /// Joins the workers' seats to the first one, and gives their lanes back. The listening broke where an accept failed.
 pub fn dismiss<K: Keeper, L: Listener>(
     shared: &Shared<Register<K>>,
     seat: Seat<Register<K>>,
-    hired: Vec<Worker<K, Watched<L::Door>>>,
+    hired: Vec<Worker<K, L::Door>>,
     listener: &mut L,
 ) -> (Seat<Register<K>>, Listening)
     requires seat { (seat.lock ≡ shared.now) × (seat.weight + vec_len hired ≡ 65536) }
     requires first { (seat.ended ≡ []) × (own_entries seat.number seat.seen ≡ []) × (seat.faults ≡ 0) }
-    requires hired { All (IsHired (λ lane. L.Door.told lane.lane) seat.opening seat.base shared.now) hired.items }
+    requires hired { All (IsHired L.Door.told seat.opening seat.base shared.now) hired.items }
     requires numbers { AreNumberedDown top_number hired.items }
     requires out { length (L.returned listener.old) + vec_len hired ≤ L.lanes listener.old }
     ensures seat { (result.0.lock ≡ shared.now) × (result.0.weight ≡ 65536) × (result.0.opening ≡ seat.opening) × (result.0.base ≡ seat.base) }
     ensures no_calls { own_entries result.0.number result.0.seen ≡ [] }
-    ensures dismissed { HasDismissed (All (λ w. L.Door.accepts w.lane.lane ≡ 0) hired.items) (top_number + 1 - vec_len hired) seat.opening result.0 (L.returned listener.old) (L.returned listener.new) }
+    ensures dismissed { HasDismissed (All (λ w. L.Door.accepts w.lane ≡ 0) hired.items) (top_number + 1 - vec_len hired) seat.opening result.0 (L.returned listener.old) (L.returned listener.new) }
+    ensures whole { result.1 ≡ Listening.Whole → L.faults listener.new ≡ L.faults listener.old }
     ensures broken { result.1 ≡ Listening.Broken → Rose (L.faults listener.old) (L.faults listener.new) }
     ensures came_back { length (L.returned listener.new) ≡ length (L.returned listener.old) + vec_len hired }
     ensures lanes { L.lanes listener.new ≡ L.lanes listener.old }
@@ -83,9 +95,8 @@ pub fn dismiss<K: Keeper, L: Listener>(
         let Worker { seat: other, lane } = worker;
         let Some(other) = other else { unreachable!() };
         seat = shared.join(seat, other);
-        let (lane, heard) = lane.into_lane();
+        listening = listening.and(heard_of(&lane));
         listener.give_back(lane);
-        listening = listening.and(heard);
     }
     left.destroy_empty();
     (seat, listening)

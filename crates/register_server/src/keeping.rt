@@ -1,12 +1,12 @@
 //! A register over a keeper from its opening to the end of its service.
-ghost use Rattle.std.specs.Prelude.{◌≡◌, ◌≤◌, ◌+◌, [], length, vec_capacity};
+ghost use Rattle.std.specs.Prelude.{◌≡◌, ◌≤◌, ◌+◌, [], IfOk, length, vec_capacity};
 ghost use Rattle.ipam_edge.specs.Faults.{Rose};
+ghost use Rattle.ipam_listen.specs.Connections.{binding};
 ghost use Rattle.stored_tables.specs.Stored.{Tells};
 ghost use Rattle.register_server.specs.Serving.{IsKeeperOutcome, IsListened, IsListening, IsOutcome, IsServedWhole};
 
 use crate::ending::{Listening, Served, Unserved};
 use crate::service::serve_all;
-use crate::watched::Watched;
 use history_lock::{Seat, Shared};
 use ipam_keeper::keeper::Keeper;
 use ipam_listen::Listener;
@@ -38,7 +38,7 @@ fn serve_bound<R: Threads + Wait + Sync, K: Keeper + Drop + Send, L: Listener>(
     shared: Shared<Register<K>>,
     seat: Seat<Register<K>>,
     workers: u32,
-    hired: Vec<Worker<K, Watched<L::Door>>>,
+    hired: Vec<Worker<K, L::Door>>,
     listener: &mut L,
 ) -> (K, Served)
     requires seat { (seat.lock ≡ shared) × (seat.weight ≡ 65536) × (seat.spare ≡ 65536) }
@@ -47,11 +47,10 @@ fn serve_bound<R: Threads + Wait + Sync, K: Keeper + Drop + Send, L: Listener>(
     requires none_yet { hired.items ≡ [] }
     requires few { workers ≤ 1000 }
     requires room { workers ≤ vec_capacity hired }
-    requires none_out { length (L.returned listener.old) ≤ L.lanes listener.old }
     ensures outcome { IsServedWhole seat.opening seat.base (K.faults result.0) (K.told result.0) (L.returned listener.old) (L.returned listener.new) (L.lanes listener.new ≡ L.lanes listener.old + workers) result.1.entries }
     ensures lanes_back { length (L.returned listener.new) + L.lanes listener.old ≡ length (L.returned listener.old) + L.lanes listener.new }
     ensures bound { L.bound listener.new ≡ L.bound listener.old }
-    ensures listening { IsListening (L.lanes listener.new ≡ L.lanes listener.old + workers) (Rose (L.faults listener.old) (L.faults listener.new)) result.1.listening }
+    ensures listening { IsListening ((L.lanes listener.new ≡ L.lanes listener.old + workers) × (L.faults listener.new ≡ L.faults listener.old)) (Rose (L.faults listener.old) (L.faults listener.new)) result.1.listening }
     ensures later { L.faults listener.old ≤ L.faults listener.new }
 {
     let (register, listening) = serve_all(rt, alloc, shared, seat, workers, hired, listener);
@@ -65,10 +64,10 @@ fn serve_shared<R: Threads + Wait + Sync, K: Keeper + Drop + Send, L: Listener>(
     alloc: Global,
     shared: Shared<Register<K>>,
     seat: Seat<Register<K>>,
-    at: &[u8],
+    at: Vec<u8>,
     workers: u32,
     connections: u32,
-    hired: Vec<Worker<K, Watched<L::Door>>>,
+    hired: Vec<Worker<K, L::Door>>,
     listener: &mut L,
 ) -> (K, Result<Served, Unserved>)
     requires seat { (seat.lock ≡ shared) × (seat.weight ≡ 65536) × (seat.spare ≡ 65536) }
@@ -77,11 +76,10 @@ fn serve_shared<R: Threads + Wait + Sync, K: Keeper + Drop + Send, L: Listener>(
     requires none_yet { hired.items ≡ [] }
     requires few { (1 ≤ workers) × (workers ≤ 1000) }
     requires room { workers ≤ vec_capacity hired }
-    requires none_out { length (L.returned listener.old) ≤ L.lanes listener.old }
     ensures outcome { IsOutcome seat.opening seat.base (K.faults result.0) (K.told result.0) (L.returned listener.old) (L.returned listener.new) (L.lanes listener.new ≡ L.lanes listener.old + workers) result.1 }
     ensures lanes_back { length (L.returned listener.new) + L.lanes listener.old ≡ length (L.returned listener.old) + L.lanes listener.new }
-    ensures bound { L.lanes listener.new ≡ L.lanes listener.old + workers → L.bound listener.new ≡ connections }
-    ensures listened { IsListened (L.lanes listener.new ≡ L.lanes listener.old + workers) (Rose (L.faults listener.old) (L.faults listener.new)) result.1 }
+    ensures bound { IfOk result.1 (λ _. L.bound listener.new ≡ binding at.items connections) }
+    ensures listened { IsListened ((L.lanes listener.new ≡ L.lanes listener.old + workers) × (L.faults listener.new ≡ L.faults listener.old)) (Rose (L.faults listener.old) (L.faults listener.new)) (listener.new ≡ listener.old) result.1 }
     ensures later { L.faults listener.old ≤ L.faults listener.new }
 {
     match listener.bind(at, connections) {
@@ -104,18 +102,17 @@ fn serve_register<R: Threads + Wait + Sync, K: Keeper + Drop + Send, L: Listener
     rt: &R,
     alloc: Global,
     register: Register<K>,
-    at: &[u8],
+    at: Vec<u8>,
     workers: u32,
     connections: u32,
     listener: &mut L,
 ) -> (K, Result<Served, Unserved>)
     requires few { (1 ≤ workers) × (workers ≤ 32) }
-    requires none_out { length (L.returned listener.old) ≤ L.lanes listener.old }
     requires fresh { (register.log ≡ []) × (register.opening ≡ register.state) }
     ensures outcome { IsOutcome register.state (K.faults register.keeper) (K.faults result.0) (K.told result.0) (L.returned listener.old) (L.returned listener.new) (L.lanes listener.new ≡ L.lanes listener.old + workers) result.1 }
     ensures lanes_back { length (L.returned listener.new) + L.lanes listener.old ≡ length (L.returned listener.old) + L.lanes listener.new }
-    ensures bound { L.lanes listener.new ≡ L.lanes listener.old + workers → L.bound listener.new ≡ connections }
-    ensures listened { IsListened (L.lanes listener.new ≡ L.lanes listener.old + workers) (Rose (L.faults listener.old) (L.faults listener.new)) result.1 }
+    ensures bound { IfOk result.1 (λ _. L.bound listener.new ≡ binding at.items connections) }
+    ensures listened { IsListened ((L.lanes listener.new ≡ L.lanes listener.old + workers) × (L.faults listener.new ≡ L.faults listener.old)) (Rose (L.faults listener.old) (L.faults listener.new)) (listener.new ≡ listener.old) result.1 }
     ensures later { L.faults listener.old ≤ L.faults listener.new }
 {
     register.told();
@@ -153,17 +150,16 @@ pub fn serve_keeper<R: Threads + Wait + Sync, K: Keeper + Drop + Send, L: Listen
     alloc: Global,
     settings: Settings,
     keeper: K,
-    at: &[u8],
+    at: Vec<u8>,
     workers: u32,
     connections: u32,
     listener: &mut L,
 ) -> (K, Result<Served, Unserved>)
     requires few { (1 ≤ workers) × (workers ≤ 32) }
-    requires none_out { length (L.returned listener.old) ≤ L.lanes listener.old }
     ensures outcome { IsKeeperOutcome (K.told keeper) settings.global_unique (K.faults keeper) (K.faults result.0) (K.told result.0) (L.returned listener.old) (L.returned listener.new) (L.lanes listener.new ≡ L.lanes listener.old + workers) result.1 }
     ensures lanes_back { length (L.returned listener.new) + L.lanes listener.old ≡ length (L.returned listener.old) + L.lanes listener.new }
-    ensures bound { L.lanes listener.new ≡ L.lanes listener.old + workers → L.bound listener.new ≡ connections }
-    ensures listened { IsListened (L.lanes listener.new ≡ L.lanes listener.old + workers) (Rose (L.faults listener.old) (L.faults listener.new)) result.1 }
+    ensures bound { IfOk result.1 (λ _. L.bound listener.new ≡ binding at.items connections) }
+    ensures listened { IsListened ((L.lanes listener.new ≡ L.lanes listener.old + workers) × (L.faults listener.new ≡ L.faults listener.old)) (Rose (L.faults listener.old) (L.faults listener.new)) (listener.new ≡ listener.old) result.1 }
     ensures later { L.faults listener.old ≤ L.faults listener.new }
 {
     match open(alloc, keeper, settings) {

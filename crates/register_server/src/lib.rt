@@ -6,8 +6,6 @@ mod hire;
 mod keeping;
 mod service;
 mod serving;
-mod watched;
 
 pub use ending::{Listening, Served, Unserved};
 pub use serving::serve;
-pub use watched::Watched;

@@ -11,7 +11,6 @@ ghost use Rattle.shared_workers.specs.Workers.{IsReady};
 
 use crate::ending::Listening;
 use crate::hire::{dismiss, hire};
-use crate::watched::Watched;
 use history_lock::{Seat, Shared};
 use ipam_keeper::keeper::Keeper;
 use ipam_listen::{Lane, Listener, OpenGate};
@@ -50,7 +49,7 @@ pub fn serve_all<R: Threads + Wait + Sync, K: Keeper + Send, L: Listener>(
     shared: Shared<Register<K>>,
     seat: Seat<Register<K>>,
     workers: u32,
-    hired: Vec<Worker<K, Watched<L::Door>>>,
+    hired: Vec<Worker<K, L::Door>>,
     listener: &mut L,
 ) -> (Register<K>, Listening)
     requires seat { (seat.lock ≡ shared) × (seat.weight ≡ 65536) × (seat.spare ≡ 65536) }
@@ -59,11 +58,10 @@ pub fn serve_all<R: Threads + Wait + Sync, K: Keeper + Send, L: Listener>(
     requires none_yet { hired.items ≡ [] }
     requires few { workers ≤ 1000 }
     requires room { workers ≤ vec_capacity hired }
-    requires none_out { length (L.returned listener.old) ≤ L.lanes listener.old }
     ensures history { IsServedBy seat.opening seat.base (K.faults result.0.keeper) (L.returned listener.old) (L.returned listener.new) (L.lanes listener.new ≡ L.lanes listener.old + workers) (map pair_of result.0.log) }
     ensures state { result.0.state ≡ replay plain_step seat.opening (map pair_of result.0.log) }
     ensures lanes_back { length (L.returned listener.new) + L.lanes listener.old ≡ length (L.returned listener.old) + L.lanes listener.new }
-    ensures listening { IsListening (L.lanes listener.new ≡ L.lanes listener.old + workers) (Rose (L.faults listener.old) (L.faults listener.new)) result.1 }
+    ensures listening { IsListening ((L.lanes listener.new ≡ L.lanes listener.old + workers) × (L.faults listener.new ≡ L.faults listener.old)) (Rose (L.faults listener.old) (L.faults listener.new)) result.1 }
     ensures bound { L.bound listener.new ≡ L.bound listener.old }
     ensures later { L.faults listener.old ≤ L.faults listener.new }
 {

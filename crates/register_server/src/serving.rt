@@ -1,6 +1,7 @@
 //! A register served from a path.
-ghost use Rattle.std.specs.Prelude.{◌≡◌, ◌≤◌, ◌+◌, length, option_copied};
+ghost use Rattle.std.specs.Prelude.{◌≡◌, ◌≤◌, ◌+◌, IfOk, length, option_copied};
 ghost use Rattle.ipam_edge.specs.Faults.{Rose};
+ghost use Rattle.ipam_listen.specs.Connections.{binding};
 ghost use Rattle.stored_tables.specs.Opening.{IsOfTables};
 ghost use Rattle.register_server.specs.Serving.{IsListened, IsServing};
 
@@ -29,7 +30,7 @@ fn fault_of(fault: KeepFault) -> OpenFault
 
 /// Serves a register to the connections that come to a place, by so many workers, each of which accepts so many connections. The
 /// register is that of the tables of a path, or one that begins empty; its keeper is started by the opener, and given back to it
-/// whatever the end. The memory for the workers and the lock is taken before the listener is bound; each worker builds its table of
+/// whatever the end. The memory for the place, the workers and the lock is taken before the listener is bound; each worker builds its table of
 /// routes in its thread.
 ///
 /// `Ok` tells the number of accepted changes, also where the listening broke off; its connections were answered out of one history.
@@ -47,7 +48,6 @@ pub fn serve<R: Threads + Wait + Sync, O: KeeperOpener, L: Listener>(
     listener: &mut L,
 ) -> Result<Served, Unserved>
     requires few { (1 ≤ workers) × (workers ≤ 32) }
-    requires none_out { length (L.returned listener.old) ≤ L.lanes listener.old }
 
     // Behind all that the lanes tell is one history, and told tables are those of its replay.
     ensures history { IsServing O.Kept.told (option_copied path.entry) settings.global_unique (O.stored opener.old) (O.stored opener.new) (O.faults opener.old) (O.faults opener.new)
@@ -55,11 +55,16 @@ pub fn serve<R: Threads + Wait + Sync, O: KeeperOpener, L: Listener>(
 
     // Every lane that was handed out was given back.
     ensures lanes_back { length (L.returned listener.new) + L.lanes listener.old ≡ length (L.returned listener.old) + L.lanes listener.new }
-    ensures bound { L.lanes listener.new ≡ L.lanes listener.old + workers → L.bound listener.new ≡ connections }
-    ensures listened { IsListened (L.lanes listener.new ≡ L.lanes listener.old + workers) (Rose (L.faults listener.old) (L.faults listener.new)) result }
+
+    // Where it was served, it was so at this place, each lane being bound with this number of connections.
+    ensures bound { IfOk result (λ _. L.bound listener.new ≡ binding at.now connections) }
+    ensures listened { IsListened ((L.lanes listener.new ≡ L.lanes listener.old + workers) × (L.faults listener.new ≡ L.faults listener.old)) (Rose (L.faults listener.old) (L.faults listener.new)) (listener.new ≡ listener.old) result }
     ensures opener_later { O.faults opener.old ≤ O.faults opener.new }
     ensures listener_later { L.faults listener.old ≤ L.faults listener.new }
 {
+    let Ok(at) = Vec::from_slice(alloc, at) else {
+        return Err(Unserved::Opening(OpenFault::Memory));
+    };
     let keeper = match opener.start(path) {
         Ok(keeper) => keeper,
         Err(fault) => return Err(Unserved::Opening(fault_of(fault))),

@@ -1,7 +1,6 @@
 //! Two workers of the command claim addresses of one prefix that a store holds.
-ghost use Rattle.std.specs.Prelude.{◌≡◌, ◌≤◌, [], IfOk, length};
+ghost use Rattle.std.specs.Prelude.{◌≡◌, [], IfOk};
 ghost use Rattle.ipam_listen.specs.ListLanes.{lane_told};
-ghost use Rattle.ipam_listen.specs.ListListeners.{listener_returned, listener_lanes};
 
 use ipam_command::run;
 use ipam_edge::{BytesSink, BytesSource};
@@ -38,7 +37,6 @@ fn run_words<R: Threads + Wait + Sync>(
     listener: &mut ListListener,
     opener: &mut MemoryOpener,
 ) -> Result<Left, AllocError>
-    requires { length (listener_returned listener.old) ≤ listener_lanes listener.old }
 {
     let mut list = Vec::new(alloc);
     for word in words.split(' ') {
@@ -86,7 +84,6 @@ fn lane_of(alloc: Global) -> Result<ListLane, AllocError>
 
 /// A listener with two such lanes.
 fn listener_of(alloc: Global) -> Result<ListListener, AllocError>
-    ensures { IfOk result (λ l. (listener_returned l ≡ []) × (listener_lanes l ≡ 0)) }
 {
     let mut lanes = Vec::new(alloc);
     lanes.push(lane_of(alloc)?)?;

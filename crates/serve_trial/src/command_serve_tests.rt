@@ -1,7 +1,6 @@
 //! `serve` over connections and a store in memory, over a listener without lanes, and over tables that are refused.
-ghost use Rattle.std.specs.Prelude.{◌≡◌, ◌≤◌, [], IfOk, length};
+ghost use Rattle.std.specs.Prelude.{◌≡◌, [], IfOk};
 ghost use Rattle.ipam_listen.specs.ListLanes.{lane_told};
-ghost use Rattle.ipam_listen.specs.ListListeners.{listener_returned, listener_lanes};
 
 use command_serve::run_serve;
 use command_words::{Command, Serving, read_words};
@@ -53,7 +52,6 @@ fn lane_of(alloc: Global, asked: &str) -> Result<ListLane, AllocError>
 
 /// A listener with a lane for each client.
 fn listener_of(alloc: Global) -> Result<ListListener, AllocError>
-    ensures { IfOk result (λ l. (listener_returned l ≡ []) × (listener_lanes l ≡ 0)) }
 {
     let mut lanes = Vec::new(alloc);
     lanes.push(lane_of(alloc, CLIENTS[0])?)?;
@@ -100,7 +98,6 @@ fn run_few<R: Threads + Wait + Sync, L: Listener>(
     listener: &mut L,
     opener: &mut MemoryOpener,
 ) -> u8
-    requires { length (L.returned listener.old) ≤ L.lanes listener.old }
 {
     if serving.workers == 0 || serving.workers > 32 {
         return 9;
@@ -117,7 +114,6 @@ fn ran<R: Threads + Wait + Sync, L: Listener>(
     listener: &mut L,
     opener: &mut MemoryOpener,
 ) -> Result<Left, AllocError>
-    requires { length (L.returned listener.old) ≤ L.lanes listener.old }
 {
     let mut output = BytesSink::new(alloc, Vec::new(alloc), 1000, 4096)?;
     let mut errors = BytesSink::new(alloc, Vec::new(alloc), 1000, 4096)?;

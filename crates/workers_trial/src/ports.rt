@@ -51,7 +51,8 @@ fn port_of<R: Net<Listener = TcpListener, Stream = TcpStream> + Clock + Sync>(
     connections: u32,
 ) -> Option<(u16, TcpDoor<'_, R>)> {
     let mut listener = TcpDoors::new(rt, alloc, Duration::from_millis(BASE));
-    listener.bind(b"127.0.0.1:0", connections).ok()?;
+    let place = Vec::from_slice(alloc, b"127.0.0.1:0").ok()?;
+    listener.bind(place, connections).ok()?;
     let port = listener.port()?;
     let lane = listener.lane().ok()?;
     Some((port, lane))

@@ -1,7 +1,5 @@
 use denote.Exit.{no}
 use denote.Param.Send.{param_send, arg_send, param_sync}
-use Rattle.std.proofs.Common.{ℕ, ◌≤◌, subst, sym, rules}
-use Rattle.std.proofs.lemmas.List.{length-map}
 use Rattle.ipam_listen.proofs.tcp.TcpDoor.TheSendSync as door
 use Rattle.ipam_listen.proofs.tcp.TcpIn.TheSendSync as source
 use Rattle.ipam_listen.proofs.tcp.TcpOut.TheSendSync as sink
@@ -10,8 +8,7 @@ use Rattle.ipamd.proofs.run_over.Goals as goal
 
 pub program-requires : goal.program-requires
 program-requires g c κs =
-    let back = c.new-listener.result.back in
-    let fewer = c.new-listener.result.fewer in (
+    (
       param_send 3 _ (arg_send _ no _ (door.the_send _ _ c.type_bounds.sync-R)),
       (
         param_send 4 _ (arg_send _ no _ (source.the_send _ _ _ c.type_bounds.sync-R stream.the_send)),
@@ -19,10 +16,7 @@ program-requires g c κs =
           param_send 5 _ (arg_send _ no _ (sink.the_send _ _ c.type_bounds.sync-R)),
           (
             param_send 6 _ c.type_bounds.send-O-Kept,
-            (
-              param_sync 0 _ c.type_bounds.sync-R,
-              subst (λ (n : ℕ). n ≤ c.new-listener.result.lanes) (sym (length-map back.items _)) (search (rules, fewer)),
-            ),
+            param_sync 0 _ c.type_bounds.sync-R,
           ),
         ),
       ),

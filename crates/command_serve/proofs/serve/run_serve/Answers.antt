@@ -1,6 +1,7 @@
-use Rattle.std.proofs.Common.{refl, arith}
+use Rattle.std.proofs.Common.{refl, ap, arith}
 use Rattle.command_serve.proofs.Served.{of_served}
-use Rattle.command_serve.proofs.Unserved.{of_unserved}
+use Rattle.command_serve.specs.Serve.{listener_view}
+use Rattle.command_serve.proofs.Unserved.{heard_of_view, of_unserved}
 use Rattle.command_serve.proofs.serve.run_serve.Goals as goal
 
 pub returns-in-Ok : goal.returns-in-Ok
@@ -9,11 +10,10 @@ returns-in-Ok g c = λ input.
     (record {
       unread = refl;
       lanes_back = c.in-Ok.ensures.lanes_back;
-      bound = c.in-Ok.ensures.bound;
       later = record { streams = record { input = omega arith; output = c.say_entries.ensures.later; errors = omega arith }; stores = c.in-Ok.ensures.opener_later };
       listener_later = c.in-Ok.ensures.listener_later;
     })
-    c.in-Ok.ensures.history c.in-Ok.ensures.listened refl c.say_entries.ensures.said
+    c.in-Ok.ensures.history c.in-Ok.ensures.bound c.in-Ok.ensures.listened refl c.say_entries.ensures.said
 
 pub returns-in-Err : goal.returns-in-Err
 returns-in-Err g c = λ input.
@@ -21,8 +21,9 @@ returns-in-Err g c = λ input.
     (record {
       unread = refl;
       lanes_back = c.in-Err.ensures.lanes_back;
-      bound = c.in-Err.ensures.bound;
       later = record { streams = record { input = omega arith; output = omega arith; errors = c.say_unserved.ensures.later }; stores = c.in-Err.ensures.opener_later };
       listener_later = c.in-Err.ensures.listener_later;
     })
-    refl c.in-Err.ensures.history c.in-Err.ensures.listened c.say_unserved.ensures.said
+    refl c.in-Err.ensures.history
+    (heard_of_view _ _ _ _ c.in-Err.why (ap (listener_view g.L.Listener.bound g.L.Listener.lanes g.L.Listener.returned g.L.Listener.faults)) c.in-Err.ensures.listened)
+    c.say_unserved.ensures.said

@@ -1,5 +1,5 @@
 use Rattle.std.proofs.Common.{◌≡◌, ◌+◌, ◌-◌, List, Option, [], IfSome, length, length-append, ap, sym, subst, ◌∙◌, refl, arith}
-use Rattle.ipam_listen.specs.Connections.{Connection}
+use Rattle.ipam_listen.proofs.Rises.{unrisen}
 use Rattle.shared_session.specs.Told.{Caller}
 use Rattle.register_server.specs.Hired.{AreNumberedDown, IsFresh, IsHired, top_number}
 use Rattle.register_server.proofs.Hired.{newly_fresh, newly_hired}
@@ -27,7 +27,7 @@ loop-preserved g c =
     let v = c.loop.seat in
     let l = c.split-rest.result.0 in
     let r = c.split-rest.result.1 in
-    let fresh = subst (λ (x : Option (List Connection)). IfSome x (λ all. all ≡ [])) (sym (ap g.L.Door.Lane.told c.new.ensures)) c.in-Ok.ensures.fresh.1 in
+    let fresh = c.in-Ok.ensures.fresh.1 in
     let weight : l.weight ≡ v.weight - 1 = ap (λ (k : Caller). k.weight) s.old_loses_share in
     let spare : l.spare ≡ v.spare - 1 = ap (λ (k : Caller). k.spare) s.old_loses_share in
     let zero = i.number in
@@ -43,8 +43,6 @@ loop-preserved g c =
     let capacity = c.push_reserved.ensures.capacity in
     let lanes = i.lanes in
     let one_lane = c.in-Ok.ensures.lanes in
-    let later = i.later in
-    let cause = c.in-Ok.ensures.cause.later in
     record {
       lock = ap (λ (k : Caller). k.lock) s.old_loses_share ∙ i.lock;
       weight = omega arith;
@@ -56,9 +54,9 @@ loop-preserved g c =
         ap (λ (k : Caller). k.seen) s.old_loses_share ∙ i.first.3,
         ap (λ (k : Caller). k.faults) s.old_loses_share ∙ i.first.4,
       );
-      hired = pushed (IsHired (λ lane. g.L.Door.Lane.told lane.lane) c.args.seat.opening c.args.seat.base c.args.shared.now) c.loop.hired.items c.push_reserved.new.self.items _ c.push_reserved.ensures.items i.hired
+      hired = pushed (IsHired g.L.Door.Lane.told c.args.seat.opening c.args.seat.base c.args.shared.now) c.loop.hired.items c.push_reserved.new.self.items _ c.push_reserved.ensures.items i.hired
           (newly_hired _ c.args.seat.opening c.args.seat.base c.args.shared.now v l r _ s i.lock i.first.0 i.first.1 i.first.3 refl fresh);
-      fresh = pushed (IsFresh (λ lane. g.L.Door.Lane.told lane.lane)) c.loop.hired.items c.push_reserved.new.self.items _ c.push_reserved.ensures.items i.fresh
+      fresh = pushed (IsFresh g.L.Door.Lane.told) c.loop.hired.items c.push_reserved.new.self.items _ c.push_reserved.ensures.items i.fresh
           (newly_fresh _ c.args.seat.opening c.args.seat.base c.args.shared.now v l r _ s i.first.3 refl fresh);
       numbers = subst (AreNumberedDown top_number) (sym c.push_reserved.ensures.items) (number_pushed top_number c.loop.hired.items _ i.numbers number);
       number = ap (λ (k : Caller). k.number) s.old_loses_share ∙ i.number;
@@ -67,5 +65,5 @@ loop-preserved g c =
       lanes = omega arith;
       bound = c.in-Ok.ensures.bound ∙ i.bound;
       returned = c.in-Ok.ensures.returned ∙ i.returned;
-      later = omega arith;
+      none_failed = unrisen _ _ c.in-Ok.ensures.cause (λ e. absurd (cc e)) ∙ i.none_failed;
     }

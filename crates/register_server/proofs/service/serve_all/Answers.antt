@@ -15,7 +15,7 @@ use Rattle.register_server.proofs.service.serve_all.Goals as goal
 
 pub work-requires-clause-ready : goal.work-requires-clause-ready
 work-requires-clause-ready g c κs within =
-    subst (All (IsReady (λ lane. g.L.Door.Lane.told lane.lane) c.args.shared)) (sym c.as_mut_slice.ensures.value)
+    subst (All (IsReady g.L.Door.Lane.told c.args.shared)) (sym c.as_mut_slice.ensures.value)
     (λ k d lt. ready _ _ _ _ _ (c.hire-seat.ensures.hired k d lt) (c.hire-seat.ensures.fresh k d lt))
 
 pub dismiss-seat-requires-clause-first : goal.dismiss-seat-requires-clause-first
@@ -27,11 +27,11 @@ pub dismiss-seat-requires-clause-hired : goal.dismiss-seat-requires-clause-hired
 dismiss-seat-requires-clause-hired g c κs within =
     let f = c.hire-seat.ensures.first in
     let z = c.args.shared in
-    let hired = subst (All (IsHired (λ lane. g.L.Door.Lane.told lane.lane) c.args.seat.opening c.args.seat.base z)) (sym c.as_mut_slice.ensures.value) c.hire-seat.ensures.hired in
-    let fresh = subst (All (IsFresh (λ lane. g.L.Door.Lane.told lane.lane))) (sym c.as_mut_slice.ensures.value) c.hire-seat.ensures.fresh in
+    let hired = subst (All (IsHired g.L.Door.Lane.told c.args.seat.opening c.args.seat.base z)) (sym c.as_mut_slice.ensures.value) c.hire-seat.ensures.hired in
+    let fresh = subst (All (IsFresh g.L.Door.Lane.told)) (sym c.as_mut_slice.ensures.value) c.hire-seat.ensures.fresh in
     let now = c.work.ensures.hired c.args.seat.opening c.args.seat.base hired fresh in
-    let here = subst (λ (x : State × ℕ). All (IsHired (λ lane. g.L.Door.Lane.told lane.lane) x.0 x.1 z) c.work.new.workers) (λ i. (sym f.0 i, sym f.1 i)) now in
-    all_over (IsHired (λ lane. g.L.Door.Lane.told lane.lane) c.hire-seat.result.0.opening c.hire-seat.result.0.base z) c.work.new.workers _ _ (search rules) here
+    let here = subst (λ (x : State × ℕ). All (IsHired g.L.Door.Lane.told x.0 x.1 z) c.work.new.workers) (λ i. (sym f.0 i, sym f.1 i)) now in
+    all_over (IsHired g.L.Door.Lane.told c.hire-seat.result.0.opening c.hire-seat.result.0.base z) c.work.new.workers _ _ (search rules) here
 
 pub dismiss-seat-requires-clause-numbers : goal.dismiss-seat-requires-clause-numbers
 dismiss-seat-requires-clause-numbers g c κs within =
@@ -58,7 +58,7 @@ returns-clause-history g c =
           let same = c.dismiss-seat.ensures.lanes in
           let count : length c.hire-seat.new.hired.items ≡ c.args.workers = omega arith in
           let mine = ap length c.as_mut_slice.ensures.value ∙ count in
-          d.spent (all_over (λ w. g.L.Door.Lane.accepts w.lane.lane ≡ 0) c.work.new.workers _ _ (search rules) (c.work.ensures.spent mine));
+          d.spent (all_over (λ w. g.L.Door.Lane.accepts w.lane ≡ 0) c.work.new.workers _ _ (search rules) (c.work.ensures.spent mine));
     }
 
 pub returns-clause-state : goal.returns-clause-state
@@ -73,5 +73,6 @@ returns-clause-listening g c =
     let same = c.dismiss-seat.ensures.lanes in
     let first = c.hire-seat.ensures.later in
     let second = c.dismiss-seat.ensures.later in
-    both_listened c.hire-seat.result.1 c.dismiss-seat.result.1 _ _ _ _ _ c.and.ensures.whole c.and.ensures.broken c.hire-seat.ensures.all
-    (λ e. rose_before _ _ _ first (c.dismiss-seat.ensures.broken e)) (λ n. omega arith) (λ q. rose_on _ _ _ q.1 second)
+    both_listened c.hire-seat.result.1 c.dismiss-seat.result.1 _ _ _ _ _ _ c.and.ensures.whole c.and.ensures.broken c.hire-seat.ensures.all
+    c.dismiss-seat.ensures.whole (λ e. rose_before _ _ _ first (c.dismiss-seat.ensures.broken e))
+    (λ n none. (let came = n.0 in (omega arith, none ∙ n.1))) (λ q. rose_on _ _ _ q.1 second)
