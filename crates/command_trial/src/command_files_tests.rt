@@ -2,7 +2,7 @@
 
 use crate::session_tests::part;
 use crate::store_tests::{number, opener_of};
-use crate::tests::{Left, run_over};
+use crate::tests::run_over;
 use ipam_keeper::opener::MemoryOpener;
 use std::alloc::{AllocError, Global};
 use std::marker::Sync;
@@ -11,8 +11,8 @@ use std::test::Fail;
 use std::thread::Threads;
 
 /// A store a case. Its first line is as that of a case of `store_tests`. Each line after it is a run over the store: its status, its words,
-/// its input, its output and what it says. A semicolon is the end of a line, and a caret a carriage return.
-const CASES: [&str; 9] = [
+/// its input, its output and what it says, each as `bytes_of` reads it.
+const CASES: [&str; 10] = [
     r#"1
 0|import prefixes --db a|prefix,vrf,status;10.0.0.0/24,,active;10.0.1.0/24,,active;10.0.2.0/24,,container;|created 3 present 0;|
 0|import prefixes --db a|prefix,vrf,status;10.0.0.0/24,,active;10.0.1.0/24,,active;10.0.2.0/24,,container;|created 0 present 3;|
@@ -73,17 +73,51 @@ const CASES: [&str; 9] = [
 1|import prefixes --db a|prefix;10.0.0.0/24;||store: version 9;
 1|export vrfs --db a|||store: version 9;
 1|report tree --db a|||store: version 9;"#,
+    r#"1
+0|import rirs --db a|name,slug;R,r;|created 1 present 0;|
+1|import aggregates --db a|prefix,rir;<1001:2001:db8::@/128,R;>||row 1001: limit: aggregates would exceed 1000;
+0|import aggregates --db a|prefix,rir;<1000:2001:db8::@/128,R;>|created 1000 present 0;|
+0|import ip-ranges --db a|start_address,end_address;<9999:2001:db8::@:0/64,2001:db8::@:1/64;>2001:db9::/64,2001:db9::1/64;|created 10000 present 0;|
+1|import ip-ranges --db a|start_address,end_address;2001:dba::/64,2001:dba::1/64;||row 1: limit: ip-ranges would exceed 10000;"#,
 ];
 
-/// What a part of a line stands for.
+/// Puts a text: a semicolon is the end of a line, a caret a carriage return, and `@` this number.
+fn put_text(alloc: Global, bytes: &mut Vec<u8>, text: &str, number: u32) -> Result<(), AllocError> {
+    for byte in text.bytes() {
+        match byte {
+            b';' => bytes.push(b'\n')?,
+            b'^' => bytes.push(b'\r')?,
+            b'@' => bytes.extend_from_slice(format!(in alloc; "{number}")?.as_bytes())?,
+            other => bytes.push(other)?,
+        }
+    }
+    Ok(())
+}
+
+/// Puts a text so many times, with the numbers from 1.
+fn put_times(alloc: Global, bytes: &mut Vec<u8>, text: &str, times: u32) -> Result<(), AllocError> {
+    for number in 1..=times {
+        put_text(alloc, bytes, text, number)?;
+    }
+    Ok(())
+}
+
+/// Puts what stands behind a `<`, or before the first one.
+fn put_piece(alloc: Global, bytes: &mut Vec<u8>, piece: &str) -> Result<(), AllocError> {
+    let Some((repeated, rest)) = piece.split_once('>') else {
+        return put_text(alloc, bytes, piece, 0);
+    };
+    let (times, text) = repeated.split_once(':').unwrap_or(("", ""));
+    put_times(alloc, bytes, text, number(times))?;
+    put_text(alloc, bytes, rest, 0)
+}
+
+/// What a part of a line stands for: a semicolon is the end of a line, a caret a carriage return, and `<N:text>` the text N times, in which `@` is
+/// 1 the first time, 2 the second, and so on.
 pub fn bytes_of(alloc: Global, part: &str) -> Result<Vec<u8>, AllocError> {
     let mut bytes = Vec::new(alloc);
-    for byte in part.bytes() {
-        bytes.push(match byte {
-            b';' => b'\n',
-            b'^' => b'\r',
-            other => other,
-        })?;
+    for piece in part.split('<') {
+        put_piece(alloc, &mut bytes, piece)?;
     }
     Ok(bytes)
 }
@@ -129,101 +163,5 @@ fn files_and_texts(rt: HostRuntime) -> Result<(), Fail> {
         let wrong = wrong_line(&rt, rt.alloc(), case)?;
         assert!(rt; wrong == 0, "line {wrong} of {case}");
     }
-    Ok(())
-}
-
-/// A header of one column, and prefixes of 24 bits one after another; the last of all is the first one again, in another status, where it is to
-/// be refused.
-fn many_rows(alloc: Global, count: u32, is_refused: bool) -> Result<String, AllocError> {
-    let mut text = String::from_str(alloc, "prefix,status\n")?;
-    for n in 1..count {
-        let row = format!(in alloc; "10.{}.{}.0/24,\n", n / 256, n % 256)?;
-        text.push_str(&row)?;
-    }
-    let last = if is_refused {
-        "10.0.1.0/24,reserved\n"
-    } else {
-        "10.255.0.0/24,\n"
-    };
-    text.push_str(last)?;
-    Ok(text)
-}
-
-/// What a run with this input leaves, in words.
-fn told<R: Threads + Wait + Sync>(
-    rt: &R,
-    alloc: Global,
-    opener: &mut MemoryOpener,
-    words: &str,
-    input: &[u8],
-    fails: [&[u32]; 3],
-) -> Result<String, AllocError> {
-    let Left {
-        status,
-        output,
-        errors,
-    } = run_over(rt, alloc, opener, words, input, 65_536, fails)?;
-    let mut text = format!(in alloc; "{status} ")?;
-    for byte in output.as_slice().iter().chain(errors.as_slice()) {
-        text.push(char::from(*byte))?;
-    }
-    Ok(text)
-}
-
-/// Imports of many prefixes one after another into one store: how many, whether the last is refused, which calls of the input, the output and the
-/// messages fail, and what is left.
-const MANY: [(u32, bool, [&[u32]; 3], &str); 6] = [
-    (
-        1_000,
-        true,
-        [&[], &[], &[]],
-        "1 row 1000: duplicate: coincides with 1\n",
-    ),
-    (1_000, true, [&[], &[], &[0]], "3 "),
-    (1_000, false, [&[], &[0], &[]], "3 "),
-    (1_000, false, [&[], &[], &[]], "0 created 0 present 1000\n"),
-    (
-        10_001,
-        false,
-        [&[], &[], &[]],
-        "1 limit: rows would exceed 10000\n",
-    ),
-    (1_000, false, [&[1], &[], &[]], "3 "),
-];
-
-#[test]
-fn many_rows_at_once(rt: HostRuntime) -> Result<(), Fail> {
-    let alloc = rt.alloc();
-    let mut opener = MemoryOpener::new(Vec::new(alloc), Vec::new(alloc));
-    for (count, is_refused, fails, wanted) in MANY {
-        let rows = many_rows(alloc, count, is_refused)?;
-        let words = "import prefixes --db a";
-        let left = told(&rt, alloc, &mut opener, words, rows.as_bytes(), fails)?;
-        assert_eq!(rt; left.as_str(), wanted);
-    }
-    Ok(())
-}
-
-/// A file of so many bytes: a header, and lines without a byte.
-fn file_of(alloc: Global, bytes: usize) -> Result<Vec<u8>, AllocError> {
-    let mut file = Vec::from_slice(alloc, b"prefix\n")?;
-    file.resize(bytes, b'\n')?;
-    Ok(file)
-}
-
-#[test]
-fn a_file_as_long_as_may_be(rt: HostRuntime) -> Result<(), Fail> {
-    let alloc = rt.alloc();
-    let mut opener = MemoryOpener::new(Vec::new(alloc), Vec::new(alloc));
-    let none: [&[u32]; 3] = [&[], &[], &[]];
-    let longest = file_of(alloc, 4_194_304)?;
-    let left = told(&rt, alloc, &mut opener, "import prefixes", &longest, none)?;
-    assert_eq!(rt; left.as_str(), "0 created 0 present 0\n");
-    let longer = file_of(alloc, 4_194_305)?;
-    let left = told(&rt, alloc, &mut opener, "import prefixes", &longer, none)?;
-    assert_eq!(rt;
-        left.as_str(),
-        "1 too_large: the body exceeds 4194304 bytes\n"
-    );
     Ok(())
 }

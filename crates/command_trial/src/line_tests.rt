@@ -23,37 +23,82 @@ const POST: &str =
 
 /// A run a line: which calls fail, each as the object and the number of its call, from 0; the words; the input, where `once` and `twice` stand
 /// for that request; the status; the output; what is said; how many connections were answered; the rows of the store afterwards. Where `nobody`
-/// is told no lane comes. A semicolon is the end of a line, and a caret a carriage return.
-const RUNS: [&str; 28] = [
-    "input 0|session --db a|once|3|||0|",
-    r#"input 1|session|once|3|HTTP/1.1 201 Created^;Content-Type: application/json^;Content-Length: 188^;Ipam-Place: 0^;^;{"children":0,"depth":0,"description":"","family":4,"id":1,"is_pool":false,"mark_utilized":false,"prefix":"10.0.0.0/24","role":null,"status":{"label":"Active","value":"active"},"vrf":null}||0|"#,
-    "output 0|session --db a|once|3|||0|1,10.0.0.0/24,,active,,false,false,;",
-    "keeper 0|session --db a|once|4||store: the store could not be read;|0|",
-    r#"keeper 1|session --db a|once|0|HTTP/1.1 503 Service Unavailable^;Content-Type: application/json^;Content-Length: 59^;Ipam-Place: 0^;^;{"code":"keeper","detail":"the store could not be written"}||0|"#,
-    "keeper 1|import prefixes --db a|prefix,vrf,status;10.0.0.0/24,,active;10.0.1.0/24,,active;10.0.2.0/24,,container;|4||keeper: the store could not be written;|0|",
-    "lane 0|serve --bind x --workers 1 --connections 2 --db a||3|entries 1;||1|1,10.0.0.0/24,,active,,false,false,;",
-    "nobody|serve --bind x --workers 1|x|3|entries 0;||0|",
-    "errors 0|free||3|||0|",
-    "errors 0|load||3|||0|",
-    "|session||0|||0|",
-    r#"|session --global-unique=yes|twice|0|HTTP/1.1 201 Created^;Content-Type: application/json^;Content-Length: 188^;Ipam-Place: 0^;^;{"children":0,"depth":0,"description":"","family":4,"id":1,"is_pool":false,"mark_utilized":false,"prefix":"10.0.0.0/24","role":null,"status":{"label":"Active","value":"active"},"vrf":null}HTTP/1.1 400 Bad Request^;Content-Type: application/json^;Content-Length: 48^;Ipam-Place: 1^;^;{"code":"duplicate","detail":"coincides with 1"}||0|"#,
-    r#"|session --global-unique no|twice|0|HTTP/1.1 201 Created^;Content-Type: application/json^;Content-Length: 188^;Ipam-Place: 0^;^;{"children":0,"depth":0,"description":"","family":4,"id":1,"is_pool":false,"mark_utilized":false,"prefix":"10.0.0.0/24","role":null,"status":{"label":"Active","value":"active"},"vrf":null}HTTP/1.1 201 Created^;Content-Type: application/json^;Content-Length: 188^;Ipam-Place: 1^;^;{"children":0,"depth":0,"description":"","family":4,"id":2,"is_pool":false,"mark_utilized":false,"prefix":"10.0.0.0/24","role":null,"status":{"label":"Active","value":"active"},"vrf":null}||0|"#,
-    "|free 10.0.0.0/30|10.0.0.0/31;|0|10.0.0.2/31;||0|",
-    "|free 10.0.0.0/30|10.0.0.0/31;x;|1||line 2: not a prefix;|0|",
-    "|load 1||0|claimed 1;first 10.0.0.1;last 10.0.0.1;percent 50;entries 2;||0|",
-    "|load 1000 --workers 4||0|claimed 1000;first 10.0.0.1;last 10.0.3.232;percent 24;entries 1001;||0|",
-    "input 0 output 0||x;|2||usage: ipamd COMMAND;|0|",
-    "input 0 output 0|free|x;|2||usage: ipamd COMMAND;|0|",
-    "input 0 output 0|free 10.0.0.1/24|x;|2||usage: ipamd COMMAND;|0|",
-    "input 0 output 0|Session|x;|2||usage: ipamd COMMAND;|0|",
-    "input 0 output 0|session x|x;|2||usage: ipamd COMMAND;|0|",
-    "input 0 output 0|session --db|x;|2||usage: ipamd COMMAND;|0|",
-    "input 0 output 0|serve --bind 127.0.0.1:0 --workers 33|x;|2||usage: ipamd COMMAND;|0|",
-    "input 0 output 0|import vlans|x;|2||usage: ipamd COMMAND;|0|",
-    "input 0 output 0|export|x;|2||usage: ipamd COMMAND;|0|",
-    "input 0 output 0|report tree --prefix 1|x;|2||usage: ipamd COMMAND;|0|",
-    "input 0 output 0|load 0|x;|2||usage: ipamd COMMAND;|0|",
-];
+/// is told no lane comes. A semicolon, a caret and `<N:text>` are what `bytes_of` says.
+const RUNS: &str = r#"input 0|session --db a|once|3|||0|
+input 1|session|once|3|HTTP/1.1 201 Created^;Content-Type: application/json^;Content-Length: 188^;Ipam-Place: 0^;^;{"children":0,"depth":0,"description":"","family":4,"id":1,"is_pool":false,"mark_utilized":false,"prefix":"10.0.0.0/24","role":null,"status":{"label":"Active","value":"active"},"vrf":null}||0|
+output 0|session --db a|once|3|||0|1,10.0.0.0/24,,active,,false,false,;
+keeper 0|session --db a|once|4||store: the store could not be read;|0|
+keeper 1|session --db a|once|0|HTTP/1.1 503 Service Unavailable^;Content-Type: application/json^;Content-Length: 59^;Ipam-Place: 0^;^;{"code":"keeper","detail":"the store could not be written"}||0|
+keeper 1|import prefixes --db a|prefix,vrf,status;10.0.0.0/24,,active;10.0.1.0/24,,active;10.0.2.0/24,,container;|4||keeper: the store could not be written;|0|
+lane 0|serve --bind x --workers 1 --connections 2 --db a||3|entries 1;||1|1,10.0.0.0/24,,active,,false,false,;
+nobody|serve --bind x --workers 1|x|3|entries 0;||0|
+errors 0|free||3|||0|
+errors 0|load||3|||0|
+|session||0|||0|
+|session --global-unique=yes|twice|0|HTTP/1.1 201 Created^;Content-Type: application/json^;Content-Length: 188^;Ipam-Place: 0^;^;{"children":0,"depth":0,"description":"","family":4,"id":1,"is_pool":false,"mark_utilized":false,"prefix":"10.0.0.0/24","role":null,"status":{"label":"Active","value":"active"},"vrf":null}HTTP/1.1 400 Bad Request^;Content-Type: application/json^;Content-Length: 48^;Ipam-Place: 1^;^;{"code":"duplicate","detail":"coincides with 1"}||0|
+|session --global-unique no|twice|0|HTTP/1.1 201 Created^;Content-Type: application/json^;Content-Length: 188^;Ipam-Place: 0^;^;{"children":0,"depth":0,"description":"","family":4,"id":1,"is_pool":false,"mark_utilized":false,"prefix":"10.0.0.0/24","role":null,"status":{"label":"Active","value":"active"},"vrf":null}HTTP/1.1 201 Created^;Content-Type: application/json^;Content-Length: 188^;Ipam-Place: 1^;^;{"children":0,"depth":0,"description":"","family":4,"id":2,"is_pool":false,"mark_utilized":false,"prefix":"10.0.0.0/24","role":null,"status":{"label":"Active","value":"active"},"vrf":null}||0|
+|free 10.0.0.0/30|10.0.0.0/31;|0|10.0.0.2/31;||0|
+|free 10.0.0.0/30|10.0.0.0/31;x;|1||line 2: not a prefix;|0|
+|load 1||0|claimed 1;first 10.0.0.1;last 10.0.0.1;percent 50;entries 2;||0|
+|load 1000 --workers 4||0|claimed 1000;first 10.0.0.1;last 10.0.3.232;percent 24;entries 1001;||0|
+input 0 output 0||x;|2||usage: ipamd COMMAND;|0|
+input 0 output 0|free|x;|2||usage: ipamd COMMAND;|0|
+input 0 output 0|free 10.0.0.1/24|x;|2||usage: ipamd COMMAND;|0|
+input 0 output 0|Session|x;|2||usage: ipamd COMMAND;|0|
+input 0 output 0|session x|x;|2||usage: ipamd COMMAND;|0|
+input 0 output 0|session --db|x;|2||usage: ipamd COMMAND;|0|
+input 0 output 0|serve --bind 127.0.0.1:0 --workers 33|x;|2||usage: ipamd COMMAND;|0|
+input 0 output 0|import vlans|x;|2||usage: ipamd COMMAND;|0|
+input 0 output 0|export|x;|2||usage: ipamd COMMAND;|0|
+input 0 output 0|report tree --prefix 1|x;|2||usage: ipamd COMMAND;|0|
+input 0 output 0|load 0|x;|2||usage: ipamd COMMAND;|0|
+|free 10.0.0.0/16|10.0.0.0/24;10.0.4.0/22;|0|10.0.1.0/24;10.0.2.0/23;10.0.8.0/21;10.0.16.0/20;10.0.32.0/19;10.0.64.0/18;10.0.128.0/17;||0|
+|free 10.0.0.0/16||0|10.0.0.0/16;||0|
+|free 10.0.0.0/16|10.0.0.0/24;10.1.0.0/24;|1||line 2: not strictly inside 10.0.0.0/16;|0|
+|free 10.0.0.0/16|10.0.0.0/16;|1||line 1: not strictly inside 10.0.0.0/16;|0|
+input 0|free 10.0.0.0/16|10.0.0.0/16;|3|||0|
+|free 10.0.0.0/16|10.0.0.1/24;|1||line 1: host bits set, the prefix is 10.0.0.0/24;|0|
+|free 10.0.0.0/16|2001:db8::/32;|1||line 1: not strictly inside 10.0.0.0/16;|0|
+|free 2001:db8::/126|2001:DB8::/128;|0|2001:db8::1/128;2001:db8::2/127;||0|
+|free 10.0.0.0/8|<200000:;>|0|10.0.0.0/8;||0|
+|free 10.0.0.0/8|<200001:;>|1||line 200001: too many lines;|0|
+|load 2||0|claimed 2;first 10.0.0.1;last 10.0.0.2;percent 33;entries 3;||0|
+|load 254||0|claimed 254;first 10.0.0.1;last 10.0.0.254;percent 24;entries 255;||0|
+|load 255||0|claimed 255;first 10.0.0.1;last 10.0.0.255;percent 24;entries 256;||0|
+|load 256||0|claimed 256;first 10.0.0.1;last 10.0.1.0;percent 25;entries 257;||0|
+|load 5 --workers 32||0|claimed 5;first 10.0.0.1;last 10.0.0.5;percent 16;entries 6;||0|
+|load 100000 --workers 4||0|claimed 100000;first 10.0.0.1;last 10.1.134.160;percent 19;entries 100001;||0|
+input 0 output 0|free 0.0.0.0/0|x;|2||usage: ipamd COMMAND;|0|
+input 0 output 0|load 5 --workers 33|x;|2||usage: ipamd COMMAND;|0|
+input 0 output 0|load 100001|x;|2||usage: ipamd COMMAND;|0|
+input 0 output 0|session --db a --db b|x;|2||usage: ipamd COMMAND;|0|
+|session|GET / HTTP/1.1^;A: <16365:a>|0|HTTP/1.1 413 Payload Too Large^;Content-Type: application/json^;Content-Length: 60^;Connection: close^;^;{"code":"too_large","detail":"the head exceeds 16384 bytes"}||0|
+|session|GET / HTTP/1.1^;Host|0|HTTP/1.1 400 Bad Request^;Content-Type: application/json^;Content-Length: 60^;Connection: close^;^;{"code":"bad_head","detail":"the request could not be read"}||0|
+|session|GET /api/ipam/vrfs/ HTTP/1.1^;Content-Length: 0^;Content-Length: 0^;^;|0|HTTP/1.1 400 Bad Request^;Content-Type: application/json^;Content-Length: 60^;Connection: close^;^;{"code":"bad_head","detail":"the request could not be read"}||0|
+|session|POST /api/ipam/vrfs/ HTTP/1.1^;Content-Length: 4194305^;^;|0|HTTP/1.1 413 Payload Too Large^;Content-Type: application/json^;Content-Length: 62^;Connection: close^;^;{"code":"too_large","detail":"the body exceeds 4194304 bytes"}||0|
+|session|GET /api/ipam/vrfs/ HTTP/1.1^;Transfer-Encoding: chunked^;Content-Length: x^;^;|0|HTTP/1.1 501 Not Implemented^;Content-Type: application/json^;Content-Length: 60^;Connection: close^;^;{"code":"coding","detail":"transfer codings are not served"}||0|
+|session|POST /api/ipam/prefixes/ HTTP/1.1^;Content-Length: 281^;^;{"prefix":"10.0.0.0/24","x":<126:[><126:]>}|0|HTTP/1.1 201 Created^;Content-Type: application/json^;Content-Length: 188^;Ipam-Place: 0^;^;{"children":0,"depth":0,"description":"","family":4,"id":1,"is_pool":false,"mark_utilized":false,"prefix":"10.0.0.0/24","role":null,"status":{"label":"Active","value":"active"},"vrf":null}||0|
+|session|POST /api/ipam/prefixes/ HTTP/1.1^;Content-Length: 283^;^;{"prefix":"10.0.0.0/24","x":<127:[><127:]>}|0|HTTP/1.1 400 Bad Request^;Content-Type: application/json^;Content-Length: 73^;^;{"code":"bad_json","detail":"the body is not the JSON that is asked for"}||0|
+|session|GET /api/ipam/vrfs/ HTTP/1.1^;A: <16347:a>^;^;|0|HTTP/1.1 200 OK^;Content-Type: application/json^;Content-Length: 52^;Ipam-Place: 0^;^;{"count":0,"next":null,"previous":null,"results":[]}||0|
+|session|GET /api/ipam/vrfs/ HTTP/1.1^;A: <16348:a>^;^;|0|HTTP/1.1 413 Payload Too Large^;Content-Type: application/json^;Content-Length: 60^;Connection: close^;^;{"code":"too_large","detail":"the head exceeds 16384 bytes"}||0|
+|session|GET /api/ipam/vrfs/ HTTP/1.1^;<64:A: b^;>^;|0|HTTP/1.1 200 OK^;Content-Type: application/json^;Content-Length: 52^;Ipam-Place: 0^;^;{"count":0,"next":null,"previous":null,"results":[]}||0|
+|session|GET /api/ipam/vrfs/ HTTP/1.1^;<65:A: b^;>^;|0|HTTP/1.1 400 Bad Request^;Content-Type: application/json^;Content-Length: 60^;Connection: close^;^;{"code":"bad_head","detail":"the request could not be read"}||0|
+|session|POST /api/ipam/vrfs/ HTTP/1.1^;Content-Length: 4194304^;^;{"name":"red","x":"aaa<1048570:aaaa>"}|0|HTTP/1.1 201 Created^;Content-Type: application/json^;Content-Length: 70^;Ipam-Place: 0^;^;{"description":"","enforce_unique":true,"id":1,"name":"red","rd":null}||0|
+|session|<1001:GET /api/ipam/vrfs/ HTTP/1.1^;^;>|0|<999:HTTP/1.1 200 OK^;Content-Type: application/json^;Content-Length: 52^;Ipam-Place: 0^;^;{"count":0,"next":null,"previous":null,"results":[]}>HTTP/1.1 200 OK^;Content-Type: application/json^;Content-Length: 52^;Ipam-Place: 0^;Connection: close^;^;{"count":0,"next":null,"previous":null,"results":[]}||0|
+|session|POST /api/ipam/prefixes/ HTTP/1.1^;Content-Length: 25^;^;{"prefix":"192.0.2.0/30"}POST /api/ipam/prefixes/1/available-ips/ HTTP/1.1^;Content-Length: 3001^;^;[<999:{},>{}]POST /api/ipam/prefixes/1/available-ips/ HTTP/1.1^;Content-Length: 3004^;^;[<1000:{},>{}]|0|HTTP/1.1 201 Created^;Content-Type: application/json^;Content-Length: 189^;Ipam-Place: 0^;^;{"children":0,"depth":0,"description":"","family":4,"id":1,"is_pool":false,"mark_utilized":false,"prefix":"192.0.2.0/30","role":null,"status":{"label":"Active","value":"active"},"vrf":null}HTTP/1.1 409 Conflict^;Content-Type: application/json^;Content-Length: 51^;Ipam-Place: 1^;^;{"code":"no_space","detail":"no space for claim 2"}HTTP/1.1 507 Insufficient Storage^;Content-Type: application/json^;Content-Length: 52^;Ipam-Place: 1^;^;{"code":"limit","detail":"claims would exceed 1000"}||0|
+|import vrfs|name;<1000:red;>|0|created 1000 present 0;||0|
+|import vrfs|name;<10000:red;>|1||row 1001: limit: vrfs would exceed 1000;|0|
+|import vrfs|name;<10001:red;>|1||limit: rows would exceed 10000;|0|
+|import rirs|name,slug;<1000:n@,s@;>|0|created 1000 present 0;||0|
+|import rirs|name,slug;<1001:n@,s@;>|1||row 1001: limit: rirs would exceed 1000;|0|
+|import roles|name,slug;<1000:n@,s@;>|0|created 1000 present 0;||0|
+|import roles|name,slug;<1001:n@,s@;>|1||row 1001: limit: roles would exceed 1000;|0|
+|import prefixes|prefix;<4194297:;>|0|created 0 present 0;||0|
+|import prefixes|prefix;<4194298:;>|1||too_large: the body exceeds 4194304 bytes;|0|
+|import prefixes|prefix,status;<999:2001:db8:@::/48,;>2001:db8:1::/48,reserved;|1||row 1000: duplicate: coincides with 1;|0|
+input 1|import prefixes|prefix;<1000:2001:db8:@::/48;>|3|||0|
+output 0|import prefixes --db a|prefix;10.0.0.0/24;|3|||0|1,10.0.0.0/24,,active,,false,false,;
+errors 0|import prefixes --db a|prefix;10.0.0.0/24;10.0.0.0/24;|3|||0|"#;
 
 /// The number of the call of an object that fails in a line, or one that is never made.
 fn failing<'a>(line: &'a str, object: &'a str) -> u32 {
@@ -125,7 +170,7 @@ fn tell_row(alloc: Global, row: &Row, told: &mut String) -> Result<(), AllocErro
         told.push_str(",")?;
         told.push_str(field.as_str())?;
     }
-    told.push_str(";")
+    told.push_str("\n")
 }
 
 /// The rows under the path `a`.
@@ -183,36 +228,33 @@ fn left_by<R: Threads + Wait + Sync>(
     rt: &R,
     alloc: Global,
     line: &str,
-) -> Result<String, AllocError> {
+) -> Result<Vec<u8>, AllocError> {
     let tables = format!(in alloc; "1;fails {}", failing(line, "keeper"))?;
     let mut opener = opener_of(alloc, &tables)?;
     let mut listener = listener_of(alloc, line)?;
     let left = ran(rt, alloc, &mut listener, &mut opener, line)?;
-    let mut text = format!(in alloc; "|{}|", left.status)?;
-    for byte in left
-        .output
-        .as_slice()
-        .iter()
-        .chain(b"|")
-        .chain(left.errors.as_slice())
-    {
-        text.push(match byte {
-            b'\n' => ';',
-            b'\r' => '^',
-            other => char::from(*other),
-        })?;
-    }
     let rows = rows_told(alloc, &mut opener)?;
+    let mut bytes = format!(in alloc; "{}|", left.status)?.into_bytes();
+    bytes.extend_from_slice(left.output.as_slice())?;
+    bytes.push(b'|')?;
+    bytes.extend_from_slice(left.errors.as_slice())?;
     let rest = format!(in alloc; "|{}|{rows}", served(&listener))?;
-    text.push_str(&rest)?;
-    Ok(text)
+    bytes.extend_from_slice(rest.as_bytes())?;
+    Ok(bytes)
+}
+
+/// What a line says that is left.
+fn wanted_of(alloc: Global, line: &str) -> Result<Vec<u8>, AllocError> {
+    bytes_of(alloc, line.splitn(4, '|').nth(3).unwrap_or(""))
 }
 
 #[test]
 fn runs_and_what_they_leave(rt: HostRuntime) -> Result<(), Fail> {
-    for line in RUNS {
+    for line in RUNS.lines() {
         let left = left_by(&rt, rt.alloc(), line)?;
-        assert!(rt; line.ends_with(left.as_str()), "{line}: {left}");
+        let wanted = wanted_of(rt.alloc(), line)?;
+        let text = str::from_utf8(left.as_slice()).unwrap_or("");
+        assert!(rt; left.as_slice() == wanted.as_slice(), "{line}: {text}");
     }
     Ok(())
 }

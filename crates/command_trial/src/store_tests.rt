@@ -18,7 +18,7 @@ use stored_tables::tables::{Change, Row, Rows, Tables, Text, Texts};
 /// A store a case. Its first line is the version of the tables under the path `a` and, behind semicolons, what is put into the empty
 /// ones: prefixes, where a hyphen stands for the empty text, and which calls of each keeper fail. Each line after it is a session over
 /// the store: its status, its words and what it says, and behind each `~` an exchange.
-const CASES: [&str; 6] = [
+const CASES: [&str; 7] = [
     r#"1
 0|session --db a|~POST /api/ipam/prefixes/|{"prefix":"10.0.0.0/24"}|201 Created|Ipam-Place: 0|{"children":0,"depth":0,"description":"","family":4,"id":1,"is_pool":false,"mark_utilized":false,"prefix":"10.0.0.0/24","role":null,"status":{"label":"Active","value":"active"},"vrf":null}
 0|session --db a|~GET /api/ipam/prefixes/1/||200 OK|Ipam-Place: 0|{"children":0,"depth":0,"description":"","family":4,"id":1,"is_pool":false,"mark_utilized":false,"prefix":"10.0.0.0/24","role":null,"status":{"label":"Active","value":"active"},"vrf":null}
@@ -36,6 +36,9 @@ const CASES: [&str; 6] = [
 4|session --db a|store: the store could not be read"#,
     r#"1;fails 1
 0|session --db a|~POST /api/ipam/prefixes/|{"prefix":"10.0.0.0/24"}|503 Service Unavailable|Ipam-Place: 0|{"code":"keeper","detail":"the store could not be written"}~POST /api/ipam/prefixes/|{"prefix":"10.0.0.0/24"}|201 Created|Ipam-Place: 0|{"children":0,"depth":0,"description":"","family":4,"id":1,"is_pool":false,"mark_utilized":false,"prefix":"10.0.0.0/24","role":null,"status":{"label":"Active","value":"active"},"vrf":null}"#,
+    r#"1;fails 2
+0|session --db a|~POST /api/ipam/prefixes/|{"prefix":"10.0.0.0/24"}|201 Created|Ipam-Place: 0|{"children":0,"depth":0,"description":"","family":4,"id":1,"is_pool":false,"mark_utilized":false,"prefix":"10.0.0.0/24","role":null,"status":{"label":"Active","value":"active"},"vrf":null}~POST /api/ipam/prefixes/1/available-ips/|{}|503 Service Unavailable|Ipam-Place: 1|{"code":"keeper","detail":"the store could not be written"}~GET /api/ipam/ip-addresses/||200 OK|Ipam-Place: 1|{"count":0,"next":null,"previous":null,"results":[]}~POST /api/ipam/prefixes/1/available-ips/|{}|201 Created|Ipam-Place: 1|{"address":"10.0.0.1/24","description":"","dns_name":"","family":4,"id":1,"role":null,"status":{"label":"Active","value":"active"},"vrf":null}~GET /api/ipam/ip-addresses/1/||200 OK|Ipam-Place: 2|{"address":"10.0.0.1/24","description":"","dns_name":"","family":4,"id":1,"role":null,"status":{"label":"Active","value":"active"},"vrf":null}
+0|session --db a|~GET /api/ipam/ip-addresses/1/||200 OK|Ipam-Place: 0|{"address":"10.0.0.1/24","description":"","dns_name":"","family":4,"id":1,"role":null,"status":{"label":"Active","value":"active"},"vrf":null}"#,
 ];
 
 /// The number that a word is, or 0.

@@ -37,7 +37,7 @@ pub fn run_with<R: Threads + Wait + Sync>(
     let bytes = Vec::from_slice(alloc, input)?;
     let [source, sink, messages] = fails;
     let mut input = BytesSource::new(bytes, Vec::from_slice(alloc, source)?, piece);
-    let mut output = BytesSink::new(alloc, Vec::from_slice(alloc, sink)?, piece, 65_536)?;
+    let mut output = BytesSink::new(alloc, Vec::from_slice(alloc, sink)?, piece, 262_144)?;
     let mut errors = BytesSink::new(alloc, Vec::from_slice(alloc, messages)?, piece, 4_096)?;
     let status = run(
         rt,
