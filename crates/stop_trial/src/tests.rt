@@ -1,60 +1,34 @@
-//! Stops of both files: while the tables are made, in the import of ten rows, and in the change after it.
+//! Every stop of both files while the tables are made and ten rows are imported.
 
 use crate::{Ending, Found, Side, Stop, ending_of};
+use std::alloc::{AllocError, Global};
 use std::test::Fail;
 
-/// How many changes are stored: the import and a creation.
-const STORED: u32 = 2;
+/// How many changes are stored: the import.
+const STORED: u32 = 1;
 
-/// Which file stops, behind how many calls, and how the files are found.
-const STOPS: [Stop; 8] = [
-    Stop {
-        side: Side::Log,
-        calls: 18,
-        found: Found::Torn,
-    },
-    Stop {
-        side: Side::Log,
-        calls: 24,
-        found: Found::Lost,
-    },
-    Stop {
-        side: Side::Log,
-        calls: 28,
-        found: Found::Torn,
-    },
-    Stop {
-        side: Side::Log,
-        calls: 32,
-        found: Found::Written,
-    },
-    Stop {
-        side: Side::Log,
-        calls: 40,
-        found: Found::Lost,
-    },
-    Stop {
-        side: Side::Database,
-        calls: 0,
-        found: Found::Lost,
-    },
-    Stop {
-        side: Side::Database,
-        calls: 2,
-        found: Found::Torn,
-    },
-    Stop {
-        side: Side::Database,
-        calls: 4,
-        found: Found::Written,
-    },
-];
+/// More calls of a file than there are.
+const MOST: u64 = 1_000;
+
+/// The first call of a file whose stop breaks the tables, as the files are found so; or none.
+fn wrong_call(alloc: Global, side: Side, found: Found) -> Result<Option<u64>, AllocError> {
+    for calls in 0..MOST {
+        match ending_of(alloc, STORED, Stop { side, calls, found })? {
+            Ending::Whole => {}
+            Ending::Broken => return Ok(Some(calls)),
+            Ending::Beyond => return Ok(None),
+        }
+    }
+    Ok(Some(MOST))
+}
 
 #[test]
 fn no_stop_breaks_the_tables(rt: HostRuntime) -> Result<(), Fail> {
-    for stop in STOPS {
-        let ending = ending_of(rt.alloc(), STORED, stop)?;
-        assert!(rt; ending != Ending::Broken, "{stop:?}");
+    for side in [Side::Log, Side::Database] {
+        for found in [Found::Written, Found::Lost, Found::Torn] {
+            let wrong = wrong_call(rt.alloc(), side, found)?;
+            assert!(rt; wrong.is_none(), "{side:?} {found:?} {wrong:?}");
+        }
     }
     Ok(())
 }
