@@ -77,14 +77,20 @@ fn row_of_line(alloc: Global, line: &str) -> Result<Row, AllocError> {
     })
 }
 
-/// Whether the row is read, and written again as it was.
+/// Whether the row is read, written again with as many texts, and read again as the same view.
 fn is_read(alloc: Global, row: &Row) -> Result<bool, AllocError> {
     let view = match read_row(alloc, row)? {
         Some(view) => view,
         None => return Ok(false),
     };
     let again = write_row(alloc, &view)?;
-    Ok(again.fields.as_slice().len() == row.fields.as_slice().len())
+    let twice = read_row(alloc, &again)?;
+    let found = format!(in alloc; "{twice:?}")?;
+    let wanted = format!(in alloc; "{:?}", Some(view))?;
+    Ok(
+        again.fields.as_slice().len() == row.fields.as_slice().len()
+            && found.as_str() == wanted.as_str(),
+    )
 }
 
 #[test]

@@ -7,7 +7,6 @@ ghost use Rattle.ipam_data.specs.RowList.{AllBelow};
 ghost use Rattle.ipam_data.specs.Rows.{range_id};
 ghost use Rattle.ipam_data.specs.Lawful.{IsRange};
 
-use crate::pieces::pieces_of;
 use crate::{RangeBook, Which};
 use inet_num::{Addr, Family};
 use ipam_data::host::Ends;
@@ -126,10 +125,21 @@ fn len_at(blocks: &[inet_num::Block], index: usize) -> u8 {
     }
 }
 
+/// The pieces of a range, by the book that has it.
+fn pieces_in_book(alloc: Global, row: IpRange) -> Result<Vec<inet_num::Block>, AllocError>
+    requires id { row.id ≡ 1 }
+    requires range { IsRange row }
+{
+    let mut book = RangeBook::new(alloc);
+    book.reserve(1)?;
+    book.put(row);
+    book.pieces(1)
+}
+
 #[test]
 fn pieces_of_ten_addresses(rt: HostRuntime) -> Result<(), Fail> {
     let row = range(rt.alloc(), 1, 10, 19, None, false).ok_or("no row")?;
-    let pieces = pieces_of(rt.alloc(), &row)?;
+    let pieces = pieces_in_book(rt.alloc(), row)?;
     assert!(rt;
         pieces.len() == 3
             && len_at(&pieces, 0) == 31
