@@ -3,3 +3,4 @@ pub mod Apart
 pub mod OfficeLaws
 pub mod RunLaws
 pub mod Parts
+pub mod LimitLaws

@@ -1,2 +1,4 @@
 pub mod Runs
 pub mod Clauses
+pub mod Limits
+pub mod Program

@@ -10,6 +10,7 @@ ghost use Rattle.command_serve.specs.Serve.{listener_view};
 ghost use Rattle.ipam_command.specs.Runs.{Answers, Runs};
 
 mod entry;
+mod limits;
 
 use command_files::{kind_named, run_export, run_import, run_report};
 use command_free::run_free;
@@ -22,6 +23,7 @@ pub use entry::program;
 use ipam_edge::{Sink, Source};
 use ipam_keeper::keeper::KeeperOpener;
 use ipam_listen::Listener;
+pub use limits::limits_are;
 use std::alloc::Global;
 use std::marker::Sync;
 use std::sync::Wait;
