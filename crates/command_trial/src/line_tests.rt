@@ -32,6 +32,7 @@ keeper 1|session --db a|once|0|HTTP/1.1 503 Service Unavailable^;Content-Type: a
 keeper 1|import prefixes --db a|prefix,vrf,status;10.0.0.0/24,,active;10.0.1.0/24,,active;10.0.2.0/24,,container;|4||keeper: the store could not be written;|0|
 lane 0|serve --bind x --workers 1 --connections 2 --db a||3|entries 1;||1|1,10.0.0.0/24,,active,,false,false,;
 nobody|serve --bind x --workers 1|x|3|entries 0;||0|
+|serve --bind  --workers 1|x|3|||0|
 errors 0|free||3|||0|
 errors 0|load||3|||0|
 |session||0|||0|

@@ -180,3 +180,23 @@ fn a_listener_is_at_its_place_alone(rt: HostRuntime) {
     assert!(rt; !listens(&rt, "127.0.0.2", port), "another address");
     assert!(rt; !listens(&rt, "127.0.0.1", other), "another port");
 }
+
+/// Whether a listener can be bound to a place.
+fn binds<R: Net<Listener = TcpListener, Stream = TcpStream> + Clock + Sync>(
+    rt: &R,
+    alloc: Global,
+    place: &str,
+) -> Result<bool, AllocError> {
+    let mut listener = TcpDoors::new(rt, alloc, Duration::from_millis(200));
+    let place = Vec::from_slice(alloc, place.as_bytes())?;
+    Ok(listener.bind(place, 1).is_ok())
+}
+
+#[test]
+fn a_text_that_is_no_place_is_not_bound(rt: HostRuntime) -> Result<(), Fail> {
+    for place in ["", "nowhere", "127.0.0.1", "127.0.0.1:70000", "127.0.0.1:x"] {
+        assert!(rt; !binds(&rt, rt.alloc(), place)?, "{place}");
+    }
+    assert!(rt; binds(&rt, rt.alloc(), "127.0.0.1:0")?);
+    Ok(())
+}

@@ -1,5 +1,5 @@
 //! A listener in memory, over a list of lanes: for tests of what stands on it.
-ghost use Rattle.std.specs.Prelude.{◌≡◌, ◌<◌, ◌≤◌, ◌+◌, ◌++◌, ◌∷◌, ◌↔◌, min, nat_lt, All, IfOk, IfSome, IsOk, IsErr, MatchResult, OnErr, [], is_err, if◌then◌else◌, length, map, vec_len, vec_capacity};
+ghost use Rattle.std.specs.Prelude.{◌≡◌, ◌<◌, ◌≤◌, ◌+◌, ◌++◌, ◌∷◌, ◌↔◌, min, nat_lt, All, IfOk, IfSome, IsErr, MatchResult, OnErr, [], is_err, if◌then◌else◌, length, map, vec_len, vec_capacity};
 ghost use Rattle.ipam_listen.specs.Connections.{RisesExactly, binding};
 ghost use Rattle.ipam_listen.specs.ListLanes.{lane_told};
 
@@ -8,7 +8,7 @@ use crate::listener::Listener;
 use ipam_edge::Failed;
 use std::alloc::{AllocError, Global};
 
-/// A listener over a list of lanes in memory. It tells all.
+/// A listener over a list of lanes in memory, which any place but the empty text binds. It tells all.
 #[derive(Drop)]
 pub struct ListListener {
     waiting: Vec<ListLane>,
@@ -79,12 +79,16 @@ impl Listener for ListListener {
         ensures returned { map returned_lane (listener_returned self.new) ≡ map returned_lane (listener_returned self.old) }
         ensures cause { RisesExactly (IsErr result) (listener_faults self.old) (listener_faults self.new) }
 
-        // It never fails.
-        ensures fails { IsOk result }
+        // It fails exactly where the place is the empty text.
+        ensures fails { IsErr result ↔ (at.items ≡ []) }
         ensures waiting { listener_waiting self.new ≡ listener_waiting self.old }
         ensures kept { listener_returned self.new ≡ listener_returned self.old }
-        ensures counted { listener_faults self.new ≡ listener_faults self.old }
+        ensures counted { listener_faults self.new ≡ (if is_err result then min (listener_faults self.old + 1) u64.MAX else listener_faults self.old) }
     {
+        if at.is_empty() {
+            self.faults = self.faults.saturating_add(1);
+            return Err(Failed);
+        }
         self.place = at;
         self.bound = connections;
         Ok(())
