@@ -4,9 +4,9 @@ use Rattle.stored_tables.specs.declared.opening.OpenFault.{OpenFault}
 use Rattle.stored_tables.specs.declared.opening.OpenFault.TheVariants.{Keeper, BadTables, Memory, BadRow, Version, BadNext, Limit}
 use Rattle.command_words.specs.declared.asked.Store.{Store}
 use Rattle.command_streams.specs.Streams.{EndsWith}
-use Rattle.command_session.specs.Outside.{Outside, IsUnused, NoCountFalls}
-use Rattle.command_session.specs.FaultWords.{IsSaid, fault_line}
-use Rattle.command_session.specs.Session.{IsBadStore, NamesFault, NamesFailure, FailsToSay}
+use Rattle.command_store.specs.Outside.{Outside, IsUnused, NoCountFalls}
+use Rattle.command_store.specs.FaultWords.{IsSaid, fault_line}
+use Rattle.command_store.specs.Opening.{IsBadStore, NamesFault, NamesFailure, FailsToSay}
 use Rattle.command_files.specs.Making.{IsOpenStop}
 use Rattle.command_files.specs.Export.{LeavesInput, Prints, PrintsFront, IsPrinting}
 

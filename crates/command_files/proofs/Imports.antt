@@ -8,15 +8,15 @@ use Rattle.stored_tables.specs.declared.opening.OpenFault.TheVariants.{Keeper as
 use Rattle.import_rows.specs.declared.rows.ImportRow.{ImportRow}
 use Rattle.command_words.specs.declared.asked.Store.{Store}
 use Rattle.command_streams.specs.Streams.{EndsWith, Gains, GainsFront}
-use Rattle.command_session.specs.Outside.{Outside, Stores, StoreFailed, NoCountFalls}
-use Rattle.command_session.specs.FaultWords.{IsSaid, fault_line}
+use Rattle.command_store.specs.Outside.{Outside, Stores, StoreFailed, NoCountFalls}
+use Rattle.command_store.specs.FaultWords.{IsSaid, fault_line}
 use Rattle.command_files.specs.declared.files.FileStop.{FileStop}
 use Rattle.command_files.specs.declared.files.FileStop.TheVariants.{Unread, Refused as RefusedFile, Memory as NoRoom}
 use Rattle.command_files.specs.declared.import.MakeStop.TheVariants.{Refused, Keeper, Memory}
 use Rattle.command_files.specs.declared.import.ImportStop.{ImportStop}
 use Rattle.command_files.specs.declared.import.ImportStop.TheVariants.{Opening, Making}
-use Rattle.command_session.specs.Session.{IsBadStore}
-use Rattle.command_session.proofs.Refused.{unchanged}
+use Rattle.command_store.specs.Opening.{IsBadStore}
+use Rattle.command_store.proofs.Refused.{unchanged}
 use Rattle.command_files.specs.Files.{GivesRows, refusal_text, NamesIt, IsFileStop, IsFileStopSaid}
 use Rattle.command_files.specs.Import.{NothingOpened, LeavesAll, PrintsCounts, NamesRefusal, NamesTables, NamesStore, FailsToRead, FailsToPrint, FailsToSay, IsRefusedSo, IsStored, IsImport}
 use Rattle.command_files.specs.Making.{HasImported, IsOpenStop, IsImportStop, IsStopSaid}

@@ -4,8 +4,8 @@ use Rattle.ipam_data.specs.declared.replies.Refusal.{Refusal}
 use Rattle.ipam_data.specs.State.{State}
 use Rattle.command_words.specs.declared.asked.Report.{Report}
 use Rattle.command_words.specs.declared.asked.Store.{Store}
-use Rattle.command_session.specs.Outside.{Outside, IsUnused, NoCountFalls}
-use Rattle.command_session.specs.Session.{IsLoaded}
+use Rattle.command_store.specs.Outside.{Outside, IsUnused, NoCountFalls}
+use Rattle.command_store.specs.Opening.{IsLoaded}
 use Rattle.command_files.specs.Files.{NamesIt}
 use Rattle.command_files.specs.Export.{IsPrinting}
 use Rattle.command_files.specs.declared.report.ReportStop.{ReportStop}

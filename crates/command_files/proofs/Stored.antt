@@ -21,8 +21,8 @@ use Rattle.plan_import.specs.Halts.{IsHaltBy}
 use Rattle.plan_import.specs.Plan.{IsImported}
 use Rattle.register_core.proofs.Told.{goes_on}
 use Rattle.command_words.specs.declared.asked.Store.{Store}
-use Rattle.command_session.specs.Outside.{Stores}
-use Rattle.command_session.proofs.Refused.{back_after, raised_rose}
+use Rattle.command_store.specs.Outside.{Stores}
+use Rattle.command_store.proofs.Refused.{back_after, raised_rose}
 use Rattle.command_files.specs.declared.import.MakeStop.{MakeStop}
 use Rattle.command_files.specs.declared.import.MakeStop.TheVariants.{Refused, Keeper, Memory}
 use Rattle.command_files.specs.declared.import.ImportStop.TheVariants.{Making}

@@ -6,8 +6,8 @@ use Rattle.csv_import.specs.Exports.{rows_text}
 use Rattle.plan_export.specs.Exported.{exported}
 use Rattle.command_words.specs.declared.asked.Store.{Store}
 use Rattle.command_streams.specs.Streams.{Gains, GainsFront, Failed}
-use Rattle.command_session.specs.Outside.{Outside, AreSame, NoCountFalls}
-use Rattle.command_session.specs.Session.{IsLoaded, NamesFault, NamesFailure, FailsToSay}
+use Rattle.command_store.specs.Outside.{Outside, AreSame, NoCountFalls}
+use Rattle.command_store.specs.Opening.{IsLoaded, NamesFault, NamesFailure, FailsToSay}
 
 -- the text of an export of the state that was loaded
 abbrev pub IsExportText : Kind → Store → Outside → List ℕ → Type 0

@@ -13,9 +13,9 @@ use Rattle.import_rows.specs.declared.rows.ImportRow.{ImportRow}
 use Rattle.import_rows.specs.Imports.{import_plan}
 use Rattle.command_words.specs.declared.asked.Store.{Store}
 use Rattle.command_streams.specs.Streams.{Gains, GainsFront, Failed}
-use Rattle.command_session.specs.Outside.{Outside, StoreFailed, AreSame, NoCountFalls}
-use Rattle.command_session.specs.FaultWords.{fault_line}
-use Rattle.command_session.specs.Session.{IsLoaded, HoldsTold, IsBadStore}
+use Rattle.command_store.specs.Outside.{Outside, StoreFailed, AreSame, NoCountFalls}
+use Rattle.command_store.specs.FaultWords.{fault_line}
+use Rattle.command_store.specs.Opening.{IsLoaded, HoldsTold, IsBadStore}
 use Rattle.command_files.specs.Files.{GivesRows, RefusesFile, refusal_text}
 
 -- how many records were made, and how many rows stand for records that were there

@@ -18,8 +18,8 @@ use Rattle.import_rows.specs.Imports.{import_plan}
 use Rattle.register_core.specs.Opened.{IsOpened, IsUnopened}
 use Rattle.command_words.specs.declared.asked.Store.{Store}
 use Rattle.command_streams.specs.Streams.{Told}
-use Rattle.command_session.specs.Outside.{Stores, AreSame}
-use Rattle.command_session.specs.FaultWords.{IsSaid}
+use Rattle.command_store.specs.Outside.{Stores, AreSame}
+use Rattle.command_store.specs.FaultWords.{IsSaid}
 use Rattle.plan_import.specs.declared.halt.Halt.{Halt}
 use Rattle.plan_import.specs.declared.halt.Halt.TheVariants.{Refused as Halted, Memory as NoMemory}
 use Rattle.command_files.specs.declared.import.MakeStop.{MakeStop}

@@ -15,8 +15,8 @@ use Rattle.command_words.specs.declared.asked.Report.{Report}
 use Rattle.command_words.specs.declared.asked.Report.TheVariants.{Tree, Utilization, Free}
 use Rattle.command_words.specs.declared.asked.Store.{Store}
 use Rattle.command_streams.specs.Streams.{Told, Gains, GainsFront, Failed}
-use Rattle.command_session.specs.Outside.{Outside, IsUnused, NoCountFalls}
-use Rattle.command_session.specs.Session.{IsLoaded, NamesFault, NamesFailure, FailsToSay}
+use Rattle.command_store.specs.Outside.{Outside, IsUnused, NoCountFalls}
+use Rattle.command_store.specs.Opening.{IsLoaded, NamesFault, NamesFailure, FailsToSay}
 use Rattle.command_files.specs.declared.report.ReportStop.{ReportStop}
 use Rattle.command_files.specs.declared.report.ReportStop.TheVariants.{Absent, Memory}
 use Rattle.command_files.specs.Files.{refusal_text, NamesIt}

@@ -6,11 +6,11 @@ ghost use Rattle.csv_import.specs.Exports.{rows_text};
 ghost use Rattle.plan_export.specs.Exported.{exported};
 ghost use Rattle.register_tables.specs.Held.{state_of};
 ghost use Rattle.command_streams.specs.Streams.{Told, streams, told};
-ghost use Rattle.command_session.specs.Outside.{outside, stores};
+ghost use Rattle.command_store.specs.Outside.{outside, stores};
 ghost use Rattle.command_files.specs.Export.{IsExport};
 
 use crate::opened::open_store;
-use command_session::say_fault;
+use command_store::say_fault;
 use command_streams::{DONE, MEMORY, end_with};
 use command_words::Store;
 use csv_import::write_rows;

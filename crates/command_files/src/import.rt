@@ -8,7 +8,7 @@ ghost use Rattle.ipam_keeper.specs.Keeping.{Rose};
 ghost use Rattle.import_rows.specs.Imports.{AreOfKind, import_plan};
 ghost use Rattle.register_tables.specs.Held.{state_of};
 ghost use Rattle.command_streams.specs.Streams.{Told, streams, told};
-ghost use Rattle.command_session.specs.Outside.{outside, stores};
+ghost use Rattle.command_store.specs.Outside.{outside, stores};
 ghost use Rattle.command_files.specs.Files.{GivesRows};
 ghost use Rattle.command_files.specs.Making.{stop_of, IsCounted, IsNoRefusal, IsMakeStop, HasImported, IsImportStop, IsMakingSaid, IsStopSaid};
 ghost use Rattle.command_files.specs.Import.{IsImport, counts_text as counts_of};
@@ -16,7 +16,7 @@ ghost use Rattle.command_files.specs.declared.import.MakeStop.TheVariants as sto
 
 use crate::files::{read_file, say_file_stop, say_refusal};
 use crate::opened::open_store;
-use command_session::say_fault;
+use command_store::say_fault;
 use command_streams::{DONE, MEMORY, REFUSED, STORE, end_with};
 use command_words::Store;
 use import_rows::rows::ImportRows;

@@ -7,9 +7,9 @@ ghost use Rattle.stored_tables.specs.Stored.{Tells};
 ghost use Rattle.ipam_keeper.specs.Keeping.{Rose, started};
 ghost use Rattle.register_core.specs.Opened.{IsOpened, IsUnopened};
 ghost use Rattle.register_tables.specs.Held.{state_of};
-ghost use Rattle.command_session.specs.Outside.{AreSame};
+ghost use Rattle.command_store.specs.Outside.{AreSame};
 
-use command_session::start_keeper;
+use command_store::start_keeper;
 use command_words::Store;
 use ipam_keeper::keeper::KeeperOpener;
 use register_core::{Settings, open_row_tables};

@@ -6,13 +6,13 @@ ghost use Rattle.register_tables.specs.Held.{state_of};
 ghost use Rattle.ipam_data.specs.Survey.{survey_of};
 ghost use Rattle.ipam_report.specs.Reports.{tree_text as tree_lines, table_text as table_lines};
 ghost use Rattle.command_streams.specs.Streams.{Told, streams, told};
-ghost use Rattle.command_session.specs.Outside.{outside, stores};
+ghost use Rattle.command_store.specs.Outside.{outside, stores};
 ghost use Rattle.command_files.specs.Report.{IsReport, IsReportStop, IsReportStopSaid, report_text as text_of};
 ghost use Rattle.command_words.specs.declared.asked.Report.TheVariants.{Free};
 
 use crate::files::say_refusal;
 use crate::opened::open_store;
-use command_session::say_fault;
+use command_store::say_fault;
 use command_streams::{DONE, MEMORY, REFUSED, end_with};
 use command_words::{Report, Store};
 use ipam_data::kinds::Kind;

@@ -6,7 +6,7 @@ use Rattle.register_server.specs.declared.ending.Listening.{Listening}
 use Rattle.register_server.specs.declared.ending.Listening.TheVariants.{Whole, Broken}
 use Rattle.command_words.specs.declared.asked.Serving.{Serving}
 use Rattle.command_streams.specs.Streams.{Gains, GainsFront, Failed, EndsWith}
-use Rattle.command_session.specs.Outside.{Outside}
+use Rattle.command_store.specs.Outside.{Outside}
 use Rattle.command_serve.specs.Serve.{ListenerView, ListeningFailed, AllCame, NoneFailed, IsBoundBy, ServesStore, entries_line, listening_status, IsServe}
 use Rattle.command_serve.proofs.Unserved.{Whatever}
 

@@ -14,10 +14,10 @@ use Rattle.register_server.specs.declared.ending.Unserved.TheVariants.{Opening, 
 use Rattle.command_words.specs.declared.asked.Store.{Store}
 use Rattle.command_words.specs.declared.asked.Serving.{Serving}
 use Rattle.command_streams.specs.Streams.{Told, Streams, EndsWith}
-use Rattle.command_session.specs.Outside.{Outside, StoreFailed, AreSame, IsUnused, NoCountFalls}
-use Rattle.command_session.specs.FaultWords.{IsSaid, fault_line}
-use Rattle.command_session.specs.Session.{found_tables, IsBadStore}
-use Rattle.command_session.proofs.Refused.{back_again, unchanged}
+use Rattle.command_store.specs.Outside.{Outside, StoreFailed, AreSame, IsUnused, NoCountFalls}
+use Rattle.command_store.specs.FaultWords.{IsSaid, fault_line}
+use Rattle.command_store.specs.Opening.{found_tables, IsBadStore}
+use Rattle.command_store.proofs.Refused.{back_again, unchanged}
 use Rattle.command_serve.specs.Serve.{ListenerView, ListeningFailed, AllCame, NoneFailed, NobodyCame, IsBoundBy, IsLeft, IsUnserved, IsUnservedSaid, IsServe}
 
 -- what holds of a run whatever its status

@@ -17,9 +17,9 @@ use Rattle.register_server.specs.declared.ending.Unserved.TheVariants.{Opening, 
 use Rattle.command_words.specs.declared.asked.Store.{Store}
 use Rattle.command_words.specs.declared.asked.Serving.{Serving}
 use Rattle.command_streams.specs.Streams.{Told, Gains, GainsFront, Failed}
-use Rattle.command_session.specs.Outside.{Outside, NoCountFalls}
-use Rattle.command_session.specs.FaultWords.{IsSaid}
-use Rattle.command_session.specs.Session.{found_tables, IsLoaded, Holds, NamesFault, NamesFailure, FailsToSay}
+use Rattle.command_store.specs.Outside.{Outside, NoCountFalls}
+use Rattle.command_store.specs.FaultWords.{IsSaid}
+use Rattle.command_store.specs.Opening.{found_tables, IsLoaded, Holds, NamesFault, NamesFailure, FailsToSay}
 
 -- ---- what is seen of a listener
 

@@ -5,11 +5,11 @@ ghost use Rattle.ipam_edge.specs.Faults.{Rose};
 ghost use Rattle.ipam_listen.specs.Connections.{binding};
 ghost use Rattle.command_streams.specs.Streams.{Told, streams, told};
 ghost use Rattle.register_server.specs.Serving.{IsListened, IsServing};
-ghost use Rattle.command_session.specs.Outside.{outside, stores};
+ghost use Rattle.command_store.specs.Outside.{outside, stores};
 ghost use Rattle.command_serve.specs.Serve.{IsServe, IsUnservedSaid, listener_view};
 
 use crate::count::say_entries;
-use command_session::{path_of, say_fault};
+use command_store::{path_of, say_fault};
 use command_streams::FAULT;
 use command_words::Serving;
 use ipam_edge::Sink;

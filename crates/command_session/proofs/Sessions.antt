@@ -18,8 +18,9 @@ use Rattle.kept_session.specs.Answered.{standing, fresh, answers_kept}
 use Rattle.kept_session.proofs.Plainly.{end_plainly}
 use Rattle.command_words.specs.declared.asked.Store.{Store}
 use Rattle.command_streams.specs.Streams.{Failed}
-use Rattle.command_session.specs.Outside.{Outside, NoCountFalls}
-use Rattle.command_session.specs.Session.{found_tables, IsLoaded, Serves, IsSession, end_status}
+use Rattle.command_store.specs.Outside.{Outside, NoCountFalls}
+use Rattle.command_store.specs.Opening.{found_tables, IsLoaded}
+use Rattle.command_session.specs.Session.{Serves, IsSession, end_status}
 
 -- where the session closed, the output has the answers to all requests of the whole input
 prints : {S : Type 0} (may : May S) (first register : S) (left_old left_new written_old written_new : Option (List ℕ)) (n : ℕ) (bytes : List ℕ)

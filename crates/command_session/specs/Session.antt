@@ -1,14 +1,8 @@
 -- What a run of the command `session` promises of each status: one connection over the input and the output, with a register of
 -- its own, over the store that the words name, or else in memory.
-use Rattle.std.specs.Prelude.{◌≡◌, ℕ, ◌+◌, ◌≤◌, ◌⊎◌, List, [], IfSome, IsSome, Option, Some}
+use Rattle.std.specs.Prelude.{◌≡◌, ℕ, ◌+◌, ◌≤◌, ◌⊎◌, List, [], IfSome}
 use Rattle.ipam_data.specs.State.{State}
-use Rattle.stored_tables.specs.declared.opening.OpenFault.{OpenFault}
-use Rattle.stored_tables.specs.declared.opening.OpenFault.TheVariants.{Keeper}
-use Rattle.stored_tables.specs.declared.tables.Tables.{Tables}
-use Rattle.stored_tables.specs.Stored.{Tells}
-use Rattle.stored_tables.specs.Opening.{IsOfTables}
-use Rattle.ipam_keeper.specs.Keeping.{started, IsReturned, last_count}
-use Rattle.register_core.specs.Opened.{IsOpened, IsUnopened}
+use Rattle.ipam_keeper.specs.Keeping.{last_count}
 use Rattle.http_session.specs.Requests.{AreAllItems, Item}
 use Rattle.http_session.specs.Steps.{Grown}
 use Rattle.http_session.specs.Talk.{Answer, May, Run, texts}
@@ -18,26 +12,9 @@ use Rattle.http_session.specs.declared.session.SessionEnd.TheVariants.{Closed, S
 use Rattle.rest_ipam.specs.Answered.{answers_plainly}
 use Rattle.kept_session.specs.Answered.{Standing, fresh, answers_kept}
 use Rattle.command_words.specs.declared.asked.Store.{Store}
-use Rattle.command_streams.specs.Streams.{Gains, GainsFront, Failed}
-use Rattle.command_session.specs.Outside.{Outside, StoreFailed, IsUnused, NoCountFalls}
-use Rattle.command_session.specs.FaultWords.{fault_line}
-
--- the tables with which the store begins, where they are told: without a file the empty ones
-abbrev pub found_tables : Store → Outside → Option Tables
-found_tables store old = started old.stores.stored store.db
-
--- the state is one for which the tables of the store stand
-abbrev pub IsLoaded : Store → Outside → State → Type 0
-IsLoaded store old state = IsOpened (found_tables store old) store.global_unique state
-
--- told tables of the store are those of this state, and all others are as they were
-abbrev pub Holds : Store → Outside → Outside → State → Type 0
-Holds store old new state = (told : Option Tables) × Tells told state × IsReturned (Some store.db) told old.stores.stored new.stores.stored
-
--- the same, and they are told at the end where the tables of the store were told at the start
-abbrev pub HoldsTold : Store → Outside → Outside → State → Type 0
-HoldsTold store old new state = (told : Option Tables) × (IsSome (found_tables store old) → IsSome told)
-    × Tells told state × IsReturned (Some store.db) told old.stores.stored new.stores.stored
+use Rattle.command_streams.specs.Streams.{Gains, Failed}
+use Rattle.command_store.specs.Outside.{Outside, StoreFailed, IsUnused, NoCountFalls}
+use Rattle.command_store.specs.Opening.{IsLoaded, HoldsTold, NamesFault, NamesFailure, FailsToSay}
 
 -- what was read is what a session of the loaded register served, and the output gained what this end says
 pub record Serves (store : Store) (old new : Outside) (end : SessionEnd) : Type 0 where
@@ -83,32 +60,6 @@ pub record Starves (store : Store) (old new : Outside) : Type 0 where
 pub record Breaks (store : Store) (old new : Outside) : Type 0 where
   pub failed : Failed old.streams.output new.streams.output
   pub serves : Serves store old new SinkFault
-
--- the tables of the store have this fault
-pub record IsBadStore (store : Store) (old : Outside) (fault : OpenFault) : Type 0 where
-  pub of_tables : IsOfTables fault
-  pub refused : IsUnopened (found_tables store old) store.global_unique fault
-
--- a fault of the store's tables was said, and nothing else was used
-pub record NamesFault (store : Store) (old new : Outside) : Type 0 where
-  pub fault : OpenFault
-  pub bad : IsBadStore store old fault
-  pub said : Gains old.streams.errors new.streams.errors (fault_line fault)
-  pub unused : IsUnused old new
-
--- the store failed, which was said, and nothing else was used
-pub record NamesFailure (old new : Outside) : Type 0 where
-  pub failed : StoreFailed old new
-  pub said : Gains old.streams.errors new.streams.errors (fault_line Keeper)
-  pub unused : IsUnused old new
-
--- what was to be said of the opening could not be, and nothing else was used
-pub record FailsToSay (store : Store) (old new : Outside) : Type 0 where
-  pub failed : Failed old.streams.errors new.streams.errors
-  pub fault : OpenFault
-  pub cause : IsBadStore store old fault ⊎ ((fault ≡ Keeper) × StoreFailed old new)
-  pub front : GainsFront old.streams.errors new.streams.errors (fault_line fault)
-  pub unused : IsUnused old new
 
 -- the status of a session by its end
 abbrev pub end_status : SessionEnd → ℕ

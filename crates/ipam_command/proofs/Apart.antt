@@ -8,7 +8,7 @@ use Rattle.command_words.specs.declared.asked.Serving.{Serving}
 use Rattle.command_words.specs.declared.asked.Command.TheVariants.{Free, Session, Serve, Import, Export, Report, Load}
 use Rattle.command_words.specs.Asked.{Asks}
 use Rattle.command_words.proofs.Unique.{words_ask_for_one}
-use Rattle.command_session.specs.Outside.{Stores, Outside}
+use Rattle.command_store.specs.Outside.{Stores, Outside}
 use Rattle.command_serve.specs.Serve.{ListenerView, NobodyCame}
 
 -- the words of `free` are not those of `session`

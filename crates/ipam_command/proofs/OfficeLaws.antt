@@ -9,8 +9,8 @@ use Rattle.command_words.specs.Asked.{Asks}
 use Rattle.command_words.proofs.Unique.{words_ask_for_one}
 use Rattle.command_streams.specs.Streams.{Failed}
 use Rattle.ipam_data.specs.declared.kinds.Kind.{Kind}
-use Rattle.command_session.specs.Outside.{Stores, Outside, AreSame, NoCountFalls}
-use Rattle.command_session.proofs.Refused.{unchanged}
+use Rattle.command_store.specs.Outside.{Stores, Outside, AreSame, NoCountFalls}
+use Rattle.command_store.proofs.Refused.{unchanged}
 use Rattle.command_serve.specs.Serve.{ListenerView}
 use Rattle.command_files.specs.Files.{kind_named}
 use Rattle.command_files.specs.Import.{IsStored, IsImport}

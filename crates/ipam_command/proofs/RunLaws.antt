@@ -17,7 +17,7 @@ use Rattle.command_free.proofs.Runs.{always}
 use Rattle.ipam_data.specs.State.{State, empty_state}
 use Rattle.rest_ipam.specs.Answered.{answers_plainly}
 use Rattle.kept_session.specs.Answered.{fresh}
-use Rattle.command_session.specs.Outside.{Stores, Outside, StoreFailed, AnyFailed, NoCountFalls}
+use Rattle.command_store.specs.Outside.{Stores, Outside, StoreFailed, AnyFailed, NoCountFalls}
 use Rattle.command_session.specs.Session.{Prints, Serves, IsSession}
 use Rattle.command_serve.specs.Serve.{ListenerView, ListeningFailed, IsServe}
 use Rattle.command_load.specs.Load.{IsLoad}

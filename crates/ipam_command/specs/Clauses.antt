@@ -16,8 +16,9 @@ use Rattle.command_streams.specs.Streams.{Gains, Failed, usage_text}
 use Rattle.command_free.specs.declared.free.LineFault.{LineFault}
 use Rattle.command_free.specs.Free.{IsRefusedLine}
 use Rattle.command_free.specs.Run.{PrintsFree, NamesLine, FailsToRead, FailsToPrint, FailsToSay}
-use Rattle.command_session.specs.Outside.{Outside, StoreFailed, AnyFailed, AreSame, NoCountFalls}
-use Rattle.command_session.specs.Session.{IsLoaded, Prints, Serves, NamesFault, NamesFailure, IsSession}
+use Rattle.command_store.specs.Outside.{Outside, StoreFailed, AnyFailed, AreSame, NoCountFalls}
+use Rattle.command_store.specs.Opening.{IsLoaded, NamesFault, NamesFailure}
+use Rattle.command_session.specs.Session.{Prints, Serves, IsSession}
 use Rattle.command_serve.specs.Serve.{ListenerView, ListeningFailed, NobodyCame, Counts, IsServe}
 use Rattle.command_load.specs.LoadText.{load_text}
 use Rattle.command_load.specs.Load.{IsLoad}

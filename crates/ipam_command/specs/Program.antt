@@ -1,7 +1,7 @@
 -- What the process ends with: the status of one run over the standard streams.
 use Rattle.std.specs.Prelude.{◌≡◌, ℕ, ◌⊎◌, List, None}
 use Rattle.command_streams.specs.Streams.{Streams, Told}
-use Rattle.command_session.specs.Outside.{Stores, outside}
+use Rattle.command_store.specs.Outside.{Stores, outside}
 use Rattle.command_serve.specs.Serve.{ListenerView}
 use Rattle.ipam_command.specs.Runs.{Runs, SaysUsage}
 

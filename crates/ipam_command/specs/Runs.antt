@@ -5,7 +5,7 @@ use Rattle.command_words.specs.declared.asked.Command.TheVariants.{Free, Session
 use Rattle.command_words.specs.Asked.{Asks, IsNoCommand}
 use Rattle.command_streams.specs.Streams.{Streams, IsUsage}
 use Rattle.command_free.specs.Run.{IsFree}
-use Rattle.command_session.specs.Outside.{Outside}
+use Rattle.command_store.specs.Outside.{Outside}
 use Rattle.command_session.specs.Session.{IsSession}
 use Rattle.command_serve.specs.Serve.{ListenerView, IsServe}
 use Rattle.command_load.specs.Load.{IsLoad}

@@ -1,6 +1,6 @@
 use Rattle.std.proofs.Common.{refl, ◌∙◌, arith, rules}
 use Rattle.register_tables.specs.Held.{state_of}
-use Rattle.command_session.proofs.Refused.{back_after, raised_later}
+use Rattle.command_store.proofs.Refused.{back_after, raised_later}
 use Rattle.command_files.proofs.Exports.{of_printed, of_refused, at_memory}
 use Rattle.command_files.proofs.export.run_export.Goals as goal
 

@@ -1,6 +1,6 @@
 use Rattle.std.proofs.Common.{Err, refl, ap}
 use Rattle.register_tables.specs.Held.{state_of}
-use Rattle.command_session.specs.Outside.{stores}
+use Rattle.command_store.specs.Outside.{stores}
 use Rattle.command_files.proofs.Stored.{stopped_back}
 use Rattle.command_files.proofs.import.import_into.Goals as goal
 

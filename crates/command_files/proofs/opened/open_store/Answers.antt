@@ -1,4 +1,4 @@
-use Rattle.command_session.proofs.Refused.{back_after}
+use Rattle.command_store.proofs.Refused.{back_after}
 use Rattle.command_files.proofs.opened.open_store.Goals as goal
 
 pub returns-in-Err-open_row_tables-clause-same : goal.returns-in-Err-open_row_tables-clause-same

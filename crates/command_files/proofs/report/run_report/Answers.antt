@@ -1,6 +1,6 @@
 use Rattle.std.proofs.Common.{Some, refl, ap, sym, ◌∙◌, arith, rules}
 use Rattle.register_tables.specs.Held.{state_of}
-use Rattle.command_session.proofs.Refused.{back_after, raised_later}
+use Rattle.command_store.proofs.Refused.{back_after, raised_later}
 use Rattle.command_files.proofs.Exports.{of_printed, of_refused}
 use Rattle.command_files.proofs.Reports.{of_printing, of_stop}
 use Rattle.command_files.proofs.report.run_report.Goals as goal

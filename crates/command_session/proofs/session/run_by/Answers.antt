@@ -1,6 +1,6 @@
 use Rattle.std.proofs.Common.{sym, refl, arith}
 use Rattle.command_streams.specs.Streams.{told}
-use Rattle.command_session.specs.Outside.{stores}
+use Rattle.command_store.specs.Outside.{stores}
 use Rattle.command_session.proofs.Sessions.{of_ended}
 use Rattle.command_session.proofs.Refused.{of_refused}
 use Rattle.command_session.proofs.session.run_by.Goals as goal

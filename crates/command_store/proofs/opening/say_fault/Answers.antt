@@ -1,7 +1,7 @@
 use Rattle.std.proofs.Common.{◌≡◌}
-use Rattle.command_session.specs.FaultWords.{fault_line}
-use Rattle.command_session.proofs.Refused.{said_of_tables}
-use Rattle.command_session.proofs.session.say_fault.Goals as goal
+use Rattle.command_store.specs.FaultWords.{fault_line}
+use Rattle.command_store.proofs.Refused.{said_of_tables}
+use Rattle.command_store.proofs.opening.say_fault.Goals as goal
 
 pub returns-in-Ok : goal.returns-in-Ok
 returns-in-Ok g c =

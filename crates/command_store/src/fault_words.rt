@@ -1,7 +1,7 @@
 //! What is said where an opening is refused.
 
 ghost use Rattle.std.specs.Prelude.{◌≡◌, IfOk, string_bytes};
-ghost use Rattle.command_session.specs.FaultWords.{fault_words, fault_line as line_of};
+ghost use Rattle.command_store.specs.FaultWords.{fault_words, fault_line as line_of};
 
 use ipam_words::{
     breach_words, excess_words, next_id_words, store_unread, unreadable_words, version_words,
