@@ -23,7 +23,7 @@ const POST: &str =
 
 /// A run a line: which calls fail, each as the object and the number of its call, from 0; the words; the input, where `once` and `twice` stand
 /// for that request; the status; the output; what is said; how many connections were answered; the rows of the store afterwards. Where `nobody`
-/// is told no lane comes. A semicolon, a caret and `<N:text>` are what `bytes_of` says.
+/// is told no lane comes, and where `nowhere` is no place can be bound. A semicolon, a caret and `<N:text>` are what `bytes_of` says.
 const RUNS: &str = r#"input 0|session --db a|once|3|||0|
 input 1|session|once|3|HTTP/1.1 201 Created^;Content-Type: application/json^;Content-Length: 188^;Ipam-Place: 0^;^;{"children":0,"depth":0,"description":"","family":4,"id":1,"is_pool":false,"mark_utilized":false,"prefix":"10.0.0.0/24","role":null,"status":{"label":"Active","value":"active"},"vrf":null}||0|
 output 0|session --db a|once|3|||0|1,10.0.0.0/24,,active,,false,false,;
@@ -32,7 +32,7 @@ keeper 1|session --db a|once|0|HTTP/1.1 503 Service Unavailable^;Content-Type: a
 keeper 1|import prefixes --db a|prefix,vrf,status;10.0.0.0/24,,active;10.0.1.0/24,,active;10.0.2.0/24,,container;|4||keeper: the store could not be written;|0|
 lane 0|serve --bind x --workers 1 --connections 2 --db a||3|entries 1;||1|1,10.0.0.0/24,,active,,false,false,;
 nobody|serve --bind x --workers 1|x|3|entries 0;||0|
-|serve --bind  --workers 1|x|3|||0|
+nowhere|serve --bind x --workers 1|x|3|||0|
 errors 0|free||3|||0|
 errors 0|load||3|||0|
 |session||0|||0|
@@ -132,6 +132,9 @@ fn lane_of(alloc: Global, line: &str) -> Result<ListLane, AllocError>
 /// A listener with such a lane, where one comes.
 fn listener_of(alloc: Global, line: &str) -> Result<ListListener, AllocError>
 {
+    if line.starts_with("nowhere") {
+        return Ok(ListListener::nowhere(alloc));
+    }
     let mut lanes = Vec::new(alloc);
     if !line.starts_with("nobody") {
         lanes.push(lane_of(alloc, line)?)?;

@@ -1,5 +1,5 @@
 //! A listener in memory, over a list of lanes: for tests of what stands on it.
-ghost use Rattle.std.specs.Prelude.{◌≡◌, ◌<◌, ◌≤◌, ◌+◌, ◌++◌, ◌∷◌, ◌↔◌, min, nat_lt, All, IfOk, IfSome, IsErr, MatchResult, OnErr, [], is_err, if◌then◌else◌, length, map, vec_len, vec_capacity};
+ghost use Rattle.std.specs.Prelude.{◌≡◌, true, false, ◌<◌, ◌≤◌, ◌+◌, ◌++◌, ◌∷◌, ◌↔◌, min, nat_lt, All, IfOk, IfSome, IsErr, MatchResult, OnErr, [], is_err, if◌then◌else◌, length, map, vec_len, vec_capacity};
 ghost use Rattle.ipam_listen.specs.Connections.{RisesExactly, binding};
 ghost use Rattle.ipam_listen.specs.ListLanes.{lane_told};
 
@@ -8,7 +8,7 @@ use crate::listener::Listener;
 use ipam_edge::Failed;
 use std::alloc::{AllocError, Global};
 
-/// A listener over a list of lanes in memory, which any place but the empty text binds. It tells all.
+/// A listener over a list of lanes in memory. It tells all.
 #[derive(Drop)]
 pub struct ListListener {
     waiting: Vec<ListLane>,
@@ -17,6 +17,7 @@ pub struct ListListener {
     bound: u32,
     lanes: u64,
     faults: u64,
+    has_no_place: bool,
     ghost room: { vec_len waiting + lanes ≤ vec_capacity back },
     ghost fewer: { vec_len back ≤ lanes },
     ghost fresh: { All (λ l. lane_told l ≡ []) waiting.items },
@@ -34,6 +35,7 @@ impl ListListener {
         ensures bound { IfOk result (λ l. listener_binding l ≡ binding [] 0) }
         ensures lanes { IfOk result (λ l. listener_lanes l ≡ 0) }
         ensures faults { IfOk result (λ l. listener_faults l ≡ 0) }
+        ensures place { IfOk result (λ l. l.has_no_place ≡ false) }
     {
         let back = Vec::with_capacity(alloc, lanes.len())?;
         let mut waiting = lanes;
@@ -45,7 +47,28 @@ impl ListListener {
             bound: 0,
             lanes: 0,
             faults: 0,
+            has_no_place: false,
         })
+    }
+
+    /// A listener that can be bound to no place, and has no lanes. It takes no memory.
+    pub fn nowhere(alloc: Global) -> ListListener
+        ensures waiting { listener_waiting result ≡ [] }
+        ensures returned { listener_returned result ≡ [] }
+        ensures bound { listener_binding result ≡ binding [] 0 }
+        ensures lanes { listener_lanes result ≡ 0 }
+        ensures faults { listener_faults result ≡ 0 }
+        ensures place { result.has_no_place ≡ true }
+    {
+        ListListener {
+            waiting: Vec::new(alloc),
+            back: Vec::new(alloc),
+            place: Vec::new(alloc),
+            bound: 0,
+            lanes: 0,
+            faults: 0,
+            has_no_place: true,
+        }
     }
 
     /// The lanes that were given back, in that order.
@@ -79,13 +102,13 @@ impl Listener for ListListener {
         ensures returned { map returned_lane (listener_returned self.new) ≡ map returned_lane (listener_returned self.old) }
         ensures cause { RisesExactly (IsErr result) (listener_faults self.old) (listener_faults self.new) }
 
-        // It fails exactly where the place is the empty text.
-        ensures fails { IsErr result ↔ (at.items ≡ []) }
+        // It fails exactly where it is one that has no place.
+        ensures fails { IsErr result ↔ (self.old.has_no_place ≡ true) }
         ensures waiting { listener_waiting self.new ≡ listener_waiting self.old }
         ensures kept { listener_returned self.new ≡ listener_returned self.old }
         ensures counted { listener_faults self.new ≡ (if is_err result then min (listener_faults self.old + 1) u64.MAX else listener_faults self.old) }
     {
-        if at.is_empty() {
+        if self.has_no_place {
             self.faults = self.faults.saturating_add(1);
             return Err(Failed);
         }
