@@ -1,6 +1,6 @@
 //! What the program can be asked for.
 
-use inet_num::Block;
+use inet_num::{Block, Family};
 use std::alloc::{AllocError, Global};
 use std::marker::Model;
 
@@ -75,6 +75,31 @@ pub struct Serving {
     pub store: Store,
 }
 
+/// A table of prefixes: the global one, or that of the VRF with this id.
+#[derive(Clone, Copy, Debug)]
+pub enum TableName {
+    Global,
+    Vrf(u32),
+}
+
+/// The form of a prefix list, by its name.
+#[derive(Clone, Copy, Debug)]
+pub enum StyleName {
+    Plain,
+    Ios,
+    Junos,
+}
+
+/// A prefix list of the blocks of one family in a table of a register: its style and its name.
+#[derive(Debug, Drop)]
+pub struct ListAsked {
+    pub table: TableName,
+    pub family: Family,
+    pub style: StyleName,
+    pub name: WordText,
+    pub store: Store,
+}
+
 /// What the program is asked to do.
 #[derive(Debug, Drop)]
 pub enum Command {
@@ -90,6 +115,14 @@ pub enum Command {
     Export(KindName, Store),
     /// A text about the register.
     Report(Report, Store),
+    /// The prefixes of a table as the fewest blocks, in a router's form.
+    PrefixList(ListAsked),
+    /// A router's list on the input, compared with a table.
+    PrefixCheck(ListAsked),
+    /// The names of the addresses of the prefix with this id, as PTR lines.
+    Reverse(u32, Store),
+    /// PTR lines on the input, as a file that `import ip-addresses` takes.
+    ReverseRead,
     /// So many claims by so many workers.
     Load { count: u32, workers: u32 },
 }
