@@ -5,11 +5,19 @@ use Rattle.command_words.specs.declared.asked.KindName.{KindName}
 use Rattle.command_words.specs.declared.asked.Report.{Report as ReportName}
 use Rattle.command_words.specs.declared.asked.Store.{Store}
 use Rattle.command_words.specs.declared.asked.Serving.{Serving}
+use Rattle.command_words.specs.declared.asked.Command.{Command}
 use Rattle.command_words.specs.declared.asked.Command.TheVariants.{Free, Session, Serve, Import, Export, Report, Load}
 use Rattle.command_words.specs.Asked.{Asks}
 use Rattle.command_words.proofs.Unique.{words_ask_for_one}
 use Rattle.command_store.specs.Outside.{Stores, Outside}
 use Rattle.command_serve.specs.Serve.{ListenerView, NobodyCame}
+use Rattle.ipam_command.specs.Runs.{Answers}
+
+-- what a command left is what each command left that the words ask for
+pub answers_of : (words : List (List ℕ)) (command one : Command) (old new : Outside) (before after : ListenerView) (status : ℕ) → Asks words command → Asks words one
+    → Answers command old new before after status → Answers one old new before after status
+answers_of words command one old new before after status a b h =
+    subst (λ (c : Command). Answers c old new before after status) (words_ask_for_one words command one a b) h
 
 -- the words of `free` are not those of `session`
 pub free_apart : (words : List (List ℕ)) (within : Cidr) (store : Store) → Asks words (Free within) → Asks words (Session store) → ⊥

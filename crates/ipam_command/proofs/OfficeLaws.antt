@@ -17,13 +17,13 @@ use Rattle.command_files.specs.Import.{IsStored, IsImport}
 use Rattle.command_files.specs.Export.{IsExportText, IsPrinting, IsExport}
 use Rattle.command_files.specs.Report.{IsReportText, IsReport}
 use Rattle.ipam_command.specs.Clauses.{HasClauses}
-use Rattle.ipam_command.proofs.Apart.{lanes_kept, count_kept, nobody, same_import, same_export, same_report}
+use Rattle.ipam_command.proofs.Apart.{lanes_kept, count_kept, nobody, same_import, same_export, same_report, answers_of}
 
 -- where no opener was used told tables are as they were
 pub tables_stay : (old new : Outside) → new.stores ≡ old.stores → AreSame old.stores.stored new.stores.stored
 tables_stay old new same = unchanged old.stores.stored new.stores.stored (ap (λ (t : Stores). t.stored) same)
 
-none_fell : (old new : Outside) → new ≡ old → NoCountFalls old new
+pub none_fell : (old new : Outside) → new ≡ old → NoCountFalls old new
 none_fell old new same = subst (λ (t : Outside). NoCountFalls old t) (sym same)
     (record { streams = record { input = omega arith; output = omega arith; errors = omega arith }; stores = omega arith })
 
@@ -153,6 +153,7 @@ of_import words old new before after status kind store asks s same_listener = re
   export_keeps = λ other_kind other a. absurd (let e = words_ask_for_one words (Export other_kind other) (Import kind store) a asks in cc);
   report = λ report other a. absurd (let e = words_ask_for_one words (Report report other) (Import kind store) a asks in cc);
   report_keeps = λ report other a. absurd (let e = words_ask_for_one words (Report report other) (Import kind store) a asks in cc);
+  answers = λ one a. answers_of words (Import kind store) one old new before after status asks a (s, same_listener);
   empty = λ unique a well z. absurd (let e = words_ask_for_one words (Session (record { db = None; global_unique = unique })) (Import kind store) a asks in cc);
   complete = λ command a well heard. elim s.statuses [
     | inl e ↦ inl e
@@ -198,6 +199,7 @@ of_export words old new before after status kind store asks s same_listener = re
   report_keeps = λ report other a. absurd (let e = words_ask_for_one words (Report report other) (Export kind store) a asks in cc);
   import = λ other_kind other a. absurd (let e = words_ask_for_one words (Import other_kind other) (Export kind store) a asks in cc);
   import_whole = λ other_kind other a. absurd (let e = words_ask_for_one words (Import other_kind other) (Export kind store) a asks in cc);
+  answers = λ one a. answers_of words (Export kind store) one old new before after status asks a (s, same_listener);
   empty = λ unique a well z. absurd (let e = words_ask_for_one words (Session (record { db = None; global_unique = unique })) (Export kind store) a asks in cc);
   complete = λ command a well heard. elim s.statuses [
     | inl e ↦ inl e
@@ -220,14 +222,14 @@ pub of_report : (words : List (List ℕ)) (old new : Outside) (before after : Li
     → IsReport report store old new status → after ≡ before → HasClauses words old new before after status
 of_report words old new before after status report store asks s same_listener = record {
   status_ = elim s.statuses [ inl e ↦ omega arith | inr a ↦ elim a [ inl e ↦ omega arith | inr b ↦ elim b [ inl e ↦ omega arith | inr c ↦ elim c [ inl e ↦ omega arith | inr e ↦ omega arith ] ] ] ];
-  done = λ z. (let t = s.done z in (inr (inr (inr (inr (inr (inr (report, store, asks, t)))))), t.3.errors));
-  refused = λ z. inr (inr (inr (inr (inr (report, store, asks, s.refused z)))));
+  done = λ z. (let t = s.done z in (inr (inr (inr (inr (inr (inr (inl (report, store, asks, t))))))), t.3.errors));
+  refused = λ z. inr (inr (inr (inr (inr (inl (report, store, asks, s.refused z))))));
   usage = λ z. absurd (elim s.statuses [ inl e ↦ omega arith | inr a ↦ elim a [ inl e ↦ omega arith | inr b ↦ elim b [ inl e ↦ omega arith | inr c ↦ elim c [ inl e ↦ omega arith | inr e ↦ omega arith ] ] ] ]);
   usage_first = λ n. absurd (n (Report report store) asks);
   fault = λ z. elim (s.fault z) [ inl h ↦ inr (inl h.2) | inr more ↦ elim more [ inl h ↦ inr (inr (inl h.failed)) | inr h ↦ inr (inr (inl h.failed)) ] ];
   free_fault = λ within a z. absurd (let e = words_ask_for_one words (Free within) (Report report store) a asks in cc);
   starved = λ other a z output errors. absurd (let e = words_ask_for_one words (Session other) (Report report store) a asks in cc);
-  store_fault = λ z. (nobody before after same_listener, inl (inr (inr (inr (report, store, asks))), s.store_fault z));
+  store_fault = λ z. (nobody before after same_listener, inl (inr (inr (inr (inl (report, store, asks)))), s.store_fault z));
   memory = λ z. ((s.memory z).0.errors, inr (s.memory z).1);
   nothing_else = λ within a. absurd (let e = words_ask_for_one words (Free within) (Report report store) a asks in cc);
   refuses = λ within number fault a. absurd (let e = words_ask_for_one words (Free within) (Report report store) a asks in cc);
@@ -243,6 +245,7 @@ of_report words old new before after status report store asks s same_listener = 
   export_keeps = λ other_kind other a. absurd (let e = words_ask_for_one words (Export other_kind other) (Report report store) a asks in cc);
   import = λ other_kind other a. absurd (let e = words_ask_for_one words (Import other_kind other) (Report report store) a asks in cc);
   import_whole = λ other_kind other a. absurd (let e = words_ask_for_one words (Import other_kind other) (Report report store) a asks in cc);
+  answers = λ one a. answers_of words (Report report store) one old new before after status asks a (s, same_listener);
   empty = λ unique a well z. absurd (let e = words_ask_for_one words (Session (record { db = None; global_unique = unique })) (Report report store) a asks in cc);
   complete = λ command a well heard. elim s.statuses [
     | inl e ↦ inl e

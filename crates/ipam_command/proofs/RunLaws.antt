@@ -5,10 +5,10 @@ use Rattle.http_session.specs.declared.session.SessionEnd.TheVariants.{SourceFau
 use Rattle.command_words.specs.declared.asked.Store.{Store}
 use Rattle.command_words.specs.declared.asked.Serving.{Serving}
 use Rattle.command_words.specs.declared.asked.Command.{Command}
-use Rattle.command_words.specs.declared.asked.Command.TheVariants.{Free, Session, Serve, Import, Export, Report, Load}
+use Rattle.command_words.specs.declared.asked.Command.TheVariants.{Free, Session, Serve, Import, Export, Report, PrefixList, PrefixCheck, Reverse, ReverseRead, Load}
 use Rattle.command_words.specs.Asked.{Asks, IsNoCommand}
 use Rattle.command_words.proofs.Unique.{words_ask_for_one}
-use Rattle.command_streams.specs.Streams.{Streams, Told, Gains, Failed}
+use Rattle.command_streams.specs.Streams.{Streams, Told, Gains, Failed, NeverFalls}
 use Rattle.command_free.specs.declared.free.LineFault.{LineFault}
 use Rattle.command_free.specs.Free.{IsFreeText, IsRefusedLine, refusal_text_of}
 use Rattle.command_free.specs.Run.{IsFree}
@@ -22,12 +22,13 @@ use Rattle.command_session.specs.Session.{Prints, Serves, IsSession}
 use Rattle.command_serve.specs.Serve.{ListenerView, ListeningFailed, IsServe}
 use Rattle.command_load.specs.Load.{IsLoad}
 use Rattle.command_load.proofs.Ended.{unprinted}
-use Rattle.ipam_command.specs.Runs.{SaysUsage}
+use Rattle.ipam_command.specs.Runs.{Answers, SaysUsage}
 use Rattle.ipam_command.specs.Clauses.{ListenerFailed, IsExact, HasClauses, RunsHaveClauses}
 use Rattle.command_files.specs.Files.{kind_named}
 use Rattle.ipam_command.proofs.Empty.{empty_opened}
-use Rattle.ipam_command.proofs.Apart.{free_apart, serve_not_free, serve_not_session, load_not_free, load_not_session, load_not_serve, same_serving, same_load, same_block, same_store, unused, lanes_kept, count_kept, nobody}
-use Rattle.ipam_command.proofs.OfficeLaws.{import_not_begun, export_not_begun, report_not_begun, tables_stay, of_import, of_export, of_report}
+use Rattle.ipam_command.proofs.Apart.{free_apart, serve_not_free, serve_not_session, load_not_free, load_not_session, load_not_serve, same_serving, same_load, same_block, same_store, unused, lanes_kept, count_kept, nobody, answers_of}
+use Rattle.ipam_command.proofs.OfficeLaws.{import_not_begun, export_not_begun, report_not_begun, tables_stay, none_fell, of_import, of_export, of_report}
+use Rattle.ipam_command.proofs.OtherLaws.{of_prefix_list, of_prefix_check, of_reverse, of_reverse_read, list_not_begun, check_not_begun, reverse_not_begun, read_not_begun}
 use Rattle.command_session.proofs.Refused.{not_begun}
 use Rattle.command_serve.proofs.Unserved.{not_begun as none_served}
 
@@ -75,6 +76,7 @@ of_free words old new before after status within asks f same_stores same_listene
   session = λ store a. absurd (free_apart words within _ asks a);
   serve = λ serving a. absurd (serve_not_free words serving within a asks);
   load = λ count workers a. absurd (load_not_free words count workers within a asks);
+  answers = λ one a. answers_of words (Free within) one old new before after status asks a (f, same_stores, same_listener);
   empty = λ unique a well z. absurd (free_apart words within _ asks a);
   import = λ kind kept a. absurd (let e = words_ask_for_one words (Import kind kept) (Free within) a asks in cc);
   import_whole = λ kind kept a. absurd (let e = words_ask_for_one words (Import kind kept) (Free within) a asks in cc);
@@ -152,6 +154,7 @@ of_session words old new before after status store asks s same_listener = record
   serve = λ serving a. absurd (serve_not_session words serving store a asks);
   load = λ count workers a. absurd (load_not_session words count workers store a asks);
   session = λ other a. subst (λ (t : Store). IsSession t old new status) (same_store words store other asks a) s;
+  answers = λ one a. answers_of words (Session store) one old new before after status asks a (s, same_listener);
   empty = λ unique a well z. done_empty store old new status unique (same_store words store _ asks a) s well z;
   import = λ kind kept a. absurd (let e = words_ask_for_one words (Import kind kept) (Session store) a asks in cc);
   import_whole = λ kind kept a. absurd (let e = words_ask_for_one words (Import kind kept) (Session store) a asks in cc);
@@ -226,6 +229,7 @@ of_serve words old new before after status serving asks s = record {
   session = λ store a. absurd (serve_not_session words serving store asks a);
   serve = λ other a. subst (λ (t : Serving). IsServe t old new before after status) (same_serving words serving other asks a) s;
   load = λ count workers a. absurd (load_not_serve words count workers serving a asks);
+  answers = λ one a. answers_of words (Serve serving) one old new before after status asks a s;
   empty = λ unique a well z. absurd (serve_not_session words serving _ asks a);
   import = λ kind kept a. absurd (let e = words_ask_for_one words (Import kind kept) (Serve serving) a asks in cc);
   import_whole = λ kind kept a. absurd (let e = words_ask_for_one words (Import kind kept) (Serve serving) a asks in cc);
@@ -269,6 +273,7 @@ of_load words old new before after status count workers asks l same_input same_e
     same_stores,
     same_listener,
   );
+  answers = λ one a. answers_of words (Load count workers) one old new before after status asks a (l, same_input, same_errors, same_stores, same_listener);
   empty = λ unique a well z. absurd (load_not_session words count workers _ asks a);
   import = λ kind kept a. absurd (let e = words_ask_for_one words (Import kind kept) (Load count workers) a asks in cc);
   import_whole = λ kind kept a. absurd (let e = words_ask_for_one words (Import kind kept) (Load count workers) a asks in cc);
@@ -315,6 +320,7 @@ of_none words old new before after status none (u, same_stores, same_listener) =
   serve = λ serving a. absurd (none (Serve serving) a);
   load = λ count workers a. absurd (none (Load count workers) a);
   session = λ store a. absurd (none (Session store) a);
+  answers = λ one a. absurd (none one a);
   empty = λ unique a well z. absurd (none (Session (record { db = None; global_unique = unique })) a);
   import = λ kind store a. absurd (none (Import kind store) a);
   import_whole = λ kind store a. absurd (none (Import kind store) a);
@@ -327,6 +333,41 @@ of_none words old new before after status none (u, same_stores, same_listener) =
   later = record { streams = u.later; stores = unused old new same_stores };
   listener_later = count_kept before after same_listener;
 }
+
+-- ---- where memory ran out before anything was used
+
+free_not_begun : (within : Cidr) (old new : Streams) (status : ℕ) → status ≡ 5 → new ≡ old → IsFree within old new status
+free_not_begun within old new status five same = record {
+  statuses = inr (inr (inr five));
+  done = λ z. absurd (omega arith);
+  refused = λ z. absurd (omega arith);
+  fault = λ z. absurd (omega arith);
+  memory = λ z. (ap (λ (t : Streams). t.output) same, ap (λ (t : Streams). t.errors) same);
+  refuses = λ number fault. always old.input.bytes _ (λ bytes h. inr (inr five));
+  later = subst (λ (t : Streams). NeverFalls old t) (sym same) (record { input = omega arith; output = omega arith; errors = omega arith });
+}
+
+not_begun_of : (command : Command) (old new : Outside) (before after : ListenerView) (status : ℕ) → status ≡ 5 → new ≡ old → after ≡ before
+    → Answers command old new before after status
+not_begun_of (Free within) old new before after status five same same_listener =
+    (free_not_begun within old.streams new.streams status five (ap (λ (t : Outside). t.streams) same), ap (λ (t : Outside). t.stores) same, same_listener)
+not_begun_of (Session store) old new before after status five same same_listener = (not_begun store old new status five same, same_listener)
+not_begun_of (Serve serving) old new before after status five same same_listener = none_served serving old new before after status five same same_listener
+not_begun_of (Import kind store) old new before after status five same same_listener = (import_not_begun (kind_named kind) store old new status five same, same_listener)
+not_begun_of (Export kind store) old new before after status five same same_listener = (export_not_begun (kind_named kind) store old new status five same, same_listener)
+not_begun_of (Report report store) old new before after status five same same_listener = (report_not_begun report store old new status five same, same_listener)
+not_begun_of (PrefixList asked) old new before after status five same same_listener = (list_not_begun asked old new status five same, same_listener)
+not_begun_of (PrefixCheck asked) old new before after status five same same_listener = (check_not_begun asked old new status five same, same_listener)
+not_begun_of (Reverse prefix store) old new before after status five same same_listener = (reverse_not_begun prefix store old new status five same, same_listener)
+not_begun_of ReverseRead old new before after status five same same_listener =
+    (read_not_begun old.streams new.streams status five (ap (λ (t : Outside). t.streams) same), ap (λ (t : Outside). t.stores) same, same_listener)
+not_begun_of (Load count workers) old new before after status five same same_listener = (
+  unprinted count workers old.streams.output new.streams.output status five (ap (λ (t : Outside). t.streams.output) same),
+  ap (λ (t : Outside). t.streams.input) same,
+  ap (λ (t : Outside). t.streams.errors) same,
+  ap (λ (t : Outside). t.stores) same,
+  same_listener,
+)
 
 -- ---- a run whose words could not be read for lack of memory
 
@@ -356,6 +397,7 @@ of_memory words old new before after status five same same_listener =
       load = λ count workers a. (unprinted count workers old.streams.output new.streams.output status five output, input, errors, same_stores, same_listener);
       serve = λ serving a. none_served serving old new before after status five same same_listener;
       session = λ store a. not_begun store old new status five same;
+      answers = λ one a. not_begun_of one old new before after status five same same_listener;
       empty = λ unique a well z. absurd (omega arith);
       import = λ kind store a. (import_not_begun (kind_named kind) store old new status five same, same_listener);
       import_whole = λ kind store a. inl (tables_stay old new same_stores, (λ z. omega arith));
@@ -377,6 +419,10 @@ runs_have_clauses words old new before after status (inl (Serve serving, asks, s
 runs_have_clauses words old new before after status (inl (Import kind store, asks, s)) = of_import words old new before after status kind store asks s.0 s.1
 runs_have_clauses words old new before after status (inl (Export kind store, asks, s)) = of_export words old new before after status kind store asks s.0 s.1
 runs_have_clauses words old new before after status (inl (Report report store, asks, s)) = of_report words old new before after status report store asks s.0 s.1
+runs_have_clauses words old new before after status (inl (PrefixList asked, asks, s)) = of_prefix_list words old new before after status asked asks s.0 s.1
+runs_have_clauses words old new before after status (inl (PrefixCheck asked, asks, s)) = of_prefix_check words old new before after status asked asks s.0 s.1
+runs_have_clauses words old new before after status (inl (Reverse prefix store, asks, s)) = of_reverse words old new before after status prefix store asks s.0 s.1
+runs_have_clauses words old new before after status (inl (ReverseRead, asks, s)) = of_reverse_read words old new before after status asks s.0 s.1 s.2
 runs_have_clauses words old new before after status (inl (Load count workers, asks, s)) = of_load words old new before after status count workers asks s.0 s.1 s.2 s.3 s.4
 runs_have_clauses words old new before after status (inr (inl (none, u))) = of_none words old new before after status none u
 runs_have_clauses words old new before after status (inr (inr (five, same, same_listener))) = of_memory words old new before after status five same same_listener

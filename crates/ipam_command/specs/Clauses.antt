@@ -6,11 +6,12 @@ use Rattle.ipam_data.specs.State.{State}
 use Rattle.rest_ipam.specs.Answered.{opened, answers_plainly}
 use Rattle.kept_session.specs.Answered.{fresh, answers_kept}
 use Rattle.command_words.specs.declared.asked.Command.{Command}
-use Rattle.command_words.specs.declared.asked.Command.TheVariants.{Free, Session, Serve, Import, Export, Report, Load}
+use Rattle.command_words.specs.declared.asked.Command.TheVariants.{Free, Session, Serve, Import, Export, Report, PrefixList, PrefixCheck, Reverse, ReverseRead, Load}
 use Rattle.command_words.specs.declared.asked.KindName.{KindName}
 use Rattle.command_words.specs.declared.asked.Report.{Report as ReportName}
 use Rattle.command_words.specs.declared.asked.Store.{Store}
 use Rattle.command_words.specs.declared.asked.Serving.{Serving}
+use Rattle.command_words.specs.declared.asked.ListAsked.{ListAsked}
 use Rattle.command_words.specs.Asked.{Asks, IsNoCommand}
 use Rattle.command_streams.specs.Streams.{Gains, Failed, usage_text}
 use Rattle.command_free.specs.declared.free.LineFault.{LineFault}
@@ -26,7 +27,11 @@ use Rattle.command_files.specs.Files.{kind_named}
 use Rattle.command_files.specs.Import.{PrintsCounts, NamesRefusal, NamesTables, NamesStore, IsStored, IsImport}
 use Rattle.command_files.specs.Export.{IsExportText, Prints as PrintsText, IsExport}
 use Rattle.command_files.specs.Report.{IsReportText, NamesAbsent, IsReport}
-use Rattle.ipam_command.specs.Runs.{Runs}
+use Rattle.command_lists.specs.PrefixList.{PrintsList, NamesAbsent as NamesAbsentTable}
+use Rattle.command_lists.specs.PrefixCheck.{PrintsDifference, NamesInput}
+use Rattle.command_zones.specs.Reverse.{}
+use Rattle.command_zones.specs.ReverseRead.{}
+use Rattle.ipam_command.specs.Runs.{Answers, Runs}
 
 -- the words ask for what a block leaves
 abbrev pub AsksFree : List (List ℕ) → Cidr → Type 0
@@ -60,11 +65,27 @@ AsksExport words kind store = Asks words (Export kind store)
 abbrev pub AsksReport : List (List ℕ) → ReportName → Store → Type 0
 AsksReport words report store = Asks words (Report report store)
 
+-- the words ask for the prefixes of a table as a list for a router, or for such a list to be compared with them
+abbrev pub AsksPrefixList : List (List ℕ) → ListAsked → Type 0
+AsksPrefixList words asked = Asks words (PrefixList asked)
+
+abbrev pub AsksPrefixCheck : List (List ℕ) → ListAsked → Type 0
+AsksPrefixCheck words asked = Asks words (PrefixCheck asked)
+
+-- the words ask for the names in a prefix of the register of this store, or for the pairs of a zone
+abbrev pub AsksReverse : List (List ℕ) → ℕ → Store → Type 0
+AsksReverse words prefix store = Asks words (Reverse prefix store)
+
+abbrev pub AsksReverseRead : List (List ℕ) → Type 0
+AsksReverseRead words = Asks words ReverseRead
+
 -- they ask for a command that opens a register of a store and has the store written at most by requests
 abbrev pub AsksRegister : List (List ℕ) → Type 0
 AsksRegister words =
     ((store : Store) × AsksStore words store) ⊎ ((serving : Serving) × AsksServe words serving) ⊎ ((kind : KindName) × (store : Store) × AsksExport words kind store)
     ⊎ ((report : ReportName) × (store : Store) × AsksReport words report store)
+    ⊎ ((asked : ListAsked) × (AsksPrefixList words asked ⊎ AsksPrefixCheck words asked))
+    ⊎ ((prefix : ℕ) × (store : Store) × AsksReverse words prefix store)
 
 -- the command is one that uses the listener, which failed meanwhile
 abbrev pub ListenerFailed : Command → ListenerView → ListenerView → Type 0
@@ -74,6 +95,10 @@ ListenerFailed (Serve serving) before after = ListeningFailed before after
 ListenerFailed (Import kind store) before after = ⊥
 ListenerFailed (Export kind store) before after = ⊥
 ListenerFailed (Report report store) before after = ⊥
+ListenerFailed (PrefixList asked) before after = ⊥
+ListenerFailed (PrefixCheck asked) before after = ⊥
+ListenerFailed (Reverse prefix store) before after = ⊥
+ListenerFailed ReverseRead before after = ⊥
 ListenerFailed (Load count workers) before after = ⊥
 
 -- the answers of the register that was loaded are on the output
@@ -91,6 +116,10 @@ IsDone words old new before after =
     ⊎ ((kind : KindName) × (store : Store) × AsksImport words kind store × PrintsCounts (kind_named kind) store old new)
     ⊎ ((kind : KindName) × (store : Store) × AsksExport words kind store × PrintsText (IsExportText (kind_named kind) store old) old new)
     ⊎ ((report : ReportName) × (store : Store) × AsksReport words report store × PrintsText (IsReportText report store old) old new)
+    ⊎ ((asked : ListAsked) × AsksPrefixList words asked × PrintsList asked old new)
+    ⊎ ((asked : ListAsked) × AsksPrefixCheck words asked × PrintsDifference asked old new)
+    ⊎ ((prefix : ℕ) × (store : Store) × AsksReverse words prefix store × ZONEDONE)
+    ⊎ (AsksReverseRead words × PAIRDONE)
 
 -- a line of the input is refused, or the tables of the store have a fault; the messages say which, and the output was left alone
 abbrev pub IsNamed : List (List ℕ) → Outside → Outside → Type 0
@@ -101,6 +130,10 @@ IsNamed words old new =
     ⊎ ((kind : KindName) × (store : Store) × AsksImport words kind store × (NamesRefusal (kind_named kind) store old new ⊎ NamesTables store old new))
     ⊎ ((kind : KindName) × (store : Store) × AsksExport words kind store × NamesFault store old new)
     ⊎ ((report : ReportName) × (store : Store) × AsksReport words report store × (NamesFault store old new ⊎ NamesAbsent report store old new))
+    ⊎ ((asked : ListAsked) × AsksPrefixList words asked × (NamesFault asked.store old new ⊎ NamesAbsentTable asked old new))
+    ⊎ ((asked : ListAsked) × AsksPrefixCheck words asked × (NamesFault asked.store old new ⊎ NamesAbsentTable asked old new ⊎ NamesInput asked old new))
+    ⊎ ((prefix : ℕ) × (store : Store) × AsksReverse words prefix store × ZONENAMED)
+    ⊎ (AsksReverseRead words × PAIRNAMED)
 
 -- the status says whether a line of these bytes is refused: 1 where one is, 0 where none is, and 5 for lack of memory
 abbrev pub IsExact : Cidr → ℕ → List ℕ → Type 0
@@ -173,6 +206,8 @@ pub record HasClauses (words : List (List ℕ)) (old new : Outside) (before afte
   -- `load`: with each status, what was printed, which is a text of the number of claims alone; nothing else is used
   pub load : (count workers : ℕ) → AsksLoad words count workers → IsLoad count workers old.streams.output new.streams.output status
       × (new.streams.input ≡ old.streams.input) × (new.streams.errors ≡ old.streams.errors) × (new.stores ≡ old.stores) × (after ≡ before)
+  -- of each command its record: with each status, what was read, printed and said, and what the store holds
+  pub answers : (command : Command) → Asks words command → Answers command old new before after status
   -- `session` without a file, where the opener did not fail: the answers are those of an empty register
   pub empty : (unique : Bool) → AsksSession words unique → (¬ StoreFailed old new) → status ≡ 0 → Prints answers_plainly (opened unique) old new
   -- a command ends by itself where nothing fails: done, refused, or for lack of memory

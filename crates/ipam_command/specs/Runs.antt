@@ -1,7 +1,7 @@
 -- What a run of the program promises: by what its words ask for, one relation for each command.
 use Rattle.std.specs.Prelude.{◌≡◌, ℕ, ◌⊎◌, ◌++◌, List, [], ◌∷◌, codes}
 use Rattle.command_words.specs.declared.asked.Command.{Command}
-use Rattle.command_words.specs.declared.asked.Command.TheVariants.{Free, Session, Serve, Import, Export, Report, Load}
+use Rattle.command_words.specs.declared.asked.Command.TheVariants.{Free, Session, Serve, Import, Export, Report, PrefixList, PrefixCheck, Reverse, ReverseRead, Load}
 use Rattle.command_words.specs.Asked.{Asks, IsNoCommand}
 use Rattle.command_streams.specs.Streams.{Streams, IsUsage}
 use Rattle.command_free.specs.Run.{IsFree}
@@ -13,6 +13,10 @@ use Rattle.command_files.specs.Files.{kind_named}
 use Rattle.command_files.specs.Import.{IsImport}
 use Rattle.command_files.specs.Export.{IsExport}
 use Rattle.command_files.specs.Report.{IsReport}
+use Rattle.command_lists.specs.PrefixList.{IsPrefixList}
+use Rattle.command_lists.specs.PrefixCheck.{IsPrefixCheck}
+use Rattle.command_zones.specs.Reverse.{IsReverse}
+use Rattle.command_zones.specs.ReverseRead.{IsReverseRead}
 
 -- what a run of the command leaves, with its status: `before` and `after` are what the listener tells
 abbrev pub Answers : Command → Outside → Outside → ListenerView → ListenerView → ℕ → Type 0
@@ -22,6 +26,10 @@ Answers (Serve serving) old new before after status = IsServe serving old new be
 Answers (Import kind store) old new before after status = IsImport (kind_named kind) store old new status × (after ≡ before)
 Answers (Export kind store) old new before after status = IsExport (kind_named kind) store old new status × (after ≡ before)
 Answers (Report report store) old new before after status = IsReport report store old new status × (after ≡ before)
+Answers (PrefixList asked) old new before after status = IsPrefixList asked old new status × (after ≡ before)
+Answers (PrefixCheck asked) old new before after status = IsPrefixCheck asked old new status × (after ≡ before)
+Answers (Reverse prefix store) old new before after status = IsReverse prefix store old new status × (after ≡ before)
+Answers ReverseRead old new before after status = IsReverseRead old.streams new.streams status × (new.stores ≡ old.stores) × (after ≡ before)
 Answers (Load count workers) old new before after status =
     IsLoad count workers old.streams.output new.streams.output status × (new.streams.input ≡ old.streams.input) × (new.streams.errors ≡ old.streams.errors) × (new.stores ≡ old.stores) × (after ≡ before)
 

@@ -14,11 +14,13 @@ mod limits;
 
 use command_files::{kind_named, run_export, run_import, run_report};
 use command_free::run_free;
+use command_lists::{run_prefix_check, run_prefix_list};
 use command_load::run_load;
 use command_serve::run_serve;
 use command_session::run_session;
 use command_streams::{MEMORY, say_usage};
 use command_words::{Command, read_words};
+use command_zones::{run_reverse, run_reverse_read};
 pub use entry::program;
 use ipam_edge::{Sink, Source};
 use ipam_keeper::keeper::KeeperOpener;
@@ -71,6 +73,14 @@ fn run_command<
         Command::Export(kind, store) => {
             run_export(alloc, kind_named(*kind), store, output, errors, opener)
         }
+        Command::PrefixList(asked) => run_prefix_list(alloc, asked, output, errors, opener),
+        Command::PrefixCheck(asked) => {
+            run_prefix_check(alloc, asked, input, output, errors, opener)
+        }
+        Command::Reverse(prefix, store) => {
+            run_reverse(alloc, *prefix, store, output, errors, opener)
+        }
+        Command::ReverseRead => run_reverse_read(alloc, input, output, errors),
         Command::Load { count, workers } => run_load(rt, alloc, *count, *workers, output),
         Command::Report(report, store) => {
             run_report(alloc, *report, store, output, errors, opener)

@@ -1,0 +1,170 @@
+-- A run of a command on prefix lists or reverse zones gives each promise.
+use Rattle.std.proofs.Common.{◌≡◌, ℕ, ◌⊎◌, inl, inr, refl, sym, ap, subst, arith, List}
+use Rattle.inet_num.specs.Net.{Cidr}
+use Rattle.command_words.specs.declared.asked.ListAsked.{ListAsked}
+use Rattle.command_words.specs.declared.asked.Store.{Store}
+use Rattle.command_words.specs.declared.asked.Command.{Command}
+use Rattle.command_words.specs.declared.asked.Command.TheVariants.{Free, Session, Serve, Import, Export, Report, PrefixList, PrefixCheck, Reverse, ReverseRead, Load}
+use Rattle.command_words.specs.Asked.{Asks}
+use Rattle.command_words.proofs.Unique.{words_ask_for_one}
+use Rattle.command_streams.specs.Streams.{Failed}
+use Rattle.command_store.specs.Outside.{Stores, Outside, NoCountFalls}
+use Rattle.command_store.specs.Opening.{NamesFailure}
+use Rattle.command_serve.specs.Serve.{ListenerView}
+use Rattle.command_lists.specs.PrefixList.{IsPrefixList}
+use Rattle.command_lists.specs.PrefixCheck.{IsPrefixCheck}
+use Rattle.ipam_command.specs.Runs.{Answers}
+use Rattle.ipam_command.specs.Clauses.{AsksRegister, IsDone, IsNamed, HasClauses}
+use Rattle.ipam_command.proofs.Apart.{lanes_kept, count_kept, nobody, answers_of}
+use Rattle.ipam_command.proofs.OfficeLaws.{tables_stay, none_fell}
+
+-- the command has no promise of its own beside its record
+abbrev pub IsOther : Command → Type 0
+IsOther (Free within) = ⊥
+IsOther (Session store) = ⊥
+IsOther (Serve serving) = ⊥
+IsOther (Import kind store) = ⊥
+IsOther (Export kind store) = ⊥
+IsOther (Report report store) = ⊥
+IsOther (PrefixList asked) = Unit {0}
+IsOther (PrefixCheck asked) = Unit {0}
+IsOther (Reverse prefix store) = Unit {0}
+IsOther ReverseRead = Unit {0}
+IsOther (Load count workers) = ⊥
+
+-- what its record gives
+record IsOtherRun (words : List (List ℕ)) (command : Command) (old new : Outside) (before after : ListenerView) (status : ℕ) : Type 0 where
+  asks : Asks words command
+  other : IsOther command
+  statuses : (status ≡ 0) ⊎ (status ≡ 1) ⊎ (status ≡ 3) ⊎ (status ≡ 4) ⊎ (status ≡ 5)
+  done : status ≡ 0 → IsDone words old new before after × (new.streams.errors ≡ old.streams.errors)
+  refused : status ≡ 1 → IsNamed words old new
+  fault : status ≡ 3 → Failed old.streams.input new.streams.input ⊎ Failed old.streams.output new.streams.output ⊎ Failed old.streams.errors new.streams.errors
+  store_fault : status ≡ 4 → AsksRegister words × NamesFailure old new
+  memory : status ≡ 5 → (new.streams.errors ≡ old.streams.errors) × (new.streams.output ≡ old.streams.output)
+  same_listener : after ≡ before
+  answers : Answers command old new before after status
+  later : NoCountFalls old new
+
+-- words that ask for it ask for none that has
+apart : (words : List (List ℕ)) (command other : Command) → IsOther command → Asks words command → Asks words other → IsOther other
+apart words command other is a b = subst IsOther (words_ask_for_one words command other a b) is
+
+of_other : (words : List (List ℕ)) (command : Command) (old new : Outside) (before after : ListenerView) (status : ℕ)
+    → IsOtherRun words command old new before after status → HasClauses words old new before after status
+of_other words command old new before after status r = record {
+  status_ = elim r.statuses [ inl e ↦ omega arith | inr a ↦ elim a [ inl e ↦ omega arith | inr b ↦ elim b [ inl e ↦ omega arith | inr c ↦ elim c [ inl e ↦ omega arith | inr e ↦ omega arith ] ] ] ];
+  done = r.done;
+  refused = r.refused;
+  usage = λ z. absurd (elim r.statuses [ inl e ↦ omega arith | inr a ↦ elim a [ inl e ↦ omega arith | inr b ↦ elim b [ inl e ↦ omega arith | inr c ↦ elim c [ inl e ↦ omega arith | inr e ↦ omega arith ] ] ] ]);
+  usage_first = λ n. absurd (n command r.asks);
+  fault = λ z. elim (r.fault z) [ inl h ↦ inl h | inr more ↦ elim more [ inl h ↦ inr (inl h) | inr h ↦ inr (inr (inl h)) ] ];
+  free_fault = λ within a z. absurd (apart words command (Free within) r.other r.asks a);
+  starved = λ store a z output errors. absurd (apart words command (Session store) r.other r.asks a);
+  store_fault = λ z. (nobody before after r.same_listener, inl (r.store_fault z));
+  memory = λ z. ((r.memory z).0, inr (r.memory z).1);
+  nothing_else = λ within a. absurd (apart words command (Free within) r.other r.asks a);
+  refuses = λ within number fault a. absurd (apart words command (Free within) r.other r.asks a);
+  no_store = λ within a. absurd (apart words command (Free within) r.other r.asks a);
+  no_listener = λ none. r.same_listener;
+  lanes_back = lanes_kept before after r.same_listener;
+  session = λ store a. absurd (apart words command (Session store) r.other r.asks a);
+  serve = λ serving a. absurd (apart words command (Serve serving) r.other r.asks a);
+  load = λ count workers a. absurd (apart words command (Load count workers) r.other r.asks a);
+  import = λ kind store a. absurd (apart words command (Import kind store) r.other r.asks a);
+  import_whole = λ kind store a. absurd (apart words command (Import kind store) r.other r.asks a);
+  export = λ kind store a. absurd (apart words command (Export kind store) r.other r.asks a);
+  export_keeps = λ kind store a. absurd (apart words command (Export kind store) r.other r.asks a);
+  report = λ report store a. absurd (apart words command (Report report store) r.other r.asks a);
+  report_keeps = λ report store a. absurd (apart words command (Report report store) r.other r.asks a);
+  answers = λ one a. answers_of words command one old new before after status r.asks a r.answers;
+  empty = λ unique a well z. absurd (apart words command (Session (record { db = None; global_unique = unique })) r.other r.asks a);
+  complete = λ one a well heard. elim r.statuses [
+    | inl e ↦ inl e
+    | inr a ↦ elim a [
+      | inl e ↦ inr (inl e)
+      | inr b ↦ elim b [
+        | inl e ↦ absurd (well (inl (r.fault e)))
+        | inr c ↦ elim c [ inl e ↦ absurd (well (inr (r.store_fault e).1.failed)) | inr e ↦ inr (inr e) ]
+      ]
+    ]
+  ];
+  exact = λ within a well. absurd (apart words command (Free within) r.other r.asks a);
+  later = r.later;
+  listener_later = count_kept before after r.same_listener;
+}
+
+-- ---- `prefix-list`
+
+pub of_prefix_list : (words : List (List ℕ)) (old new : Outside) (before after : ListenerView) (status : ℕ) (asked : ListAsked) → Asks words (PrefixList asked)
+    → IsPrefixList asked old new status → after ≡ before → HasClauses words old new before after status
+of_prefix_list words old new before after status asked asks s same_listener = of_other words (PrefixList asked) old new before after status (record {
+  asks = asks;
+  other = tt;
+  statuses = s.statuses;
+  done = λ z. (let t = s.done z in (inr (inr (inr (inr (inr (inr (inr (inl (asked, asks, t)))))))), t.silent));
+  refused = λ z. inr (inr (inr (inr (inr (inr (inl (asked, asks, s.refused z)))))));
+  fault = λ z. elim (s.fault z) [ inl h ↦ inr (inl h.failed) | inr more ↦ elim more [ inl h ↦ inr (inr h.failed) | inr h ↦ inr (inr h.failed) ] ];
+  store_fault = λ z. (inr (inr (inr (inr (inl (asked, inl asks))))), s.store_fault z);
+  memory = λ z. ((s.memory z).1, (s.memory z).0.output);
+  same_listener = same_listener;
+  answers = (s, same_listener);
+  later = s.later;
+})
+
+pub list_not_begun : (asked : ListAsked) (old new : Outside) (status : ℕ) → status ≡ 5 → new ≡ old → IsPrefixList asked old new status
+list_not_begun asked old new status five same = record {
+  statuses = inr (inr (inr (inr five)));
+  done = λ z. absurd (omega arith);
+  refused = λ z. absurd (omega arith);
+  fault = λ z. absurd (omega arith);
+  store_fault = λ z. absurd (omega arith);
+  memory = λ z. (
+    record {
+      input = ap (λ (t : Outside). t.streams.input) same;
+      output = ap (λ (t : Outside). t.streams.output) same;
+      stored = tables_stay old new (ap (λ (t : Outside). t.stores) same);
+    },
+    ap (λ (t : Outside). t.streams.errors) same,
+  );
+  exact = λ told well. inl five;
+  keeps = tables_stay old new (ap (λ (t : Outside). t.stores) same);
+  later = none_fell old new same;
+}
+
+-- ---- `prefix-check`
+
+pub of_prefix_check : (words : List (List ℕ)) (old new : Outside) (before after : ListenerView) (status : ℕ) (asked : ListAsked) → Asks words (PrefixCheck asked)
+    → IsPrefixCheck asked old new status → after ≡ before → HasClauses words old new before after status
+of_prefix_check words old new before after status asked asks s same_listener = of_other words (PrefixCheck asked) old new before after status (record {
+  asks = asks;
+  other = tt;
+  statuses = s.statuses;
+  done = λ z. (let t = s.done z in (inr (inr (inr (inr (inr (inr (inr (inr (inl (asked, asks, t))))))))), t.silent));
+  refused = λ z. inr (inr (inr (inr (inr (inr (inr (inl (asked, asks, s.refused z))))))));
+  fault = λ z. elim (s.fault z) [
+    | inl h ↦ inr (inl h.failed)
+    | inr a ↦ elim a [
+      | inl h ↦ inl h.failed
+      | inr b ↦ elim b [ inl h ↦ inr (inr h.failed) | inr c ↦ elim c [ inl h ↦ inr (inr h.failed) | inr h ↦ inr (inr h.failed) ] ]
+    ]
+  ];
+  store_fault = λ z. (inr (inr (inr (inr (inl (asked, inr asks))))), s.store_fault z);
+  memory = λ z. ((s.memory z).1, (s.memory z).0);
+  same_listener = same_listener;
+  answers = (s, same_listener);
+  later = s.later;
+})
+
+pub check_not_begun : (asked : ListAsked) (old new : Outside) (status : ℕ) → status ≡ 5 → new ≡ old → IsPrefixCheck asked old new status
+check_not_begun asked old new status five same = record {
+  statuses = inr (inr (inr (inr five)));
+  done = λ z. absurd (omega arith);
+  refused = λ z. absurd (omega arith);
+  fault = λ z. absurd (omega arith);
+  store_fault = λ z. absurd (omega arith);
+  memory = λ z. (ap (λ (t : Outside). t.streams.output) same, ap (λ (t : Outside). t.streams.errors) same);
+  exact = λ told well. inl five;
+  keeps = tables_stay old new (ap (λ (t : Outside). t.stores) same);
+  later = none_fell old new same;
+}
