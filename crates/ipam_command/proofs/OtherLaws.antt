@@ -7,15 +7,17 @@ use Rattle.command_words.specs.declared.asked.Command.{Command}
 use Rattle.command_words.specs.declared.asked.Command.TheVariants.{Free, Session, Serve, Import, Export, Report, PrefixList, PrefixCheck, Reverse, ReverseRead, Load}
 use Rattle.command_words.specs.Asked.{Asks}
 use Rattle.command_words.proofs.Unique.{words_ask_for_one}
-use Rattle.command_streams.specs.Streams.{Failed}
+use Rattle.command_streams.specs.Streams.{Streams, Failed, NeverFalls}
 use Rattle.command_store.specs.Outside.{Stores, Outside, NoCountFalls}
 use Rattle.command_store.specs.Opening.{NamesFailure}
 use Rattle.command_serve.specs.Serve.{ListenerView}
 use Rattle.command_lists.specs.PrefixList.{IsPrefixList}
 use Rattle.command_lists.specs.PrefixCheck.{IsPrefixCheck}
+use Rattle.command_zones.specs.Reverse.{IsReverse}
+use Rattle.command_zones.specs.Pairs.{IsReverseRead}
 use Rattle.ipam_command.specs.Runs.{Answers}
 use Rattle.ipam_command.specs.Clauses.{AsksRegister, IsDone, IsNamed, HasClauses}
-use Rattle.ipam_command.proofs.Apart.{lanes_kept, count_kept, nobody, answers_of}
+use Rattle.ipam_command.proofs.Apart.{unused, lanes_kept, count_kept, nobody, answers_of}
 use Rattle.ipam_command.proofs.OfficeLaws.{tables_stay, none_fell}
 
 -- the command has no promise of its own beside its record
@@ -167,4 +169,76 @@ check_not_begun asked old new status five same = record {
   exact = λ told well. inl five;
   keeps = tables_stay old new (ap (λ (t : Outside). t.stores) same);
   later = none_fell old new same;
+}
+
+-- ---- `reverse`
+
+pub of_reverse : (words : List (List ℕ)) (old new : Outside) (before after : ListenerView) (status prefix : ℕ) (store : Store) → Asks words (Reverse prefix store)
+    → IsReverse prefix store old new status → after ≡ before → HasClauses words old new before after status
+of_reverse words old new before after status prefix store asks s same_listener = of_other words (Reverse prefix store) old new before after status (record {
+  asks = asks;
+  other = tt;
+  statuses = s.statuses;
+  done = λ z. (let t = s.done z in (inr (inr (inr (inr (inr (inr (inr (inr (inr (inl (prefix, store, asks, t)))))))))), t.3));
+  refused = λ z. inr (inr (inr (inr (inr (inr (inr (inr (inl (prefix, store, asks, s.refused z)))))))));
+  fault = λ z. elim (s.fault z) [ inl h ↦ inr (inl h.2) | inr more ↦ elim more [ inl h ↦ inr (inr h.failed) | inr h ↦ inr (inr h.failed) ] ];
+  store_fault = λ z. (inr (inr (inr (inr (inr (prefix, store, asks))))), s.store_fault z);
+  memory = λ z. ((s.memory z).1, (s.memory z).0);
+  same_listener = same_listener;
+  answers = (s, same_listener);
+  later = s.later;
+})
+
+pub reverse_not_begun : (prefix : ℕ) (store : Store) (old new : Outside) (status : ℕ) → status ≡ 5 → new ≡ old → IsReverse prefix store old new status
+reverse_not_begun prefix store old new status five same = record {
+  statuses = inr (inr (inr (inr five)));
+  done = λ z. absurd (omega arith);
+  refused = λ z. absurd (omega arith);
+  fault = λ z. absurd (omega arith);
+  store_fault = λ z. absurd (omega arith);
+  memory = λ z. (ap (λ (t : Outside). t.streams.output) same, ap (λ (t : Outside). t.streams.errors) same);
+  input = ap (λ (t : Outside). t.streams.input) same;
+  keeps = tables_stay old new (ap (λ (t : Outside). t.stores) same);
+  later = none_fell old new same;
+}
+
+-- ---- `reverse-read`
+
+-- its record has no status 4
+read_statuses : (status : ℕ) → (status ≡ 0) ⊎ (status ≡ 1) ⊎ (status ≡ 3) ⊎ (status ≡ 5) → (status ≡ 0) ⊎ (status ≡ 1) ⊎ (status ≡ 3) ⊎ (status ≡ 4) ⊎ (status ≡ 5)
+read_statuses status (inl e) = inl e
+read_statuses status (inr (inl e)) = inr (inl e)
+read_statuses status (inr (inr (inl e))) = inr (inr (inl e))
+read_statuses status (inr (inr (inr e))) = inr (inr (inr (inr e)))
+
+not_four : (status : ℕ) → (status ≡ 0) ⊎ (status ≡ 1) ⊎ (status ≡ 3) ⊎ (status ≡ 5) → status ≡ 4 → ⊥
+not_four status (inl e) z = omega arith
+not_four status (inr (inl e)) z = omega arith
+not_four status (inr (inr (inl e))) z = omega arith
+not_four status (inr (inr (inr e))) z = omega arith
+
+pub of_reverse_read : (words : List (List ℕ)) (old new : Outside) (before after : ListenerView) (status : ℕ) → Asks words ReverseRead
+    → IsReverseRead old.streams new.streams status → new.stores ≡ old.stores → after ≡ before → HasClauses words old new before after status
+of_reverse_read words old new before after status asks s same_stores same_listener = of_other words ReverseRead old new before after status (record {
+  asks = asks;
+  other = tt;
+  statuses = read_statuses status s.statuses;
+  done = λ z. (let t = s.done z in (inr (inr (inr (inr (inr (inr (inr (inr (inr (inr (asks, t)))))))))), t.3));
+  refused = λ z. inr (inr (inr (inr (inr (inr (inr (inr (inr (asks, s.refused z)))))))));
+  fault = λ z. elim (s.fault z) [ inl h ↦ inl h.failed | inr more ↦ elim more [ inl h ↦ inr (inl h.failed) | inr h ↦ inr (inr h.failed) ] ];
+  store_fault = λ z. absurd (not_four status s.statuses z);
+  memory = λ z. ((s.memory z).1, (s.memory z).0);
+  same_listener = same_listener;
+  answers = (s, same_stores, same_listener);
+  later = record { streams = s.later; stores = unused old new same_stores };
+})
+
+pub read_not_begun : (old new : Streams) (status : ℕ) → status ≡ 5 → new ≡ old → IsReverseRead old new status
+read_not_begun old new status five same = record {
+  statuses = inr (inr (inr five));
+  done = λ z. absurd (omega arith);
+  refused = λ z. absurd (omega arith);
+  fault = λ z. absurd (omega arith);
+  memory = λ z. (ap (λ (t : Streams). t.output) same, ap (λ (t : Streams). t.errors) same);
+  later = subst (λ (t : Streams). NeverFalls old t) (sym same) (record { input = omega arith; output = omega arith; errors = omega arith });
 }

@@ -29,8 +29,8 @@ use Rattle.command_files.specs.Export.{IsExportText, Prints as PrintsText, IsExp
 use Rattle.command_files.specs.Report.{IsReportText, NamesAbsent, IsReport}
 use Rattle.command_lists.specs.PrefixList.{PrintsList, NamesAbsent as NamesAbsentTable}
 use Rattle.command_lists.specs.PrefixCheck.{PrintsDifference, NamesInput}
-use Rattle.command_zones.specs.Reverse.{}
-use Rattle.command_zones.specs.ReverseRead.{}
+use Rattle.command_zones.specs.Reverse.{PrintsZone, NamesZoneRefusal}
+use Rattle.command_zones.specs.Pairs.{PrintsPairs, NamesRead}
 use Rattle.ipam_command.specs.Runs.{Answers, Runs}
 
 -- the words ask for what a block leaves
@@ -118,8 +118,8 @@ IsDone words old new before after =
     ⊎ ((report : ReportName) × (store : Store) × AsksReport words report store × PrintsText (IsReportText report store old) old new)
     ⊎ ((asked : ListAsked) × AsksPrefixList words asked × PrintsList asked old new)
     ⊎ ((asked : ListAsked) × AsksPrefixCheck words asked × PrintsDifference asked old new)
-    ⊎ ((prefix : ℕ) × (store : Store) × AsksReverse words prefix store × ZONEDONE)
-    ⊎ (AsksReverseRead words × PAIRDONE)
+    ⊎ ((prefix : ℕ) × (store : Store) × AsksReverse words prefix store × PrintsZone prefix store old new)
+    ⊎ (AsksReverseRead words × PrintsPairs old.streams new.streams)
 
 -- a line of the input is refused, or the tables of the store have a fault; the messages say which, and the output was left alone
 abbrev pub IsNamed : List (List ℕ) → Outside → Outside → Type 0
@@ -132,8 +132,8 @@ IsNamed words old new =
     ⊎ ((report : ReportName) × (store : Store) × AsksReport words report store × (NamesFault store old new ⊎ NamesAbsent report store old new))
     ⊎ ((asked : ListAsked) × AsksPrefixList words asked × (NamesFault asked.store old new ⊎ NamesAbsentTable asked old new))
     ⊎ ((asked : ListAsked) × AsksPrefixCheck words asked × (NamesFault asked.store old new ⊎ NamesAbsentTable asked old new ⊎ NamesInput asked old new))
-    ⊎ ((prefix : ℕ) × (store : Store) × AsksReverse words prefix store × ZONENAMED)
-    ⊎ (AsksReverseRead words × PAIRNAMED)
+    ⊎ ((prefix : ℕ) × (store : Store) × AsksReverse words prefix store × (NamesFault store old new ⊎ NamesZoneRefusal prefix store old new))
+    ⊎ (AsksReverseRead words × NamesRead old.streams new.streams)
 
 -- the status says whether a line of these bytes is refused: 1 where one is, 0 where none is, and 5 for lack of memory
 abbrev pub IsExact : Cidr → ℕ → List ℕ → Type 0

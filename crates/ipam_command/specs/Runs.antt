@@ -16,7 +16,7 @@ use Rattle.command_files.specs.Report.{IsReport}
 use Rattle.command_lists.specs.PrefixList.{IsPrefixList}
 use Rattle.command_lists.specs.PrefixCheck.{IsPrefixCheck}
 use Rattle.command_zones.specs.Reverse.{IsReverse}
-use Rattle.command_zones.specs.ReverseRead.{IsReverseRead}
+use Rattle.command_zones.specs.Pairs.{IsReverseRead}
 
 -- what a run of the command leaves, with its status: `before` and `after` are what the listener tells
 abbrev pub Answers : Command → Outside → Outside → ListenerView → ListenerView → ℕ → Type 0
