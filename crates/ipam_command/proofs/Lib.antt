@@ -4,3 +4,5 @@ pub mod OfficeLaws
 pub mod RunLaws
 pub mod Parts
 pub mod LimitLaws
+pub mod OpenedLaws
+pub mod ExactLaws
