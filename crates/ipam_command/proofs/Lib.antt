@@ -5,3 +5,5 @@ pub mod OtherLaws
 pub mod RunLaws
 pub mod Parts
 pub mod LimitLaws
+pub mod OpenedLaws
+pub mod ExactLaws

@@ -2,3 +2,4 @@ pub mod Runs
 pub mod Clauses
 pub mod Limits
 pub mod Program
+pub mod Exact

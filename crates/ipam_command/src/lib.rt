@@ -10,6 +10,7 @@ ghost use Rattle.command_serve.specs.Serve.{listener_view};
 ghost use Rattle.ipam_command.specs.Runs.{Answers, Runs};
 
 mod entry;
+mod exact;
 mod limits;
 
 use command_files::{kind_named, run_export, run_import, run_report};
@@ -22,6 +23,7 @@ use command_streams::{MEMORY, say_usage};
 use command_words::{Command, read_words};
 use command_zones::{run_reverse, run_reverse_read};
 pub use entry::program;
+pub use exact::runs_are_exact;
 use ipam_edge::{Sink, Source};
 use ipam_keeper::keeper::KeeperOpener;
 use ipam_listen::Listener;

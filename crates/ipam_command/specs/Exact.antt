@@ -1,0 +1,83 @@
+-- The way back from a cause to status 1: where a told input or told tables are refused and nothing fails, a run ends with 1, or for lack of
+-- memory with 5. (The way from status 1 to its cause is `refused` of the clauses of a run; that of `free` is `exact` there.)
+use Rattle.std.specs.Prelude.{◌≡◌, ℕ, ◌⊎◌, List, Option, Some, Ok, Err}
+use Rattle.ipam_data.specs.declared.kinds.Kind.{Kind}
+use Rattle.ipam_data.specs.declared.replies.Refusal.{Refusal}
+use Rattle.ipam_data.specs.State.{State, verdict_of}
+use Rattle.stored_tables.specs.declared.opening.OpenFault.{OpenFault}
+use Rattle.stored_tables.specs.declared.tables.Tables.{Tables}
+use Rattle.stored_tables.specs.Opening.{IsOfTables, IsOpening, IsRefused}
+use Rattle.import_rows.specs.declared.rows.ImportRow.{ImportRow}
+use Rattle.import_rows.specs.Imports.{import_plan}
+use Rattle.csv_import.specs.Files.{IsFileOf}
+use Rattle.command_words.specs.declared.asked.Command.{Command}
+use Rattle.command_words.specs.declared.asked.KindName.{KindName}
+use Rattle.command_words.specs.declared.asked.Report.{Report as ReportName}
+use Rattle.command_words.specs.declared.asked.Store.{Store}
+use Rattle.command_words.specs.declared.asked.Serving.{Serving}
+use Rattle.command_words.specs.Asked.{Asks}
+use Rattle.command_session.specs.Outside.{Outside, AnyFailed}
+use Rattle.command_session.specs.Session.{found_tables}
+use Rattle.command_serve.specs.Serve.{ListenerView}
+use Rattle.command_files.specs.Files.{kind_named}
+use Rattle.command_files.specs.Report.{IsAbsentIn}
+use Rattle.ipam_command.specs.Runs.{Runs}
+use Rattle.ipam_command.specs.Clauses.{AsksStore, AsksServe, AsksImport, AsksExport, AsksReport, ListenerFailed}
+
+-- the words ask for a command that opens the register of this store
+abbrev pub Opens : List (List ℕ) → Store → Type 0
+Opens words store =
+    AsksStore words store ⊎ ((serving : Serving) × AsksServe words serving × (serving.store ≡ store)) ⊎ ((kind : KindName) × AsksImport words kind store)
+    ⊎ ((kind : KindName) × AsksExport words kind store) ⊎ ((report : ReportName) × AsksReport words report store)
+
+-- the tables that the store tells have a fault
+pub record HasBadTables (store : Store) (old : Outside) : Type 0 where
+  pub tables : Tables
+  pub told : found_tables store old ≡ Some tables
+  pub fault : OpenFault
+  pub of_tables : IsOfTables fault
+  pub refused : IsRefused tables store.global_unique fault
+
+-- the state is the one for which the tables stand that the store tells
+pub record IsToldState (store : Store) (old : Outside) (state : State) : Type 0 where
+  pub tables : Tables
+  pub told : found_tables store old ≡ Some tables
+  pub opening : IsOpening tables store.global_unique state
+
+-- the input tells a file that is refused
+pub record HasBadFile (kind : Kind) (old : Outside) : Type 0 where
+  pub bytes : List ℕ
+  pub told : old.streams.input.bytes ≡ Some bytes
+  pub refusal : Refusal
+  pub file : IsFileOf kind bytes (Err refusal)
+
+-- the input tells a file of rows that are refused beside the state of the store
+pub record HasBadRows (kind : Kind) (store : Store) (old : Outside) : Type 0 where
+  pub bytes : List ℕ
+  pub told : old.streams.input.bytes ≡ Some bytes
+  pub rows : List ImportRow
+  pub file : IsFileOf kind bytes (Ok rows)
+  pub state : State
+  pub opened : IsToldState store old state
+  pub refusal : Refusal
+  pub verdict : verdict_of (import_plan state kind rows) ≡ Some refusal
+
+-- the state of the store has not the prefix of the report
+pub record LacksPrefix (report : ReportName) (store : Store) (old : Outside) : Type 0 where
+  pub state : State
+  pub opened : IsToldState store old state
+  pub refusal : Refusal
+  pub absent : IsAbsentIn state report refusal
+
+-- what status 1 is for
+abbrev pub HasCause : List (List ℕ) → Outside → Type 0
+HasCause words old =
+    ((store : Store) × Opens words store × HasBadTables store old)
+    ⊎ ((kind : KindName) × (store : Store) × AsksImport words kind store × (HasBadFile (kind_named kind) old ⊎ HasBadRows (kind_named kind) store old))
+    ⊎ ((report : ReportName) × (store : Store) × AsksReport words report store × LacksPrefix report store old)
+
+-- where nothing fails, a cause of status 1 gives it, memory apart
+abbrev pub RunsAreExact : Type 0
+RunsAreExact = (words : List (List ℕ)) (old new : Outside) (before after : ListenerView) (status : ℕ) → Runs words old new before after status
+    → (¬ AnyFailed old new) → ((command : Command) → Asks words command → ¬ ListenerFailed command before after)
+    → HasCause words old → (status ≡ 1) ⊎ (status ≡ 5)
