@@ -16,8 +16,8 @@ use Rattle.command_words.specs.declared.asked.Report.{Report as ReportName}
 use Rattle.command_words.specs.declared.asked.Store.{Store}
 use Rattle.command_words.specs.declared.asked.Serving.{Serving}
 use Rattle.command_words.specs.Asked.{Asks}
-use Rattle.command_session.specs.Outside.{Outside, AnyFailed}
-use Rattle.command_session.specs.Session.{found_tables}
+use Rattle.command_store.specs.Outside.{Outside, AnyFailed}
+use Rattle.command_store.specs.Opening.{found_tables}
 use Rattle.command_serve.specs.Serve.{ListenerView}
 use Rattle.command_files.specs.Files.{kind_named}
 use Rattle.command_files.specs.Report.{IsAbsentIn}
