@@ -1,6 +1,6 @@
-use Rattle.std.proofs.Common.{refl, ap, arith}
+use Rattle.std.proofs.Common.{◌≡◌, refl, ap, arith}
 use Rattle.command_serve.proofs.Served.{of_served}
-use Rattle.command_serve.specs.Serve.{listener_view}
+use Rattle.command_serve.specs.Serve.{listener_view, AllCame, NoneFailed, ListeningFailed}
 use Rattle.command_serve.proofs.Unserved.{heard_of_view, of_unserved}
 use Rattle.command_serve.proofs.serve.run_serve.Goals as goal
 
@@ -17,6 +17,9 @@ returns-in-Ok g c = λ input.
 
 pub returns-in-Err : goal.returns-in-Err
 returns-in-Err g c = λ input.
+    let view = listener_view g.L.Listener.bound g.L.Listener.lanes g.L.Listener.returned g.L.Listener.faults in
+    let before = view c.args.listener.now in
+    let after = view c.serve_store.new.listener in
     of_unserved g.O.Kept.Keeper.told c.args.serving.now _ _ _ _ _ c.in-Err.why
     (record {
       unread = refl;
@@ -25,5 +28,6 @@ returns-in-Err g c = λ input.
       listener_later = c.in-Err.ensures.listener_later;
     })
     refl c.in-Err.ensures.history
-    (heard_of_view _ _ _ _ c.in-Err.why (ap (listener_view g.L.Listener.bound g.L.Listener.lanes g.L.Listener.returned g.L.Listener.faults)) c.in-Err.ensures.listened)
+    (heard_of_view (AllCame c.args.serving.now before after × NoneFailed before after) (ListeningFailed before after)
+    (c.serve_store.new.listener ≡ c.args.listener.now) (after ≡ before) c.in-Err.why (ap view) c.in-Err.ensures.listened)
     c.say_unserved.ensures.said
