@@ -60,6 +60,15 @@ def forget_office(folder):
         os.remove(path)
 
 
+def office(rows):
+    """A new register with these rows of some kinds."""
+    def make(folder):
+        forget_office(folder)
+        for kind, text in rows.items():
+            subprocess.run(["./ipamd", "import", kind, "--db", "office.db"], cwd=folder, input=text.encode(), check=True, stdout=subprocess.DEVNULL)
+    return make
+
+
 def serving(folder):
     """A register in memory that all following commands ask, until the next one takes its place."""
     return ["./ipamd", "serve", "--bind", "127.0.0.1:8080", "--workers", "8"]
@@ -160,6 +169,16 @@ STEPS = [
     using("./ipamd report tree --db office.db", r"\Aglobal\n  10\.0\.0\.0/16 container\n    10\.0\.0\.0/24 active\n    10\.0\.1\.0/24 active\n\Z"),
     using("./ipamd report utilization --db office.db", r"\A10\.0\.0\.0/16 +global +container +0\n10\.0\.0\.0/24 +global +active +0\n"),
     using("./ipamd report free --db office.db --prefix 1", r"\A10\.0\.2\.0/23 +512\n"),
+    office({"prefixes": "prefix\n10.0.0.0/24\n10.0.1.0/24\n10.0.1.128/25\n10.0.2.0/24\n"}),
+    using("./ipamd prefix-list --table global --family 4 --style ios --name OFFICE --db office.db",
+          r"\Aip prefix-list OFFICE seq 5 permit 10\.0\.0\.0/23\nip prefix-list OFFICE seq 10 permit 10\.0\.2\.0/24\n\Z"),
+    file("list.txt", "10.0.0.0/24\n10.0.2.0/23\n"),
+    using("./ipamd prefix-check --table global --family 4 --style plain --name OFFICE --db office.db < list.txt", r"\Amissing 10\.0\.1\.0/24\nbeyond 10\.0\.3\.0/24\n\Z"),
+    using("tr -d '\\r' < examples/prefix-lists/ios.txt | grep '^ip prefix-list OFFICE ' | ./ipamd prefix-check --table global --family 4 --style ios --name OFFICE --db office.db", r"\A\Z"),
+    office({"prefixes": "prefix\n192.0.2.0/24\n", "ip-addresses": "address,dns_name\n192.0.2.1/24,www.example.com\n192.0.2.10/24,\n192.0.2.11/24,*.example.com\n"}),
+    using("./ipamd reverse --prefix 1 --db office.db", r"\A1\.2\.0\.192\.in-addr\.arpa\. IN PTR www\.example\.com\.\n\Z"),
+    using("./ipamd reverse --prefix 1 --db office.db | grep '[.]2[.]0[.]192[.]in-addr[.]arpa[.] ' > 2.0.192.names", r"\A\Z"),
+    using("./ipamd reverse-read < 2.0.192.names", r"\Aaddress,dns_name\n192\.0\.2\.1,www\.example\.com\n\Z"),
     file("netbox.csv", NETBOX),
     using(AWK, r"\A\Z"),
     lambda folder: expect(folder, "prefixes.csv", "prefix,vrf,status,role,description\n10.9.0.0/24,,active,,first floor\n10.9.1.0/24,,reserved,,\n"),
@@ -193,6 +212,9 @@ ELSE = [
     ("README.md", "rt ci", "the gate"),
     ("docs/USING.md", "row ", "forms of a line"),
     ("docs/CLIENTS.md", "address", "Python, in examples/client_pynetbox.py"),
+    ("docs/USING.md", "$TTL", "a zone file; bench/reverse.sh has BIND load such"),
+    ("docs/USING.md", "@ IN", "a zone file; bench/reverse.sh has BIND load such"),
+    ("docs/USING.md", "$INCLUDE", "a zone file; bench/reverse.sh has BIND load such"),
     ("docs/CLIENTS.md", "ipam", "Python, in examples/client_pynetbox.py"),
     ("docs/CLIENTS.md", "for offset", "Python, in examples/client_pynetbox.py"),
     ("docs/CLIENTS.md", "    page", "Python, in examples/client_pynetbox.py"),
