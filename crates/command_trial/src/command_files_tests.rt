@@ -1,4 +1,5 @@
-//! Imports, exports and reports over stores: files and texts byte for byte, what is refused, and what a refused import leaves.
+//! Imports, exports, reports, prefix lists and reverse zones over stores: files and texts byte for byte, what is refused, and what a refused
+//! import leaves.
 
 use crate::session_tests::part;
 use crate::store_tests::{number, opener_of};
@@ -12,7 +13,7 @@ use std::thread::Threads;
 
 /// A store a case. Its first line is as that of a case of `store_tests`. Each line after it is a run over the store: its status, its words,
 /// its input, its output and what it says, each as `bytes_of` reads it.
-const CASES: [&str; 10] = [
+const CASES: [&str; 14] = [
     r#"1
 0|import prefixes --db a|prefix,vrf,status;10.0.0.0/24,,active;10.0.1.0/24,,active;10.0.2.0/24,,container;|created 3 present 0;|
 0|import prefixes --db a|prefix,vrf,status;10.0.0.0/24,,active;10.0.1.0/24,,active;10.0.2.0/24,,container;|created 0 present 3;|
@@ -65,20 +66,64 @@ const CASES: [&str; 10] = [
     r#"1;fails 0
 4|import prefixes --db a|prefix;10.0.0.0/24;||store: the store could not be read;
 4|export prefixes --db a|||store: the store could not be read;
-4|report tree --db a|||store: the store could not be read;"#,
+4|report tree --db a|||store: the store could not be read;
+4|prefix-list --table 9 --family 4 --style plain --name X --db a|||store: the store could not be read;
+4|prefix-check --table 9 --family 4 --style plain --name X --db a|x;||store: the store could not be read;
+4|reverse --prefix 9 --db a|||store: the store could not be read;"#,
     r#"1;fails 1
 4|import prefixes --db a|prefix;10.0.0.0/24;||keeper: the store could not be written;
 0|export prefixes --db a||prefix,vrf,status,role,is_pool,mark_utilized,description;|"#,
     r#"9
 1|import prefixes --db a|prefix;10.0.0.0/24;||store: version 9;
 1|export vrfs --db a|||store: version 9;
-1|report tree --db a|||store: version 9;"#,
+1|report tree --db a|||store: version 9;
+1|prefix-list --table global --family 4 --style plain --name X --db a|||store: version 9;
+1|prefix-check --table global --family 4 --style plain --name X --db a|x;||store: version 9;
+1|reverse --prefix 1 --db a|||store: version 9;"#,
     r#"1
 0|import rirs --db a|name,slug;R,r;|created 1 present 0;|
 1|import aggregates --db a|prefix,rir;<1001:2001:db8::@/128,R;>||row 1001: limit: aggregates would exceed 1000;
 0|import aggregates --db a|prefix,rir;<1000:2001:db8::@/128,R;>|created 1000 present 0;|
 0|import ip-ranges --db a|start_address,end_address;<9999:2001:db8::@:0/64,2001:db8::@:1/64;>2001:db9::/64,2001:db9::1/64;|created 10000 present 0;|
 1|import ip-ranges --db a|start_address,end_address;2001:dba::/64,2001:dba::1/64;||row 1: limit: ip-ranges would exceed 10000;"#,
+    r#"1
+0|import prefixes --db a|prefix;10.0.0.0/24;10.0.1.0/24;10.0.1.128/25;10.0.2.0/24;|created 4 present 0;|
+0|prefix-list --table global --family 4 --style ios --name OFFICE --db a||ip prefix-list OFFICE seq 5 permit 10.0.0.0/23;ip prefix-list OFFICE seq 10 permit 10.0.2.0/24;|
+0|prefix-list --table global --family 4 --style plain --name OFFICE --db a||10.0.0.0/23;10.0.2.0/24;|
+0|prefix-list --table global --family 4 --style junos --name OFFICE --db a||set policy-options prefix-list OFFICE 10.0.0.0/23;set policy-options prefix-list OFFICE 10.0.2.0/24;|
+0|prefix-list --table global --family 6 --style ios --name OFFICE --db a|||
+0|prefix-check --table global --family 4 --style plain --name OFFICE --db a|10.0.0.0/24;10.0.2.0/23;|missing 10.0.1.0/24;beyond 10.0.3.0/24;|
+0|prefix-check --table global --family 4 --style ios --name OFFICE --db a|ip prefix-list OFFICE seq 7 permit 10.0.2.0/24;;ip prefix-list OFFICE seq 7 permit 10.0.0.0/23||
+0|prefix-check --table global --family 4 --style plain --name OFFICE --db a|<4194304:;>|missing 10.0.0.0/23;missing 10.0.2.0/24;|
+1|prefix-check --table global --family 4 --style plain --name OFFICE --db a|<4194305:;>||too_large: the body exceeds 4194304 bytes;
+1|prefix-check --table global --family 4 --style plain --name OFFICE --db a|10.0.0.0/24;10.0.2.0/24^;||line 2: not of the style;
+1|prefix-list --table 9 --family 4 --style plain --name OFFICE --db a|||not_found: vrfs 9 is not there;
+1|prefix-check --table 9 --family 4 --style plain --name OFFICE --db a|x;||not_found: vrfs 9 is not there;"#,
+    r#"1
+0|import vrfs --db a|name;red;|created 1 present 0;|
+0|import prefixes --db a|prefix,status;0.0.0.0/1,container;128.0.0.0/1,deprecated;2001:db8::/33,active;2001:db8:8000::/33,active;|created 4 present 0;|
+0|prefix-list --table global --family 4 --style plain --name X --db a||0.0.0.0/0;|
+0|prefix-list --table global --family 6 --style ios --name X --db a||ipv6 prefix-list X seq 5 permit 2001:db8::/32;|
+0|prefix-list --table global --family 6 --style plain --name X --db a||2001:db8::/32;|
+0|prefix-list --table 1 --family 4 --style plain --name X --db a|||
+0|prefix-check --table 1 --family 6 --style junos --name X --db a|set policy-options prefix-list X 2001:db8::/32;|beyond 2001:db8::/32;|
+1|prefix-check --table global --family 6 --style junos --name X --db a|set policy-options prefix-list Y 2001:db8::/32;||line 1: not of the style;
+1|prefix-check --table global --family 6 --style ios --name X --db a|ip prefix-list X seq 5 permit 2001:db8::/32;||line 1: not of the style;"#,
+    r#"1
+0|import prefixes --db a|prefix;192.0.2.0/24;2001:db8::/64;|created 2 present 0;|
+0|import ip-addresses --db a|address,dns_name;192.0.2.1/24,www.example.com;192.0.2.10/24,;192.0.2.11/24,*.example.com;2001:db8::1/64,h.example.;|created 4 present 0;|
+0|reverse --prefix 1 --db a||1.2.0.192.in-addr.arpa. IN PTR www.example.com.;|
+0|reverse --prefix 2 --db a||1.0.0.0.0.0.0.0.0.0.0.0.0.0.0.0.0.0.0.0.0.0.0.0.8.b.d.0.1.0.0.2.ip6.arpa. IN PTR h.example.;|
+1|reverse --prefix 9 --db a|||not_found: prefixes 9 is not there;
+0|reverse-read|1.0.0.0.0.0.0.0.0.0.0.0.0.0.0.0.0.0.0.0.0.0.0.0.8.b.d.0.1.0.0.2.ip6.arpa. 3600 in ptr H.Example.;|address,dns_name;2001:db8::1,h.example;|
+0|reverse-read|1.2.0.192.in-addr.arpa. IN PTR www.example.com.^;^;|address,dns_name;192.0.2.1,www.example.com;|
+0|reverse-read||address,dns_name;|
+1|reverse-read|x. IN PTR y.;||line 1: not a PTR line;
+1|reverse-read|<4194305:;>||too_large: the body exceeds 4194304 bytes;"#,
+    r#"1
+0|import prefixes --db a|prefix;192.0.2.0/24;|created 1 present 0;|
+0|import ip-addresses --db a|address,dns_name;192.0.2.9/24,www.example.com;192.0.2.7/24,<64:a>.example;192.0.2.1/24,<64:b>.example;|created 3 present 0;|
+1|reverse --prefix 1 --db a|||address 2: the name does not fit the DNS;"#,
 ];
 
 /// Puts a text: a semicolon is the end of a line, a caret a carriage return, and `@` this number.
