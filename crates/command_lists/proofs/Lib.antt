@@ -1,0 +1,8 @@
+pub mod Listed
+pub mod Vrfs
+pub mod Presence
+pub mod Passing
+pub mod Lines
+pub mod Stops
+pub mod Lists
+pub mod Checks
