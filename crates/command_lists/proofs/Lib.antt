@@ -1,6 +1,7 @@
 pub mod Listed
 pub mod Vrfs
 pub mod Presence
+pub mod Reads
 pub mod Passing
 pub mod Lines
 pub mod Stops

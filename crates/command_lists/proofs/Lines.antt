@@ -1,5 +1,5 @@
 -- Lines with a front and a number: one more of them, and what they are in a style and behind a word.
-use Rattle.std.proofs.Common.{◌≡◌, ℕ, ◌+◌, ◌*◌, ◌<◌, refl, sym, ◌∙◌, ap, subst, arith, List, [], ◌∷◌, ◌++◌, length, take, drop, get_or, Option, append_assoc, append-nil, take-append-drop}
+use Rattle.std.proofs.Common.{◌≡◌, ℕ, ◌+◌, ◌*◌, ◌<◌, refl, sym, ◌∙◌, ap, subst, arith, List, [], ◌∷◌, ◌++◌, length, take, drop, get_or, Option, Result, append_assoc, append-nil, take-append-drop}
 use Rattle.std.specs.List.{flat_map, AllByRecursion}
 use Rattle.std.proofs.lemmas.List.{take_more, length-take-le}
 use Rattle.ipam_edge.specs.Writing.{AppendsFront}
@@ -11,7 +11,7 @@ use Rattle.prefix_list.specs.declared.styles.Style.TheVariants.{Plain}
 use Rattle.prefix_list.specs.Lists.{AreOf}
 use Rattle.prefix_list.specs.Styles.{front_of, number_of, lines_from}
 use Rattle.command_lists.specs.Texts.{numbered_line, numbered_lines, marked_line}
-use Rattle.command_lists.specs.Pieces.{Passes}
+use Rattle.command_lists.specs.Pieces.{Passes, Puts}
 use Rattle.command_lists.proofs.Passing.{passes_both, front_both, front_first}
 
 module _ (style : Style) (front : List ℕ) where
@@ -73,3 +73,11 @@ lines_of_style style name family n (b ∷ bs) of =
 pub lines_of_word : (word : List ℕ) (n : ℕ) (bs : List Cidr) → numbered_lines Plain word n bs ≡ flat_map (marked_line word) bs
 lines_of_word word n [] = refl
 lines_of_word word n (b ∷ bs) = ap (λ (t : List ℕ). marked_line word b ++ t) (lines_of_word word (n + 5) bs)
+
+-- such lines were put
+pub puts_marked : {E : Type 0} (a b : Option (List ℕ)) (p q word : List ℕ) (bs : List Cidr) (result : Result (Unit {0}) E) → Puts a b p q (numbered_lines Plain word 5 bs) result
+    → Puts a b p q (flat_map (marked_line word) bs) result
+puts_marked a b p q word bs result h = subst (λ (t : List ℕ). Puts a b p q t result) (lines_of_word word 5 bs) h
+
+pub front_marked : (a b : Option (List ℕ)) (p word : List ℕ) (bs : List Cidr) → AppendsFront a b (p ++ numbered_lines Plain word 5 bs) → AppendsFront a b (p ++ flat_map (marked_line word) bs)
+front_marked a b p word bs h = subst (λ (t : List ℕ). AppendsFront a b (p ++ t)) (lines_of_word word 5 bs) h

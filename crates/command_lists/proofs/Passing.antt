@@ -78,3 +78,8 @@ whole_behind a b c piece text (Err e) h (more, (rest, is), said) = (
   (rest, sym h.rest ∙ ap (λ (s : List ℕ). h.front ++ s) is ∙ sym (append_assoc h.front more rest)),
   Appends-trans a b c h.front more h.told said,
 )
+
+-- the buffer is empty, and the text was written at once
+pub puts_through : {E : Type 0} (a b : Option (List ℕ)) (after text : List ℕ) (result : Result (Unit {0}) E) → after ≡ [] → WritesAll a b result text → Puts a b [] after text result
+puts_through a b after text (Ok x) empty told = passes_through a b [] after text refl empty told
+puts_through a b after text (Err e) empty told = told

@@ -26,7 +26,7 @@ use Rattle.command_words.specs.declared.asked.TableName.TheVariants as table
 use Rattle.command_lists.specs.declared.table.TableStop.{TableStop}
 use Rattle.command_lists.specs.declared.table.TableStop.TheVariants.{Opening, Absent, Memory}
 use Rattle.command_lists.specs.Tables.{is_there, IsAbsentIn}
-use Rattle.command_lists.specs.Reading.{IsAnswer, IsTableStop}
+use Rattle.command_lists.specs.Reading.{IsStopBy, IsAnswer, IsTableStop}
 
 -- what the plain step says of the VRF of an id, by what stands under the id
 abbrev Says : Option Vrf → ℕ → Reply → Type 0
@@ -81,6 +81,12 @@ absent_is_not s t n reply kind k (Some row) h absent e =
     let g = says s n (Some row) e in
     let same : One g.0 ≡ Refused (NotFound kind k) = sym g.1 ∙ f ∙ absent in
     absurd (cc)
+
+-- a refusal is an answer
+pub refused_answer : (n : ℕ) (refusal : Refusal) (reply : Reply) (stop : TableStop) → reply ≡ Refused refusal → IsStopBy n refusal stop → IsAnswer n reply (Err stop)
+refused_answer n refusal reply (Absent m) is (same, kind, k, absent) = (same, kind, k, is ∙ ap Refused absent)
+refused_answer n refusal reply (Opening fault) is (keeper, failed) = (keeper, is ∙ ap Refused failed)
+refused_answer n refusal reply Memory is h = tt
 
 -- the VRF is there
 pub there_by : (s t : State) (n : ℕ) (reply : Reply) (result : Result (Unit {0}) TableStop) → Steps s t n reply → IsAnswer n reply result → OnOk result (is_there s (table.Vrf n) ≡ true)
