@@ -1,6 +1,6 @@
 -- Each command is one of those that clap's definition speaks of.
 use Rattle.std.proofs.Common.{refl}
-use Rattle.command_grammar.specs.Grammar.{IsPlainCommand, free_app, session_app, serve_app, import_app, export_app, report_app, load_app}
+use Rattle.command_grammar.specs.Grammar.{IsPlainCommand, free_app, session_app, serve_app, import_app, export_app, report_app, prefix_list_app, prefix_check_app, reverse_app, reverse_read_app, load_app}
 
 pub free_is_plain : IsPlainCommand free_app
 unfolding IsPlainCommand free_app
@@ -29,3 +29,19 @@ serve_is_plain = (refl, refl)
 pub report_is_plain : IsPlainCommand report_app
 unfolding IsPlainCommand report_app
 report_is_plain = (refl, refl)
+
+pub prefix_list_is_plain : IsPlainCommand prefix_list_app
+unfolding IsPlainCommand prefix_list_app
+prefix_list_is_plain = (refl, refl)
+
+pub prefix_check_is_plain : IsPlainCommand prefix_check_app
+unfolding IsPlainCommand prefix_check_app
+prefix_check_is_plain = (refl, refl)
+
+pub reverse_is_plain : IsPlainCommand reverse_app
+unfolding IsPlainCommand reverse_app
+reverse_is_plain = (refl, refl)
+
+pub reverse_read_is_plain : IsPlainCommand reverse_read_app
+unfolding IsPlainCommand reverse_read_app
+reverse_read_is_plain = (refl, refl)

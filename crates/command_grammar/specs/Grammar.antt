@@ -51,6 +51,27 @@ export_app = with_store (with_rule (command_app (codes "export")) (place_rule (c
 unfoldable pub report_app : App
 report_app = with_store (with_rule (with_rule (command_app (codes "report")) (place_rule (codes "name"))) (option_rule (codes "prefix")))
 
+-- a command of this name with the options of a prefix list: `--table T --family F --style S --name NAME`
+abbrev pub list_app : List ℕ → App
+list_app name = with_store (with_rule (with_rule (with_rule (with_rule (command_app name) (needed_rule (codes "table"))) (needed_rule (codes "family")))
+    (needed_rule (codes "style"))) (needed_rule (codes "name")))
+
+-- `prefix-list`
+unfoldable pub prefix_list_app : App
+prefix_list_app = list_app (codes "prefix-list")
+
+-- `prefix-check`
+unfoldable pub prefix_check_app : App
+prefix_check_app = list_app (codes "prefix-check")
+
+-- `reverse --prefix ID`
+unfoldable pub reverse_app : App
+reverse_app = with_store (with_rule (command_app (codes "reverse")) (needed_rule (codes "prefix")))
+
+-- `reverse-read`
+unfoldable pub reverse_read_app : App
+reverse_read_app = command_app (codes "reverse-read")
+
 -- `load N`
 unfoldable pub load_app : App
 load_app = with_rule (with_rule (command_app (codes "load")) (place_rule (codes "count"))) (option_rule (codes "workers"))

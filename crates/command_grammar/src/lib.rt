@@ -4,7 +4,7 @@
 ghost use Rattle.std.specs.Prelude.{◌≡◌, ◌↔◌, Option, IfOk, IsTrue, MatchOption, map, option_map, true, false, codes};
 ghost use Rattle.clap.specs.Words.{app_of, first_of, found_of, kind_of, rows_of, rule_of};
 ghost use Rattle.clap.specs.Simple.{App, with_rule};
-ghost use Rattle.command_grammar.specs.Grammar.{IsPlainCommand, Takes, given, command_app, option_rule, needed_rule, place_rule, with_store, free_app, session_app, serve_app, import_app, export_app, report_app, load_app};
+ghost use Rattle.command_grammar.specs.Grammar.{IsPlainCommand, Takes, given, command_app, option_rule, needed_rule, place_rule, with_store, list_app, free_app, session_app, serve_app, import_app, export_app, report_app, prefix_list_app, prefix_check_app, reverse_app, reverse_read_app, load_app};
 
 use clap::error::ErrorKind;
 use clap::{Arg, ArgAction, ArgMatches, Error};
@@ -113,6 +113,50 @@ pub fn report_command<'a>(alloc: Global) -> Result<clap::Command<'a>, AllocError
     let command = with(plain_command(alloc, "report"), place(alloc, "name"))?;
     let command = with(command, option(alloc, "prefix"))?;
     stored(alloc, command)
+}
+
+/// A command of this name with the options of a prefix list. `Err` means out of memory.
+fn list_command<'a>(alloc: Global, name: &'a str) -> Result<clap::Command<'a>, AllocError>
+    ensures { IfOk result (λ c. app_of c ≡ list_app name.entry.now) }
+{
+    let command = with(plain_command(alloc, name), needed(alloc, "table"))?;
+    let command = with(command, needed(alloc, "family"))?;
+    let command = with(command, needed(alloc, "style"))?;
+    let command = with(command, needed(alloc, "name"))?;
+    stored(alloc, command)
+}
+
+/// `prefix-list --table T --family F --style S --name NAME`. `Err` means out of memory.
+#[tactic(auto, unfolding(crate::specs::Grammar::prefix_list_app))]
+pub fn prefix_list_command<'a>(alloc: Global) -> Result<clap::Command<'a>, AllocError>
+    ensures { IfOk result (λ c. app_of c ≡ prefix_list_app) }
+{
+    list_command(alloc, "prefix-list")
+}
+
+/// `prefix-check --table T --family F --style S --name NAME`. `Err` means out of memory.
+#[tactic(auto, unfolding(crate::specs::Grammar::prefix_check_app))]
+pub fn prefix_check_command<'a>(alloc: Global) -> Result<clap::Command<'a>, AllocError>
+    ensures { IfOk result (λ c. app_of c ≡ prefix_check_app) }
+{
+    list_command(alloc, "prefix-check")
+}
+
+/// `reverse --prefix ID`. `Err` means out of memory.
+#[tactic(auto, unfolding(crate::specs::Grammar::reverse_app))]
+pub fn reverse_command<'a>(alloc: Global) -> Result<clap::Command<'a>, AllocError>
+    ensures { IfOk result (λ c. app_of c ≡ reverse_app) }
+{
+    let command = with(plain_command(alloc, "reverse"), needed(alloc, "prefix"))?;
+    stored(alloc, command)
+}
+
+/// `reverse-read`.
+#[tactic(auto, unfolding(crate::specs::Grammar::reverse_read_app))]
+pub fn reverse_read_command<'a>(alloc: Global) -> clap::Command<'a>
+    ensures { app_of result ≡ reverse_read_app }
+{
+    plain_command(alloc, "reverse-read")
 }
 
 /// `load N`. `Err` means out of memory.

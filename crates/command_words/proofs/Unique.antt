@@ -1,6 +1,10 @@
 -- Words ask for one command: each value is determined by the text that was given, and the names of commands differ.
-use Rattle.std.proofs.Common.{◌≡◌, ℕ, ◌<◌, ◌^◌, refl, sym, ◌∙◌, ap, ap₂, arith, Bool, true, false, List, ◌∷◌, Option, Some, None, codes, sum}
-use Rattle.std.proofs.lemmas.Fmt.{decimal_injective}
+use Rattle.std.proofs.Common.{◌≡◌, ℕ, ◌<◌, ◌^◌, refl, sym, ◌∙◌, ap, ap₂, arith, Bool, true, false, List, ◌∷◌, Option, Some, None, codes, sum, subst, decimal}
+use Rattle.std.specs.Str.Parse.{AllDigits}
+use Rattle.std.proofs.lemmas.Fmt.{decimal_injective, digits_decimal}
+use Rattle.std.proofs.lemmas.Str.Parse.{digit_at, numerals_by_value, tells_digits}
+use Rattle.inet_num.specs.declared.Family.{Family}
+use Rattle.inet_num.specs.declared.Family.TheVariants.{V4, V6}
 use Rattle.inet_num.specs.Net.{Cidr}
 use Rattle.inet_num.proofs.Readings.{reading_is_one}
 use Rattle.clap.specs.Walk.{Row}
@@ -11,11 +15,16 @@ use Rattle.command_words.specs.declared.asked.Report.{Report}
 use Rattle.command_words.specs.declared.asked.Report.TheVariants as report
 use Rattle.command_words.specs.declared.asked.Store.{Store}
 use Rattle.command_words.specs.declared.asked.Serving.{Serving}
+use Rattle.command_words.specs.declared.asked.TableName.{TableName}
+use Rattle.command_words.specs.declared.asked.TableName.TheVariants.{Global, Vrf}
+use Rattle.command_words.specs.declared.asked.StyleName.{StyleName}
+use Rattle.command_words.specs.declared.asked.StyleName.TheVariants.{Plain, Ios, Junos}
+use Rattle.command_words.specs.declared.asked.ListAsked.{ListAsked}
 use Rattle.command_words.specs.declared.asked.Command.{Command}
 use Rattle.command_words.specs.declared.asked.Command.TheVariants as command
 use Rattle.command_grammar.specs.Grammar.{given}
-use Rattle.command_words.specs.Values.{most_workers, most_connections, most_claims, most_id, IsBlockValue, IsNumberValue, IsNumberOr, IsTextValue, IsYesValue, IsKindValue, IsReportValue, kind_word}
-use Rattle.command_words.specs.Asked.{name_of, app_for, IsStore, IsServing, HasValues, WordsAskForOne}
+use Rattle.command_words.specs.Values.{most_workers, most_connections, most_claims, most_id, IsBlockValue, IsNumberValue, IsNumberOr, IsTextValue, IsYesValue, IsKindValue, IsReportValue, IsTableValue, IsFamilyValue, IsStyleValue, IsNameValue, kind_word, family_word, style_word}
+use Rattle.command_words.specs.Asked.{name_of, app_for, IsStore, IsServing, IsListAsked, HasValues, WordsAskForOne}
 
 one_block : (text : Option (List ℕ)) (b c : Cidr) → IsBlockValue text b → IsBlockValue text c → b ≡ c
 one_block None b c h k = absurd h
@@ -82,6 +91,46 @@ one_report : (name prefix : Option (List ℕ)) (q r : Report) → IsReportValue 
 one_report name prefix q r h k =
     one_report_named name prefix q r (ap sum (one_of_two (report_name q) (report_name r) (sym (named_so name prefix q h) ∙ named_so name prefix r k))) h k
 
+-- the name of the global table is no number
+no_number : (n : ℕ) → n < 2 ^ 64 → codes "global" ≡ decimal n → ⊥
+no_number n small e =
+    let digits : AllDigits 10 (codes "global") = subst (AllDigits 10) (sym e) (digits_decimal (numerals_by_value (AllDigits 10) tells_digits) n small) in
+    let first = digit_at (codes "global") 0 digits (omega arith) in
+    omega (arith, first)
+
+global_alone : (text : Option (List ℕ)) (n : ℕ) → text ≡ Some (codes "global") → IsNumberValue most_id text n → ⊥
+global_alone text n h k =
+    let number : IsNumberValue most_id (Some (codes "global")) n = subst (λ (t : Option (List ℕ)). IsNumberValue most_id t n) h k in
+    let few = number.2 in
+    no_number n (omega arith) number.0
+
+one_table : (text : Option (List ℕ)) (s t : TableName) → IsTableValue text s → IsTableValue text t → s ≡ t
+one_table text Global Global h k = refl
+one_table text Global (Vrf n) h k = absurd (global_alone text n h k)
+one_table text (Vrf m) Global h k = absurd (global_alone text m k h)
+one_table text (Vrf m) (Vrf n) h k = ap Vrf (one_number most_id text m n (omega arith) h k)
+
+one_family : (e f : Family) → sum (family_word e) ≡ sum (family_word f) → e ≡ f
+one_family V4 V4 e = refl
+one_family V6 V6 e = refl
+one_family d f e = absurd (omega arith)
+
+families_are_one : (text : Option (List ℕ)) (e f : Family) → IsFamilyValue text e → IsFamilyValue text f → e ≡ f
+families_are_one text e f h k = one_family e f (ap sum (one_of_two (family_word e) (family_word f) (sym h ∙ k)))
+
+one_style : (s t : StyleName) → sum (style_word s) ≡ sum (style_word t) → s ≡ t
+one_style Plain Plain e = refl
+one_style Ios Ios e = refl
+one_style Junos Junos e = refl
+one_style s t e = absurd (omega arith)
+
+styles_are_one : (text : Option (List ℕ)) (s t : StyleName) → IsStyleValue text s → IsStyleValue text t → s ≡ t
+styles_are_one text s t h k = one_style s t (ap sum (one_of_two (style_word s) (style_word t) (sym h ∙ k)))
+
+one_name : (text : Option (List ℕ)) (s t : List ℕ) → IsNameValue text s → IsNameValue text t → s ≡ t
+one_name None s t h k = absurd h
+one_name (Some text) s t h k = h.0 ∙ sym k.0
+
 one_store : (rows : List Row) (s t : Store) → IsStore rows s → IsStore rows t → s ≡ t
 one_store rows s t h k =
     let db : s.db ≡ t.db = h.db.0 ∙ sym k.db.0 in
@@ -99,6 +148,19 @@ one_serving rows s t h k =
     ap₂ (λ (b : List ℕ) (w : ℕ). record s { bind = b; workers = w }) bind workers in
     first ∙ ap₂ (λ (c : ℕ) (d : Store). record t { connections = c; store = d }) connections store
 
+one_list : (rows : List Row) (a b : ListAsked) → IsListAsked rows a → IsListAsked rows b → a ≡ b
+one_list rows a b h k =
+    let table : a.table ≡ b.table = one_table (first_of (codes "table") rows) a.table b.table h.table k.table in
+    let family : a.family ≡ b.family = families_are_one (first_of (codes "family") rows) a.family b.family h.family k.family in
+    let style : a.style ≡ b.style = styles_are_one (first_of (codes "style") rows) a.style b.style h.style k.style in
+    let name : a.name ≡ b.name = one_name (first_of (codes "name") rows) a.name b.name h.name k.name in
+    let store : a.store ≡ b.store = one_store rows a.store b.store h.store k.store in
+    let first : a ≡ record b { style = a.style; name = a.name; store = a.store } =
+    ap₂ (λ (t : TableName) (f : Family). record a { table = t; family = f }) table family in
+    let second : record b { style = a.style; name = a.name; store = a.store } ≡ record b { store = a.store } =
+    ap₂ (λ (s : StyleName) (n : List ℕ). record b { style = s; name = n; store = a.store }) style name in
+    first ∙ second ∙ ap (λ (s : Store). record b { store = s }) store
+
 -- with one name they are one
 one_named : (words : List (List ℕ)) (one other : Command) → sum (name_of one) ≡ sum (name_of other) → HasValues (given (app_for one) words) one
     → HasValues (given (app_for other) words) other → one ≡ other
@@ -108,6 +170,10 @@ one_named words (command.Serve s) (command.Serve t) e h k = ap command.Serve (on
 one_named words (command.Import i s) (command.Import j t) e h k = ap₂ command.Import (kinds_are_one _ i j h.0 k.0) (one_store _ s t h.1 k.1)
 one_named words (command.Export i s) (command.Export j t) e h k = ap₂ command.Export (kinds_are_one _ i j h.0 k.0) (one_store _ s t h.1 k.1)
 one_named words (command.Report q s) (command.Report r t) e h k = ap₂ command.Report (one_report _ _ q r h.0 k.0) (one_store _ s t h.1 k.1)
+one_named words (command.PrefixList a) (command.PrefixList b) e h k = ap command.PrefixList (one_list _ a b h k)
+one_named words (command.PrefixCheck a) (command.PrefixCheck b) e h k = ap command.PrefixCheck (one_list _ a b h k)
+one_named words (command.Reverse m s) (command.Reverse n t) e h k = ap₂ command.Reverse (one_number most_id _ m n (omega arith) h.0 k.0) (one_store _ s t h.1 k.1)
+one_named words command.ReverseRead command.ReverseRead e h k = refl
 one_named words (command.Load m w) (command.Load n v) e h k =
     ap₂ command.Load (one_number most_claims _ m n (omega arith) h.0 k.0) (one_number_or 1 most_workers _ w v (omega arith) h.1 k.1)
 one_named words one other e h k = absurd (omega arith)

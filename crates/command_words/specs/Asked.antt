@@ -5,10 +5,11 @@ use Rattle.clap.specs.Walk.{Row}
 use Rattle.clap.specs.Words.{first_of}
 use Rattle.command_words.specs.declared.asked.Store.{Store}
 use Rattle.command_words.specs.declared.asked.Serving.{Serving}
+use Rattle.command_words.specs.declared.asked.ListAsked.{ListAsked}
 use Rattle.command_words.specs.declared.asked.Command.{Command}
-use Rattle.command_words.specs.declared.asked.Command.TheVariants.{Free, Session, Serve, Import, Export, Report, Load}
-use Rattle.command_grammar.specs.Grammar.{Takes, given, free_app, session_app, serve_app, import_app, export_app, report_app, load_app}
-use Rattle.command_words.specs.Values.{most_workers, most_connections, most_claims, IsBlockValue, IsNumberValue, IsNumberOr, IsTextValue, IsTextOrNone, IsYesValue, IsKindValue, IsReportValue}
+use Rattle.command_words.specs.declared.asked.Command.TheVariants.{Free, Session, Serve, Import, Export, Report, PrefixList, PrefixCheck, Reverse, ReverseRead, Load}
+use Rattle.command_grammar.specs.Grammar.{Takes, given, free_app, session_app, serve_app, import_app, export_app, report_app, prefix_list_app, prefix_check_app, reverse_app, reverse_read_app, load_app}
+use Rattle.command_words.specs.Values.{most_workers, most_connections, most_claims, most_id, IsBlockValue, IsNumberValue, IsNumberOr, IsTextValue, IsTextOrNone, IsYesValue, IsKindValue, IsReportValue, IsTableValue, IsFamilyValue, IsStyleValue, IsNameValue}
 
 -- the first word
 abbrev pub name_of : Command → List ℕ
@@ -18,6 +19,10 @@ name_of (Serve serving) = codes "serve"
 name_of (Import kind store) = codes "import"
 name_of (Export kind store) = codes "export"
 name_of (Report report store) = codes "report"
+name_of (PrefixList asked) = codes "prefix-list"
+name_of (PrefixCheck asked) = codes "prefix-check"
+name_of (Reverse prefix store) = codes "reverse"
+name_of ReverseRead = codes "reverse-read"
 name_of (Load count workers) = codes "load"
 
 -- the words behind it that are taken
@@ -28,6 +33,10 @@ app_for (Serve serving) = serve_app
 app_for (Import kind store) = import_app
 app_for (Export kind store) = export_app
 app_for (Report report store) = report_app
+app_for (PrefixList asked) = prefix_list_app
+app_for (PrefixCheck asked) = prefix_check_app
+app_for (Reverse prefix store) = reverse_app
+app_for ReverseRead = reverse_read_app
 app_for (Load count workers) = load_app
 
 -- what was given to the options of a store
@@ -42,6 +51,14 @@ pub record IsServing (rows : List Row) (serving : Serving) : Type 0 where
   pub connections : IsNumberOr most_connections most_connections (first_of (codes "connections") rows) serving.connections
   pub store : IsStore rows serving.store
 
+-- what was given to `prefix-list` or `prefix-check`
+pub record IsListAsked (rows : List Row) (asked : ListAsked) : Type 0 where
+  pub table : IsTableValue (first_of (codes "table") rows) asked.table
+  pub family : IsFamilyValue (first_of (codes "family") rows) asked.family
+  pub style : IsStyleValue (first_of (codes "style") rows) asked.style
+  pub name : IsNameValue (first_of (codes "name") rows) asked.name
+  pub store : IsStore rows asked.store
+
 -- what was given are the values of the command
 abbrev pub HasValues : List Row → Command → Type 0
 HasValues rows (Free block) = IsBlockValue (first_of (codes "block") rows) block
@@ -50,6 +67,10 @@ HasValues rows (Serve serving) = IsServing rows serving
 HasValues rows (Import kind store) = IsKindValue (first_of (codes "kind") rows) kind × IsStore rows store
 HasValues rows (Export kind store) = IsKindValue (first_of (codes "kind") rows) kind × IsStore rows store
 HasValues rows (Report report store) = IsReportValue (first_of (codes "name") rows) (first_of (codes "prefix") rows) report × IsStore rows store
+HasValues rows (PrefixList asked) = IsListAsked rows asked
+HasValues rows (PrefixCheck asked) = IsListAsked rows asked
+HasValues rows (Reverse prefix store) = IsNumberValue most_id (first_of (codes "prefix") rows) prefix × IsStore rows store
+HasValues rows ReverseRead = Unit {0}
 HasValues rows (Load count workers) = IsNumberValue most_claims (first_of (codes "count") rows) count × IsNumberOr 1 most_workers (first_of (codes "workers") rows) workers
 
 -- the words ask for the command

@@ -1,11 +1,18 @@
 -- What the text of a place or an option says, where there is one.
 use Rattle.std.specs.Prelude.{◌≡◌, ◌≢◌, ℕ, ◌≤◌, Bool, true, false, List, [], Option, Some, None, codes, decimal}
+use Rattle.inet_num.specs.declared.Family.{Family}
+use Rattle.inet_num.specs.declared.Family.TheVariants.{V4, V6}
 use Rattle.inet_num.specs.Net.{Cidr}
 use Rattle.inet_num.specs.Text.{IsBlockText}
+use Rattle.list_name.specs.Names.{IsListName}
 use Rattle.command_words.specs.declared.asked.KindName.{KindName}
 use Rattle.command_words.specs.declared.asked.KindName.TheVariants.{Vrfs, Rirs, Roles, Aggregates, Prefixes, Ranges, Addresses}
 use Rattle.command_words.specs.declared.asked.Report.{Report}
 use Rattle.command_words.specs.declared.asked.Report.TheVariants.{Tree, Utilization, Free}
+use Rattle.command_words.specs.declared.asked.TableName.{TableName}
+use Rattle.command_words.specs.declared.asked.TableName.TheVariants.{Global, Vrf}
+use Rattle.command_words.specs.declared.asked.StyleName.{StyleName}
+use Rattle.command_words.specs.declared.asked.StyleName.TheVariants.{Plain, Ios, Junos}
 
 -- the most workers, the most connections of a worker, the most claims of a load, the greatest id
 abbrev pub most_workers : ℕ
@@ -69,3 +76,32 @@ abbrev pub IsReportValue : Option (List ℕ) → Option (List ℕ) → Report �
 IsReportValue name prefix Tree = (name ≡ Some (codes "tree")) × (prefix ≡ None)
 IsReportValue name prefix Utilization = (name ≡ Some (codes "utilization")) × (prefix ≡ None)
 IsReportValue name prefix (Free id) = (name ≡ Some (codes "free")) × IsNumberValue most_id prefix id
+
+-- the global table by its name, or that of a VRF by the VRF's id
+abbrev pub IsTableValue : Option (List ℕ) → TableName → Type 0
+IsTableValue text Global = text ≡ Some (codes "global")
+IsTableValue text (Vrf id) = IsNumberValue most_id text id
+
+-- the number of a family's version of IP
+abbrev pub family_word : Family → List ℕ
+family_word V4 = codes "4"
+family_word V6 = codes "6"
+
+-- a family by that number
+abbrev pub IsFamilyValue : Option (List ℕ) → Family → Type 0
+IsFamilyValue text family = text ≡ Some (family_word family)
+
+-- the name of a style
+abbrev pub style_word : StyleName → List ℕ
+style_word Plain = codes "plain"
+style_word Ios = codes "ios"
+style_word Junos = codes "junos"
+
+-- a style by its name
+abbrev pub IsStyleValue : Option (List ℕ) → StyleName → Type 0
+IsStyleValue text style = text ≡ Some (style_word style)
+
+-- the name of a prefix list
+abbrev pub IsNameValue : Option (List ℕ) → List ℕ → Type 0
+IsNameValue None found = ⊥
+IsNameValue (Some text) found = (found ≡ text) × IsListName text

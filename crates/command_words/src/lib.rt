@@ -5,15 +5,21 @@ ghost use Rattle.std.specs.Prelude.{◌≡◌, ◌↔◌, ◌∷◌, [], ℕ, Li
 ghost use Rattle.command_words.specs.Asked.{Asks, IsNoCommand, WordsAskForOne};
 
 mod asked;
+mod lists;
 mod readers;
 mod values;
+mod zones;
 
-pub use asked::{Command, KindName, Report, Serving, Store, WordText};
+pub use asked::{
+    Command, KindName, ListAsked, Report, Serving, Store, StyleName, TableName, WordText,
+};
+use lists::{read_prefix_check, read_prefix_list};
 use readers::{
     read_export, read_free, read_import, read_load, read_report, read_serve, read_session,
 };
 use std::alloc::{AllocError, Global};
 use values::is_word;
+use zones::{read_reverse, read_reverse_read};
 
 /// The first word.
 fn first_word<'a>(words: &'a [&'a str]) -> Option<&'a str>
@@ -32,28 +38,20 @@ pub fn read_words<'a>(alloc: Global, words: &'a [&'a str]) -> Result<Option<Comm
     let Some(name) = first_word(words) else {
         return Ok(None);
     };
-    if is_word(name, "free") {
-        return read_free(alloc, words);
+    match name {
+        name if is_word(name, "free") => read_free(alloc, words),
+        name if is_word(name, "session") => read_session(alloc, words),
+        name if is_word(name, "serve") => read_serve(alloc, words),
+        name if is_word(name, "import") => read_import(alloc, words),
+        name if is_word(name, "export") => read_export(alloc, words),
+        name if is_word(name, "report") => read_report(alloc, words),
+        name if is_word(name, "prefix-list") => read_prefix_list(alloc, words),
+        name if is_word(name, "prefix-check") => read_prefix_check(alloc, words),
+        name if is_word(name, "reverse") => read_reverse(alloc, words),
+        name if is_word(name, "reverse-read") => read_reverse_read(alloc, words),
+        name if is_word(name, "load") => read_load(alloc, words),
+        _ => Ok(None),
     }
-    if is_word(name, "session") {
-        return read_session(alloc, words);
-    }
-    if is_word(name, "serve") {
-        return read_serve(alloc, words);
-    }
-    if is_word(name, "import") {
-        return read_import(alloc, words);
-    }
-    if is_word(name, "export") {
-        return read_export(alloc, words);
-    }
-    if is_word(name, "report") {
-        return read_report(alloc, words);
-    }
-    if is_word(name, "load") {
-        return read_load(alloc, words);
-    }
-    Ok(None)
 }
 
 /// A law: words ask for one command at most.

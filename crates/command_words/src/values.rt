@@ -14,7 +14,7 @@ use itoa::Buffer;
 use std::alloc::{AllocError, Global};
 
 /// The greatest id of a record.
-const MOST_ID: u32 = 4_294_967_295;
+pub(crate) const MOST_ID: u32 = 4_294_967_295;
 
 /// Whether the word is this one.
 pub(crate) fn is_word(word: &str, name: &str) -> bool
@@ -62,7 +62,7 @@ fn is_decimal(text: &str, n: u32) -> bool
 }
 
 /// The number from 1 to the most that the text is in decimal.
-fn number_of(text: &str, most: u32) -> Option<u32>
+pub(crate) fn number_of(text: &str, most: u32) -> Option<u32>
     ensures { MatchOption result ((n : ℕ) → ¬ IsNumberValue most (Some text.now) n) (λ n. IsNumberValue most (Some text.now) n) }
 {
     match number_read(text) {

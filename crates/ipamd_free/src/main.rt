@@ -40,6 +40,10 @@ fn run_command<So: Source, Si: Sink, Se: Sink>(
         Command::Import(_, _) => say_usage(errors),
         Command::Export(_, _) => say_usage(errors),
         Command::Report(_, _) => say_usage(errors),
+        Command::PrefixList(_) => say_usage(errors),
+        Command::PrefixCheck(_) => say_usage(errors),
+        Command::Reverse(_, _) => say_usage(errors),
+        Command::ReverseRead => say_usage(errors),
         Command::Load {
             count: _,
             workers: _,

@@ -5,7 +5,8 @@ ghost use Rattle.prefix_list.specs.Lists.{AreOf};
 
 use inet_num::{Block, Family};
 use ipam_data::text::Text;
-use prefix_list::{ListFault, Style, fewest, is_list_name, read_list, uncovered, write_list};
+use list_name::is_list_name;
+use prefix_list::{ListFault, Style, fewest, read_list, uncovered, write_list};
 use std::alloc::{AllocError, Global};
 use std::test::Fail;
 

@@ -19,11 +19,10 @@ use Rattle.inet_num.specs.declared.Family.TheVariants.{V4, V6}
 use Rattle.inet_num.specs.Net.{Cidr, IsBlock, width_of}
 use Rattle.inet_num.specs.Text.{IsBlockText, canonical_text_of, block_text_of}
 use Rattle.inet_num.proofs.RoundTrip as blocks
-use Rattle.ipam_data.specs.Texts.{is_slug_char}
+use Rattle.list_name.specs.Names.{IsListName, is_name_char}
 use Rattle.prefix_list.specs.declared.styles.Style.{Style}
 use Rattle.prefix_list.specs.declared.styles.Style.TheVariants.{Plain, Ios, Junos}
 use Rattle.prefix_list.specs.Lists.{AreOf}
-use Rattle.prefix_list.specs.Names.{IsListName}
 use Rattle.prefix_list.specs.Styles.{protocol_of, front_of, number_of, line_of, lines_from}
 use Rattle.prefix_list.specs.Reading.{is_feed, lines_of, CanName, IsFormed, IsLine, LinesName, IsCounted, WrittenIsRead}
 
@@ -90,10 +89,10 @@ no_feed_block b h =
     let rest = no_feed_decimal b.len (narrow b.family b.len h.short) in
     no_feed_more (canonical_text_of b.family b.first) (47 ∷ decimal b.len) (no_feed_address b.family b.first h.in_range) rest
 
-no_feed_letters : (name : List ℕ) → list_all is_slug_char name ≡ true → HasNoFeed name
+no_feed_letters : (name : List ℕ) → list_all is_name_char name ≡ true → HasNoFeed name
 no_feed_letters [] h = refl
 no_feed_letters (c ∷ name) h =
-    let p = and_parts (is_slug_char c) (list_all is_slug_char name) h in
+    let p = and_parts (is_name_char c) (list_all is_name_char name) h in
     let letter = p.0 in
     let rest = no_feed_letters name p.1 in
     let here : is_feed c ≡ false = grind (arith, nat_tests) in

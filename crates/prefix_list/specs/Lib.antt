@@ -1,6 +1,5 @@
 pub mod Lists
 pub mod Steps
-pub mod Names
 pub mod Styles
 pub mod Reading
 pub mod Forms

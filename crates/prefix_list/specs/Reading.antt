@@ -5,10 +5,10 @@ use Rattle.std.specs.List.{slice_split, AllByRecursion}
 use Rattle.inet_num.specs.declared.Family.{Family}
 use Rattle.inet_num.specs.Net.{Cidr, IsBlock}
 use Rattle.inet_num.specs.Text.{IsBlockText}
+use Rattle.list_name.specs.Names.{IsListName}
 use Rattle.prefix_list.specs.declared.styles.Style.{Style}
 use Rattle.prefix_list.specs.declared.styles.Style.TheVariants.{Plain, Ios, Junos}
 use Rattle.prefix_list.specs.Lists.{AreOf}
-use Rattle.prefix_list.specs.Names.{IsListName}
 use Rattle.prefix_list.specs.Styles.{front_of, number_of, list_text_of}
 
 abbrev pub is_feed : ℕ → Bool

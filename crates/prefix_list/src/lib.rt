@@ -1,13 +1,11 @@
 //! Prefix lists: the fewest blocks of a set of addresses, what one list has beyond another, and lists as text for routers.
 #![tactic(auto)]
 
-mod names;
 mod reading;
 mod sets;
 mod styles;
 mod writing;
 
-pub use names::is_list_name;
 pub use reading::{ListFault, read_list, reading_is_one, written_is_read};
 pub use sets::{fewest, uncovered};
 pub use styles::Style;

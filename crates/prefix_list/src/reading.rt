@@ -11,11 +11,11 @@ ghost use Rattle.prefix_list.specs.declared.reading.ListFault.TheVariants.{Line,
 ghost use Rattle.prefix_list.specs.Reading.{lines_of, CanName, IsFormed, IsLine, LinesName, IsList, IsRefused, ReadingIsOne, WrittenIsRead};
 ghost use Rattle.prefix_list.specs.Forms.{is_space, is_number, Matches, IsFormOf, Takes, IsFault};
 
-use crate::names::is_list_name;
 use crate::styles::Style;
 use crate::writing::push_front;
 use inet_num::{Block, Family, read_block};
 use ipam_data::text::Text;
+use list_name::is_list_name;
 use std::alloc::{AllocError, AllocFailed, Global};
 
 /// Why a list is not read.

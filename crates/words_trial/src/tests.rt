@@ -64,6 +64,56 @@ report free --prefix 1 --prefix 1 | None
 report tree --db f | Some(Report(Tree, Store { db: Some(WordText { string: \"f\" }), global_unique: true }))
 report utilization | Some(Report(Utilization, Store { db: None, global_unique: true }))
 report --prefix 4294967295 free | Some(Report(Free(4294967295), Store { db: None, global_unique: true }))
+prefix-list | None
+prefix-list --family 4 --style plain --name N | None
+prefix-list --table global --style plain --name N | None
+prefix-list --table global --family 4 --name N | None
+prefix-list --table global --family 4 --style plain | None
+prefix-list --table global --family 4 --style plain N | None
+prefix-list --table global --family 4 --style plain --name N x | None
+prefix-list --table global --table global --family 4 --style plain --name N | None
+prefix-list --table global --family 4 --family 4 --style plain --name N | None
+prefix-list --table global --family 4 --style plain --style plain --name N | None
+prefix-list --table global --family 4 --style plain --name N --name N | None
+prefix-list --table 0 --family 4 --style plain --name N | None
+prefix-list --table 01 --family 4 --style plain --name N | None
+prefix-list --table 4294967296 --family 4 --style plain --name N | None
+prefix-list --table Global --family 4 --style plain --name N | None
+prefix-list --table  --family 4 --style plain --name N | None
+prefix-list --table global --family 5 --style plain --name N | None
+prefix-list --table global --family 04 --style plain --name N | None
+prefix-list --table global --family ipv4 --style plain --name N | None
+prefix-list --table global --family 4 --style cisco --name N | None
+prefix-list --table global --family 4 --style IOS --name N | None
+prefix-list --table global --family 4 --style plain --name= | None
+prefix-list --table global --family 4 --style plain --name a.b | None
+prefix-list --table global --family 4 --style plain --name \u{e9} | None
+prefix-list --table global --family 4 --style plain --name -a | None
+prefix-list --table global --family 4 --style plain --name 012345678901234567890123456789012345678901234567890123456789abcde | None
+prefix-list --table global --family 4 --style plain --name N --db= | None
+prefix-list --table global --family 4 --style plain --name N --global-unique maybe | None
+prefix-list --table global --family 4 --style plain --name N | Some(PrefixList(ListAsked { table: Global, family: V4, style: Plain, name: WordText { string: \"N\" }, store: Store { db: None, global_unique: true } }))
+prefix-list --name 012345678901234567890123456789012345678901234567890123456789abcd --style ios --family 6 --table 1 | Some(PrefixList(ListAsked { table: Vrf(1), family: V6, style: Ios, name: WordText { string: \"012345678901234567890123456789012345678901234567890123456789abcd\" }, store: Store { db: None, global_unique: true } }))
+prefix-list --global-unique no --name=-a_Z --style=junos --family=6 --table=4294967295 --db f | Some(PrefixList(ListAsked { table: Vrf(4294967295), family: V6, style: Junos, name: WordText { string: \"-a_Z\" }, store: Store { db: Some(WordText { string: \"f\" }), global_unique: false } }))
+prefix-check --table global --family 4 --style plain | None
+prefix-check --table 0 --family 4 --style plain --name N | None
+prefix-check --table 7 --family 4 --style ios --name OFFICE | Some(PrefixCheck(ListAsked { table: Vrf(7), family: V4, style: Ios, name: WordText { string: \"OFFICE\" }, store: Store { db: None, global_unique: true } }))
+prefix-check --db f --global-unique no --table global --family 6 --style junos --name OFFICE | Some(PrefixCheck(ListAsked { table: Global, family: V6, style: Junos, name: WordText { string: \"OFFICE\" }, store: Store { db: Some(WordText { string: \"f\" }), global_unique: false } }))
+reverse | None
+reverse 1 | None
+reverse --prefix 0 | None
+reverse --prefix 4294967296 | None
+reverse --prefix 1 --prefix 1 | None
+reverse --prefix 1 --db= | None
+reverse --prefix 4294967295 | Some(Reverse(4294967295, Store { db: None, global_unique: true }))
+reverse --db f --prefix=1 --global-unique no | Some(Reverse(1, Store { db: Some(WordText { string: \"f\" }), global_unique: false }))
+reverse-read x | None
+reverse-read --db f | None
+reverse-read --prefix 1 | None
+reverse-read --help | None
+reverse-read | Some(ReverseRead)
+prefix | None
+reverse_read | None
 load | None
 load 0 | None
 load 05 | None

@@ -15,5 +15,17 @@ returns-in-Export-clause-usage g c = λ _. c.say_usage-in-Export.ensures _ _
 pub returns-in-Report-clause-usage : goal.returns-in-Report-clause-usage
 returns-in-Report-clause-usage g c = λ _. c.say_usage-in-Report.ensures _ _
 
+pub returns-in-PrefixList-clause-usage : goal.returns-in-PrefixList-clause-usage
+returns-in-PrefixList-clause-usage g c = λ _. c.say_usage-in-PrefixList.ensures _ _
+
+pub returns-in-PrefixCheck-clause-usage : goal.returns-in-PrefixCheck-clause-usage
+returns-in-PrefixCheck-clause-usage g c = λ _. c.say_usage-in-PrefixCheck.ensures _ _
+
+pub returns-in-Reverse-clause-usage : goal.returns-in-Reverse-clause-usage
+returns-in-Reverse-clause-usage g c = λ _. c.say_usage-in-Reverse.ensures _ _
+
+pub returns-in-ReverseRead-clause-usage : goal.returns-in-ReverseRead-clause-usage
+returns-in-ReverseRead-clause-usage g c = λ _. c.say_usage-in-ReverseRead.ensures _ _
+
 pub returns-in-Load-clause-usage : goal.returns-in-Load-clause-usage
 returns-in-Load-clause-usage g c = λ _. c.say_usage-in-Load.ensures _ _

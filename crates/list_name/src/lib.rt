@@ -1,23 +1,23 @@
-//! The name of a prefix list.
+//! The name of a prefix list, as commands and routers have it.
+#![tactic(auto)]
 
 ghost use Rattle.std.specs.Prelude.{◌≡◌, ◌↔◌, IsTrue};
 ghost use Rattle.std.specs.List.{list_all};
-ghost use Rattle.ipam_data.specs.Texts.{is_slug_char};
-ghost use Rattle.prefix_list.specs.Names.{IsListName};
+ghost use Rattle.list_name.specs.Names.{IsListName, is_name_char};
 
 /// The longest name, in bytes.
 const LONGEST: usize = 64;
 
 /// Whether the byte may be in a name.
 fn is_name_byte(byte: u8) -> bool
-    ensures { result ≡ is_slug_char byte }
+    ensures { result ≡ is_name_char byte }
 {
     byte.is_ascii_alphanumeric() || byte == b'-' || byte == b'_'
 }
 
 /// Whether all bytes may be in a name.
 fn has_name_bytes(name: &[u8]) -> bool
-    ensures { result ≡ list_all is_slug_char name.now }
+    ensures { result ≡ list_all is_name_char name.now }
 {
     name.iter().all(|byte| is_name_byte(*byte))
 }
