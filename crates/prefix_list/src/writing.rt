@@ -45,8 +45,8 @@ fn push_junos_front(name: &str, out: &mut Vec<u8>) -> Result<(), AllocError>
     Ok(())
 }
 
-/// Appends what each line of a list begins with.
-pub(crate) fn push_front(
+/// Appends what each line of a list begins with. The one error is out of memory, and `out` may then have a part of it.
+pub fn push_front(
     style: Style,
     name: &str,
     family: Family,

@@ -1,0 +1,9 @@
+pub mod Listed
+pub mod Vrfs
+pub mod Presence
+pub mod Reads
+pub mod Passing
+pub mod Lines
+pub mod Stops
+pub mod Lists
+pub mod Checks

@@ -1,0 +1,27 @@
+use Rattle.std.proofs.Common.{◌≡◌, refl, arith, subst, List}
+use Rattle.inet_num.specs.Net.{Cidr}
+use Rattle.command_lists.specs.Texts.{IsDifferenceText, difference_text}
+use Rattle.command_lists.proofs.Checks.{of_printed, of_no_list}
+use Rattle.command_lists.proofs.Stops.{of_input_stop}
+use Rattle.command_lists.proofs.check.check_input.Goals as goal
+
+pub returns-in-Ok : goal.returns-in-Ok
+returns-in-Ok g c = λ old new read same more.
+    let found = c.in-Ok.ensures.compared in
+    of_printed c.args.asked.now _ _ _ same
+    (record { streams = record { input = c.compare.ensures.later; output = c.print_difference.ensures.later; errors = omega arith }; stores = more })
+    _ (
+      read.state,
+      found.list,
+      record { loaded = read.found; there = read.there },
+      found.given,
+      subst (λ (bs : List Cidr). IsDifferenceText bs found.list (difference_text c.in-Ok.found.missing.items c.in-Ok.found.beyond.items)) read.blocks_are
+      (c.in-Ok.found.missing.items, c.in-Ok.found.beyond.items, found.missing, found.beyond, refl),
+    ) c.print_difference.ensures.ends refl
+
+pub returns-in-Err : goal.returns-in-Err
+returns-in-Err g c = λ old new read same more.
+    of_no_list c.args.asked.now _ _ _ same
+    (record { streams = record { input = c.compare.ensures.later; output = omega arith; errors = c.say_input_stop.ensures.later }; stores = more })
+    (of_input_stop c.args.asked.now _ _ _ read.state (record { loaded = read.found; there = read.there }) refl c.in-Err.stop c.in-Err.ensures.stop c.say_input_stop.ensures.said)
+    refl

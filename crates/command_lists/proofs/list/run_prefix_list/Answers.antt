@@ -1,0 +1,20 @@
+use Rattle.std.proofs.Common.{◌≡◌, refl, arith, sym, subst, List, ℕ}
+use Rattle.command_streams.specs.Streams.{told, EndsWith}
+use Rattle.command_store.specs.Outside.{stores}
+use Rattle.command_lists.proofs.Lists.{of_printed, of_stopped}
+use Rattle.command_lists.proofs.Stops.{of_table_stop}
+use Rattle.command_lists.proofs.list.run_prefix_list.Goals as goal
+
+pub returns-in-Ok : goal.returns-in-Ok
+returns-in-Ok g c = λ input.
+    let list = c.in-Ok.ensures.list in
+    of_printed c.args.asked.now _ _ _ c.list_of.ensures.same
+    (record { streams = record { input = omega arith; output = c.print_list.ensures.later; errors = omega arith }; stores = c.list_of.ensures.later })
+    _ (list.state, record { loaded = list.found; there = list.there }, (c.in-Ok.list.blocks.items, list.fewest, list.text)) c.print_list.ensures.ends refl refl
+
+pub returns-in-Err : goal.returns-in-Err
+returns-in-Err g c = λ input.
+    of_stopped c.args.asked.now _ _ _ c.list_of.ensures.same
+    (record { streams = record { input = omega arith; output = omega arith; errors = c.say_table_stop.ensures.later }; stores = c.list_of.ensures.later })
+    (of_table_stop c.args.asked.now _ _ _ c.in-Err.stop c.in-Err.ensures.stop c.say_table_stop.ensures.said (record { input = refl; output = refl; stored = c.list_of.ensures.same }))
+    (record { input = refl; output = refl; stored = c.list_of.ensures.same })

@@ -1,0 +1,8 @@
+pub mod Tables
+pub mod Texts
+pub mod Pieces
+pub mod Inputs
+pub mod Reading
+pub mod Said
+pub mod PrefixList
+pub mod PrefixCheck

@@ -1,0 +1,91 @@
+-- What is known of a table on its way out of a store, and where that stops.
+use Rattle.std.specs.Prelude.{◌≡◌, ℕ, List, true, Result, Ok, Err}
+use Rattle.inet_num.specs.Net.{Cidr}
+use Rattle.ipam_data.specs.declared.kinds.Kind.{Kind}
+use Rattle.ipam_data.specs.declared.replies.View.{View}
+use Rattle.ipam_data.specs.declared.replies.Refusal.{Refusal}
+use Rattle.ipam_data.specs.declared.replies.Refusal.TheVariants.{NotFound, Keeper as KeeperFailed}
+use Rattle.ipam_data.specs.declared.replies.Reply.{Reply}
+use Rattle.ipam_data.specs.declared.replies.Reply.TheVariants.{One, Refused}
+use Rattle.ipam_data.specs.State.{State}
+use Rattle.stored_tables.specs.declared.opening.OpenFault.{OpenFault}
+use Rattle.stored_tables.specs.declared.opening.OpenFault.TheVariants.{Keeper}
+use Rattle.stored_tables.specs.Opening.{IsOfTables}
+use Rattle.ipam_keeper.specs.Keeping.{Rose, started}
+use Rattle.register_core.specs.Opened.{IsOpened, IsUnopened}
+use Rattle.prefix_list.specs.Lists.{addresses_of_list, addresses_beyond}
+use Rattle.prefix_list.specs.Styles.{list_text_of}
+use Rattle.command_words.specs.declared.asked.ListAsked.{ListAsked}
+use Rattle.command_words.specs.declared.asked.Store.{Store}
+use Rattle.command_words.specs.declared.asked.TableName.{TableName}
+use Rattle.command_streams.specs.Streams.{Told}
+use Rattle.command_store.specs.Outside.{Stores}
+use Rattle.command_lists.specs.declared.table.TableStop.{TableStop}
+use Rattle.command_lists.specs.declared.table.TableStop.TheVariants.{Opening, Absent, Memory}
+use Rattle.command_lists.specs.declared.list.RouterList.{RouterList}
+use Rattle.command_lists.specs.declared.check.Difference.{Difference}
+use Rattle.command_lists.specs.Tables.{is_there, table_blocks, IsAbsentIn}
+use Rattle.command_lists.specs.Texts.{style_named, AreFewest, numbered_lines}
+use Rattle.command_lists.specs.Inputs.{GivesList}
+
+-- ---- the VRF
+
+-- what the refusal of a call for the VRF of this id says of its table
+abbrev pub IsStopBy : ℕ → Refusal → TableStop → Type 0
+IsStopBy n refusal (Absent m) = (m ≡ n) × (kind : Kind) × (k : ℕ) × (refusal ≡ NotFound kind k)
+IsStopBy n refusal (Opening fault) = (fault ≡ Keeper) × (refusal ≡ KeeperFailed)
+IsStopBy n refusal Memory = Unit {0}
+
+-- what the reply to that call says of it
+abbrev pub IsAnswer : ℕ → Reply → Result (Unit {0}) TableStop → Type 0
+IsAnswer n reply (Ok _) = (view : View) × (reply ≡ One view)
+IsAnswer n reply (Err (Absent m)) = (m ≡ n) × (kind : Kind) × (k : ℕ) × (reply ≡ Refused (NotFound kind k))
+IsAnswer n reply (Err (Opening fault)) = (fault ≡ Keeper) × (reply ≡ Refused KeeperFailed)
+IsAnswer n reply (Err Memory) = Unit {0}
+
+-- why a register of this state did not tell of a table, by its keeper's count before and after
+abbrev pub IsTableStop : State → TableName → ℕ → ℕ → TableStop → Type 0
+IsTableStop s table few more (Opening fault) = (fault ≡ Keeper) × Rose few more
+IsTableStop s table few more (Absent n) = IsAbsentIn s table n
+IsTableStop s table few more Memory = Unit {0}
+
+-- ---- the store
+
+-- the state is the one that the store's tables stand for
+abbrev pub IsFound : Store → Stores → State → Type 0
+IsFound store old state = IsOpened (started old.stored store.db) store.global_unique state
+
+-- the blocks are those of the prefixes of the table and the family, of the state that the store's tables stand for
+pub record IsRead (asked : ListAsked) (old : Stores) (blocks : List Cidr) : Type 0 where
+  pub state : State
+  pub found : IsFound asked.store old state
+  pub there : is_there state asked.table ≡ true
+  pub blocks_are : blocks ≡ table_blocks state asked.table asked.family
+
+-- the opening was refused so
+pub record IsOpenStop (store : Store) (old new : Stores) (fault : OpenFault) : Type 0 where
+  pub tables : IsOfTables fault → IsUnopened (started old.stored store.db) store.global_unique fault
+  pub failed : fault ≡ Keeper → Rose old.faults new.faults
+
+-- why the table was not read
+abbrev pub IsStopped : ListAsked → Stores → Stores → TableStop → Type 0
+IsStopped asked old new (Opening fault) = IsOpenStop asked.store old new fault
+IsStopped asked old new (Absent n) = (state : State) × IsFound asked.store old state × IsAbsentIn state asked.table n
+IsStopped asked old new Memory = Unit {0}
+
+-- ---- the list
+
+-- the list has the fewest blocks of the table, and its lines are those of the style
+pub record IsRouterList (asked : ListAsked) (old : Stores) (list : RouterList) : Type 0 where
+  pub state : State
+  pub found : IsFound asked.store old state
+  pub there : is_there state asked.table ≡ true
+  pub fewest : AreFewest (addresses_of_list (table_blocks state asked.table asked.family)) list.blocks.items
+  pub text : numbered_lines (style_named asked.style) list.front.items 5 list.blocks.items ≡ list_text_of (style_named asked.style) asked.name list.blocks.items
+
+-- the input gave a list, and the difference has what the table and the list have beyond each other
+pub record IsCompared (asked : ListAsked) (table : List Cidr) (old new : Told) (found : Difference) : Type 0 where
+  pub list : List Cidr
+  pub given : GivesList asked old new list
+  pub missing : AreFewest (addresses_beyond table list) found.missing.items
+  pub beyond : AreFewest (addresses_beyond list table) found.beyond.items

@@ -1,0 +1,40 @@
+-- The prefixes of a table: which table a name stands for, whether it is there, and the blocks of its prefixes of a family.
+use Rattle.std.specs.Prelude.{◌≡◌, ℕ, ◌&&◌, Bool, true, List, None, is_some, map, filter}
+use Rattle.inet_num.specs.declared.Family.{Family}
+use Rattle.inet_num.specs.Net.{Cidr}
+use Rattle.inet_num.specs.Blocks.{same_family}
+use Rattle.ipam_data.specs.declared.kinds.Table.{Table}
+use Rattle.ipam_data.specs.declared.kinds.Table.TheVariants.{Global as GlobalTable, Of}
+use Rattle.ipam_data.specs.declared.prefix.Prefix.{Prefix}
+use Rattle.ipam_data.specs.RowList.{row_at}
+use Rattle.ipam_data.specs.Rows.{vrf_id}
+use Rattle.ipam_data.specs.State.{State}
+use Rattle.ipam_data.specs.Tables.{table_of, same_table}
+use Rattle.command_words.specs.declared.asked.TableName.{TableName}
+use Rattle.command_words.specs.declared.asked.TableName.TheVariants.{Global, Vrf}
+
+-- the table of this name
+abbrev pub table_named : TableName → Table
+table_named Global = GlobalTable
+table_named (Vrf n) = Of n
+
+-- the table is there: the global one always is, and that of a VRF where the VRF is, whether or not it has prefixes
+abbrev pub is_there : State → TableName → Bool
+is_there s Global = true
+is_there s (Vrf n) = is_some (row_at vrf_id s.vrfs.rows n)
+
+-- the table is that of the VRF of this id, which is not there
+abbrev pub IsAbsentIn : State → TableName → ℕ → Type 0
+IsAbsentIn s table n = (table ≡ Vrf n) × (row_at vrf_id s.vrfs.rows n ≡ None)
+
+-- the prefix is in the table, and its block is of the family
+abbrev pub is_listed : Table → Family → Prefix → Bool
+is_listed table family row = same_table (table_of row.vrf) table && same_family row.block.family family
+
+-- the blocks of those of the prefixes that are in the table and of the family, in their order
+abbrev pub blocks_listed : Table → Family → List Prefix → List Cidr
+blocks_listed table family rows = map (λ (row : Prefix). row.block) (filter (is_listed table family) rows)
+
+-- the blocks of all prefixes of a table and a family, in the order of their ids: containers and deprecated ones too
+abbrev pub table_blocks : State → TableName → Family → List Cidr
+table_blocks s table family = blocks_listed (table_named table) family s.prefixes.rows

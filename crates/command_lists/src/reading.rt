@@ -1,0 +1,84 @@
+//! A router's list on the input.
+
+ghost use Rattle.std.specs.Prelude.{◌≡◌, ◌≤◌, IfOk, IfErr};
+ghost use Rattle.prefix_list.specs.Lists.{AreOf};
+ghost use Rattle.command_streams.specs.Streams.{told};
+ghost use Rattle.command_lists.specs.Texts.{style_named as style_of_name};
+ghost use Rattle.command_lists.specs.Inputs.{GivesList, IsInputStop};
+
+use command_words::{ListAsked, StyleName, WordText};
+use inet_num::Block;
+use ipam_data::text::Text;
+use ipam_edge::{Source, Unread, read_whole};
+use prefix_list::{ListFault, Style, read_list};
+use std::alloc::{AllocError, Global};
+
+/// How many bytes a list may have.
+const MOST_BYTES: usize = 4_194_304;
+
+/// Why the input gives no list.
+#[derive(Drop)]
+pub enum InputStop {
+    /// It failed, and counted it.
+    Unread,
+    /// It is longer than a list may be.
+    TooLong,
+    /// The first line that is not of the style, counted from 1.
+    Line(u64),
+    /// Out of memory.
+    Memory,
+}
+
+impl From<AllocError> for InputStop {
+    ghost use Rattle.std.specs.Prelude.{◌≡◌};
+    ghost use Rattle.command_lists.specs.declared.reading.InputStop.TheVariants.{Memory};
+
+    ghost from_gives = { λ _ s. s ≡ Memory };
+
+    fn from(_: AllocError) -> InputStop {
+        InputStop::Memory
+    }
+}
+
+/// The style of this name.
+pub(crate) fn style_named(style: StyleName) -> Style
+    ensures { result ≡ style_of_name style }
+{
+    match style {
+        StyleName::Plain => Style::Plain,
+        StyleName::Ios => Style::Ios,
+        StyleName::Junos => Style::Junos,
+    }
+}
+
+/// The name of the list. `Err` means out of memory.
+fn name_of(alloc: Global, word: &WordText) -> Result<Text, AllocError>
+    ensures { IfOk result (λ name. name ≡ word.now) }
+{
+    Ok(Text::of(String::from_str(alloc, word.as_str())?))
+}
+
+/// Reads the whole input as a list in the style, under the name and of the family that are asked for.
+pub(crate) fn read_input<So: Source>(
+    alloc: Global,
+    asked: &ListAsked,
+    input: &mut So,
+) -> Result<Vec<Block>, InputStop>
+    ensures list { IfOk result (λ v. GivesList asked.now (told So.left So.faults input.old) (told So.left So.faults input.new) v.items) }
+    ensures family { IfOk result (λ v. AreOf asked.now.family v.items) }
+    ensures stop { IfErr result (IsInputStop asked.now (told So.left So.faults input.old) (told So.left So.faults input.new)) }
+    ensures later { So.faults input.old ≤ So.faults input.new }
+{
+    let name = name_of(alloc, &asked.name)?;
+    let bytes = match read_whole(alloc, input, MOST_BYTES) {
+        Ok(bytes) => bytes,
+        Err(Unread::Failed) => return Err(InputStop::Unread),
+        Err(Unread::TooLong) => return Err(InputStop::TooLong),
+        Err(Unread::Memory) => return Err(InputStop::Memory),
+    };
+    match read_list(alloc, style_named(asked.style), &name, asked.family, bytes.as_slice()) {
+        Ok(blocks) => Ok(blocks),
+        Err(ListFault::Line(number)) => Err(InputStop::Line(number)),
+        Err(ListFault::Memory) => Err(InputStop::Memory),
+    }
+}
