@@ -1,5 +1,5 @@
 -- One text or one refusal of a state; and exact statuses where nothing fails.
-use Rattle.std.proofs.Common.{◌≡◌, ◌⊎◌, inl, inr, ℕ, ◌<◌, ◌≤◌, List, [], Option, Some, None, IfSome, length, refl, sym, ap, subst, ◌∙◌, arith}
+use Rattle.std.proofs.Common.{◌≡◌, ◌⊎◌, inl, inr, ℕ, ◌<◌, ◌≤◌, List, [], Option, Some, None, IfSome, IsSome, length, refl, sym, ap, subst, ◌∙◌, arith}
 use Rattle.std.specs.Str.Lines.{lines}
 use Rattle.ipam_data.specs.declared.prefix.Prefix.{Prefix}
 use Rattle.ipam_data.specs.declared.address.IpAddress.{IpAddress}
@@ -11,14 +11,16 @@ use Rattle.reverse_zone.proofs.ZoneOrder.{zone_has_one_order}
 use Rattle.command_words.specs.declared.asked.Store.{Store}
 use Rattle.command_streams.specs.Streams.{Streams, Told, SomeFailed}
 use Rattle.command_store.specs.Outside.{Outside, AnyFailed}
+use Rattle.command_store.specs.Opening.{found_tables}
 use Rattle.command_zones.specs.declared.zone.ZoneRefusal.{ZoneRefusal}
 use Rattle.command_zones.specs.declared.zone.ZoneRefusal.TheVariants.{Absent, Unfit}
 use Rattle.command_zones.specs.declared.pairs.ReadRefusal.{ReadRefusal}
 use Rattle.command_zones.specs.declared.pairs.ReadRefusal.TheVariants.{TooLong, Line}
 use Rattle.command_zones.specs.Zone.{unfit_id, IsTextOf, IsZoneRefusal}
-use Rattle.command_zones.specs.Reverse.{PrintsZone, NamesZoneRefusal, IsReverse}
+use Rattle.command_zones.specs.Reverse.{IsZoneText, IsRefusedSo, PrintsZone, IsReverse}
 use Rattle.command_zones.specs.Pairs.{HasPairs, GivesPairs, RefusesInput, IsReadRefusal, IsReverseRead}
-use Rattle.command_zones.specs.Laws.{ReverseHasOneText, IsExact, ReverseIsExact, IsReadExact, ReverseReadIsExact}
+use Rattle.command_zones.proofs.Loaded.{opened_alike, text_moved, refusal_moved}
+use Rattle.command_zones.specs.Laws.{ReverseHasOneAnswer, IsExact, ReverseIsExact, IsReadExact, ReverseReadIsExact}
 
 -- ---- of a state
 
@@ -44,14 +46,36 @@ text_apart s id text (Unfit n) h = λ k.
     let none : unfit_id s k.0 ≡ None = subst (λ (p : Prefix). unfit_id s p ≡ None) same h.fit in
     let some = k.2 in absurd (cc))
 
-pub reverse_has_one_text : ReverseHasOneText
-reverse_has_one_text = record { texts = one_text; refusals = one_refusal; apart = text_apart }
+-- ---- of a store
+
+store_texts : (id : ℕ) (store : Store) (old : Outside) (one other : List ℕ) → IsSome (found_tables store old) → IsZoneText id store old one → IsZoneText id store old other → one ≡ other
+store_texts id store old one other told (s, loaded, h) (t, also, k) =
+    one_text t id one other (text_moved s t (opened_alike (found_tables store old) store.global_unique s t told loaded also) id one h) k
+
+store_refusals : (id : ℕ) (store : Store) (old : Outside) (one other : ZoneRefusal) → IsSome (found_tables store old) → IsRefusedSo id store old one → IsRefusedSo id store old other → one ≡ other
+store_refusals id store old one other told (s, loaded, h) (t, also, k) =
+    one_refusal t id one other (refusal_moved s t (opened_alike (found_tables store old) store.global_unique s t told loaded also) id one h) k
+
+store_apart : (id : ℕ) (store : Store) (old : Outside) (text : List ℕ) (refusal : ZoneRefusal) → IsSome (found_tables store old) → IsZoneText id store old text → ¬ IsRefusedSo id store old refusal
+store_apart id store old text refusal told (s, loaded, h) = λ r.
+    text_apart r.0 id text refusal (text_moved s r.0 (opened_alike (found_tables store old) store.global_unique s r.0 told loaded r.1) id text h) r.2
+
+pub reverse_has_one_answer : ReverseHasOneAnswer
+reverse_has_one_answer = record {
+  texts = one_text;
+  refusals = one_refusal;
+  apart = text_apart;
+  store_texts = store_texts;
+  store_refusals = store_refusals;
+  store_apart = store_apart;
+}
 
 -- ---- where nothing fails
 
 module _ (id : ℕ) (store : Store) (old new : Outside) (status : ℕ) (run : IsReverse id store old new status) (whole : ¬ AnyFailed old new) where
   exact_done : status ≡ 0 → PrintsZone id store old new → IsExact id store old status
-  exact_done zero (text, (state, loaded, is), gains, silent) = inr (inr (zero, (state, loaded, λ refusal. text_apart state id text refusal is)))
+  exact_done zero (text, (state, loaded, is), gains, silent) =
+      inr (inr (zero, (state, loaded, λ refusal. text_apart state id text refusal is), λ told refusal. store_apart id store old text refusal told (state, loaded, is)))
 
   exact_refused : status ≡ 1 → IsExact id store old status
   exact_refused one = elim (run.refused one) [

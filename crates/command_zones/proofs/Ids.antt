@@ -4,7 +4,7 @@ use Rattle.std.specs.List.{filter, count_by}
 use Rattle.std.proofs.lemmas.Bool.Decides.{nat_tests}
 use Rattle.std.proofs.lemmas.List.Sums.{sum_by-cons}
 use Rattle.ipam_data.specs.RowList.{Rises}
-use Rattle.ipam_data.proofs.RowLists.{eq_true}
+use Rattle.ipam_data.proofs.RowLists.{eq_true, eq_false}
 
 module _ {T : Type 0} (id : T → ℕ) where
   rises_lower : (low more : ℕ) (xs : List T) → low ≤ more → Rises id more xs → Rises id low xs
@@ -33,7 +33,7 @@ module _ {T : Type 0} (id : T → ℕ) where
   having_none n low [] r le = refl
   having_none n low (x ∷ xs) r le =
       let h = r.0 in
-      let other : (id x == n) ≡ false = grind (arith, nat_tests) in
+      let other : (id x == n) ≡ false = eq_false (id x) n (omega arith) in
       let less : n ≤ id x = omega arith in
       let rest = having_none n (id x) xs r.1 less in
       let one = having_no n x xs other in

@@ -5,4 +5,5 @@ pub mod Rows
 pub mod Passing
 pub mod Reverses
 pub mod Reads
+pub mod Loaded
 pub mod Exact

@@ -1,5 +1,0 @@
-use Rattle.command_zones.proofs.Exact.{reverse_has_one_text}
-use Rattle.command_zones.proofs.laws.reverse_has_one_text.Goals as goal
-
-pub returns : goal.returns
-returns c = reverse_has_one_text
