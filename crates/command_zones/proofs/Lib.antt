@@ -3,6 +3,7 @@ pub mod Order
 pub mod Zones
 pub mod Rows
 pub mod Passing
+pub mod Ends
 pub mod Reverses
 pub mod Reads
 pub mod Loaded
