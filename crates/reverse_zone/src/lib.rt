@@ -14,4 +14,5 @@ mod words;
 pub use input::{PtrFault, read_ptrs};
 pub use line::write_ptr;
 pub use name::{fits, ptr_name};
+pub use owner::LINE_ROOM;
 pub use record::Pair;

@@ -1,6 +1,6 @@
 //! Lines of PTR records.
 
-ghost use Rattle.std.specs.Prelude.{◌≡◌, ◌++◌, IsTrue, OnOk, OnErr};
+ghost use Rattle.std.specs.Prelude.{◌≡◌, ◌+◌, ◌≤◌, ◌++◌, IsTrue, IsOk, OnOk, OnErr, vec_len, vec_capacity};
 ghost use Rattle.reverse_zone.specs.Names.{fits_dns};
 ghost use Rattle.reverse_zone.specs.Records.{line_of};
 
@@ -23,11 +23,14 @@ fn line_text(host: Addr, name: &str) -> Line
 }
 
 /// Appends the line of a PTR record: the host's name in `in-addr.arpa` or `ip6.arpa` (RFC 1035 3.5, RFC 3596 2.5), the class,
-/// the type, the name with its final period, and a line feed. The name has to fit (`fits`). If memory runs out, `out` is as before.
+/// the type, the name with its final period, and a line feed. The name has to fit (`fits`). If memory runs out, `out` is as before;
+/// it does not where `out` has room for `LINE_ROOM` more bytes.
 pub fn write_ptr(host: Addr, name: &str, out: &mut Vec<u8>) -> Result<(), AllocError>
     requires { IsTrue (fits_dns name.now) }
     ensures ok { OnOk result (out.new.items ≡ out.old.items ++ line_of host name.now) }
     ensures err { OnErr result (out.new.items ≡ out.old.items) }
+    ensures room { vec_len out.old + 404 ≤ vec_capacity out.old → IsOk result }
+    ensures capacity { vec_capacity out.old ≤ vec_capacity out.new }
 {
     let line = line_text(host, name);
     out.extend_from_slice(line.as_slice())

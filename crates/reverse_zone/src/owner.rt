@@ -13,7 +13,7 @@ use inet_num::{Addr, Family};
 use itoa::Buffer;
 
 /// Room for a line: 32 labels, counted with four bytes each, the longest zone, the class and type, a name of 253 bytes and its end.
-pub(crate) const LINE_ROOM: usize = 404;
+pub const LINE_ROOM: usize = 404;
 
 /// A line that is being written.
 pub(crate) type Line = ArrayVec<u8, LINE_ROOM>;

@@ -1,0 +1,35 @@
+-- What the output has where the lines of a zone were printed, or were not.
+use Rattle.std.proofs.Common.{◌≡◌, ℕ, List, Ok, Err, refl, sym, ap, subst, ◌∙◌}
+use Rattle.std.specs.List.{All}
+use Rattle.ipam_data.specs.declared.address.IpAddress.{IpAddress}
+use Rattle.ipam_data.specs.State.{State}
+use Rattle.command_streams.specs.Streams.{Told, Gains, GainsFront, Failed}
+use Rattle.command_zones.specs.declared.zone.Spot.{Spot}
+use Rattle.command_zones.specs.declared.zone.ZoneStop.{ZoneStop}
+use Rattle.command_zones.specs.declared.zone.ZoneStop.TheVariants.{Refused, Unwritten, Memory}
+use Rattle.command_zones.specs.Zone.{lines_at, IsSpotIn, IsZone, IsZoneStop, IsZoneEnd}
+
+-- nothing was written
+pub stopped : (s : State) (id : ℕ) (stop : ZoneStop) (told : Told) → IsZoneStop s id stop → IsZoneEnd s id told told (Err stop)
+stopped s id (Refused refusal) told h = (h, refl)
+stopped s id Unwritten told h = absurd h
+stopped s id Memory told h = refl
+
+pub no_memory : (s : State) (id : ℕ) (stop : ZoneStop) (told : Told) → stop ≡ Memory → IsZoneEnd s id told told (Err stop)
+no_memory s id stop told e = stopped s id stop told (subst (IsZoneStop s id) (sym e) tt)
+
+-- the rows of the book and the places as they were handed on
+module _ (s : State) (id : ℕ) (rows : List IpAddress) (spots given : List Spot) (same : rows ≡ s.addresses.rows) (handed : given ≡ spots) (zone : IsZone s id spots) where
+  pub places : All (IsSpotIn rows) given
+  places = subst (λ (rs : List IpAddress). All (IsSpotIn rs) given) (sym same) (subst (λ (ss : List Spot). All (IsSpotIn s.addresses.rows) ss) (sym handed) zone.there)
+
+  lines_same : lines_at rows given ≡ lines_at s.addresses.rows spots
+  lines_same = ap (λ (rs : List IpAddress). lines_at rs given) same ∙ ap (λ (ss : List Spot). lines_at s.addresses.rows ss) handed
+
+  -- all lines were written
+  pub printed : (old new : Told) → Gains old new (lines_at rows given) → IsZoneEnd s id old new (Ok tt)
+  printed old new gains = (lines_at s.addresses.rows spots, zone.text, subst (λ (text : List ℕ). Gains old new text) lines_same gains)
+
+  -- a front of them was
+  pub unprinted : (old new : Told) → Failed old new → GainsFront old new (lines_at rows given) → IsZoneEnd s id old new (Err Unwritten)
+  unprinted old new failed front = (lines_at s.addresses.rows spots, zone.text, failed, subst (λ (text : List ℕ). GainsFront old new text) lines_same front)

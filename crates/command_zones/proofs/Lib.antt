@@ -1,0 +1,10 @@
+pub mod Ids
+pub mod Order
+pub mod Zones
+pub mod Rows
+pub mod Passing
+pub mod Ends
+pub mod Reverses
+pub mod Reads
+pub mod Loaded
+pub mod Exact

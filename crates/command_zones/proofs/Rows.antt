@@ -1,0 +1,94 @@
+-- The places of a zone's rows, row by row.
+use Rattle.std.proofs.Common.{◌≡◌, ℕ, zero, suc, ◌+◌, ◌≤◌, Bool, true, false, not, ◌&&◌, cond, IsTrue, List, [], ◌∷◌, ◌++◌, length, map, take, get_or, slice_get, find, Option, Some, None, refl, ap, sym, subst, ◌∙◌, arith}
+use Rattle.std.specs.Option.{option_map}
+use Rattle.std.specs.List.{All, filter}
+use Rattle.std.proofs.lemmas.List.{map-append, take_all, take_more}
+use Rattle.std.proofs.lemmas.List.Elements.{All-append, All-cons, filter-append}
+use Rattle.std.proofs.lemmas.Option.{get_or_from_slice_get, slice_get_within}
+use Rattle.ipam_data.specs.declared.prefix.Prefix.{Prefix}
+use Rattle.ipam_data.specs.declared.address.IpAddress.{IpAddress}
+use Rattle.ipam_data.specs.Rows.{address_id}
+use Rattle.reverse_zone.specs.Names.{fits_dns}
+use Rattle.reverse_zone.specs.Zones.{is_zone_row}
+use Rattle.command_zones.specs.declared.zone.Spot.{Spot}
+use Rattle.command_zones.specs.declared.zone.ZoneRefusal.TheVariants.{Absent, Unfit}
+use Rattle.command_zones.specs.declared.zone.ZoneStop.{ZoneStop}
+use Rattle.command_zones.specs.declared.zone.ZoneStop.TheVariants.{Refused, Unwritten, Memory}
+use Rattle.command_zones.specs.Zone.{name_of, is_unfit, spot_of, spots_at, IsSpotIn, AreSpots, IsRowStop, IsRowsStop}
+
+module _ {T : Type 0} (p : T → Bool) where
+  -- a test that finds nothing so far finds nothing yet where the next one does not pass
+  none_behind : (xs : List T) (x : T) → find p xs ≡ None → p x ≡ false → find p (xs ++ x ∷ []) ≡ None
+  none_behind [] x n e = ap (λ (t : Bool). let o : Option T = cond t (Some x) None in o) e
+  none_behind (y ∷ ys) x n e = go (p y) n (λ m. none_behind ys x m e)
+    where
+      go : (t : Bool) → cond t (Some y) (find p ys) ≡ None → (find p ys ≡ None → find p (ys ++ x ∷ []) ≡ None) → cond t (Some y) (find p (ys ++ x ∷ [])) ≡ None
+      go true n ih = cc
+      go false n ih = ih n
+
+  -- and finds the next one where that passes
+  found_next : (xs : List T) (k : ℕ) (x : T) → slice_get xs k ≡ Some x → find p (take k xs) ≡ None → p x ≡ true → find p xs ≡ Some x
+  found_next [] k x e n t = cc
+  found_next (y ∷ ys) zero x e n t =
+      let same : y ≡ x = cc in
+      let passes : p y ≡ true = ap p same ∙ t in
+      ap (λ (b : Bool). let o : Option T = cond b (Some y) (find p ys) in o) passes ∙ e
+  found_next (y ∷ ys) (suc k) x e n t = go (p y) n (λ m. found_next ys k x e m t)
+    where
+      go : (b : Bool) → cond b (Some y) (find p (take k ys)) ≡ None → (find p (take k ys) ≡ None → find p ys ≡ Some x) → cond b (Some y) (find p ys) ≡ Some x
+      go true n ih = cc
+      go false n ih = ih n
+
+fit_of : (z f : Bool) → z ≡ true → (z && not f) ≡ false → f ≡ true
+fit_of true true e h = refl
+fit_of true false e h = cc
+fit_of false f e h = cc
+
+module _ (rows : List IpAddress) (prefix : Prefix) where
+  -- no row was looked at
+  pub spots_none : (spots : List Spot) → spots ≡ [] → AreSpots rows prefix [] spots
+  spots_none spots e = subst (AreSpots rows prefix []) (sym e) (record { named = λ d. refl; there = λ k d h. absurd (omega arith); fit = refl })
+
+  -- one more row was looked at
+  pub spots_more : (k : ℕ) (row : IpAddress) (spots more : List Spot) → Some row ≡ slice_get rows k → AreSpots rows prefix (take k rows) spots → is_unfit prefix row ≡ false
+      → more ≡ spots ++ spots_at prefix k row → AreSpots rows prefix (take (k + 1) rows) more
+  spots_more k row spots more at are fit is =
+      subst (λ (some : List IpAddress). AreSpots rows prefix some more) (sym taken) (subst (AreSpots rows prefix (take k rows ++ row ∷ [])) (sym is) (record {
+        named = λ d.
+            map-append (λ (spot : Spot). get_or rows spot.index d) spots (spots_at prefix k row)
+            ∙ ap (λ (xs : List IpAddress). xs ++ map (λ (spot : Spot). get_or rows spot.index d) (spots_at prefix k row)) (are.named d)
+            ∙ ap (λ (xs : List IpAddress). filter (is_zone_row prefix) (take k rows) ++ xs) (one d (is_zone_row prefix row))
+            ∙ sym (filter-append (is_zone_row prefix) (take k rows) (row ∷ []));
+        there = All-append (IsSpotIn rows) spots (spots_at prefix k row) are.there (added (is_zone_row prefix row) refl);
+        fit = none_behind (is_unfit prefix) (take k rows) row are.fit fit;
+      }))
+    where
+      found : slice_get rows k ≡ Some row
+      found = sym at
+
+      taken : take (k + 1) rows ≡ take k rows ++ row ∷ []
+      taken = take_more rows k row (slice_get_within rows k row found) ∙ ap (λ (r : IpAddress). take k rows ++ r ∷ []) (get_or_from_slice_get rows k row row found)
+
+      one : (d : IpAddress) (t : Bool) → map (λ (spot : Spot). get_or rows spot.index d) (cond t (spot_of k row ∷ []) []) ≡ cond t (row ∷ []) []
+      one d true = ap (λ (r : IpAddress). let rs : List IpAddress = r ∷ [] in rs) (get_or_from_slice_get rows k row d found)
+      one d false = refl
+
+      added : (t : Bool) → is_zone_row prefix row ≡ t → All (IsSpotIn rows) (cond t (spot_of k row ∷ []) [])
+      added true e =
+          let here : IsSpotIn rows (spot_of k row) =
+          record { row = row; found = found; address_is = refl; id_is = refl; fits = fit_of (is_zone_row prefix row) (fits_dns (name_of row)) e fit } in
+          All-cons (IsSpotIn rows) (spot_of k row) [] here (λ j d h. absurd (omega arith))
+      added false e = λ j d h. absurd (omega arith)
+
+  -- the row stops the command
+  pub rows_stop : (k : ℕ) (row : IpAddress) (spots : List Spot) (stop : ZoneStop) → Some row ≡ slice_get rows k → AreSpots rows prefix (take k rows) spots → IsRowStop prefix row stop
+      → IsRowsStop prefix rows stop
+  rows_stop k row spots (Refused (Absent n)) at are h = absurd h
+  rows_stop k row spots (Refused (Unfit n)) at are h =
+      ap (λ (o : Option IpAddress). option_map address_id o) (found_next (is_unfit prefix) rows k row (sym at) are.fit h.1) ∙ ap (λ (m : ℕ). let o : Option ℕ = Some m in o) (sym h.0)
+  rows_stop k row spots Unwritten at are h = absurd h
+  rows_stop k row spots Memory at are h = tt
+
+  -- all rows were looked at
+  pub spots_all : (k : ℕ) (spots : List Spot) → length rows ≤ k → AreSpots rows prefix (take k rows) spots → AreSpots rows prefix rows spots
+  spots_all k spots whole are = subst (λ (some : List IpAddress). AreSpots rows prefix some spots) (take_all k rows whole) are

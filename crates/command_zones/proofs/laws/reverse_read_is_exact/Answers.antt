@@ -1,0 +1,5 @@
+use Rattle.command_zones.proofs.Exact.{reverse_read_is_exact}
+use Rattle.command_zones.proofs.laws.reverse_read_is_exact.Goals as goal
+
+pub returns : goal.returns
+returns c = reverse_read_is_exact

@@ -1,0 +1,32 @@
+use Rattle.std.proofs.Common.{rules, arith, sym, ◌∙◌, ap, ◌++◌, List, ℕ, take}
+use Rattle.std.proofs.lemmas.List.Elements.{All-get_or}
+use Rattle.ipam_edge.proofs.WritingLemmas.{writes_at_err}
+use Rattle.command_zones.specs.declared.zone.Spot.{Spot}
+use Rattle.command_zones.specs.Zone.{line_at, lines_at, IsSpotIn}
+use Rattle.command_zones.proofs.Passing.{front_behind, passes_line, text_more, text_front}
+use Rattle.command_zones.proofs.printing.write_lines.Goals as goal
+
+pub returns-in_err-make_room-clause-told : goal.returns-in_err-make_room-clause-told
+returns-in_err-make_room-clause-told g c =
+    let rows = c.args.addresses.now.rows in
+    let spots = c.args.spots.now in
+    writes_at_err _ _ c.from_residual.result (lines_at rows spots) (search rules)
+    (front_behind _ _ _ _ _ _ _ c.loop-spot.invariant.passed c.in_err-make_room.ensures.front (text_front (λ (s : Spot). line_at rows s.index) spots c.loop-spot.spot-index))
+
+pub loop-spot-preserved : goal.loop-spot-preserved
+loop-spot-preserved g c =
+    let rows = c.args.addresses.now.rows in
+    let spots = c.args.spots.now in
+    let i = c.loop-spot.spot-index in
+    let before = c.loop-spot.invariant.later in
+    let now = c.make_room.ensures.cause.later in
+    let room = c.loop-spot.invariant.room in
+    let kept = c.make_room.ensures.capacity in
+    let grown = c.push_line.ensures.capacity in
+    record {
+      passed = passes_line _ _ _ _ _ _ _ _ (line_at rows c.spot-item.result.index) c.loop-spot.invariant.passed c.in_ok-make_room.ensures.passed c.push_line.ensures.items
+          (text_more (λ (s : Spot). line_at rows s.index) spots i c.spot-item.result c.loop-spot-test.true
+              ∙ ap (λ (s : Spot). lines_at rows (take i spots) ++ line_at rows s.index) (sym c.spot-item.is));
+      room = omega arith;
+      later = omega arith;
+    }

@@ -1,0 +1,11 @@
+use Rattle.std.proofs.Common.{[], ◌≤◌, take, vec_capacity}
+use Rattle.command_zones.specs.Zone.{lines_at}
+use Rattle.command_zones.specs.Printing.{Passes}
+use Rattle.command_zones.proofs.printing.write_lines.Given as goal
+
+abbrev pub invariant-loop-spot : goal.invariant-loop-spot
+invariant-loop-spot g l = record {
+  passed : Passes (g.Si.Sink.written l.initial.output) (g.Si.Sink.written l.output) [] l.piece.items (lines_at l.addresses.rows (take l.spot-index l.spots));
+  room : 32768 ≤ vec_capacity l.piece;
+  later : g.Si.Sink.faults l.initial.output ≤ g.Si.Sink.faults l.output;
+}

@@ -1,0 +1,210 @@
+//! The rows of a prefix's zone: the addresses in it that have a name, by address and then by id.
+
+ghost use Rattle.std.specs.Prelude.{◌≡◌, ◌<◌, ◌++◌, false, Some, IfOk, IfErr, OnOk, IsPermutation, IsSortedByKey, is_some, length, slice_get};
+ghost use Rattle.ipam_data.specs.Claims.{is_container, sees_all, is_child_address};
+ghost use Rattle.reverse_zone.specs.Names.{fits_dns};
+ghost use Rattle.reverse_zone.specs.Zones.{row_name_of, is_zone_row};
+ghost use Rattle.command_zones.specs.Zone.{name_of, is_unfit, spots_at, place_of, place_cmp, AreSpots, IsRowStop, IsRowsStop, IsZone, IsZoneStop};
+
+use inet_num::block_holds;
+use ipam_data::address::IpAddress;
+use ipam_data::kinds::{Table, is_one_table};
+use ipam_data::prefix::{Prefix, PrefixStatus};
+use ipam_keeper::keeper::Keeper;
+use register_core::Register;
+use register_tables::Addresses;
+use reverse_zone::{fits, ptr_name};
+use std::alloc::{AllocError, AllocFailed, Global};
+
+/// Why the names of a prefix are not printed, where a message says it.
+#[derive(Clone, Copy, Debug)]
+pub enum ZoneRefusal {
+    /// The prefix with this id is not there.
+    Absent(u32),
+    /// The name of the address with this id does not fit the DNS: the least such id.
+    Unfit(u32),
+}
+
+/// Why the names of a prefix are not printed.
+#[derive(Clone, Copy, Debug)]
+pub enum ZoneStop {
+    /// They are refused.
+    Refused(ZoneRefusal),
+    /// The output failed, and counted it.
+    Unwritten,
+    /// Out of memory.
+    Memory,
+}
+
+impl From<AllocError> for ZoneStop {
+    ghost use Rattle.std.specs.Prelude.{◌≡◌};
+    ghost use Rattle.command_zones.specs.declared.zone.ZoneStop.TheVariants.{Memory};
+
+    ghost from_gives = { λ _ stop. stop ≡ Memory };
+
+    fn from(_: AllocError) -> ZoneStop {
+        ZoneStop::Memory
+    }
+}
+
+impl<T: Drop> From<AllocFailed<T>> for ZoneStop {
+    ghost use Rattle.std.specs.Prelude.{◌≡◌};
+    ghost use Rattle.command_zones.specs.declared.zone.ZoneStop.TheVariants.{Memory};
+
+    ghost from_gives = { λ _ stop. stop ≡ Memory };
+
+    fn from(_: AllocFailed<T>) -> ZoneStop {
+        ZoneStop::Memory
+    }
+}
+
+/// Where a row stands in the zone, and at which index among all rows: by these numbers the rows are sorted, and the rows stay where they are.
+#[derive(Clone, Copy, Debug)]
+pub(crate) struct Spot {
+    pub(crate) address: u128,
+    pub(crate) id: u32,
+    pub(crate) index: u32,
+}
+
+/// Whether a prefix is there for the prefixes inside it.
+fn is_container(status: PrefixStatus) -> bool
+    ensures { result ≡ is_container status }
+{
+    match status {
+        PrefixStatus::Container => true,
+        PrefixStatus::Active => false,
+        PrefixStatus::Reserved => false,
+        PrefixStatus::Deprecated => false,
+    }
+}
+
+/// Whether the rows of every table count for a prefix: it is a container of the global table.
+fn sees_all(prefix: &Prefix) -> bool
+    ensures { result ≡ sees_all prefix.now }
+{
+    is_container(prefix.status) && is_one_table(Table::of(prefix.vrf), Table::Global)
+}
+
+/// Whether an address counts for a prefix.
+fn is_child(prefix: &Prefix, row: &IpAddress) -> bool
+    ensures { result ≡ is_child_address prefix.now row.now }
+{
+    (sees_all(prefix) || is_one_table(Table::of(row.vrf), Table::of(prefix.vrf)))
+        && block_holds(&prefix.block, row.host.addr())
+}
+
+/// Whether the DNS has a name for a row.
+fn has_name(row: &IpAddress) -> bool
+    ensures { result ≡ is_some (row_name_of row.now) }
+{
+    match ptr_name(row.dns_name.as_str()) {
+        Some(_) => true,
+        None => false,
+    }
+}
+
+/// The name that the DNS has for a row, empty where it has none.
+pub(crate) fn name_of(row: &IpAddress) -> &str
+    ensures { result.now ≡ name_of row.now }
+{
+    match ptr_name(row.dns_name.as_str()) {
+        Some(name) => name,
+        None => "",
+    }
+}
+
+/// Whether a row is one of the prefix's zone.
+fn is_in_zone(prefix: &Prefix, row: &IpAddress) -> bool
+    ensures { result ≡ is_zone_row prefix.now row.now }
+{
+    is_child(prefix, row) && has_name(row)
+}
+
+/// Whether the name of a row fits the DNS.
+fn has_fit_name(row: &IpAddress) -> bool
+    ensures { result ≡ fits_dns (name_of row.now) }
+{
+    fits(name_of(row))
+}
+
+/// Adds the place of the row at an index, if the row is one of the prefix's zone.
+fn add_row(
+    spots: &mut Vec<Spot>,
+    prefix: &Prefix,
+    row: &IpAddress,
+    index: u32,
+) -> Result<(), ZoneStop>
+    ensures items { OnOk result (spots.new.items ≡ spots.old.items ++ spots_at prefix.now index row.now) }
+    ensures fits { OnOk result (is_unfit prefix.now row.now ≡ false) }
+    ensures stop { IfErr result (IsRowStop prefix.now row.now) }
+{
+    if !is_in_zone(prefix, row) {
+        return Ok(());
+    }
+    if !has_fit_name(row) {
+        return Err(ZoneStop::Refused(ZoneRefusal::Unfit(row.id)));
+    }
+    spots.push(Spot {
+        address: row.host.addr().value(),
+        id: row.id,
+        index,
+    })?;
+    Ok(())
+}
+
+/// The address at an index that is there.
+fn address_at(addresses: &Addresses, index: u32) -> &IpAddress
+    requires { index < length addresses.now.rows }
+    ensures { Some result.now ≡ slice_get addresses.now.rows index }
+{
+    match addresses.at(index) {
+        Some(row) => row,
+        None => unreachable!(),
+    }
+}
+
+/// The places of the rows of a prefix's zone, in the order of their ids, where all their names fit.
+fn zone_spots(
+    alloc: Global,
+    addresses: &Addresses,
+    prefix: &Prefix,
+) -> Result<Vec<Spot>, ZoneStop>
+    ensures spots { IfOk result (λ v. AreSpots addresses.now.rows prefix.now addresses.now.rows v.items) }
+    ensures stop { IfErr result (IsRowsStop prefix.now addresses.now.rows) }
+{
+    let mut spots = Vec::new(alloc);
+    let count = addresses.len();
+    'rows: for index in 0..count {
+        let row = address_at(addresses, index);
+        add_row(&mut spots, prefix, row, index)?;
+    }
+    Ok(spots)
+}
+
+/// Puts places in the order of their addresses, and those of one address in the order of their ids.
+fn sort(spots: &mut Vec<Spot>)
+    ensures same { IsPermutation spots.old.items spots.new.items }
+    ensures sorted { IsSortedByKey place_of place_cmp spots.new.items }
+{
+    spots.sort_unstable_by_key(|spot| (spot.address, spot.id));
+}
+
+/// The places of the rows of a prefix's zone, in their order, or why there are none: the prefix is not there, or a name does not fit.
+pub(crate) fn zone_of<K: Keeper>(
+    alloc: Global,
+    register: &Register<K>,
+    id: u32,
+) -> Result<Vec<Spot>, ZoneStop>
+    ensures zone { IfOk result (λ v. IsZone register.now.state id v.items) }
+    ensures stop { IfErr result (IsZoneStop register.now.state id) }
+{
+    let Some(prefix) = register.prefixes().get(id) else {
+        return Err(ZoneStop::Refused(ZoneRefusal::Absent(id)));
+    };
+    let addresses = register.addresses();
+    // A hint to the prover: the ids of the rows rise.
+    let _count = addresses.len();
+    let mut spots = zone_spots(alloc, addresses, prefix)?;
+    sort(&mut spots);
+    Ok(spots)
+}
