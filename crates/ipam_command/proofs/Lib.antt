@@ -6,3 +6,4 @@ pub mod Parts
 pub mod LimitLaws
 pub mod OpenedLaws
 pub mod ExactLaws
+pub mod Ending
