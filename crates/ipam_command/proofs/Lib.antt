@@ -7,3 +7,4 @@ pub mod Parts
 pub mod LimitLaws
 pub mod OpenedLaws
 pub mod ExactLaws
+pub mod Ending

@@ -1,5 +1,5 @@
 -- The limits are the numbers that the definitions cite.
-use Rattle.std.proofs.Common.{◌≡◌, ◌≤◌, ◌<◌, ℕ, Bool, true, false, cond, nat_le, ◌||◌, ◌∙◌, List, Result, Ok, Err, arith, refl, cc}
+use Rattle.std.proofs.Common.{◌≡◌, ◌≤◌, ◌<◌, ℕ, Bool, true, false, cond, nat_le, ◌||◌, ◌∙◌, List, Result, Ok, Err, arith, refl}
 use Rattle.std.proofs.lemmas.Bool.Decides.{nat_tests}
 use Rattle.std.specs.Str.Parse.{digits_value}
 use Rattle.http_session.specs.declared.request.Fault.{Fault}

@@ -3,3 +3,4 @@ pub mod Clauses
 pub mod Limits
 pub mod Program
 pub mod Exact
+pub mod Opened
