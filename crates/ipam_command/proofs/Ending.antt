@@ -1,7 +1,7 @@
 -- What the process ends with: the status of one run over standard streams, or that of arguments which are no text.
 use Rattle.std.proofs.Common.{◌≡◌, ℕ, List, None, inl, inr, refl, sym, subst}
 use Rattle.command_streams.specs.Streams.{Streams, Told, streams, IsUsage}
-use Rattle.command_session.specs.Outside.{Stores, outside}
+use Rattle.command_store.specs.Outside.{Stores, outside}
 use Rattle.command_serve.specs.Serve.{ListenerView}
 use Rattle.ipam_command.specs.Runs.{Runs, SaysUsage}
 use Rattle.ipam_command.specs.Program.{AreUntold, RunsOver, HasNoText}
