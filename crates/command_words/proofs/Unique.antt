@@ -1,5 +1,5 @@
 -- Words ask for one command: each value is determined by the text that was given, and the names of commands differ.
-use Rattle.std.proofs.Common.{◌≡◌, ℕ, ◌<◌, ◌^◌, refl, sym, ◌∙◌, ap, ap₂, arith, Bool, true, false, List, ◌∷◌, Option, Some, None, codes, sum, subst, decimal}
+use Rattle.std.proofs.Common.{◌≡◌, ℕ, ◌<◌, ◌^◌, refl, sym, ◌∙◌, ap, ap₂, arith, Bool, true, false, List, Option, Some, None, codes, sum, subst, decimal}
 use Rattle.std.specs.Str.Parse.{AllDigits}
 use Rattle.std.proofs.lemmas.Fmt.{decimal_injective, digits_decimal}
 use Rattle.std.proofs.lemmas.Str.Parse.{digit_at, numerals_by_value, tells_digits}
