@@ -99,10 +99,7 @@ fn name_value(alloc: Global, text: Option<&str>) -> Result<Option<WordText>, All
 }
 
 /// The values of `prefix-list` and `prefix-check`. `Err` means out of memory.
-fn list_value<'a>(
-    alloc: Global,
-    matches: &ArgMatches<'a>,
-) -> Result<Option<ListAsked>, AllocError>
+fn list_value<'a>(alloc: Global, matches: &ArgMatches<'a>) -> Result<Option<ListAsked>, AllocError>
     ensures { IfOk result (λ found. MatchOption found ((a : ListAsked) → ¬ IsListAsked (rows_of (found_of matches.now)) a) (λ a. IsListAsked (rows_of (found_of matches.now)) a)) }
 {
     let Some(table) = table_value(value(matches, "table")) else {
