@@ -105,6 +105,6 @@ stopped_by s t n few more reply (Err Memory) h answer failed = tt
 -- a keeper whose tables are those of one state before and after tells what it told
 pub same_told : (old new : Option Tables) (s t : State) → Tells old s → Tells new t → t ≡ s → (IsSome old ↔ IsSome new) → new ≡ old
 same_told None None s t a b e h = refl
-same_told None (Some tables) s t a b e h = absurd (h.1 tt)
-same_told (Some tables) None s t a b e h = absurd (h.0 tt)
+same_told None (Some tables) s t a b e h = absurd (let no_ = h.1 refl in cc)
+same_told (Some tables) None s t a b e h = absurd (let no_ = h.0 refl in cc)
 same_told (Some one) (Some other) s t a b e h = ap (λ (x : Tables). let o : Option Tables = Some x in o) (b ∙ ap tables_of e ∙ sym a)

@@ -4,8 +4,8 @@ use Rattle.prefix_list.specs.Lists.{addresses_beyond, AreOf}
 use Rattle.command_lists.specs.Texts.{AreFewest}
 use Rattle.command_lists.proofs.check.compare.Goals as goal
 
-pub difference-requires : goal.difference-requires
-difference-requires g c = (c.args.asked.now.family, c.requires, subst (AreOf c.args.asked.now.family) (sym c.deref.ensures.value) c.in_ok-list.ensures.family)
+pub difference_of-requires : goal.difference_of-requires
+difference_of-requires g c = (c.args.asked.now.family, c.requires, subst (AreOf c.args.asked.now.family) (sym c.deref.ensures.value) c.in_ok-list.ensures.family)
 
 pub returns-clause-compared : goal.returns-clause-compared
 returns-clause-compared g c =

@@ -6,5 +6,5 @@ use Rattle.command_lists.proofs.pieces.write_difference.Goals as goal
 
 pub returns-clause-told : goal.returns-clause-told
 returns-clause-told g c =
-    whole_behind _ _ _ _ _ c.write_all.result c.in_ok-put_difference.ensures.told
+    whole_behind _ _ _ _ _ _ c.write_all.result c.new-piece.ensures c.in_ok-put_difference.ensures.told
     (subst (λ (p : List ℕ). WritesAll (g.Si.Sink.written c.put_difference.new.output) (g.Si.Sink.written c.write_all.new.sink) c.write_all.result p) c.as_slice.ensures.value c.write_all.ensures.told)
