@@ -1,6 +1,6 @@
 -- Lines with a front and a number: one more of them, and what they are in a style and behind a word.
 use Rattle.std.proofs.Common.{◌≡◌, ℕ, ◌+◌, ◌*◌, ◌<◌, refl, sym, ◌∙◌, ap, subst, arith, List, [], ◌∷◌, ◌++◌, length, take, drop, get_or, Option, Result, append_assoc, append-nil, take-append-drop}
-use Rattle.std.specs.List.{flat_map, AllByRecursion}
+use Rattle.std.specs.List.{flat_map}
 use Rattle.std.proofs.lemmas.List.{take_more, length-take-le}
 use Rattle.ipam_edge.specs.Writing.{AppendsFront}
 use Rattle.inet_num.specs.declared.Family.{Family}

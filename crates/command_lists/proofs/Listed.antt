@@ -36,9 +36,9 @@ listed_more table family rows i row before after found so_far more =
     let row_is : get_or rows i row ≡ row = get_or_from_slice_get rows i row row (sym found) in
     let front : take (i + 1) rows ≡ take i rows ++ row ∷ [] = take_more rows i row less ∙ ap (λ (x : Prefix). take i rows ++ x ∷ []) row_is in
     more
-        ∙ ap (λ (bs : List Cidr). bs ++ blocks_listed table family (row ∷ [])) so_far
-        ∙ sym (listed_append table family (take i rows) (row ∷ []))
-        ∙ ap (blocks_listed table family) (sym front)
+    ∙ ap (λ (bs : List Cidr). bs ++ blocks_listed table family (row ∷ [])) so_far
+    ∙ sym (listed_append table family (take i rows) (row ∷ []))
+    ∙ ap (blocks_listed table family) (sym front)
 
 -- each block is of the family
 pub listed_are_of : (table : Table) (family : Family) (rows : List Prefix) → AreOf family (blocks_listed table family rows)

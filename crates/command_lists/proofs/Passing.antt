@@ -1,5 +1,5 @@
 -- A text that is written by pieces: a front was written, and the rest is in the buffer.
-use Rattle.std.proofs.Common.{◌≡◌, ℕ, refl, sym, ◌∙◌, ap, subst, List, [], ◌∷◌, ◌++◌, Option, Result, Ok, Err, IsErr, append_assoc, append-nil}
+use Rattle.std.proofs.Common.{◌≡◌, ℕ, refl, sym, ◌∙◌, ap, subst, List, [], ◌++◌, Option, Result, Ok, Err, IsErr, append_assoc, append-nil}
 use Rattle.std.specs.Io.KnownBytes.{Appends}
 use Rattle.std.proofs.KnownBytes.{Appends-trans, Appends-nil}
 use Rattle.ipam_edge.specs.Writing.{AppendsFront, WritesAll}

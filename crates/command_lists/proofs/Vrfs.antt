@@ -21,7 +21,6 @@ use Rattle.ipam_data.specs.Steps.{get_plan, plain_step}
 use Rattle.stored_tables.specs.declared.tables.Tables.{Tables}
 use Rattle.stored_tables.specs.Stored.{Tells, tables_of}
 use Rattle.ipam_keeper.specs.Keeping.{Rose}
-use Rattle.command_words.specs.declared.asked.TableName.{TableName}
 use Rattle.command_words.specs.declared.asked.TableName.TheVariants as table
 use Rattle.command_lists.specs.declared.table.TableStop.{TableStop}
 use Rattle.command_lists.specs.declared.table.TableStop.TheVariants.{Opening, Absent, Memory}

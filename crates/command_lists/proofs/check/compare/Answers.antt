@@ -1,4 +1,4 @@
-use Rattle.std.proofs.Common.{◌≡◌, sym, ◌∙◌, ap, subst, List, ℕ}
+use Rattle.std.proofs.Common.{sym, subst, List}
 use Rattle.inet_num.specs.Net.{Cidr}
 use Rattle.prefix_list.specs.Lists.{addresses_beyond, AreOf}
 use Rattle.command_lists.specs.Texts.{AreFewest}

@@ -1,5 +1,4 @@
-use Rattle.std.proofs.Common.{List, ℕ, subst, rules, ◌∙◌}
-use Rattle.ipam_edge.proofs.WritingLemmas.{writes_at_err}
+use Rattle.std.proofs.Common.{List, ℕ, subst}
 use Rattle.ipam_edge.specs.Writing.{WritesAll}
 use Rattle.command_lists.proofs.Passing.{whole_behind}
 use Rattle.command_lists.proofs.pieces.write_difference.Goals as goal
