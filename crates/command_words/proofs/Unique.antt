@@ -24,6 +24,7 @@ use Rattle.command_words.specs.declared.asked.Command.{Command}
 use Rattle.command_words.specs.declared.asked.Command.TheVariants as command
 use Rattle.command_grammar.specs.Grammar.{given}
 use Rattle.command_words.specs.Values.{most_workers, most_connections, most_claims, most_id, IsBlockValue, IsNumberValue, IsNumberOr, IsTextValue, IsYesValue, IsKindValue, IsReportValue, IsTableValue, IsFamilyValue, IsStyleValue, IsNameValue, kind_word, family_word, style_word}
+use Rattle.command_words.proofs.Found.{same_first}
 use Rattle.command_words.specs.Asked.{name_of, app_for, IsStore, IsServing, IsListAsked, HasValues, WordsAskForOne}
 
 one_block : (text : Option (List ℕ)) (b c : Cidr) → IsBlockValue text b → IsBlockValue text c → b ≡ c
@@ -177,10 +178,6 @@ one_named words command.ReverseRead command.ReverseRead e h k = refl
 one_named words (command.Load m w) (command.Load n v) e h k =
     ap₂ command.Load (one_number most_claims _ m n (omega arith) h.0 k.0) (one_number_or 1 most_workers _ w v (omega arith) h.1 k.1)
 one_named words one other e h k = absurd (omega arith)
-
--- the first of two lists that are one
-same_first : (a b : List ℕ) (more others : List (List ℕ)) → a ∷ more ≡ b ∷ others → a ≡ b
-same_first a b more others h = cc
 
 pub words_ask_for_one : WordsAskForOne
 words_ask_for_one = λ words one other h k.
