@@ -1,5 +1,5 @@
 -- What a run of `prefix-check` leaves, as its record has it, by where it ended.
-use Rattle.std.proofs.Common.{◌≡◌, ℕ, ◌⊎◌, List, inl, inr, refl, arith, Option, Some, None, IfSome}
+use Rattle.std.proofs.Common.{◌≡◌, ℕ, ◌⊎◌, List, inl, inr, arith, Option, Some, None, IfSome}
 use Rattle.inet_num.specs.Net.{Cidr}
 use Rattle.prefix_list.proofs.Readings.{reading_is_one}
 use Rattle.command_words.specs.declared.asked.ListAsked.{ListAsked}
@@ -31,11 +31,11 @@ module _ (asked : ListAsked) (old new : Outside) (status : ℕ) (keeps : AreSame
     store_fault = λ z. absurd (omega arith);
     memory = λ z. absurd (omega arith);
     exact = λ told none. inr (inr (
-        zero,
-        (done.of_both.0, done.of_both.2),
-        not_absent asked old done.of_both.0 done.of_both.2 told,
-        readable_so asked old.streams.input new.streams.input done.of_both.1 done.of_both.3,
-      ));
+      zero,
+      (done.of_both.0, done.of_both.2),
+      not_absent asked old done.of_both.0 done.of_both.2 told,
+      readable_so asked old.streams.input new.streams.input done.of_both.1 done.of_both.3,
+    ));
     keeps = keeps;
     later = later;
   }

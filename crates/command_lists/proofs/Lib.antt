@@ -1,7 +1,7 @@
 pub mod Listed
 pub mod Vrfs
 pub mod Presence
-pub mod Reads
+pub mod ReadBack
 pub mod Passing
 pub mod Lines
 pub mod Stops

@@ -1,6 +1,6 @@
 -- Lines with a front and a number: one more of them, and what they are in a style and behind a word.
 use Rattle.std.proofs.Common.{◌≡◌, ℕ, ◌+◌, ◌*◌, ◌<◌, refl, sym, ◌∙◌, ap, subst, arith, List, [], ◌∷◌, ◌++◌, length, take, drop, get_or, Option, Result, append_assoc, append-nil, take-append-drop}
-use Rattle.std.specs.List.{flat_map, AllByRecursion}
+use Rattle.std.specs.List.{flat_map}
 use Rattle.std.proofs.lemmas.List.{take_more, length-take-le}
 use Rattle.ipam_edge.specs.Writing.{AppendsFront}
 use Rattle.inet_num.specs.declared.Family.{Family}
@@ -72,7 +72,9 @@ lines_of_style style name family n (b ∷ bs) of =
 -- in the plain style, behind a word, they are that word and the block
 pub lines_of_word : (word : List ℕ) (n : ℕ) (bs : List Cidr) → numbered_lines Plain word n bs ≡ flat_map (marked_line word) bs
 lines_of_word word n [] = refl
-lines_of_word word n (b ∷ bs) = ap (λ (t : List ℕ). marked_line word b ++ t) (lines_of_word word (n + 5) bs)
+lines_of_word word n (b ∷ bs) =
+    ap (λ (t : List ℕ). numbered_line Plain word n b ++ t) (lines_of_word word (n + 5) bs)
+    ∙ ap (λ (t : List ℕ). t ++ flat_map (marked_line word) bs) (sym (append_assoc word (block_text_of b) (10 ∷ [])))
 
 -- such lines were put
 pub puts_marked : {E : Type 0} (a b : Option (List ℕ)) (p q word : List ℕ) (bs : List Cidr) (result : Result (Unit {0}) E) → Puts a b p q (numbered_lines Plain word 5 bs) result
@@ -81,3 +83,6 @@ puts_marked a b p q word bs result h = subst (λ (t : List ℕ). Puts a b p q t 
 
 pub front_marked : (a b : Option (List ℕ)) (p word : List ℕ) (bs : List Cidr) → AppendsFront a b (p ++ numbered_lines Plain word 5 bs) → AppendsFront a b (p ++ flat_map (marked_line word) bs)
 front_marked a b p word bs h = subst (λ (t : List ℕ). AppendsFront a b (p ++ t)) (lines_of_word word 5 bs) h
+
+pub passes_marked : (a b : Option (List ℕ)) (p q word : List ℕ) (bs : List Cidr) → Passes a b p q (numbered_lines Plain word 5 bs) → Passes a b p q (flat_map (marked_line word) bs)
+passes_marked a b p q word bs h = subst (λ (t : List ℕ). Passes a b p q t) (lines_of_word word 5 bs) h

@@ -36,28 +36,28 @@ listed_more table family rows i row before after found so_far more =
     let row_is : get_or rows i row ≡ row = get_or_from_slice_get rows i row row (sym found) in
     let front : take (i + 1) rows ≡ take i rows ++ row ∷ [] = take_more rows i row less ∙ ap (λ (x : Prefix). take i rows ++ x ∷ []) row_is in
     more
-        ∙ ap (λ (bs : List Cidr). bs ++ blocks_listed table family (row ∷ [])) so_far
-        ∙ sym (listed_append table family (take i rows) (row ∷ []))
-        ∙ ap (blocks_listed table family) (sym front)
+    ∙ ap (λ (bs : List Cidr). bs ++ blocks_listed table family (row ∷ [])) so_far
+    ∙ sym (listed_append table family (take i rows) (row ∷ []))
+    ∙ ap (blocks_listed table family) (sym front)
 
 -- each block is of the family
 pub listed_are_of : (table : Table) (family : Family) (rows : List Prefix) → AreOf family (blocks_listed table family rows)
 listed_are_of table family [] = tt
-listed_are_of table family (row ∷ rows) = go (is_listed table family row) refl
+listed_are_of table family (row ∷ rows) = go (is_listed table family row) refl (listed_are_of table family rows)
   where
-    go : (t : Bool) → is_listed table family row ≡ t → AreOf family (blocks_listed table family (row ∷ rows))
-    go true e = rw e (one_family row.block.family family (and_parts (same_table (table_of row.vrf) table) (same_family row.block.family family) e).1, listed_are_of table family rows)
-    go false e = rw e (listed_are_of table family rows)
+    go : (t : Bool) → is_listed table family row ≡ t → AreOf family (blocks_listed table family rows) → AreOf family (blocks_listed table family (row ∷ rows))
+    go true e rest = rw e (one_family row.block.family family (and_parts (same_table (table_of row.vrf) table) (same_family row.block.family family) e).1, rest)
+    go false e rest = rw e rest
 
 -- a block whose first address is one of a list of the family is of it
 own_family : (family : Family) (have : List Cidr) (b : Cidr) → AreOf family have → addresses_of_list have (first_of b) ≡ true → b.family ≡ family
-own_family family have b of yes = go (same_family b.family family) refl
+own_family family have b of there = go (same_family b.family family) refl
   where
     go : (t : Bool) → same_family b.family family ≡ t → b.family ≡ family
     go true e = one_family b.family family e
     go false e =
         let other : b.family ≢ family = λ same. (let one : same_family b.family family ≡ true = subst (λ (f : Family). same_family b.family f ≡ true) same (same_family-refl b.family) in cc) in
-        let no = list_has_not family have (first_of b) of other in
+        let lacks = list_has_not family have (first_of b) of other in
         cc
 
 kept : (family : Family) (have cs : List Cidr) → AreOf family have → AllByRecursion IsBlock cs

@@ -1,5 +1,5 @@
 -- What a run of `prefix-list` leaves, as its record has it, by where it ended.
-use Rattle.std.proofs.Common.{◌≡◌, ℕ, ◌⊎◌, List, inl, inr, refl, arith}
+use Rattle.std.proofs.Common.{◌≡◌, ℕ, ◌⊎◌, List, inl, inr, arith}
 use Rattle.command_words.specs.declared.asked.ListAsked.{ListAsked}
 use Rattle.command_streams.specs.Streams.{EndsWith}
 use Rattle.command_store.specs.Outside.{Outside, AnyFailed, AreSame, IsUnused, NoCountFalls}

@@ -1,5 +1,5 @@
 -- A text that is written by pieces: a front was written, and the rest is in the buffer.
-use Rattle.std.proofs.Common.{◌≡◌, ℕ, refl, sym, ◌∙◌, ap, subst, List, [], ◌∷◌, ◌++◌, Option, Result, Ok, Err, IsErr, append_assoc, append-nil}
+use Rattle.std.proofs.Common.{◌≡◌, ℕ, refl, sym, ◌∙◌, ap, subst, List, [], ◌++◌, Option, Result, Ok, Err, IsErr, append_assoc, append-nil}
 use Rattle.std.specs.Io.KnownBytes.{Appends}
 use Rattle.std.proofs.KnownBytes.{Appends-trans, Appends-nil}
 use Rattle.ipam_edge.specs.Writing.{AppendsFront, WritesAll}
@@ -71,11 +71,12 @@ puts_at_err a b p r t (Ok x) h f = cc h
 puts_at_err a b p r t (Err e) h f = f
 
 -- the text is put, and the buffer is written
-pub whole_behind : {E : Type 0} (a b c : Option (List ℕ)) (piece text : List ℕ) (result : Result (Unit {0}) E) → Passes a b [] piece text → WritesAll b c result piece → WritesAll a c result text
-whole_behind a b c piece text (Ok x) h k = subst (Appends a c) h.rest (Appends-trans a b c h.front piece h.told k)
-whole_behind a b c piece text (Err e) h (more, (rest, is), said) = (
+pub whole_behind : {E : Type 0} (a b c : Option (List ℕ)) (first piece text : List ℕ) (result : Result (Unit {0}) E) → first ≡ [] → Passes a b first piece text → WritesAll b c result piece
+    → WritesAll a c result text
+whole_behind a b c first piece text (Ok x) empty h k = subst (Appends a c) (h.rest ∙ ap (λ (s : List ℕ). s ++ text) empty) (Appends-trans a b c h.front piece h.told k)
+whole_behind a b c first piece text (Err e) empty h (more, (rest, is), said) = (
   h.front ++ more,
-  (rest, sym h.rest ∙ ap (λ (s : List ℕ). h.front ++ s) is ∙ sym (append_assoc h.front more rest)),
+  (rest, ap (λ (s : List ℕ). s ++ text) (sym empty) ∙ sym h.rest ∙ ap (λ (s : List ℕ). h.front ++ s) is ∙ sym (append_assoc h.front more rest)),
   Appends-trans a b c h.front more h.told said,
 )
 

@@ -28,11 +28,12 @@ or_none false = refl
 -- among the rows of VRFs it is where the VRF is
 among_vrfs : (n : ℕ) (rows : List Vrf) → list_any (is_row_of n) (map stored_vrf rows) ≡ is_some (row_at vrf_id rows n)
 among_vrfs n [] = refl
-among_vrfs n (row ∷ rows) = go (row.id == n) refl
+among_vrfs n (row ∷ rows) = go (row.id == n) refl (among_vrfs n rows)
   where
-    go : (t : Bool) → (row.id == n) ≡ t → list_any (is_row_of n) (map stored_vrf (row ∷ rows)) ≡ is_some (row_at vrf_id (row ∷ rows) n)
-    go true e = rw e refl
-    go false e = rw e (among_vrfs n rows)
+    go : (t : Bool) → (row.id == n) ≡ t → list_any (is_row_of n) (map stored_vrf rows) ≡ is_some (row_at vrf_id rows n)
+        → list_any (is_row_of n) (map stored_vrf (row ∷ rows)) ≡ is_some (row_at vrf_id (row ∷ rows) n)
+    go true e rest = rw e refl
+    go false e rest = rw e rest
 
 -- among those of other kinds it is not
 among_others : {T : Type 0} (n : ℕ) (f : T → Row) → ((x : T) → is_row_of n (f x) ≡ false) → (rows : List T) → list_any (is_row_of n) (map f rows) ≡ false
@@ -55,18 +56,18 @@ told_by_tables s n =
     let ranges = map stored_range s.ranges.rows in
     let addresses = map stored_address s.addresses.rows in
     let p = is_row_of n in
-    behind p (map stored_vrf s.vrfs.rows) (rirs ++ roles ++ aggregates ++ prefixes ++ ranges ++ addresses ++ [])
-    (none_both p rirs (roles ++ aggregates ++ prefixes ++ ranges ++ addresses ++ []) (among_others n stored_rir (λ x. refl) s.rirs.rows)
-    (none_both p roles (aggregates ++ prefixes ++ ranges ++ addresses ++ []) (among_others n stored_role (λ x. refl) s.roles.rows)
-    (none_both p aggregates (prefixes ++ ranges ++ addresses ++ []) (among_others n stored_aggregate (λ x. refl) s.aggregates.rows)
-    (none_both p prefixes (ranges ++ addresses ++ []) (among_others n stored_prefix (λ x. refl) s.prefixes.rows)
+    behind p (map stored_vrf s.vrfs.rows) (rirs ++ (roles ++ (aggregates ++ (prefixes ++ (ranges ++ (addresses ++ []))))))
+    (none_both p rirs (roles ++ (aggregates ++ (prefixes ++ (ranges ++ (addresses ++ []))))) (among_others n stored_rir (λ x. refl) s.rirs.rows)
+    (none_both p roles (aggregates ++ (prefixes ++ (ranges ++ (addresses ++ [])))) (among_others n stored_role (λ x. refl) s.roles.rows)
+    (none_both p aggregates (prefixes ++ (ranges ++ (addresses ++ []))) (among_others n stored_aggregate (λ x. refl) s.aggregates.rows)
+    (none_both p prefixes (ranges ++ (addresses ++ [])) (among_others n stored_prefix (λ x. refl) s.prefixes.rows)
     (none_both p ranges (addresses ++ []) (among_others n stored_range (λ x. refl) s.ranges.rows)
     (none_both p addresses [] (among_others n stored_address (λ x. refl) s.addresses.rows) refl))))))
     ∙ among_vrfs n s.vrfs.rows
 
 -- two states that stand for the told tables have the same tables
 same_tables : (told : Option Tables) (unique : Bool) (s t : State) → IsSome told → IsOpened told unique s → IsOpened told unique t → tables_of s ≡ tables_of t
-same_tables None unique s t some h k = absurd some
+same_tables None unique s t some h k = absurd (cc)
 same_tables (Some tables) unique s t some (one, told, opening) (other, told_too, opening_too) = opening.tables_are ∙ sym told ∙ told_too ∙ sym opening_too.tables_are
 
 -- where the table is there in one of them, no other lacks its VRF

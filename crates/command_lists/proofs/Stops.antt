@@ -4,8 +4,8 @@ use Rattle.ipam_data.specs.State.{State}
 use Rattle.stored_tables.specs.declared.opening.OpenFault.{OpenFault}
 use Rattle.stored_tables.specs.declared.opening.OpenFault.TheVariants.{Keeper, BadTables, Memory as NoMemory, BadRow, Version, BadNext, Limit}
 use Rattle.command_words.specs.declared.asked.ListAsked.{ListAsked}
-use Rattle.command_streams.specs.Streams.{EndsWith, Failed}
-use Rattle.command_store.specs.Outside.{Outside, AnyFailed, IsUnused}
+use Rattle.command_streams.specs.Streams.{EndsWith}
+use Rattle.command_store.specs.Outside.{Outside, IsUnused}
 use Rattle.command_store.specs.FaultWords.{IsSaid, fault_line}
 use Rattle.command_store.specs.Opening.{IsBadStore, NamesFault, NamesFailure, FailsToSay}
 use Rattle.command_lists.specs.declared.table.TableStop.{TableStop}

@@ -21,7 +21,6 @@ use Rattle.ipam_data.specs.Steps.{get_plan, plain_step}
 use Rattle.stored_tables.specs.declared.tables.Tables.{Tables}
 use Rattle.stored_tables.specs.Stored.{Tells, tables_of}
 use Rattle.ipam_keeper.specs.Keeping.{Rose}
-use Rattle.command_words.specs.declared.asked.TableName.{TableName}
 use Rattle.command_words.specs.declared.asked.TableName.TheVariants as table
 use Rattle.command_lists.specs.declared.table.TableStop.{TableStop}
 use Rattle.command_lists.specs.declared.table.TableStop.TheVariants.{Opening, Absent, Memory}
@@ -105,6 +104,6 @@ stopped_by s t n few more reply (Err Memory) h answer failed = tt
 -- a keeper whose tables are those of one state before and after tells what it told
 pub same_told : (old new : Option Tables) (s t : State) → Tells old s → Tells new t → t ≡ s → (IsSome old ↔ IsSome new) → new ≡ old
 same_told None None s t a b e h = refl
-same_told None (Some tables) s t a b e h = absurd (h.1 tt)
-same_told (Some tables) None s t a b e h = absurd (h.0 tt)
+same_told None (Some tables) s t a b e h = absurd (let no_ = h.1 refl in cc)
+same_told (Some tables) None s t a b e h = absurd (let no_ = h.0 refl in cc)
 same_told (Some one) (Some other) s t a b e h = ap (λ (x : Tables). let o : Option Tables = Some x in o) (b ∙ ap tables_of e ∙ sym a)

@@ -29,7 +29,7 @@ pub struct Difference {
 }
 
 /// What a table and a list have beyond each other. `Err` means out of memory.
-fn difference(alloc: Global, table: &[Block], list: &[Block]) -> Result<Difference, AllocError>
+fn difference_of(alloc: Global, table: &[Block], list: &[Block]) -> Result<Difference, AllocError>
     requires { ShareFamily table.now list.now }
     ensures missing { IfOk result (λ d. AreFewest (addresses_beyond table.now list.now) d.missing.items) }
     ensures beyond { IfOk result (λ d. AreFewest (addresses_beyond list.now table.now) d.beyond.items) }
@@ -52,7 +52,7 @@ fn compare<So: Source>(
     ensures later { So.faults input.old ≤ So.faults input.new }
 {
     let list = read_input(alloc, asked, input)?;
-    let found = difference(alloc, table, &list)?;
+    let found = difference_of(alloc, table, &list)?;
     Ok(found)
 }
 

@@ -32,7 +32,12 @@ fn front_text(alloc: Global, asked: &ListAsked) -> Result<Vec<u8>, AllocError>
     ensures { IfOk result (λ v. v.items ≡ front_of (style_of_name asked.now.style) asked.now.name asked.now.family) }
 {
     let mut front = Vec::new(alloc);
-    push_front(style_named(asked.style), asked.name.as_str(), asked.family, &mut front)?;
+    push_front(
+        style_named(asked.style),
+        asked.name.as_str(),
+        asked.family,
+        &mut front,
+    )?;
     Ok(front)
 }
 

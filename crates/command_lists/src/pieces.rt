@@ -49,11 +49,7 @@ fn put_behind<Si: Sink>(
 }
 
 /// Puts a text behind the piece, which is written before where it has no room.
-fn put<Si: Sink>(
-    output: &mut Si,
-    piece: &mut ArrayVec<u8, ROOM>,
-    text: &[u8],
-) -> Result<(), Failed>
+fn put<Si: Sink>(output: &mut Si, piece: &mut ArrayVec<u8, ROOM>, text: &[u8]) -> Result<(), Failed>
     ensures told { Puts (Si.written output.old) (Si.written output.new) piece.old.items piece.new.items text.now result }
     ensures cause { HasCause (Si.faults output.old) (Si.faults output.new) result }
 {

@@ -76,7 +76,13 @@ pub(crate) fn read_input<So: Source>(
         Err(Unread::TooLong) => return Err(InputStop::TooLong),
         Err(Unread::Memory) => return Err(InputStop::Memory),
     };
-    match read_list(alloc, style_named(asked.style), &name, asked.family, bytes.as_slice()) {
+    match read_list(
+        alloc,
+        style_named(asked.style),
+        &name,
+        asked.family,
+        bytes.as_slice(),
+    ) {
         Ok(blocks) => Ok(blocks),
         Err(ListFault::Line(number)) => Err(InputStop::Line(number)),
         Err(ListFault::Memory) => Err(InputStop::Memory),

@@ -1,4 +1,4 @@
-use Rattle.std.proofs.Common.{◌≡◌, refl, arith, subst, List}
+use Rattle.std.proofs.Common.{refl, arith, subst, List}
 use Rattle.inet_num.specs.Net.{Cidr}
 use Rattle.command_lists.specs.Texts.{IsDifferenceText, difference_text}
 use Rattle.command_lists.proofs.Checks.{of_printed, of_no_list}
@@ -16,7 +16,7 @@ returns-in-Ok g c = λ old new read same more.
       record { loaded = read.found; there = read.there },
       found.given,
       subst (λ (bs : List Cidr). IsDifferenceText bs found.list (difference_text c.in-Ok.found.missing.items c.in-Ok.found.beyond.items)) read.blocks_are
-      (c.in-Ok.found.missing.items, c.in-Ok.found.beyond.items, found.missing, found.beyond, refl),
+          (c.in-Ok.found.missing.items, c.in-Ok.found.beyond.items, found.missing, found.beyond, refl),
     ) c.print_difference.ensures.ends refl
 
 pub returns-in-Err : goal.returns-in-Err

@@ -1,11 +1,11 @@
-use Rattle.std.proofs.Common.{◌≡◌, sym, ◌∙◌, ap, subst, List, ℕ}
+use Rattle.std.proofs.Common.{sym, subst, List}
 use Rattle.inet_num.specs.Net.{Cidr}
 use Rattle.prefix_list.specs.Lists.{addresses_beyond, AreOf}
 use Rattle.command_lists.specs.Texts.{AreFewest}
 use Rattle.command_lists.proofs.check.compare.Goals as goal
 
-pub difference-requires : goal.difference-requires
-difference-requires g c = (c.args.asked.now.family, c.requires, subst (AreOf c.args.asked.now.family) (sym c.deref.ensures.value) c.in_ok-list.ensures.family)
+pub difference_of-requires : goal.difference_of-requires
+difference_of-requires g c = (c.args.asked.now.family, c.requires, subst (AreOf c.args.asked.now.family) (sym c.deref.ensures.value) c.in_ok-list.ensures.family)
 
 pub returns-clause-compared : goal.returns-clause-compared
 returns-clause-compared g c =

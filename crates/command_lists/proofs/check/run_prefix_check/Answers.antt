@@ -1,5 +1,4 @@
-use Rattle.std.proofs.Common.{◌≡◌, refl, arith, sym, subst, List}
-use Rattle.inet_num.specs.Net.{Cidr}
+use Rattle.std.proofs.Common.{refl, arith, sym, subst}
 use Rattle.command_store.specs.Outside.{stores}
 use Rattle.prefix_list.specs.Lists.{AreOf}
 use Rattle.command_lists.specs.Reading.{IsRead}

@@ -1,7 +1,6 @@
 use Rattle.std.proofs.Common.{◌≡◌, sym, ◌∙◌, ap, subst, List, ℕ}
 use Rattle.inet_num.specs.Net.{Cidr}
 use Rattle.prefix_list.specs.Lists.{addresses_of_list, AreOf}
-use Rattle.prefix_list.specs.Styles.{front_of}
 use Rattle.command_lists.specs.Tables.{table_blocks}
 use Rattle.command_lists.specs.Texts.{style_named, AreFewest, numbered_lines}
 use Rattle.command_lists.proofs.Listed.{family_kept}

@@ -1,6 +1,4 @@
-use Rattle.std.proofs.Common.{◌≡◌, refl, arith, sym, subst, List, ℕ}
-use Rattle.command_streams.specs.Streams.{told, EndsWith}
-use Rattle.command_store.specs.Outside.{stores}
+use Rattle.std.proofs.Common.{refl, arith}
 use Rattle.command_lists.proofs.Lists.{of_printed, of_stopped}
 use Rattle.command_lists.proofs.Stops.{of_table_stop}
 use Rattle.command_lists.proofs.list.run_prefix_list.Goals as goal

@@ -1,10 +1,9 @@
-use Rattle.std.proofs.Common.{List, ℕ, subst, rules, ◌∙◌}
-use Rattle.ipam_edge.proofs.WritingLemmas.{writes_at_err}
+use Rattle.std.proofs.Common.{List, ℕ, subst}
 use Rattle.ipam_edge.specs.Writing.{WritesAll}
 use Rattle.command_lists.proofs.Passing.{whole_behind}
 use Rattle.command_lists.proofs.pieces.write_difference.Goals as goal
 
 pub returns-clause-told : goal.returns-clause-told
 returns-clause-told g c =
-    whole_behind _ _ _ _ _ c.write_all.result c.in_ok-put_difference.ensures.told
+    whole_behind _ _ _ _ _ _ c.write_all.result c.new-piece.ensures c.in_ok-put_difference.ensures.told
     (subst (λ (p : List ℕ). WritesAll (g.Si.Sink.written c.put_difference.new.output) (g.Si.Sink.written c.write_all.new.sink) c.write_all.result p) c.as_slice.ensures.value c.write_all.ensures.told)

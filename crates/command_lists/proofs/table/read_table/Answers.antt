@@ -1,25 +1,28 @@
-use Rattle.std.proofs.Common.{ap, ◌∙◌}
+use Rattle.std.proofs.Common.{ap, subst, ◌∙◌}
+use Rattle.ipam_keeper.specs.Keeping.{IsRaised}
 use Rattle.command_store.specs.Outside.{stores}
 use Rattle.command_store.proofs.Refused.{back_after, raised_later}
-use Rattle.command_lists.proofs.Reads.{read_back, stopped_back, read_are_of}
+use Rattle.command_lists.proofs.ReadBack.{read_back, stopped_back, read_are_of}
 use Rattle.command_lists.proofs.table.read_table.Goals as goal
 
 pub returns-in-Ok-clause-read : goal.returns-in-Ok-clause-read
 returns-in-Ok-clause-read g c =
     read_back c.args.asked.now (stores g.O.KeeperOpener.stored g.O.KeeperOpener.faults c.args.opener.now) (stores g.O.KeeperOpener.stored g.O.KeeperOpener.faults c.done.new.self)
-    c.in-Ok.register.state c.in-Ok.ensures.state (λ v. v.items) c.blocks_in.result c.blocks_in.ensures.there c.blocks_in.ensures.blocks
+    c.in-Ok.register.state c.in-Ok.ensures.state (λ v. v.items) c.blocks_in-blocks.result c.blocks_in-blocks.ensures.there c.blocks_in-blocks.ensures.blocks
 
 pub returns-in-Ok-clause-family : goal.returns-in-Ok-clause-family
-returns-in-Ok-clause-family g c = read_are_of c.args.asked.now c.in-Ok.register.state (λ v. v.items) c.blocks_in.result c.blocks_in.ensures.blocks
+returns-in-Ok-clause-family g c = read_are_of c.args.asked.now c.in-Ok.register.state (λ v. v.items) c.blocks_in-blocks.result c.blocks_in-blocks.ensures.blocks
 
 pub returns-in-Ok-clause-stop : goal.returns-in-Ok-clause-stop
 returns-in-Ok-clause-stop g c =
     stopped_back c.args.asked.now (stores g.O.KeeperOpener.stored g.O.KeeperOpener.faults c.args.opener.now) (stores g.O.KeeperOpener.stored g.O.KeeperOpener.faults c.done.new.self)
-    c.in-Ok.register.state c.in-Ok.ensures.state _ _ _ c.blocks_in.result c.open_store.ensures.later c.done.ensures.raised c.blocks_in.ensures.stop
+    c.in-Ok.register.state c.in-Ok.ensures.state _ _ _ c.blocks_in-blocks.result c.open_store.ensures.later
+    (subst (λ k. IsRaised (g.O.KeeperOpener.faults c.open_store.new.opener) (g.O.Kept.Keeper.faults k) (g.O.KeeperOpener.faults c.done.new.self)) c.into_keeper.ensures c.done.ensures.raised)
+    c.blocks_in-blocks.ensures.stop
 
 pub returns-in-Ok-clause-same : goal.returns-in-Ok-clause-same
 returns-in-Ok-clause-same g c =
-    back_after _ _ _ _ _ _ _ c.in-Ok.ensures.lent c.in-Ok.ensures.stays (ap g.O.Kept.Keeper.told c.into_keeper.ensures ∙ c.blocks_in.ensures.told) c.in-Ok.ensures.told c.done.ensures.returned
+    back_after _ _ _ _ _ _ _ c.in-Ok.ensures.lent c.in-Ok.ensures.stays (ap g.O.Kept.Keeper.told c.into_keeper.ensures ∙ c.blocks_in-blocks.ensures.told) c.in-Ok.ensures.told c.done.ensures.returned
 
 pub returns-in-Ok-clause-later : goal.returns-in-Ok-clause-later
 returns-in-Ok-clause-later g c = raised_later _ _ _ _ c.open_store.ensures.later c.done.ensures.raised

@@ -1,11 +1,9 @@
 -- A table that was read out of a store, or not, once the keeper is back; and the fewest blocks of what was read.
-use Rattle.std.proofs.Common.{◌≡◌, ℕ, ◌≤◌, refl, sym, ◌∙◌, ap, subst, true, List, Result, Ok, Err, IfOk, IfErr, OnOk}
-use Rattle.inet_num.specs.declared.Family.{Family}
-use Rattle.inet_num.specs.Net.{Address, Cidr}
+use Rattle.std.proofs.Common.{◌≡◌, ℕ, ◌≤◌, sym, subst, true, List, Result, Ok, Err, IfOk, IfErr, OnOk}
+use Rattle.inet_num.specs.Net.{Cidr}
 use Rattle.ipam_data.specs.State.{State}
-use Rattle.stored_tables.specs.declared.opening.OpenFault.{OpenFault}
 use Rattle.stored_tables.specs.Opening.{IsOfTables}
-use Rattle.ipam_keeper.specs.Keeping.{Rose, IsRaised}
+use Rattle.ipam_keeper.specs.Keeping.{IsRaised}
 use Rattle.prefix_list.specs.Lists.{AreOf}
 use Rattle.command_words.specs.declared.asked.ListAsked.{ListAsked}
 use Rattle.command_store.specs.Outside.{Stores}
