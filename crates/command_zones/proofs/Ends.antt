@@ -1,6 +1,7 @@
 -- What the output has where the lines of a zone were printed, or were not.
-use Rattle.std.proofs.Common.{◌≡◌, ℕ, List, Ok, Err, refl, sym, ap, subst, ◌∙◌}
+use Rattle.std.proofs.Common.{◌≡◌, ℕ, List, Result, Ok, Err, refl, sym, ap, subst, ◌∙◌}
 use Rattle.std.specs.List.{All}
+use Rattle.std.specs.Result.{IsErrAnd}
 use Rattle.ipam_data.specs.declared.address.IpAddress.{IpAddress}
 use Rattle.ipam_data.specs.State.{State}
 use Rattle.command_streams.specs.Streams.{Told, Gains, GainsFront, Failed}
@@ -9,14 +10,16 @@ use Rattle.command_zones.specs.declared.zone.ZoneStop.{ZoneStop}
 use Rattle.command_zones.specs.declared.zone.ZoneStop.TheVariants.{Refused, Unwritten, Memory}
 use Rattle.command_zones.specs.Zone.{lines_at, IsSpotIn, IsZone, IsZoneStop, IsZoneEnd}
 
+-- what holds of an error holds of it behind a `?`
+pub passed_on : {T E : Type 0} (P : Result T E → Type 0) (r : Result T E) (e : E) → IsErrAnd r (λ y. y ≡ e) → P (Err e) → P r
+passed_on P (Ok x) e h p = absurd h
+passed_on {T} {E} P (Err y) e h p = subst (λ (z : E). P (Err z)) (sym h) p
+
 -- nothing was written
 pub stopped : (s : State) (id : ℕ) (stop : ZoneStop) (told : Told) → IsZoneStop s id stop → IsZoneEnd s id told told (Err stop)
 stopped s id (Refused refusal) told h = (h, refl)
 stopped s id Unwritten told h = absurd h
 stopped s id Memory told h = refl
-
-pub no_memory : (s : State) (id : ℕ) (stop : ZoneStop) (told : Told) → stop ≡ Memory → IsZoneEnd s id told told (Err stop)
-no_memory s id stop told e = stopped s id stop told (subst (IsZoneStop s id) (sym e) tt)
 
 -- the rows of the book and the places as they were handed on
 module _ (s : State) (id : ℕ) (rows : List IpAddress) (spots given : List Spot) (same : rows ≡ s.addresses.rows) (handed : given ≡ spots) (zone : IsZone s id spots) where

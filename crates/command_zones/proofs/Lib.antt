@@ -5,6 +5,6 @@ pub mod Rows
 pub mod Passing
 pub mod Ends
 pub mod Reverses
-pub mod Reads
+pub mod PairRuns
 pub mod Loaded
 pub mod Exact

@@ -32,12 +32,12 @@ module _ (p : Row → Bool) where
 
   module _ {T : Type 0} (f : T → Row) where
     others : ((x : T) → p (f x) ≡ false) → (xs : List T) → filter p (map f xs) ≡ []
-    others no [] = refl
-    others no (x ∷ xs) = rw (no x) (others no xs)
+    others misses [] = refl
+    others misses (x ∷ xs) = rw (misses x) (others misses xs)
 
     mine : ((x : T) → p (f x) ≡ true) → (xs : List T) → filter p (map f xs) ≡ map f xs
-    mine yes [] = refl
-    mine yes (x ∷ xs) = rw (yes x) (ap (λ (rows : List Row). f x ∷ rows) (mine yes xs))
+    mine passes [] = refl
+    mine passes (x ∷ xs) = rw (passes x) (ap (λ (rows : List Row). f x ∷ rows) (mine passes xs))
 
 abbrev is_prefix_row : Row → Bool
 is_prefix_row row = kind_number row.kind == 5
@@ -187,8 +187,6 @@ module _ (s t : State) (same : AreAlike s t) where
   refusal_moved id (Absent n) h = (h.0, subst (λ (ps : List Prefix). row_at prefix_id ps id ≡ None) same.prefixes h.1)
   refusal_moved id (Unfit n) h = (
     h.0,
-    (
-      subst (λ (ps : List Prefix). row_at prefix_id ps id ≡ Some h.0) same.prefixes h.1,
-      subst (λ (rs : List IpAddress). least address_id (is_unfit h.0) rs ≡ Some n) same.addresses h.2,
-    ),
+    subst (λ (ps : List Prefix). row_at prefix_id ps id ≡ Some h.0) same.prefixes h.1,
+    subst (λ (rs : List IpAddress). least address_id (is_unfit h.0) rs ≡ Some n) same.addresses h.2,
   )

@@ -62,7 +62,8 @@ module _ (rows : List IpAddress) (d : IpAddress) where
       → AllAdjacentBelow IsBefore (map row_at_spot spots) (length (map row_at_spot spots))
   in_order [] there sorted one = λ k e h. absurd (omega arith)
   in_order (p ∷ []) there sorted one = λ k e h. absurd (omega arith)
-  in_order (p ∷ q ∷ ps) there sorted one = go
+  in_order (p ∷ q ∷ ps) there sorted one =
+      go (in_order (q ∷ ps) there.1 (sorted_rest p q ps sorted) (λ n. having_rest address_id n (row_at_spot p) (map row_at_spot (q ∷ ps)) (one n)))
     where
       first : IsBefore (row_at_spot p) (row_at_spot q)
       first =
@@ -71,12 +72,10 @@ module _ (rows : List IpAddress) (d : IpAddress) where
           (no_less (place_of p) (place_of q) (sorted 0 p (omega arith) (omega arith)))
           (apart address_id (row_at_spot p) (row_at_spot q) (map row_at_spot ps) (one (address_id (row_at_spot p))))
 
-      rest : AllAdjacentBelow IsBefore (map row_at_spot (q ∷ ps)) (length (map row_at_spot (q ∷ ps)))
-      rest = in_order (q ∷ ps) there.1 (sorted_rest p q ps sorted) (λ n. having_rest address_id n (row_at_spot p) (map row_at_spot (q ∷ ps)) (one n))
-
-      go : (k : ℕ) (e : IpAddress) → k + 1 < length (map row_at_spot (p ∷ q ∷ ps)) → IsBefore (get_or (map row_at_spot (p ∷ q ∷ ps)) k e) (get_or (map row_at_spot (p ∷ q ∷ ps)) (k + 1) e)
-      go zero e h = first
-      go (suc k) e h =
+      go : AllAdjacentBelow IsBefore (map row_at_spot (q ∷ ps)) (length (map row_at_spot (q ∷ ps)))
+          → (k : ℕ) (e : IpAddress) → k + 1 < length (map row_at_spot (p ∷ q ∷ ps)) → IsBefore (get_or (map row_at_spot (p ∷ q ∷ ps)) k e) (get_or (map row_at_spot (p ∷ q ∷ ps)) (k + 1) e)
+      go rest zero e h = first
+      go rest (suc k) e h =
           subst (λ (j : ℕ). IsBefore (get_or (map row_at_spot (q ∷ ps)) k e) (get_or (map row_at_spot (p ∷ q ∷ ps)) j e)) (sym (one_on k)) (rest k e (omega arith))
 
   -- the lines at places are those of the rows

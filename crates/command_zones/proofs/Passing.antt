@@ -1,20 +1,12 @@
 -- Lines that are written by pieces: a front was written, and the rest is in the buffer.
-use Rattle.std.proofs.Common.{◌≡◌, ℕ, ◌+◌, ◌<◌, sym, ◌∙◌, ap, subst, List, [], ◌∷◌, ◌++◌, Option, append_assoc, append-nil, length, take, drop, get_or, take-append-drop}
+use Rattle.std.proofs.Common.{◌≡◌, ℕ, ◌+◌, ◌<◌, sym, ◌∙◌, ap, subst, List, [], ◌∷◌, ◌++◌, Option, Result, Ok, Err, append_assoc, append-nil, length, take, drop, get_or, take-append-drop}
 use Rattle.std.specs.Io.KnownBytes.{Appends}
 use Rattle.std.specs.List.{flat_map}
-use Rattle.std.proofs.KnownBytes.{Appends-trans, Appends-nil}
+use Rattle.std.proofs.KnownBytes.{Appends-trans}
 use Rattle.std.proofs.lemmas.Grind.{flat_map-append}
 use Rattle.std.proofs.lemmas.List.{take_more}
-use Rattle.ipam_edge.specs.Writing.{AppendsFront}
+use Rattle.ipam_edge.specs.Writing.{AppendsFront, WritesAll}
 use Rattle.command_zones.specs.Printing.{Passes}
-
--- nothing was written, and the buffer is as it was
-pub passes_nothing : (a : Option (List ℕ)) (piece : List ℕ) → Passes a a piece piece []
-passes_nothing a piece = record { front = []; told = Appends-nil a; rest = sym (append-nil piece) }
-
--- the whole buffer was written
-pub passes_piece : (a b : Option (List ℕ)) (piece after : List ℕ) → Appends a b piece → after ≡ [] → Passes a b piece after []
-passes_piece a b piece after told none = record { front = piece; told = told; rest = ap (λ (t : List ℕ). piece ++ t) none }
 
 -- room was made, and a line stands behind the buffer
 pub passes_line : (a b c : Option (List ℕ)) (p q r t u line : List ℕ) → Passes a b [] p t → Passes b c p q [] → r ≡ q ++ line → u ≡ t ++ line → Passes a c [] r u
@@ -43,9 +35,10 @@ front_behind a b c piece text whole after h (more, (others, is), said) w = (
   Appends-trans a b c h.front more h.told said,
 )
 
--- the buffer was written behind what was written before
-pub whole_behind : (a b c : Option (List ℕ)) (piece text : List ℕ) → Passes a b [] piece text → Appends b c piece → (Appends a c text)
-whole_behind a b c piece text h said = subst (Appends a c) h.rest (Appends-trans a b c h.front piece h.told said)
+-- the buffer was written behind what was written before, or a front of it was
+pub whole_behind : {E : Type 0} (a b c : Option (List ℕ)) (r : Result (Unit {0}) E) (piece text whole : List ℕ) → Passes a b [] piece text → text ≡ whole → WritesAll b c r piece → WritesAll a c r whole
+whole_behind a b c (Ok done) piece text whole h w said = subst (Appends a c) (h.rest ∙ w) (Appends-trans a b c h.front piece h.told said)
+whole_behind a b c (Err failed) piece text whole h w said = front_behind a b c piece text whole [] h said (append-nil text ∙ w)
 
 module _ {X : Type 0} (line : X → List ℕ) where
   -- the text of one more

@@ -2,7 +2,7 @@ use Rattle.std.proofs.Common.{◌≡◌, List, refl, subst, arith}
 use Rattle.reverse_zone.specs.declared.record.Pair.{Pair}
 use Rattle.command_streams.specs.Streams.{told}
 use Rattle.command_zones.specs.Pairs.{IsPairsSaid}
-use Rattle.command_zones.proofs.Reads.{of_pairs, of_stop}
+use Rattle.command_zones.proofs.PairRuns.{of_pairs, of_stop}
 use Rattle.command_zones.proofs.pairs.run_reverse_read.Goals as goal
 
 pub returns-in-Ok : goal.returns-in-Ok

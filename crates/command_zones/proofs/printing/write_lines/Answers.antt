@@ -1,9 +1,10 @@
-use Rattle.std.proofs.Common.{rules, arith, sym, ◌∙◌, ap, ◌++◌, List, ℕ, take}
-use Rattle.std.proofs.lemmas.List.Elements.{All-get_or}
+use Rattle.std.proofs.Common.{rules, arith, ap, subst, get_or, take, List, ℕ}
+use Rattle.std.proofs.lemmas.List.{take_all}
+use Rattle.ipam_edge.specs.Writing.{WritesAll}
 use Rattle.ipam_edge.proofs.WritingLemmas.{writes_at_err}
 use Rattle.command_zones.specs.declared.zone.Spot.{Spot}
-use Rattle.command_zones.specs.Zone.{line_at, lines_at, IsSpotIn}
-use Rattle.command_zones.proofs.Passing.{front_behind, passes_line, text_more, text_front}
+use Rattle.command_zones.specs.Zone.{line_at, lines_at}
+use Rattle.command_zones.proofs.Passing.{front_behind, whole_behind, passes_line, text_more, text_front}
 use Rattle.command_zones.proofs.printing.write_lines.Goals as goal
 
 pub returns-in_err-make_room-clause-told : goal.returns-in_err-make_room-clause-told
@@ -23,10 +24,20 @@ loop-spot-preserved g c =
     let room = c.loop-spot.invariant.room in
     let kept = c.make_room.ensures.capacity in
     let grown = c.push_line.ensures.capacity in
+    let none : Spot = record { address = 0; id = 0; index = 0 } in
     record {
-      passed = passes_line _ _ _ _ _ _ _ _ (line_at rows c.spot-item.result.index) c.loop-spot.invariant.passed c.in_ok-make_room.ensures.passed c.push_line.ensures.items
-          (text_more (λ (s : Spot). line_at rows s.index) spots i c.spot-item.result c.loop-spot-test.true
-              ∙ ap (λ (s : Spot). lines_at rows (take i spots) ++ line_at rows s.index) (sym c.spot-item.is));
+      passed = passes_line _ _ _ _ _ _ _ _ (line_at rows (get_or spots i none).index) c.loop-spot.invariant.passed c.in_ok-make_room.ensures.passed c.push_line.ensures.items
+          (text_more (λ (s : Spot). line_at rows s.index) spots i none c.loop-spot-test.true);
       room = omega arith;
       later = omega arith;
     }
+
+pub returns-clause-told : goal.returns-clause-told
+returns-clause-told g c =
+    let rows = c.args.addresses.now.rows in
+    let spots = c.args.spots.now in
+    let i = c.loop-spot.spot-index in
+    whole_behind _ _ _ c.write_all.result c.loop-spot.piece.items (lines_at rows (take i spots)) (lines_at rows spots) c.loop-spot.invariant.passed
+    (ap (λ (ss : List Spot). lines_at rows ss) (take_all i spots (omega arith)))
+    (subst (λ (bytes : List ℕ). WritesAll (g.Si.Sink.written c.loop-spot.output) (g.Si.Sink.written c.write_all.new.sink) c.write_all.result bytes) c.as_slice.ensures.value
+        c.write_all.ensures.told)

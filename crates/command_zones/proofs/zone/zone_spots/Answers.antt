@@ -1,4 +1,4 @@
-use Rattle.std.proofs.Common.{arith}
+use Rattle.std.proofs.Common.{arith, rules}
 use Rattle.command_zones.proofs.Rows.{spots_none, spots_more, rows_stop, spots_all}
 use Rattle.command_zones.proofs.zone.zone_spots.Goals as goal
 
@@ -12,8 +12,10 @@ rows-preserved c =
 
 pub returns-in_err-add_row-clause-stop : goal.returns-in_err-add_row-clause-stop
 returns-in_err-add_row-clause-stop c =
-    rows_stop c.args.addresses.now.rows c.args.prefix.now c.rows.index c.address_at-row.result.now c.rows.spots.items _
-    c.address_at-row.ensures c.rows.invariant c.in_err-add_row.ensures.stop
+    let stop =
+    rows_stop c.args.addresses.now.rows c.args.prefix.now c.rows.index c.address_at-row.result.now c.rows.spots.items c.in_err-add_row.field-0.0
+    c.address_at-row.ensures c.rows.invariant c.in_err-add_row.ensures.stop in
+    search rules
 
 pub returns-clause-spots : goal.returns-clause-spots
 returns-clause-spots c = spots_all c.args.addresses.now.rows c.args.prefix.now c.rows.index c.rows.spots.items (omega arith) c.rows.invariant
