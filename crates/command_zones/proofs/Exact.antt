@@ -1,5 +1,5 @@
 -- One text or one refusal of a state; and exact statuses where nothing fails.
-use Rattle.std.proofs.Common.{◌≡◌, ◌⊎◌, inl, inr, ℕ, ◌<◌, ◌≤◌, List, [], Option, Some, None, IfSome, IsSome, length, refl, sym, ap, subst, ◌∙◌, arith}
+use Rattle.std.proofs.Common.{◌≡◌, inl, inr, ℕ, List, [], Option, Some, None, IfSome, IsSome, sym, ap, subst, ◌∙◌, arith}
 use Rattle.std.specs.Str.Lines.{lines}
 use Rattle.ipam_data.specs.declared.prefix.Prefix.{Prefix}
 use Rattle.ipam_data.specs.declared.address.IpAddress.{IpAddress}
@@ -9,7 +9,7 @@ use Rattle.reverse_zone.specs.Zones.{AreZoneRows, zone_text_of}
 use Rattle.reverse_zone.proofs.Pairings.{input_has_one_answer}
 use Rattle.reverse_zone.proofs.ZoneOrder.{zone_has_one_order}
 use Rattle.command_words.specs.declared.asked.Store.{Store}
-use Rattle.command_streams.specs.Streams.{Streams, Told, SomeFailed}
+use Rattle.command_streams.specs.Streams.{Streams, SomeFailed}
 use Rattle.command_store.specs.Outside.{Outside, AnyFailed}
 use Rattle.command_store.specs.Opening.{found_tables}
 use Rattle.command_zones.specs.declared.zone.ZoneRefusal.{ZoneRefusal}
@@ -18,7 +18,7 @@ use Rattle.command_zones.specs.declared.pairs.ReadRefusal.{ReadRefusal}
 use Rattle.command_zones.specs.declared.pairs.ReadRefusal.TheVariants.{TooLong, Line}
 use Rattle.command_zones.specs.Zone.{unfit_id, IsTextOf, IsZoneRefusal}
 use Rattle.command_zones.specs.Reverse.{IsZoneText, IsRefusedSo, PrintsZone, IsReverse}
-use Rattle.command_zones.specs.Pairs.{HasPairs, GivesPairs, RefusesInput, IsReadRefusal, IsReverseRead}
+use Rattle.command_zones.specs.Pairs.{HasPairs, IsReadRefusal, IsReverseRead}
 use Rattle.command_zones.proofs.Loaded.{opened_alike, text_moved, refusal_moved}
 use Rattle.command_zones.specs.Laws.{ReverseHasOneAnswer, IsExact, ReverseIsExact, IsReadExact, ReverseReadIsExact}
 

@@ -1,5 +1,5 @@
 -- Tables that are told stand for one list of prefixes and one list of addresses: so a command over them has one answer.
-use Rattle.std.proofs.Common.{◌≡◌, ℕ, ◌+◌, ◌<◌, ◌≤◌, ◌==◌, Bool, true, false, cond, List, [], ◌∷◌, ◌++◌, append-nil, map, Option, Some, None, IsSome, refl, sym, ap, subst, ◌∙◌, arith, Contains, IsPermutation, inl, inr}
+use Rattle.std.proofs.Common.{◌≡◌, ℕ, ◌<◌, ◌==◌, Bool, true, false, List, [], ◌∷◌, ◌++◌, append-nil, map, Option, Some, None, IsSome, refl, sym, ap, subst, ◌∙◌, arith, Contains, IsPermutation, inl, inr}
 use Rattle.std.specs.List.{AllByRecursion, filter}
 use Rattle.std.proofs.lemmas.List.Elements.{filter-append}
 use Rattle.ipam_data.specs.declared.prefix.Prefix.{Prefix}
@@ -13,7 +13,6 @@ use Rattle.stored_tables.specs.declared.tables.Row.{Row}
 use Rattle.stored_tables.specs.declared.tables.Tables.{Tables}
 use Rattle.stored_tables.specs.Stored.{kind_number, tables_of, stored_vrf, stored_rir, stored_role, stored_aggregate, stored_prefix, stored_range, stored_address}
 use Rattle.stored_tables.specs.Reading.{IsWord, IsAbsentOr, IsTypedPrefix, IsTypedAddress}
-use Rattle.stored_tables.specs.Opening.{IsOpening}
 use Rattle.stored_tables.proofs.Alike.{one_prefix, one_address}
 use Rattle.register_core.specs.Opened.{IsOpened}
 use Rattle.reverse_zone.specs.Zones.{is_zone_row}

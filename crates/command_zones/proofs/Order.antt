@@ -1,10 +1,10 @@
 -- Places that are sorted name rows in the order of a zone.
-use Rattle.std.proofs.Common.{◌≡◌, ◌≢◌, ◌⊎◌, inl, inr, ℕ, zero, suc, ◌+◌, ◌<◌, ◌≤◌, Bool, true, false, List, [], ◌∷◌, ◌++◌, length, map, get_or, slice_get, Option, Some, refl, ap, sym, subst, ◌∙◌, arith}
+use Rattle.std.proofs.Common.{◌≡◌, ◌≢◌, ◌⊎◌, inl, inr, ℕ, zero, suc, ◌+◌, ◌<◌, ◌≤◌, false, List, [], ◌∷◌, ◌++◌, length, map, get_or, Option, refl, ap, sym, subst, ◌∙◌, arith}
 use Rattle.std.specs.declared.cmp.Ordering.{Ordering}
 use Rattle.std.specs.declared.cmp.Ordering.TheVariants.{Less, Equal, Greater}
 use Rattle.std.specs.Ordering.{ordering_then, nat_cmp, is_lt, MatchOrdering}
 use Rattle.std.specs.Option.{unwrap_or, option_map}
-use Rattle.std.specs.List.{AllByRecursion, AllAdjacentBelow, flat_map}
+use Rattle.std.specs.List.{AllByRecursion, AllAdjacentBelow}
 use Rattle.std.specs.List.Sorted.{IsSortedByKey}
 use Rattle.std.proofs.lemmas.Cmp.{ranked}
 use Rattle.std.proofs.lemmas.Option.{get_or_from_slice_get}

@@ -1,5 +1,5 @@
 -- What a run of `reverse-read` leaves, as the command's record has it, by where it ended; and what is known of an input that was read whole.
-use Rattle.std.proofs.Common.{◌≡◌, ℕ, ◌⊎◌, List, [], inl, inr, Option, Some, None, IfSome, subst, sym, ◌∙◌, arith}
+use Rattle.std.proofs.Common.{◌≡◌, ℕ, ◌⊎◌, List, [], inl, inr, Option, Some, None, IfSome, subst, sym, arith}
 use Rattle.std.specs.Str.Lines.{lines}
 use Rattle.ipam_edge.specs.Whole.{IsWhole}
 use Rattle.reverse_zone.specs.declared.record.Pair.{Pair}

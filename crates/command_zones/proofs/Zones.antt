@@ -1,5 +1,5 @@
 -- The zone of a prefix is what its places name, once they are sorted.
-use Rattle.std.proofs.Common.{◌≡◌, ℕ, ◌≤◌, ◌==◌, Bool, cond, List, [], ◌∷◌, length, map, slice_get, Option, Some, None, refl, ap, sym, subst, ◌∙◌, arith, IsPermutation}
+use Rattle.std.proofs.Common.{◌≡◌, ℕ, ◌≤◌, ◌==◌, cond, List, [], ◌∷◌, length, map, Option, Some, refl, ap, subst, arith, IsPermutation}
 use Rattle.std.specs.Option.{option_map}
 use Rattle.std.specs.List.{All, AllByRecursion, AllAdjacentBelow, filter}
 use Rattle.std.specs.List.Sorted.{IsSortedByKey}

@@ -1,5 +1,5 @@
 -- The names of a prefix's addresses: the lines that a state has for a prefix, or why it has none, and how they come about.
-use Rattle.std.specs.Prelude.{◌≡◌, ℕ, Bool, true, false, not, ◌&&◌, IsTrue, Option, Some, None, option_map, unwrap_or, Result, Ok, Err, List, [], ◌∷◌, All, filter, find, flat_map, map, slice_get, slice_index_or, if◌then◌else◌}
+use Rattle.std.specs.Prelude.{◌≡◌, ℕ, Bool, true, not, ◌&&◌, IsTrue, Option, Some, None, option_map, unwrap_or, Result, Ok, Err, List, [], ◌∷◌, All, filter, find, flat_map, map, slice_get, slice_index_or, if◌then◌else◌}
 use Rattle.std.specs.declared.cmp.Ordering.{Ordering}
 use Rattle.std.specs.Ordering.{ordering_then, nat_cmp}
 use Rattle.ipam_data.specs.declared.prefix.Prefix.{Prefix}

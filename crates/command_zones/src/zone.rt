@@ -164,11 +164,7 @@ fn address_at(addresses: &Addresses, index: u32) -> &IpAddress
 }
 
 /// The places of the rows of a prefix's zone, in the order of their ids, where all their names fit.
-fn zone_spots(
-    alloc: Global,
-    addresses: &Addresses,
-    prefix: &Prefix,
-) -> Result<Vec<Spot>, ZoneStop>
+fn zone_spots(alloc: Global, addresses: &Addresses, prefix: &Prefix) -> Result<Vec<Spot>, ZoneStop>
     ensures spots { IfOk result (λ v. AreSpots addresses.now.rows prefix.now addresses.now.rows v.items) }
     ensures stop { IfErr result (IsRowsStop prefix.now addresses.now.rows) }
 {

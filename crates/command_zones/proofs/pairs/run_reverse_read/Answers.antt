@@ -1,4 +1,4 @@
-use Rattle.std.proofs.Common.{◌≡◌, List, refl, subst, arith}
+use Rattle.std.proofs.Common.{List, refl, subst, arith}
 use Rattle.reverse_zone.specs.declared.record.Pair.{Pair}
 use Rattle.command_streams.specs.Streams.{told}
 use Rattle.command_zones.specs.Pairs.{IsPairsSaid}
@@ -11,7 +11,7 @@ returns-in-Ok g c =
     (record { input = c.read_pairs.ensures.later; output = c.print_pairs.ensures.later; errors = omega arith })
     c.in-Ok.pairs.items c.in-Ok.ensures.pairs
     (subst (λ (ps : List Pair). IsPairsSaid ps (told g.Si.Sink.written g.Si.Sink.faults c.args.output.now) (told g.Si.Sink.written g.Si.Sink.faults c.print_pairs.new.output) c.print_pairs.result)
-        c.as_slice.ensures.value c.print_pairs.ensures.said)
+    c.as_slice.ensures.value c.print_pairs.ensures.said)
     refl
 
 pub returns-in-Err : goal.returns-in-Err

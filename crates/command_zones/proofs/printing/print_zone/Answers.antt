@@ -14,7 +14,7 @@ pub returns-in_err-spots-clause-end : goal.returns-in_err-spots-clause-end
 returns-in_err-spots-clause-end g c =
     let end = stopped c.args.register.now.state c.args.id c.in_err-spots.field-0.0 (told g.Si.Sink.written g.Si.Sink.faults c.args.output.now) c.in_err-spots.ensures.stop in
     passed_on (λ (r : Result (Unit {0}) ZoneStop). IsZoneEnd c.args.register.now.state c.args.id (told g.Si.Sink.written g.Si.Sink.faults c.args.output.now)
-        (told g.Si.Sink.written g.Si.Sink.faults c.args.output.now) r)
+    (told g.Si.Sink.written g.Si.Sink.faults c.args.output.now) r)
     c.from_residual.result c.in_err-spots.field-0.0 c.from_residual.ensures.1 end
 
 pub returns-in-Ok-clause-end : goal.returns-in-Ok-clause-end

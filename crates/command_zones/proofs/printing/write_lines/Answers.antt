@@ -40,4 +40,4 @@ returns-clause-told g c =
     whole_behind _ _ _ c.write_all.result c.loop-spot.piece.items (lines_at rows (take i spots)) (lines_at rows spots) c.loop-spot.invariant.passed
     (ap (λ (ss : List Spot). lines_at rows ss) (take_all i spots (omega arith)))
     (subst (λ (bytes : List ℕ). WritesAll (g.Si.Sink.written c.loop-spot.output) (g.Si.Sink.written c.write_all.new.sink) c.write_all.result bytes) c.as_slice.ensures.value
-        c.write_all.ensures.told)
+    c.write_all.ensures.told)

@@ -1,4 +1,4 @@
-use Rattle.std.proofs.Common.{refl, ◌∙◌, ap, subst, arith, rules}
+use Rattle.std.proofs.Common.{refl, arith, rules}
 use Rattle.command_store.proofs.Refused.{back_after, raised_later}
 use Rattle.command_zones.proofs.Reverses.{of_printed, of_stop, of_opening}
 use Rattle.command_zones.proofs.reverse.run_reverse.Goals as goal
