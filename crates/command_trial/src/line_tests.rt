@@ -130,8 +130,7 @@ fn lane_of(alloc: Global, line: &str) -> Result<ListLane, AllocError>
 }
 
 /// A listener with such a lane, where one comes.
-fn listener_of(alloc: Global, line: &str) -> Result<ListListener, AllocError>
-{
+fn listener_of(alloc: Global, line: &str) -> Result<ListListener, AllocError> {
     if line.starts_with("nowhere") {
         return Ok(ListListener::nowhere(alloc));
     }
@@ -208,8 +207,7 @@ fn ran<R: Threads + Wait + Sync>(
     listener: &mut ListListener,
     opener: &mut MemoryOpener,
     line: &str,
-) -> Result<Left, AllocError>
-{
+) -> Result<Left, AllocError> {
     let input = input_of(alloc, part(line, 2))?;
     let source = [failing(line, "input")];
     let sink = [failing(line, "output")];

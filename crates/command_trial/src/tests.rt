@@ -27,8 +27,7 @@ pub fn run_with<R: Threads + Wait + Sync>(
     input: &[u8],
     piece: usize,
     fails: [&[u32]; 3],
-) -> Result<Left, AllocError>
-{
+) -> Result<Left, AllocError> {
     let piece = piece.max(1);
     let mut list = Vec::new(alloc);
     for word in words.split(' ') {

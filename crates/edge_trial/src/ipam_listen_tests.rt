@@ -56,7 +56,10 @@ fn trace_of(
     let mut lanes = Vec::new(alloc);
     lanes.push(lane)?;
     let mut listener = ListListener::new(alloc, lanes)?;
-    if listener.bind(Vec::from_slice(alloc, b"here")?, bound).is_ok() {
+    if listener
+        .bind(Vec::from_slice(alloc, b"here")?, bound)
+        .is_ok()
+    {
         if let Ok(mut lane) = listener.lane() {
             for _ in 0..5 {
                 trace.push(accept_one(&mut lane))?;
@@ -148,7 +151,10 @@ fn no_client_holds_a_lane(rt: HostRuntime) {
 fn free_ports<R: Net<Listener = TcpListener, Stream = TcpStream>>(rt: &R) -> Option<(u16, u16)> {
     let one = TcpListener::bind(rt, ("127.0.0.1", 0)).ok()?;
     let other = TcpListener::bind(rt, ("127.0.0.1", 0)).ok()?;
-    Some((one.local_addr().ok()?.port(), other.local_addr().ok()?.port()))
+    Some((
+        one.local_addr().ok()?.port(),
+        other.local_addr().ok()?.port(),
+    ))
 }
 
 /// Whether somebody listens at a port of a host.

@@ -62,8 +62,8 @@ no_bad_rows kind store old new bad done =
     let rows : bad.rows ≡ done.rows = cc in
     let state : bad.state ≡ done.state = one_loaded store old bad.state done.state bad.opened done.import.loaded in
     let verdict : verdict_of (import_plan done.state kind done.rows) ≡ Some bad.refusal =
-        subst (λ (r : List ImportRow). verdict_of (import_plan done.state kind r) ≡ Some bad.refusal) rows
-        (subst (λ (s : State). verdict_of (import_plan s kind bad.rows) ≡ Some bad.refusal) state bad.verdict) in
+    subst (λ (r : List ImportRow). verdict_of (import_plan done.state kind r) ≡ Some bad.refusal) rows
+    (subst (λ (s : State). verdict_of (import_plan s kind bad.rows) ≡ Some bad.refusal) state bad.verdict) in
     let none = done.accepted in cc
 
 no_absent : (report : ReportName) (store : Store) (old : Outside) (text : List ℕ) → LacksPrefix report store old → IsReportText report store old text → ⊥

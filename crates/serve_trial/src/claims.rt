@@ -36,8 +36,7 @@ fn run_words<R: Threads + Wait + Sync>(
     input: &[u8],
     listener: &mut ListListener,
     opener: &mut MemoryOpener,
-) -> Result<Left, AllocError>
-{
+) -> Result<Left, AllocError> {
     let mut list = Vec::new(alloc);
     for word in words.split(' ') {
         list.push(word)?;
@@ -83,8 +82,7 @@ fn lane_of(alloc: Global) -> Result<ListLane, AllocError>
 }
 
 /// A listener with two such lanes.
-fn listener_of(alloc: Global) -> Result<ListListener, AllocError>
-{
+fn listener_of(alloc: Global) -> Result<ListListener, AllocError> {
     let mut lanes = Vec::new(alloc);
     lanes.push(lane_of(alloc)?)?;
     lanes.push(lane_of(alloc)?)?;

@@ -51,8 +51,7 @@ fn lane_of(alloc: Global, asked: &str) -> Result<ListLane, AllocError>
 }
 
 /// A listener with a lane for each client.
-fn listener_of(alloc: Global) -> Result<ListListener, AllocError>
-{
+fn listener_of(alloc: Global) -> Result<ListListener, AllocError> {
     let mut lanes = Vec::new(alloc);
     lanes.push(lane_of(alloc, CLIENTS[0])?)?;
     lanes.push(lane_of(alloc, CLIENTS[1])?)?;
@@ -97,8 +96,7 @@ fn run_few<R: Threads + Wait + Sync, L: Listener>(
     streams: (&mut BytesSink, &mut BytesSink),
     listener: &mut L,
     opener: &mut MemoryOpener,
-) -> u8
-{
+) -> u8 {
     if serving.workers == 0 || serving.workers > 32 {
         return 9;
     }
@@ -113,8 +111,7 @@ fn ran<R: Threads + Wait + Sync, L: Listener>(
     words: &[&str],
     listener: &mut L,
     opener: &mut MemoryOpener,
-) -> Result<Left, AllocError>
-{
+) -> Result<Left, AllocError> {
     let mut output = BytesSink::new(alloc, Vec::new(alloc), 1000, 4096)?;
     let mut errors = BytesSink::new(alloc, Vec::new(alloc), 1000, 4096)?;
     let Some(Command::Serve(serving)) = read_words(alloc, words)? else {

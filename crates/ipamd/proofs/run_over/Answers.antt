@@ -7,17 +7,16 @@ use Rattle.std.proofs.net.tcp.TcpStream.TheSendSync as stream
 use Rattle.ipamd.proofs.run_over.Goals as goal
 
 pub program-requires : goal.program-requires
-program-requires g c κs =
+program-requires g c κs = (
+  param_send 3 _ (arg_send _ no _ (door.the_send _ _ c.type_bounds.sync-R)),
+  (
+    param_send 4 _ (arg_send _ no _ (source.the_send _ _ _ c.type_bounds.sync-R stream.the_send)),
     (
-      param_send 3 _ (arg_send _ no _ (door.the_send _ _ c.type_bounds.sync-R)),
+      param_send 5 _ (arg_send _ no _ (sink.the_send _ _ c.type_bounds.sync-R)),
       (
-        param_send 4 _ (arg_send _ no _ (source.the_send _ _ _ c.type_bounds.sync-R stream.the_send)),
-        (
-          param_send 5 _ (arg_send _ no _ (sink.the_send _ _ c.type_bounds.sync-R)),
-          (
-            param_send 6 _ c.type_bounds.send-O-Kept,
-            param_sync 0 _ c.type_bounds.sync-R,
-          ),
-        ),
+        param_send 6 _ c.type_bounds.send-O-Kept,
+        param_sync 0 _ c.type_bounds.sync-R,
       ),
-    )
+    ),
+  ),
+)
