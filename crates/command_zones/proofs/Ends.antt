@@ -22,9 +22,11 @@ stopped s id Unwritten told h = absurd h
 stopped s id Memory told h = refl
 
 -- the rows of the book and the places as they were handed on
-module _ (s : State) (id : ℕ) (rows : List IpAddress) (spots given : List Spot) (same : rows ≡ s.addresses.rows) (handed : given ≡ spots) (zone : IsZone s id spots) where
+module _ (s : State) (id : ℕ) (rows : List IpAddress) (spots given : List Spot) (same : rows ≡ s.addresses.rows) (handed : given ≡ spots)
+    (zone : IsZone s id spots) where
   pub places : All (IsSpotIn rows) given
-  places = subst (λ (rs : List IpAddress). All (IsSpotIn rs) given) (sym same) (subst (λ (ss : List Spot). All (IsSpotIn s.addresses.rows) ss) (sym handed) zone.there)
+  places = subst (λ (rs : List IpAddress). All (IsSpotIn rs) given) (sym same)
+      (subst (λ (ss : List Spot). All (IsSpotIn s.addresses.rows) ss) (sym handed) zone.there)
 
   lines_same : lines_at rows given ≡ lines_at s.addresses.rows spots
   lines_same = ap (λ (rs : List IpAddress). lines_at rs given) same ∙ ap (λ (ss : List Spot). lines_at s.addresses.rows ss) handed

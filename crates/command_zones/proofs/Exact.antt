@@ -48,15 +48,18 @@ text_apart s id text (Unfit n) h = λ k.
 
 -- ---- of a store
 
-store_texts : (id : ℕ) (store : Store) (old : Outside) (one other : List ℕ) → IsSome (found_tables store old) → IsZoneText id store old one → IsZoneText id store old other → one ≡ other
+store_texts : (id : ℕ) (store : Store) (old : Outside) (one other : List ℕ) → IsSome (found_tables store old) → IsZoneText id store old one
+    → IsZoneText id store old other → one ≡ other
 store_texts id store old one other told (s, loaded, h) (t, also, k) =
     one_text t id one other (text_moved s t (opened_alike (found_tables store old) store.global_unique s t told loaded also) id one h) k
 
-store_refusals : (id : ℕ) (store : Store) (old : Outside) (one other : ZoneRefusal) → IsSome (found_tables store old) → IsRefusedSo id store old one → IsRefusedSo id store old other → one ≡ other
+store_refusals : (id : ℕ) (store : Store) (old : Outside) (one other : ZoneRefusal) → IsSome (found_tables store old) → IsRefusedSo id store old one
+    → IsRefusedSo id store old other → one ≡ other
 store_refusals id store old one other told (s, loaded, h) (t, also, k) =
     one_refusal t id one other (refusal_moved s t (opened_alike (found_tables store old) store.global_unique s t told loaded also) id one h) k
 
-store_apart : (id : ℕ) (store : Store) (old : Outside) (text : List ℕ) (refusal : ZoneRefusal) → IsSome (found_tables store old) → IsZoneText id store old text → ¬ IsRefusedSo id store old refusal
+store_apart : (id : ℕ) (store : Store) (old : Outside) (text : List ℕ) (refusal : ZoneRefusal) → IsSome (found_tables store old)
+    → IsZoneText id store old text → ¬ IsRefusedSo id store old refusal
 store_apart id store old text refusal told (s, loaded, h) = λ r.
     text_apart r.0 id text refusal (text_moved s r.0 (opened_alike (found_tables store old) store.global_unique s r.0 told loaded r.1) id text h) r.2
 
@@ -75,7 +78,12 @@ reverse_has_one_answer = record {
 module _ (id : ℕ) (store : Store) (old new : Outside) (status : ℕ) (run : IsReverse id store old new status) (whole : ¬ AnyFailed old new) where
   exact_done : status ≡ 0 → PrintsZone id store old new → IsExact id store old status
   exact_done zero (text, (state, loaded, is), gains, silent) =
-      inr (inr (zero, (state, loaded, λ refusal. text_apart state id text refusal is), λ told refusal. store_apart id store old text refusal told (state, loaded, is)))
+      inr (inr (
+        zero,
+        (state, loaded, λ refusal. text_apart state id text refusal is),
+        λ told refusal. store_apart id store old text refusal told
+            (state, loaded, is),
+      ))
 
   exact_refused : status ≡ 1 → IsExact id store old status
   exact_refused one = elim (run.refused one) [
@@ -111,11 +119,13 @@ pairs_apart : (bytes : List ℕ) (pairs : List Pair) (refusal : ReadRefusal) →
 pairs_apart bytes pairs TooLong h = λ k. (let few = h.few in omega arith)
 pairs_apart bytes pairs (Line n) h = λ k. input_has_one_answer.apart (lines bytes) pairs n h.are k.1
 
-read_done : (status : ℕ) (left after : Option (List ℕ)) (pairs : List Pair) → status ≡ 0 → IfSome left (λ bytes. HasPairs bytes pairs × (after ≡ Some [])) → IfSome left (IsReadExact status)
+read_done : (status : ℕ) (left after : Option (List ℕ)) (pairs : List Pair) → status ≡ 0 → IfSome left (λ bytes. HasPairs bytes pairs × (after ≡ Some []))
+    → IfSome left (IsReadExact status)
 read_done status None after pairs zero given = tt
 read_done status (Some bytes) after pairs zero given = inr (inr (zero, λ refusal. pairs_apart bytes pairs refusal given.0))
 
-read_refused : (status : ℕ) (left : Option (List ℕ)) (refusal : ReadRefusal) → status ≡ 1 → IfSome left (λ bytes. IsReadRefusal bytes refusal) → IfSome left (IsReadExact status)
+read_refused : (status : ℕ) (left : Option (List ℕ)) (refusal : ReadRefusal) → status ≡ 1 → IfSome left (λ bytes. IsReadRefusal bytes refusal)
+    → IfSome left (IsReadExact status)
 read_refused status None refusal one cause = tt
 read_refused status (Some bytes) refusal one cause = inr (inl (one, (refusal, cause)))
 

@@ -24,10 +24,13 @@ module _ {T : Type 0} (id : T → ℕ) where
   having n xs = count_by (λ x. id x == n) xs
 
   having_yes : (n : ℕ) (x : T) (xs : List T) → (id x == n) ≡ true → having n (x ∷ xs) ≡ having n xs + 1
-  having_yes n x xs e = (let k : cond {A = ℕ} (id x == n) 1 0 ≡ 1 = ap (λ (t : Bool). let m : ℕ = cond t 1 0 in m) e in omega (arith, sum_by-cons (λ y. cond (id y == n) 1 0) x xs))
+  having_yes n x xs e =
+      (let k : cond {A = ℕ} (id x == n) 1 0 ≡ 1 =
+      ap (λ (t : Bool). let m : ℕ = cond t 1 0 in m) e in omega (arith, sum_by-cons (λ y. cond (id y == n) 1 0) x xs))
 
   having_no : (n : ℕ) (x : T) (xs : List T) → (id x == n) ≡ false → having n (x ∷ xs) ≡ having n xs
-  having_no n x xs e = (let k : cond {A = ℕ} (id x == n) 1 0 ≡ 0 = ap (λ (t : Bool). let m : ℕ = cond t 1 0 in m) e in omega (arith, sum_by-cons (λ y. cond (id y == n) 1 0) x xs))
+  having_no n x xs e = (let k : cond {A = ℕ} (id x == n) 1 0 ≡ 0 =
+      ap (λ (t : Bool). let m : ℕ = cond t 1 0 in m) e in omega (arith, sum_by-cons (λ y. cond (id y == n) 1 0) x xs))
 
   having_none : (n low : ℕ) (xs : List T) → Rises id low xs → n ≤ low → having n xs ≡ 0
   having_none n low [] r le = refl

@@ -68,8 +68,10 @@ module _ (s : State) where
 
   prefix_rows : filter is_prefix_row (tables_of s).rows ≡ prefixes
   prefix_rows =
-      skip is_prefix_row vrfs (rirs ++ (roles ++ (aggregates ++ (prefixes ++ (ranges ++ (addresses ++ [])))))) prefixes (others is_prefix_row stored_vrf (λ x. refl) s.vrfs.rows)
-      (skip is_prefix_row rirs (roles ++ (aggregates ++ (prefixes ++ (ranges ++ (addresses ++ []))))) prefixes (others is_prefix_row stored_rir (λ x. refl) s.rirs.rows)
+      skip is_prefix_row vrfs (rirs ++ (roles ++ (aggregates ++ (prefixes ++ (ranges ++ (addresses ++ [])))))) prefixes
+      (others is_prefix_row stored_vrf (λ x. refl) s.vrfs.rows)
+      (skip is_prefix_row rirs (roles ++ (aggregates ++ (prefixes ++ (ranges ++ (addresses ++ []))))) prefixes
+      (others is_prefix_row stored_rir (λ x. refl) s.rirs.rows)
       (skip is_prefix_row roles (aggregates ++ (prefixes ++ (ranges ++ (addresses ++ [])))) prefixes (others is_prefix_row stored_role (λ x. refl) s.roles.rows)
       (skip is_prefix_row aggregates (prefixes ++ (ranges ++ (addresses ++ []))) prefixes (others is_prefix_row stored_aggregate (λ x. refl) s.aggregates.rows)
       (hold is_prefix_row prefixes (ranges ++ (addresses ++ [])) (mine is_prefix_row stored_prefix (λ x. refl) s.prefixes.rows)
@@ -78,10 +80,14 @@ module _ (s : State) where
 
   address_rows : filter is_address_row (tables_of s).rows ≡ addresses
   address_rows =
-      skip is_address_row vrfs (rirs ++ (roles ++ (aggregates ++ (prefixes ++ (ranges ++ (addresses ++ [])))))) addresses (others is_address_row stored_vrf (λ x. refl) s.vrfs.rows)
-      (skip is_address_row rirs (roles ++ (aggregates ++ (prefixes ++ (ranges ++ (addresses ++ []))))) addresses (others is_address_row stored_rir (λ x. refl) s.rirs.rows)
-      (skip is_address_row roles (aggregates ++ (prefixes ++ (ranges ++ (addresses ++ [])))) addresses (others is_address_row stored_role (λ x. refl) s.roles.rows)
-      (skip is_address_row aggregates (prefixes ++ (ranges ++ (addresses ++ []))) addresses (others is_address_row stored_aggregate (λ x. refl) s.aggregates.rows)
+      skip is_address_row vrfs (rirs ++ (roles ++ (aggregates ++ (prefixes ++ (ranges ++ (addresses ++ [])))))) addresses
+      (others is_address_row stored_vrf (λ x. refl) s.vrfs.rows)
+      (skip is_address_row rirs (roles ++ (aggregates ++ (prefixes ++ (ranges ++ (addresses ++ []))))) addresses
+      (others is_address_row stored_rir (λ x. refl) s.rirs.rows)
+      (skip is_address_row roles (aggregates ++ (prefixes ++ (ranges ++ (addresses ++ [])))) addresses
+      (others is_address_row stored_role (λ x. refl) s.roles.rows)
+      (skip is_address_row aggregates (prefixes ++ (ranges ++ (addresses ++ []))) addresses
+      (others is_address_row stored_aggregate (λ x. refl) s.aggregates.rows)
       (skip is_address_row prefixes (ranges ++ (addresses ++ [])) addresses (others is_address_row stored_prefix (λ x. refl) s.prefixes.rows)
       (skip is_address_row ranges (addresses ++ []) addresses (others is_address_row stored_range (λ x. refl) s.ranges.rows)
       (hold is_address_row addresses [] (mine is_address_row stored_address (λ x. refl) s.addresses.rows) refl))))))
@@ -93,7 +99,8 @@ module _ {T : Type 0} where
   each P [] h = tt
   each P (x ∷ xs) h = (h x (contains_head x xs), each P xs (λ y c. h y (contains_rest x y xs c)))
 
-  same_rows : (f : T → Row) (Typed : T → Type 0) → ((a b : T) → Typed a → Typed b → f a ≡ f b → a ≡ b) → (xs ys : List T) → AllByRecursion Typed xs → AllByRecursion Typed ys
+  same_rows : (f : T → Row) (Typed : T → Type 0) → ((a b : T) → Typed a → Typed b → f a ≡ f b → a ≡ b) → (xs ys : List T) → AllByRecursion Typed xs
+      → AllByRecursion Typed ys
       → map f xs ≡ map f ys → xs ≡ ys
   same_rows f Typed one [] [] h k e = refl
   same_rows f Typed one [] (y ∷ ys) h k e = absurd (cc)
@@ -157,12 +164,15 @@ pub record AreAlike (s t : State) : Type 0 where
 alike : (s t : State) → IsLawful s → IsLawful t → tables_of s ≡ tables_of t → AreAlike s t
 alike s t l m e =
     let rows : (tables_of s).rows ≡ (tables_of t).rows = ap (λ (ts : Tables). ts.rows) e in
-    let some : map stored_prefix s.prefixes.rows ≡ map stored_prefix t.prefixes.rows = sym (prefix_rows s) ∙ ap (λ (rs : List Row). filter is_prefix_row rs) rows ∙ prefix_rows t in
-    let others : map stored_address s.addresses.rows ≡ map stored_address t.addresses.rows = sym (address_rows s) ∙ ap (λ (rs : List Row). filter is_address_row rs) rows ∙ address_rows t in
+    let some : map stored_prefix s.prefixes.rows ≡ map stored_prefix t.prefixes.rows =
+    sym (prefix_rows s) ∙ ap (λ (rs : List Row). filter is_prefix_row rs) rows ∙ prefix_rows t in
+    let others : map stored_address s.addresses.rows ≡ map stored_address t.addresses.rows =
+    sym (address_rows s) ∙ ap (λ (rs : List Row). filter is_address_row rs) rows ∙ address_rows t in
     record {
       prefixes = same_rows stored_prefix IsTypedPrefix one_prefix s.prefixes.rows t.prefixes.rows (each IsTypedPrefix s.prefixes.rows (typed_prefix s l))
           (each IsTypedPrefix t.prefixes.rows (typed_prefix t m)) some;
-      addresses = same_rows stored_address IsTypedAddress one_address s.addresses.rows t.addresses.rows (each IsTypedAddress s.addresses.rows (typed_address s l))
+      addresses = same_rows stored_address IsTypedAddress one_address s.addresses.rows t.addresses.rows
+          (each IsTypedAddress s.addresses.rows (typed_address s l))
           (each IsTypedAddress t.addresses.rows (typed_address t m)) others;
     }
 
@@ -178,7 +188,10 @@ module _ (s t : State) (same : AreAlike s t) where
     rows = h.rows;
     found = subst (λ (ps : List Prefix). row_at prefix_id ps id ≡ Some h.prefix) same.prefixes h.found;
     fit = subst (λ (rs : List IpAddress). least address_id (is_unfit h.prefix) rs ≡ None) same.addresses h.fit;
-    zone = record { those = subst (λ (rs : List IpAddress). IsPermutation h.rows (filter (is_zone_row h.prefix) rs)) same.addresses h.zone.those; order = h.zone.order };
+    zone = record {
+      those = subst (λ (rs : List IpAddress). IsPermutation h.rows (filter (is_zone_row h.prefix) rs)) same.addresses h.zone.those;
+      order = h.zone.order;
+    };
     text_is = h.text_is;
   }
 

@@ -25,7 +25,8 @@ no_less x y h = go (nat_cmp y.0 x.0) (ranked y.0 x.0 _ refl) h
     last Equal l h = omega arith
     last Greater l h = omega arith
 
-    go : (o : Ordering) → MatchOrdering o (y.0 < x.0) (y.0 ≡ x.0) (x.0 < y.0) → is_lt (ordering_then o (nat_cmp y.1 x.1)) ≡ false → (x.0 < y.0) ⊎ ((x.0 ≡ y.0) × (x.1 ≤ y.1))
+    go : (o : Ordering) → MatchOrdering o (y.0 < x.0) (y.0 ≡ x.0) (x.0 < y.0) → is_lt (ordering_then o (nat_cmp y.1 x.1)) ≡ false
+        → (x.0 < y.0) ⊎ ((x.0 ≡ y.0) × (x.1 ≤ y.1))
     go Less l h = absurd (cc)
     go Equal l h = inr (sym l, last (nat_cmp y.1 x.1) (ranked y.1 x.1 _ refl) h)
     go Greater l h = inl l
@@ -40,7 +41,8 @@ one_on k = omega arith
 
 sorted_rest : (x y : Spot) (ys : List Spot) → IsSortedByKey place_of place_cmp (x ∷ y ∷ ys) → IsSortedByKey place_of place_cmp (y ∷ ys)
 sorted_rest x y ys s = λ k d h m.
-    subst (λ (j : ℕ). is_lt (place_cmp (place_of (get_or (x ∷ y ∷ ys) j d)) (place_of (get_or (y ∷ ys) k d))) ≡ false) (one_on k) (s (suc k) d (omega arith) (omega arith))
+    subst (λ (j : ℕ). is_lt (place_cmp (place_of (get_or (x ∷ y ∷ ys) j d)) (place_of (get_or (y ∷ ys) k d))) ≡ false) (one_on k)
+    (s (suc k) d (omega arith) (omega arith))
 
 -- ---- the rows at places
 
@@ -58,7 +60,8 @@ module _ (rows : List IpAddress) (d : IpAddress) where
   id_is spot h = h.id_is ∙ ap address_id (sym (row_is spot h))
 
   -- each row is before the next
-  pub in_order : (spots : List Spot) → AllByRecursion (IsSpotIn rows) spots → IsSortedByKey place_of place_cmp spots → ((n : ℕ) → having address_id n (map row_at_spot spots) ≤ 1)
+  pub in_order : (spots : List Spot) → AllByRecursion (IsSpotIn rows) spots → IsSortedByKey place_of place_cmp spots
+      → ((n : ℕ) → having address_id n (map row_at_spot spots) ≤ 1)
       → AllAdjacentBelow IsBefore (map row_at_spot spots) (length (map row_at_spot spots))
   in_order [] there sorted one = λ k e h. absurd (omega arith)
   in_order (p ∷ []) there sorted one = λ k e h. absurd (omega arith)
@@ -67,16 +70,19 @@ module _ (rows : List IpAddress) (d : IpAddress) where
     where
       first : IsBefore (row_at_spot p) (row_at_spot q)
       first =
-          less p.address q.address p.id q.id (row_at_spot p).host.addr.value (row_at_spot q).host.addr.value (address_id (row_at_spot p)) (address_id (row_at_spot q))
+          less p.address q.address p.id q.id (row_at_spot p).host.addr.value (row_at_spot q).host.addr.value (address_id (row_at_spot p))
+          (address_id (row_at_spot q))
           (address_is p there.0) (address_is q there.1.0) (id_is p there.0) (id_is q there.1.0)
           (no_less (place_of p) (place_of q) (sorted 0 p (omega arith) (omega arith)))
           (apart address_id (row_at_spot p) (row_at_spot q) (map row_at_spot ps) (one (address_id (row_at_spot p))))
 
       go : AllAdjacentBelow IsBefore (map row_at_spot (q ∷ ps)) (length (map row_at_spot (q ∷ ps)))
-          → (k : ℕ) (e : IpAddress) → k + 1 < length (map row_at_spot (p ∷ q ∷ ps)) → IsBefore (get_or (map row_at_spot (p ∷ q ∷ ps)) k e) (get_or (map row_at_spot (p ∷ q ∷ ps)) (k + 1) e)
+          → (k : ℕ) (e : IpAddress) → k + 1 < length (map row_at_spot (p ∷ q ∷ ps)) → IsBefore (get_or (map row_at_spot (p ∷ q ∷ ps)) k e)
+          (get_or (map row_at_spot (p ∷ q ∷ ps)) (k + 1) e)
       go rest zero e h = first
       go rest (suc k) e h =
-          subst (λ (j : ℕ). IsBefore (get_or (map row_at_spot (q ∷ ps)) k e) (get_or (map row_at_spot (p ∷ q ∷ ps)) j e)) (sym (one_on k)) (rest k e (omega arith))
+          subst (λ (j : ℕ). IsBefore (get_or (map row_at_spot (q ∷ ps)) k e) (get_or (map row_at_spot (p ∷ q ∷ ps)) j e)) (sym (one_on k))
+          (rest k e (omega arith))
 
   -- the lines at places are those of the rows
   pub lines_are : (spots : List Spot) → AllByRecursion (IsSpotIn rows) spots → lines_at rows spots ≡ zone_text_of (map row_at_spot spots)

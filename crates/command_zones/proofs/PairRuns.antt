@@ -24,7 +24,8 @@ module _ (items bytes : List ℕ) (same : bytes ≡ items) where
       let has : HasPairs items pairs = record { few = whole.few; are = subst (λ (b : List ℕ). ArePairsOf (lines b) pairs) same are } in
       (subst (λ (b : List ℕ). HasPairs b pairs) (sym read) has, whole.told.1)
 
-  refused_at : (left after : Option (List ℕ)) (n : ℕ) → IsWhole most_bytes left after items → IsFirstRefused (lines bytes) n → IfSome left (λ all. IsReadRefusal all (Line n))
+  refused_at : (left after : Option (List ℕ)) (n : ℕ) → IsWhole most_bytes left after items → IsFirstRefused (lines bytes) n
+      → IfSome left (λ all. IsReadRefusal all (Line n))
   refused_at None after n whole first = tt
   refused_at (Some all) after n whole first =
       let read : all ≡ items = whole.told.0 in
@@ -32,7 +33,8 @@ module _ (items bytes : List ℕ) (same : bytes ≡ items) where
       subst (λ (b : List ℕ). IsReadRefusal b (Line n)) (sym read) is
 
   -- the lines have pairs
-  pub pairs_given : (old new : Told) (pairs : List Pair) → IsWhole most_bytes old.bytes new.bytes items → ArePairsOf (lines bytes) pairs → GivesPairs old new pairs
+  pub pairs_given : (old new : Told) (pairs : List Pair) → IsWhole most_bytes old.bytes new.bytes items → ArePairsOf (lines bytes) pairs
+      → GivesPairs old new pairs
   pairs_given old new pairs whole are = given_at old.bytes new.bytes pairs whole are
 
   -- they have none
@@ -70,7 +72,8 @@ module _ (old new : Streams) (status : ℕ) (later : NeverFalls old new) where
   }
 
   -- the pairs were printed, or could not be
-  pub of_pairs : (pairs : List Pair) → GivesPairs old.input new.input pairs → IsPairsSaid pairs old.output new.output status → new.errors ≡ old.errors → IsReverseRead old new status
+  pub of_pairs : (pairs : List Pair) → GivesPairs old.input new.input pairs → IsPairsSaid pairs old.output new.output status → new.errors ≡ old.errors
+      → IsReverseRead old new status
   of_pairs pairs given (inl (inl (zero, gains))) errors = record {
     statuses = inl zero;
     done = λ z. (pairs, given, gains, errors);
@@ -79,10 +82,12 @@ module _ (old new : Streams) (status : ℕ) (later : NeverFalls old new) where
     memory = λ z. absurd (omega arith);
     later = later;
   }
-  of_pairs pairs given (inl (inr (three, failed, front))) errors = at_fault three (inr (inl (record { failed = failed; pairs = pairs; given = given; front = front; errors = errors })))
+  of_pairs pairs given (inl (inr (three, failed, front))) errors =
+      at_fault three (inr (inl (record { failed = failed; pairs = pairs; given = given; front = front; errors = errors })))
   of_pairs pairs given (inr (five, output)) errors = at_memory five output errors
 
-  named : (refusal : ReadRefusal) → RefusesInput old.input refusal → NamesReadRefusal refusal old.errors new.errors status → new.output ≡ old.output → IsReverseRead old new status
+  named : (refusal : ReadRefusal) → RefusesInput old.input refusal → NamesReadRefusal refusal old.errors new.errors status → new.output ≡ old.output
+      → IsReverseRead old new status
   named refusal cause (inl (inl (one, gains))) output = record {
     statuses = inr (inl one);
     done = λ z. absurd (omega arith);
@@ -96,7 +101,8 @@ module _ (old new : Streams) (status : ℕ) (later : NeverFalls old new) where
   named refusal cause (inr (five, errors)) output = at_memory five output errors
 
   -- the input gave none
-  pub of_stop : (stop : ReadStop) → IsReadStop old.input new.input stop → IsReadStopSaid stop old.errors new.errors status → new.output ≡ old.output → IsReverseRead old new status
+  pub of_stop : (stop : ReadStop) → IsReadStop old.input new.input stop → IsReadStopSaid stop old.errors new.errors status → new.output ≡ old.output
+      → IsReverseRead old new status
   of_stop Unread failed said output = at_fault said.0 (inl (record { failed = failed; output = output; errors = said.1 }))
   of_stop (Refused refusal) cause said output = named refusal cause said output
   of_stop Memory cause said output = at_memory said.0 output said.1

@@ -9,7 +9,8 @@ use Rattle.ipam_edge.specs.Writing.{AppendsFront, WritesAll}
 use Rattle.command_zones.specs.Printing.{Passes}
 
 -- room was made, and a line stands behind the buffer
-pub passes_line : (a b c : Option (List ℕ)) (p q r t u line : List ℕ) → Passes a b [] p t → Passes b c p q [] → r ≡ q ++ line → u ≡ t ++ line → Passes a c [] r u
+pub passes_line : (a b c : Option (List ℕ)) (p q r t u line : List ℕ) → Passes a b [] p t → Passes b c p q [] → r ≡ q ++ line → u ≡ t ++ line
+    → Passes a c [] r u
 passes_line a b c p q r t u line h k is so = record {
   front = h.front ++ k.front;
   told = Appends-trans a b c h.front k.front h.told k.told;
@@ -22,7 +23,8 @@ passes_line a b c p q r t u line h k is so = record {
 }
 
 -- a front of the buffer was written behind what was written before
-pub front_behind : (a b c : Option (List ℕ)) (piece text whole after : List ℕ) → Passes a b [] piece text → AppendsFront b c piece → text ++ after ≡ whole → AppendsFront a c whole
+pub front_behind : (a b c : Option (List ℕ)) (piece text whole after : List ℕ) → Passes a b [] piece text → AppendsFront b c piece → text ++ after ≡ whole
+    → AppendsFront a c whole
 front_behind a b c piece text whole after h (more, (others, is), said) w = (
   h.front ++ more,
   (
@@ -36,7 +38,8 @@ front_behind a b c piece text whole after h (more, (others, is), said) w = (
 )
 
 -- the buffer was written behind what was written before, or a front of it was
-pub whole_behind : {E : Type 0} (a b c : Option (List ℕ)) (r : Result (Unit {0}) E) (piece text whole : List ℕ) → Passes a b [] piece text → text ≡ whole → WritesAll b c r piece → WritesAll a c r whole
+pub whole_behind : {E : Type 0} (a b c : Option (List ℕ)) (r : Result (Unit {0}) E) (piece text whole : List ℕ) → Passes a b [] piece text → text ≡ whole
+    → WritesAll b c r piece → WritesAll a c r whole
 whole_behind a b c (Ok done) piece text whole h w said = subst (Appends a c) (h.rest ∙ w) (Appends-trans a b c h.front piece h.told said)
 whole_behind a b c (Err failed) piece text whole h w said = front_behind a b c piece text whole [] h said (append-nil text ∙ w)
 

@@ -49,7 +49,8 @@ module _ (id : ℕ) (store : Store) (old new : Outside) (status : ℕ) where
     later = kept.later;
   }
 
-  at_fault : status ≡ 3 → PrintsZoneFront id store old new ⊎ FailsToSay store old new ⊎ FailsToSayRefusal id store old new → IsKept old new → IsReverse id store old new status
+  at_fault : status ≡ 3 → PrintsZoneFront id store old new ⊎ FailsToSay store old new ⊎ FailsToSayRefusal id store old new → IsKept old new
+      → IsReverse id store old new status
   at_fault three fault kept = record {
     statuses = inr (inr (inl three));
     done = λ z. absurd (omega arith);
@@ -75,7 +76,8 @@ module _ (id : ℕ) (store : Store) (old new : Outside) (status : ℕ) where
     later = kept.later;
   }
 
-  at_memory : status ≡ 5 → new.streams.output ≡ old.streams.output → new.streams.errors ≡ old.streams.errors → IsKept old new → IsReverse id store old new status
+  at_memory : status ≡ 5 → new.streams.output ≡ old.streams.output → new.streams.errors ≡ old.streams.errors → IsKept old new
+      → IsReverse id store old new status
   at_memory five output errors kept = record {
     statuses = inr (inr (inr (inr five)));
     done = λ z. absurd (omega arith);
@@ -91,31 +93,37 @@ module _ (id : ℕ) (store : Store) (old new : Outside) (status : ℕ) where
   kept_by : IsUnused old new → NoCountFalls old new → IsKept old new
   kept_by unused later = record { input = unused.input; stored = unused.stored; later = later }
 
-  bad : (fault : OpenFault) → IsBadStore store old fault → EndsWith old.streams.errors new.streams.errors (fault_line fault) 1 status ⊎ ((status ≡ 5) × (new.streams.errors ≡ old.streams.errors))
+  bad : (fault : OpenFault) → IsBadStore store old fault
+      → EndsWith old.streams.errors new.streams.errors (fault_line fault) 1 status ⊎ ((status ≡ 5) × (new.streams.errors ≡ old.streams.errors))
       → IsUnused old new → NoCountFalls old new → IsReverse id store old new status
   bad fault b (inl (inl e)) unused later = at_refused e.0 (inl (record { fault = fault; bad = b; said = e.1; unused = unused })) (kept_by unused later)
-  bad fault b (inl (inr e)) unused later = at_fault e.0 (inr (inl (record { failed = e.1; fault = fault; cause = inl b; front = e.2; unused = unused }))) (kept_by unused later)
+  bad fault b (inl (inr e)) unused later =
+      at_fault e.0 (inr (inl (record { failed = e.1; fault = fault; cause = inl b; front = e.2; unused = unused }))) (kept_by unused later)
   bad fault b (inr e) unused later = at_memory e.0 unused.output e.1 (kept_by unused later)
 
   -- the opening was refused
-  pub of_opening : (fault : OpenFault) → (IsOfTables fault → IsUnopened (found_tables store old) store.global_unique fault) → (fault ≡ Keeper → StoreFailed old new)
+  pub of_opening : (fault : OpenFault) → (IsOfTables fault → IsUnopened (found_tables store old) store.global_unique fault)
+      → (fault ≡ Keeper → StoreFailed old new)
       → IsSaid fault old.streams.errors new.streams.errors status → IsUnused old new → NoCountFalls old new → IsReverse id store old new status
   of_opening Keeper tables failed (inl e) unused later = at_store e.0 (record { failed = failed refl; said = e.1; unused = unused }) (kept_by unused later)
   of_opening Keeper tables failed (inr e) unused later =
       at_fault e.0 (inr (inl (record { failed = e.1; fault = Keeper; cause = inr (refl, failed refl); front = e.2; unused = unused }))) (kept_by unused later)
   of_opening Memory tables failed said unused later = at_memory said.0 unused.output said.1 (kept_by unused later)
-  of_opening (BadTables which n rule) tables failed said unused later = bad (BadTables which n rule) (record { of_tables = tt; refused = tables tt }) said unused later
+  of_opening (BadTables which n rule) tables failed said unused later =
+      bad (BadTables which n rule) (record { of_tables = tt; refused = tables tt }) said unused later
   of_opening (BadRow which n) tables failed said unused later = bad (BadRow which n) (record { of_tables = tt; refused = tables tt }) said unused later
   of_opening (Version n) tables failed said unused later = bad (Version n) (record { of_tables = tt; refused = tables tt }) said unused later
   of_opening (BadNext which) tables failed said unused later = bad (BadNext which) (record { of_tables = tt; refused = tables tt }) said unused later
   of_opening (Limit which n) tables failed said unused later = bad (Limit which n) (record { of_tables = tt; refused = tables tt }) said unused later
 
   -- the names were printed
-  pub of_printed : (state : State) → IsLoaded store old state → status ≡ 0 → IsZoneEnd state id old.streams.output new.streams.output (Ok tt) → new.streams.errors ≡ old.streams.errors
+  pub of_printed : (state : State) → IsLoaded store old state → status ≡ 0 → IsZoneEnd state id old.streams.output new.streams.output (Ok tt)
+      → new.streams.errors ≡ old.streams.errors
       → IsKept old new → IsReverse id store old new status
   of_printed state loaded zero (text, is, gains) silent kept = at_done zero (text, (state, loaded, is), gains, silent) kept
 
-  named : (refusal : ZoneRefusal) → IsRefusedSo id store old refusal → NamesIt refusal old.streams.errors new.streams.errors status → new.streams.output ≡ old.streams.output
+  named : (refusal : ZoneRefusal) → IsRefusedSo id store old refusal → NamesIt refusal old.streams.errors new.streams.errors status
+      → new.streams.output ≡ old.streams.output
       → IsKept old new → IsReverse id store old new status
   named refusal cause (inl (inl e)) output kept = at_refused e.0 (inr (record { refusal = refusal; cause = cause; said = e.1; output = output })) kept
   named refusal cause (inl (inr e)) output kept =

@@ -50,7 +50,8 @@ module _ (rows : List IpAddress) (prefix : Prefix) where
   spots_none spots e = subst (AreSpots rows prefix []) (sym e) (record { named = λ d. refl; there = λ k d h. absurd (omega arith); fit = refl })
 
   -- one more row was looked at
-  pub spots_more : (k : ℕ) (row : IpAddress) (spots more : List Spot) → Some row ≡ slice_get rows k → AreSpots rows prefix (take k rows) spots → is_unfit prefix row ≡ false
+  pub spots_more : (k : ℕ) (row : IpAddress) (spots more : List Spot) → Some row ≡ slice_get rows k → AreSpots rows prefix (take k rows) spots
+      → is_unfit prefix row ≡ false
       → more ≡ spots ++ spots_at prefix k row → AreSpots rows prefix (take (k + 1) rows) more
   spots_more k row spots more at are fit is =
       subst (λ (some : List IpAddress). AreSpots rows prefix some more) (sym taken) (subst (AreSpots rows prefix (take k rows ++ row ∷ [])) (sym is) (record {
@@ -67,7 +68,8 @@ module _ (rows : List IpAddress) (prefix : Prefix) where
       found = sym at
 
       taken : take (k + 1) rows ≡ take k rows ++ row ∷ []
-      taken = take_more rows k row (slice_get_within rows k row found) ∙ ap (λ (r : IpAddress). take k rows ++ r ∷ []) (get_or_from_slice_get rows k row row found)
+      taken = take_more rows k row (slice_get_within rows k row found) ∙ ap (λ (r : IpAddress). take k rows ++ r ∷ [])
+          (get_or_from_slice_get rows k row row found)
 
       one : (d : IpAddress) (t : Bool) → map (λ (spot : Spot). get_or rows spot.index d) (cond t (spot_of k row ∷ []) []) ≡ cond t (row ∷ []) []
       one d true = ap (λ (r : IpAddress). let rs : List IpAddress = r ∷ [] in rs) (get_or_from_slice_get rows k row d found)
@@ -81,11 +83,13 @@ module _ (rows : List IpAddress) (prefix : Prefix) where
       added false e = λ j d h. absurd (omega arith)
 
   -- the row stops the command
-  pub rows_stop : (k : ℕ) (row : IpAddress) (spots : List Spot) (stop : ZoneStop) → Some row ≡ slice_get rows k → AreSpots rows prefix (take k rows) spots → IsRowStop prefix row stop
+  pub rows_stop : (k : ℕ) (row : IpAddress) (spots : List Spot) (stop : ZoneStop) → Some row ≡ slice_get rows k → AreSpots rows prefix (take k rows) spots
+      → IsRowStop prefix row stop
       → IsRowsStop prefix rows stop
   rows_stop k row spots (Refused (Absent n)) at are h = absurd h
   rows_stop k row spots (Refused (Unfit n)) at are h =
-      ap (λ (o : Option IpAddress). option_map address_id o) (found_next (is_unfit prefix) rows k row (sym at) are.fit h.1) ∙ ap (λ (m : ℕ). let o : Option ℕ = Some m in o) (sym h.0)
+      ap (λ (o : Option IpAddress). option_map address_id o) (found_next (is_unfit prefix) rows k row (sym at) are.fit h.1)
+      ∙ ap (λ (m : ℕ). let o : Option ℕ = Some m in o) (sym h.0)
   rows_stop k row spots Unwritten at are h = absurd h
   rows_stop k row spots Memory at are h = tt
 

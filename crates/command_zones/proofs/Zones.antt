@@ -30,12 +30,14 @@ no_rows : (prefix : Prefix) (sorted : List Spot) → AllByRecursion (IsSpotIn []
 no_rows prefix [] there = record { rows = []; those = IsPermutation-refl []; order = λ k d h. absurd (omega arith); lines = refl }
 no_rows prefix (p ∷ ps) there = let found = there.0.found in absurd (cc)
 
-some_rows : (all : List IpAddress) (d : IpAddress) (prefix : Prefix) (found sorted : List Spot) → Rises address_id 0 all → AreSpots all prefix all found → IsPermutation found sorted
+some_rows : (all : List IpAddress) (d : IpAddress) (prefix : Prefix) (found sorted : List Spot) → Rises address_id 0 all → AreSpots all prefix all found
+    → IsPermutation found sorted
     → AllByRecursion (IsSpotIn all) sorted → IsSortedByKey place_of place_cmp sorted → Named all prefix sorted
 some_rows all d prefix found sorted rises are same there up =
     let zone : List IpAddress = filter (is_zone_row prefix) all in
     let rows : List IpAddress = map (row_at_spot all d) sorted in
-    let mapped : IsPermutation zone rows = subst (λ (xs : List IpAddress). IsPermutation xs rows) (are.named d) (IsPermutation-map (row_at_spot all d) found sorted same) in
+    let mapped : IsPermutation zone rows =
+    subst (λ (xs : List IpAddress). IsPermutation xs rows) (are.named d) (IsPermutation-map (row_at_spot all d) found sorted same) in
     let once : (n : ℕ) → having address_id n rows ≤ 1 = λ n.
     (let one = having_one address_id n 0 zone (rises_filtered address_id (is_zone_row prefix) 0 all rises) in
     let equal : having address_id n rows ≡ having address_id n zone = sum_by-IsPermutation (λ (r : IpAddress). cond (address_id r == n) 1 0) zone rows mapped in
@@ -47,12 +49,14 @@ some_rows all d prefix found sorted rises are same there up =
       lines = lines_are all d sorted there;
     }
 
-named : (all : List IpAddress) (prefix : Prefix) (found sorted : List Spot) → Rises address_id 0 all → AreSpots all prefix all found → IsPermutation found sorted
+named : (all : List IpAddress) (prefix : Prefix) (found sorted : List Spot) → Rises address_id 0 all → AreSpots all prefix all found
+    → IsPermutation found sorted
     → AllByRecursion (IsSpotIn all) sorted → IsSortedByKey place_of place_cmp sorted → Named all prefix sorted
 named [] prefix found sorted rises are same there up = no_rows prefix sorted there
 named (x ∷ xs) prefix found sorted rises are same there up = some_rows (x ∷ xs) x prefix found sorted rises are same there up
 
-pub zone_is : (s : State) (id : ℕ) (prefix : Prefix) (found sorted : List Spot) → row_at prefix_id s.prefixes.rows id ≡ Some prefix → Rises address_id 0 s.addresses.rows
+pub zone_is : (s : State) (id : ℕ) (prefix : Prefix) (found sorted : List Spot) → row_at prefix_id s.prefixes.rows id ≡ Some prefix
+    → Rises address_id 0 s.addresses.rows
     → AreSpots s.addresses.rows prefix s.addresses.rows found → IsPermutation found sorted → IsSortedByKey place_of place_cmp sorted → IsZone s id sorted
 zone_is s id prefix found sorted is rises are same up =
     let all : List IpAddress = s.addresses.rows in
@@ -71,7 +75,8 @@ zone_is s id prefix found sorted is rises are same up =
     }
 
 -- why the rows of a prefix that is there give no zone
-pub stop_is : (s : State) (id : ℕ) (prefix : Prefix) (stop : ZoneStop) → row_at prefix_id s.prefixes.rows id ≡ Some prefix → IsRowsStop prefix s.addresses.rows stop → IsZoneStop s id stop
+pub stop_is : (s : State) (id : ℕ) (prefix : Prefix) (stop : ZoneStop) → row_at prefix_id s.prefixes.rows id ≡ Some prefix
+    → IsRowsStop prefix s.addresses.rows stop → IsZoneStop s id stop
 stop_is s id prefix (Refused (Absent n)) is h = absurd h
 stop_is s id prefix (Refused (Unfit n)) is h = (prefix, is, h)
 stop_is s id prefix Unwritten is h = absurd h

@@ -35,7 +35,8 @@ IsExact id store old status =
 
 -- where nothing fails, the status of `reverse` is exact
 abbrev pub ReverseIsExact : Type 0
-ReverseIsExact = (id : ℕ) (store : Store) (old new : Outside) (status : ℕ) → IsReverse id store old new status → (¬ AnyFailed old new) → IsExact id store old status
+ReverseIsExact = (id : ℕ) (store : Store) (old new : Outside) (status : ℕ) → IsReverse id store old new status
+    → (¬ AnyFailed old new) → IsExact id store old status
 
 -- the status says whether an input of these bytes is refused: 1 where it is, 0 where it is not, and 5 for lack of memory
 abbrev pub IsReadExact : ℕ → List ℕ → Type 0

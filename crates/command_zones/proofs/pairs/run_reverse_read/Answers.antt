@@ -10,7 +10,8 @@ returns-in-Ok g c =
     of_pairs _ _ c.print_pairs.result
     (record { input = c.read_pairs.ensures.later; output = c.print_pairs.ensures.later; errors = omega arith })
     c.in-Ok.pairs.items c.in-Ok.ensures.pairs
-    (subst (λ (ps : List Pair). IsPairsSaid ps (told g.Si.Sink.written g.Si.Sink.faults c.args.output.now) (told g.Si.Sink.written g.Si.Sink.faults c.print_pairs.new.output) c.print_pairs.result)
+    (subst (λ (ps : List Pair). IsPairsSaid ps (told g.Si.Sink.written g.Si.Sink.faults c.args.output.now)
+    (told g.Si.Sink.written g.Si.Sink.faults c.print_pairs.new.output) c.print_pairs.result)
     c.as_slice.ensures.value c.print_pairs.ensures.said)
     refl
 

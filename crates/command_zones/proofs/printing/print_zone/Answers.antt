@@ -12,7 +12,8 @@ write_lines-requires-clause-there g c =
 
 pub returns-in_err-spots-clause-end : goal.returns-in_err-spots-clause-end
 returns-in_err-spots-clause-end g c =
-    let end = stopped c.args.register.now.state c.args.id c.in_err-spots.field-0.0 (told g.Si.Sink.written g.Si.Sink.faults c.args.output.now) c.in_err-spots.ensures.stop in
+    let end = stopped c.args.register.now.state c.args.id c.in_err-spots.field-0.0
+    (told g.Si.Sink.written g.Si.Sink.faults c.args.output.now) c.in_err-spots.ensures.stop in
     passed_on (λ (r : Result (Unit {0}) ZoneStop). IsZoneEnd c.args.register.now.state c.args.id (told g.Si.Sink.written g.Si.Sink.faults c.args.output.now)
     (told g.Si.Sink.written g.Si.Sink.faults c.args.output.now) r)
     c.from_residual.result c.in_err-spots.field-0.0 c.from_residual.ensures.1 end
@@ -20,4 +21,5 @@ returns-in_err-spots-clause-end g c =
 pub returns-in-Ok-clause-end : goal.returns-in-Ok-clause-end
 returns-in-Ok-clause-end g c =
     printed c.args.register.now.state c.args.id c.addresses.result.now.rows c.in_ok-spots.spots.items c.as_slice.result.now c.addresses.ensures.rows c.as_slice.ensures.value
-    c.in_ok-spots.ensures.zone (told g.Si.Sink.written g.Si.Sink.faults c.args.output.now) (told g.Si.Sink.written g.Si.Sink.faults c.write_lines.new.output) c.in-Ok.ensures.told
+    c.in_ok-spots.ensures.zone (told g.Si.Sink.written g.Si.Sink.faults c.args.output.now)
+    (told g.Si.Sink.written g.Si.Sink.faults c.write_lines.new.output) c.in-Ok.ensures.told

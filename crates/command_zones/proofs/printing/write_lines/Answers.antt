@@ -12,7 +12,8 @@ returns-in_err-make_room-clause-told g c =
     let rows = c.args.addresses.now.rows in
     let spots = c.args.spots.now in
     writes_at_err _ _ c.from_residual.result (lines_at rows spots) (search rules)
-    (front_behind _ _ _ _ _ _ _ c.loop-spot.invariant.passed c.in_err-make_room.ensures.front (text_front (λ (s : Spot). line_at rows s.index) spots c.loop-spot.spot-index))
+    (front_behind _ _ _ _ _ _ _ c.loop-spot.invariant.passed c.in_err-make_room.ensures.front
+    (text_front (λ (s : Spot). line_at rows s.index) spots c.loop-spot.spot-index))
 
 pub loop-spot-preserved : goal.loop-spot-preserved
 loop-spot-preserved g c =
@@ -26,7 +27,8 @@ loop-spot-preserved g c =
     let grown = c.push_line.ensures.capacity in
     let none : Spot = record { address = 0; id = 0; index = 0 } in
     record {
-      passed = passes_line _ _ _ _ _ _ _ _ (line_at rows (get_or spots i none).index) c.loop-spot.invariant.passed c.in_ok-make_room.ensures.passed c.push_line.ensures.items
+      passed = passes_line _ _ _ _ _ _ _ _
+          (line_at rows (get_or spots i none).index) c.loop-spot.invariant.passed c.in_ok-make_room.ensures.passed c.push_line.ensures.items
           (text_more (λ (s : Spot). line_at rows s.index) spots i none c.loop-spot-test.true);
       room = omega arith;
       later = omega arith;
@@ -39,5 +41,6 @@ returns-clause-told g c =
     let i = c.loop-spot.spot-index in
     whole_behind _ _ _ c.write_all.result c.loop-spot.piece.items (lines_at rows (take i spots)) (lines_at rows spots) c.loop-spot.invariant.passed
     (ap (λ (ss : List Spot). lines_at rows ss) (take_all i spots (omega arith)))
-    (subst (λ (bytes : List ℕ). WritesAll (g.Si.Sink.written c.loop-spot.output) (g.Si.Sink.written c.write_all.new.sink) c.write_all.result bytes) c.as_slice.ensures.value
+    (subst (λ (bytes : List ℕ). WritesAll (g.Si.Sink.written c.loop-spot.output)
+    (g.Si.Sink.written c.write_all.new.sink) c.write_all.result bytes) c.as_slice.ensures.value
     c.write_all.ensures.told)
