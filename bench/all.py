@@ -28,6 +28,7 @@ BENCHES = [
     Bench("files", ["files.sh"], ["files.sh"], 300),
     Bench("serve_smoke", ["serve_smoke.sh"], ["serve_smoke.sh"], 120, ["curl"]),
     Bench("clients", ["clients.sh"], ["clients.sh"], 300, ["curl"]),
+    Bench("copies", ["copies.sh", "--full"], ["copies.sh"], 900, ["nginx", "openssl"]),
     Bench("operating", ["operating.sh"], ["operating.sh"], 300, ["curl", "sqlite3"]),
     Bench("pages", ["pages.py", "--quiet"], ["pages.py", "--quiet"], 300, ["curl", "socat"]),
     Bench("systemd", ["systemd.sh"], ["systemd.sh"], 600, ["debootstrap", "systemd-nspawn"]),
