@@ -193,6 +193,7 @@ STEPS = [
 # lines of a page that are neither run here nor printed by a run, by how they begin, and why
 ELSE = [
     ("README.md", "rt ci", "the gate"),
+    ("README.md", "./build", "the program is built already, or by --build"),
     ("docs/USING.md", "row ", "forms of a line"),
     ("docs/CLIENTS.md", "address", "Python, in examples/client_pynetbox.py"),
     ("docs/CLIENTS.md", "ipam", "Python, in examples/client_pynetbox.py"),
