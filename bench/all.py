@@ -27,7 +27,7 @@ BENCHES = [
     Bench("agree", ["agree.sh", "--streams", "60"], ["agree.sh", "--streams", "5", "--requests", "100"], 900),
     Bench("files", ["files.sh"], ["files.sh"], 300),
     Bench("serve_smoke", ["serve_smoke.sh"], ["serve_smoke.sh"], 120, ["curl"]),
-    Bench("clients", ["clients.sh"], ["clients.sh"], 300, ["curl"]),
+    Bench("clients", ["clients.sh"], ["clients.sh"], 600, ["curl"]),
     Bench("copies", ["copies.sh", "--full"], ["copies.sh"], 900, ["nginx", "openssl"]),
     Bench("operating", ["operating.sh"], ["operating.sh"], 300, ["curl", "sqlite3"]),
     Bench("pages", ["pages.py", "--quiet"], ["pages.py", "--quiet"], 300, ["curl", "socat"]),

@@ -22,7 +22,6 @@ TOP = os.path.abspath(os.path.join(os.path.dirname(os.path.abspath(__file__)), "
 COPY = os.path.join(TOP, "examples/copy_register.py")
 KINDS = ["vrfs", "rirs", "roles", "aggregates", "prefixes", "ip-ranges", "ip-addresses"]
 CLIENTS = 4
-TOKEN = "0123456789abcdef0123456789abcdef01234567"
 
 
 def fail(text):
@@ -65,27 +64,16 @@ class Proxy:
 
     def __init__(self, folder, inner, outer):
         self.port, self.flag, self.folder = outer, f"{folder}/hold", folder
-        subprocess.run(["openssl", "req", "-x509", "-newkey", "ec", "-pkeyopt", "ec_paramgen_curve:prime256v1", "-nodes", "-days", "2", "-subj", "/CN=register.example.net",
-                        "-addext", "subjectAltName=DNS:localhost", "-keyout", f"{folder}/register.key", "-out", f"{folder}/register.pem"], check=True, stderr=subprocess.DEVNULL)
-        open(f"{folder}/register.users", "w").close()
-        with open(f"{folder}/register.tokens", "w") as file:
-            file.write(f'"Token {TOKEN}" anna;\n')
-        with open(os.path.join(TOP, "examples/nginx-ipamd.conf")) as file:
-            text = file.read()
-        for mine, ours in (("127.0.0.1:8080", f"127.0.0.1:{inner}"), ("listen 443", f"listen 127.0.0.1:{outer}"), ("/etc/ssl/certs/", f"{folder}/"), ("/etc/ssl/private/", f"{folder}/"),
-                           ("/etc/nginx/", f"{folder}/"), ("/var/log/nginx/", f"{folder}/"), ("/run/ipamd.hold", self.flag)):
-            text = text.replace(mine, ours)
-        with open(f"{folder}/ipamd.conf", "w") as file:
-            file.write(text)
-        user = "user root;" if os.getuid() == 0 else ""
-        temps = " ".join(f"{name}_temp_path {folder}/{name};" for name in ("client_body", "proxy", "fastcgi", "uwsgi", "scgi"))
-        with open(f"{folder}/nginx.conf", "w") as file:
-            file.write(f"{user} worker_processes 1; daemon off; pid {folder}/nginx.pid; error_log {folder}/errors;\nevents {{}}\nhttp {{ {temps} include {folder}/ipamd.conf; }}\n")
-        self.child = subprocess.Popen(["nginx", "-c", f"{folder}/nginx.conf", "-p", folder], stderr=subprocess.DEVNULL)
+        self.child = subprocess.Popen([os.path.join(TOP, "bench/front.sh"), folder, str(inner), str(outer)], stderr=subprocess.DEVNULL)
         wait_for(outer, self.child, "nginx")
+        with open(f"{folder}/token") as file:
+            self.token = file.read().strip()
 
     def connection(self):
         return http.client.HTTPSConnection("localhost", self.port, timeout=60, context=ssl.create_default_context(cafile=f"{self.folder}/register.pem"))
+
+    def asker(self):
+        return Asker(self.connection, self.token)
 
     def end(self):
         self.child.terminate()
@@ -95,8 +83,9 @@ class Proxy:
 class Asker:
     """Requests over one connection after another: a new one before the old one is old."""
 
-    def __init__(self, connect):
+    def __init__(self, connect, token=None):
         self.connect, self.connection, self.count, self.since = connect, None, 0, 0.0
+        self.head = {"Authorization": f"Token {token}"} if token else {}
 
     def ask(self, method, path, body=None):
         """The status, the head and the body of the answer."""
@@ -104,7 +93,7 @@ class Asker:
             self.end()
             self.connection, self.count, self.since = self.connect(), 0, time.monotonic()
         self.count += 1
-        self.connection.request(method, "/api/ipam/" + path, None if body is None else json.dumps(body), {"Authorization": f"Token {TOKEN}"})
+        self.connection.request(method, "/api/ipam/" + path, None if body is None else json.dumps(body), self.head)
         answer = self.connection.getresponse()
         return answer.status, answer.headers, answer.read()
 
@@ -115,15 +104,15 @@ class Asker:
 
 
 def direct(port):
-    return lambda: http.client.HTTPConnection("127.0.0.1", port, timeout=60)
+    return Asker(lambda: http.client.HTTPConnection("127.0.0.1", port, timeout=60))
 
 
 class Client(threading.Thread):
     """Changes records of each kind in no order. Each change that is accepted is kept with its place."""
 
-    def __init__(self, number, connect, pause, changes):
+    def __init__(self, number, asker, pause, changes):
         super().__init__(daemon=True)
-        self.number, self.asker, self.pause, self.changes = number, Asker(connect), pause, changes
+        self.number, self.asker, self.pause, self.changes = number, asker, pause, changes
         self.pick, self.ids, self.over, self.held, self.fault = random.Random(number), {kind: [] for kind in KINDS}, threading.Event(), 0, None
 
     def run(self):
@@ -202,9 +191,9 @@ class Client(threading.Thread):
 class Reader(threading.Thread):
     """Asks for pages without a pause. Each has to be answered."""
 
-    def __init__(self, connect, flag):
+    def __init__(self, asker, flag):
         super().__init__(daemon=True)
-        self.asker, self.flag, self.over, self.fault, self.while_held = Asker(connect), flag, threading.Event(), None, 0
+        self.asker, self.flag, self.over, self.fault, self.while_held = asker, flag, threading.Event(), None, 0
 
     def run(self):
         while not self.over.is_set():
@@ -282,7 +271,7 @@ def replay(program, port, folder, changes, copies):
         fail("the places of the changes are not 0, 1, 2 ..")
     path, done, differ = f"{folder}/replayed.db", 0, 0
     for place, copied in sorted(copies):
-        server, asker = Server(program, port, path, 2), Asker(direct(port))
+        server, asker = Server(program, port, path, 2), direct(port)
         for _, method, target, body, status, answer in changes[done:place]:
             told = asker.ask(method, target, body)
             if (told[0], told[2]) != (status, answer):
@@ -329,8 +318,7 @@ def started_anew(folder):
 
 def fill(asker, changes):
     """Some pages of prefixes and addresses to begin with."""
-    client = Client(0, None, 0, changes)
-    client.asker = asker
+    client = Client(0, asker, 0, changes)
     client.change("POST", "prefixes/", {"prefix": "10.200.0.0/16", "status": "container"})
     client.change("POST", "prefixes/1/available-prefixes/", [{"prefix_length": 27}] * 1000)
     client.change("POST", "prefixes/", {"prefix": "10.201.0.0/16"})
@@ -384,8 +372,8 @@ def refused(folder, url):
 
 
 def with_hold(proxy, folder, changes, url):
-    copies, clients = [], [Client(number, proxy.connection, 0, changes) for number in range(21, 21 + CLIENTS)]
-    reader = Reader(proxy.connection, proxy.flag)
+    copies, clients = [], [Client(number, proxy.asker(), 0, changes) for number in range(21, 21 + CLIENTS)]
+    reader = Reader(proxy.asker(), proxy.flag)
     with working(clients + [reader]):
         for number in range(3):
             time.sleep(0.5)
@@ -412,7 +400,7 @@ def with_next(program, port, folder, live):
     server.end()
     if rows(live) != rows(f"{folder}/next.db") or numbers(live) != numbers(f"{folder}/next.db"):
         fail("with --next for each kind the copy is not the file")
-    server, asker = Server(program, port, f"{folder}/next.db", 2), Asker(direct(port))
+    server, asker = Server(program, port, f"{folder}/next.db", 2), direct(port)
     status, _, answer = asker.ask("POST", "vrfs/", {"name": "the next one"})
     if status != 201 or json.loads(answer)["id"] != numbers(live)["next_vrfs"]:
         fail(f"the copy is served: {status} {answer!r}")
@@ -467,7 +455,7 @@ def full(program, port, folder):
     start = time.monotonic()
     copy(f"http://127.0.0.1:{port}", f"{folder}/full_copy.db")
     whole = time.monotonic() - start
-    start, asker = time.monotonic(), Asker(direct(port))
+    start, asker = time.monotonic(), direct(port)
     pages = 0
     for kind in KINDS:
         count = json.loads(asker.ask("GET", f"{kind}/?limit=1")[2])["count"]
@@ -493,7 +481,7 @@ def main():
         started_anew(folder)
         server = Server(program, port, live)
         try:
-            asker = Asker(direct(port))
+            asker = direct(port)
             fill(asker, changes)
             asker.end()
             copies = with_pauses(port, folder, changes, url)

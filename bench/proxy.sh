@@ -66,28 +66,13 @@ finds() {
     [ "$told" = "$1" ] || fail "$2: found '$told' in place of '$1'"
 }
 
-openssl req -x509 -newkey ec -pkeyopt ec_paramgen_curve:prime256v1 -nodes -days 2 -subj /CN=register.example.net -addext subjectAltName=DNS:register.example.net \
-    -keyout "$folder/register.key" -out "$folder/register.pem" 2>/dev/null
-printf 'anna:%s\n' "$(openssl passwd -apr1 secret)" > "$folder/register.users"
-token=$(openssl rand -hex 20)
-printf '"Token %s" bert;\n' "$token" > "$folder/register.tokens"
-sed "s|127.0.0.1:8080|127.0.0.1:$port|; s|listen 443|listen 127.0.0.1:$outer|; s|/etc/ssl/certs/|$folder/|; s|/etc/ssl/private/|$folder/|; s|/etc/nginx/|$folder/|
-    s|/var/log/nginx/|$folder/|; s|/run/ipamd.hold|$folder/hold|" "$top/examples/nginx-ipamd.conf" > "$folder/ipamd.conf"
-cat > "$folder/nginx.conf" <<N
-$([ "$(id -u)" != 0 ] || echo "user root;")
-worker_processes 1; daemon off; pid $folder/nginx.pid; error_log $folder/errors;
-events {}
-http {
-    client_body_temp_path $folder/body; proxy_temp_path $folder/proxied; fastcgi_temp_path $folder/f; uwsgi_temp_path $folder/u; scgi_temp_path $folder/s;
-    include $folder/ipamd.conf;
-}
-N
 "$program" serve --bind "127.0.0.1:$port" --workers 16 > /dev/null 2> "$folder/serve_errors" < /dev/null &
 server=$!
 wait_for "$port"
-nginx -c "$folder/nginx.conf" -p "$folder" 2> "$folder/start" &
+"$top/bench/front.sh" "$folder" "$port" "$outer" 2> "$folder/start" &
 proxy=$!
 wait_for "$outer"
+token=$(cat "$folder/token")
 base=https://register.example.net:$outer/api/ipam
 
 # passwords and tokens: the right ones, wrong ones, and none
