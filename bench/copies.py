@@ -49,7 +49,8 @@ class Server:
 
     def __init__(self, program, port, path, workers=16):
         self.port = port
-        self.child = subprocess.Popen([program, "serve", "--bind", f"127.0.0.1:{port}", "--workers", str(workers), "--db", path], stdin=subprocess.DEVNULL, stdout=subprocess.DEVNULL)
+        words = [program, "serve", "--bind", f"127.0.0.1:{port}", "--workers", str(workers), "--db", path]
+        self.child = subprocess.Popen(words, stdin=subprocess.DEVNULL, stdout=subprocess.DEVNULL)
         wait_for(port, self.child, "serve")
 
     def end(self):
@@ -165,10 +166,13 @@ class Client(threading.Thread):
         slug = f"s-{self.number}-{pick.randrange(1000)}"
         status = pick.choice(["active", "reserved", "deprecated"])
         makes = [
-            ("prefixes", {"prefix": self.some_block(20, 28), "vrf": vrf, "role": role, "status": pick.choice([status, "container"]), "is_pool": pick.random() < 0.3}),
+            ("prefixes", {"prefix": self.some_block(20, 28), "vrf": vrf, "role": role, "status": pick.choice([status, "container"]),
+                          "is_pool": pick.random() < 0.3}),
             ("prefixes", {"prefix": f"2001:db8:{self.number:x}:{pick.randrange(65536):x}::/64", "description": self.some_name()}),
-            ("ip-addresses", {"address": self.some_block(32, 32)[:-2] + "20", "vrf": vrf, "status": status, "dns_name": f"Host{pick.randrange(1000)}.Example", "role": pick.choice(["vip", None])}),
-            ("ip-ranges", {"start_address": f"10.{self.number}.{pick.randrange(256)}.10/24", "end_address": f"10.{self.number}.{pick.randrange(256)}.99/24", "role": role, "status": status}),
+            ("ip-addresses", {"address": self.some_block(32, 32)[:-2] + "20", "vrf": vrf, "status": status, "dns_name": f"Host{pick.randrange(1000)}.Example",
+                              "role": pick.choice(["vip", None])}),
+            ("ip-ranges", {"start_address": f"10.{self.number}.{pick.randrange(256)}.10/24", "end_address": f"10.{self.number}.{pick.randrange(256)}.99/24",
+                           "role": role, "status": status}),
             ("vrfs", {"name": self.some_name(), "rd": pick.choice([None, slug]), "enforce_unique": pick.random() < 0.5}),
             ("roles", {"name": self.some_name(), "slug": slug, "weight": pick.randrange(1000)}),
             ("rirs", {"name": self.some_name(), "slug": slug, "is_private": pick.random() < 0.5}),
@@ -284,7 +288,8 @@ def replay(program, port, folder, changes, copies):
 
 
 class Told(threading.Thread):
-    """A register that says place 0 always: it ends the first connection behind the third page, as one that is started anew. The second one has another record."""
+    """A register that says place 0 always. It ends the first connection behind the third page, as one that is started anew; the second one has another
+    record."""
 
     def __init__(self):
         super().__init__(daemon=True)
@@ -354,7 +359,8 @@ def without_pauses(port, folder, changes, url):
         copy(url, f"{folder}/none.db", "--hold", flag, wanted=1, said="another copy holds changes")
         if not os.path.exists(flag):
             fail("the flag of another copy is removed")
-    print(f"   beside {CLIENTS} clients without a pause: given up after 3 passes; ended by a signal, the flag is removed; beside another copy's flag refused; no file is left")
+    print(f"   beside {CLIENTS} clients without a pause: given up after 3 passes; ended by a signal, the flag is removed; "
+          "beside another copy's flag refused; no file is left")
 
 
 def refused(folder, url):
@@ -466,7 +472,8 @@ def full(program, port, folder):
     server.end()
     if rows(path) != rows(f"{folder}/full_copy.db") or numbers(path) != numbers(f"{folder}/full_copy.db"):
         fail("the copy of the full register is not the file")
-    print(f"   200,000 prefixes and 500,000 addresses: copied in {whole:.1f} s, the file {os.path.getsize(f'{folder}/full_copy.db') / 1e6:.0f} MB; {pages} pages are read in {took:.1f} s")
+    size = os.path.getsize(f"{folder}/full_copy.db") / 1e6
+    print(f"   200,000 prefixes and 500,000 addresses: copied in {whole:.1f} s, the file {size:.0f} MB; {pages} pages are read in {took:.1f} s")
 
 
 def main():
@@ -504,8 +511,8 @@ def main():
         differ = replay(program, port, folder, changes, copies)
         if given.full:
             full(program, port, folder)
-    print(f"copies: {len(copies)} copies beside {len(changes):,} changes; each is opened with status 0, and has the exports, reports and rows of the register stopped at its place; "
-          f"{differ} next ids are those behind deleted last rows")
+    print(f"copies: {len(copies)} copies beside {len(changes):,} changes; each is opened with status 0, "
+          f"and has the exports, reports and rows of the register stopped at its place; {differ} next ids are those behind deleted last rows")
 
 
 if __name__ == "__main__":

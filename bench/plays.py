@@ -1,5 +1,5 @@
-"""Ansible's collection netbox.netbox over a register behind nginx: examples/ansible-ipam.yml and bench/plays/. Each play is run twice. It has to change what it says and no
-other record, the first time alone but for claims, and to give the errors of the table in docs/CLIENTS.md.
+"""Ansible's collection netbox.netbox over a register behind nginx: examples/ansible-ipam.yml and bench/plays/. Each play is run twice. It has to change what
+it says and no other record, the first time alone but for claims, and to give the errors of the table in docs/CLIENTS.md.
 
     bench/plays.py INNER OUTER TOKEN CERTIFICATE      an empty register is served at http://127.0.0.1:INNER, nginx in front of it at https://localhost:OUTER
 """
@@ -19,12 +19,16 @@ BEFORE = [
     ("vrfs", {"name": "blue"}), ("vrfs", {"name": "green", "rd": "65000:2"}), ("vrfs", {"name": "yellow"}),
     ("rirs", {"name": "A", "slug": "a"}), ("rirs", {"name": "B", "slug": "b"}), ("rirs", {"name": "C", "slug": "c"}),
     ("roles", {"name": "LAN", "slug": "lan"}), ("roles", {"name": "WAN", "slug": "wan"}), ("roles", {"name": "DMZ", "slug": "dmz"}),
-    ("aggregates", {"prefix": "10.0.0.0/8", "rir": 1}), ("aggregates", {"prefix": "172.16.0.0/12", "rir": 1}), ("aggregates", {"prefix": "2001:db8::/32", "rir": 2}),
+    ("aggregates", {"prefix": "10.0.0.0/8", "rir": 1}), ("aggregates", {"prefix": "172.16.0.0/12", "rir": 1}),
+    ("aggregates", {"prefix": "2001:db8::/32", "rir": 2}),
     ("prefixes", {"prefix": "10.60.0.0/24"}), ("prefixes", {"prefix": "10.60.0.0/24", "vrf": 1}), ("prefixes", {"prefix": "10.60.0.0/24", "vrf": 2, "role": 3}),
-    ("prefixes", {"prefix": "10.61.0.0/24"}), ("prefixes", {"prefix": "10.62.0.0/30"}), ("prefixes", {"prefix": "10.62.0.0/31"}), ("prefixes", {"prefix": "10.62.0.2/31"}),
-    ("ip-ranges", {"start_address": "10.60.0.100/24", "end_address": "10.60.0.199/24"}), ("ip-ranges", {"start_address": "10.60.0.100/24", "end_address": "10.60.0.199/24", "vrf": 1}),
+    ("prefixes", {"prefix": "10.61.0.0/24"}), ("prefixes", {"prefix": "10.62.0.0/30"}), ("prefixes", {"prefix": "10.62.0.0/31"}),
+    ("prefixes", {"prefix": "10.62.0.2/31"}),
+    ("ip-ranges", {"start_address": "10.60.0.100/24", "end_address": "10.60.0.199/24"}),
+    ("ip-ranges", {"start_address": "10.60.0.100/24", "end_address": "10.60.0.199/24", "vrf": 1}),
     ("ip-ranges", {"start_address": "10.62.0.1/30", "end_address": "10.62.0.2/30"}),
-    ("ip-addresses", {"address": "10.60.0.1/24"}), ("ip-addresses", {"address": "10.60.0.1/24", "vrf": 1}), ("ip-addresses", {"address": "10.60.0.1/24", "vrf": 2}),
+    ("ip-addresses", {"address": "10.60.0.1/24"}), ("ip-addresses", {"address": "10.60.0.1/24", "vrf": 1}),
+    ("ip-addresses", {"address": "10.60.0.1/24", "vrf": 2}),
     ("ip-addresses", {"address": "10.60.0.7/24"}), ("ip-addresses", {"address": "10.60.0.8/24"}), ("ip-addresses", {"address": "10.60.0.8/25", "vrf": 1}),
     ("ip-addresses", {"address": "2001:db8:60::1/64"}), ("ip-addresses", {"address": "2001:db8:60::2/64"}),
 ]
@@ -75,8 +79,8 @@ class Plays:
         self.inner = f"http://127.0.0.1:{inner}"
         self.words = ["-e", f"url=https://localhost:{outer}", "-e", f"token={token}", "-e", "ansible_python_interpreter=/usr/bin/python3"]
         # by this name, since it goes before the module's own `validate_certs`
-        self.env = {**os.environ, "REQUESTS_CA_BUNDLE": certificate, "ANSIBLE_STDOUT_CALLBACK": "ansible.posix.json", "ANSIBLE_LOCALHOST_WARNING": "false", "ANSIBLE_INVENTORY_UNPARSED_WARNING": "false",
-                    "LC_ALL": "C.UTF-8"}
+        self.env = {**os.environ, "REQUESTS_CA_BUNDLE": certificate, "ANSIBLE_STDOUT_CALLBACK": "ansible.posix.json", "ANSIBLE_LOCALHOST_WARNING": "false",
+                    "ANSIBLE_INVENTORY_UNPARSED_WARNING": "false", "LC_ALL": "C.UTF-8"}
         self.tasks = 0
 
     def records(self):
@@ -85,7 +89,8 @@ class Plays:
 
     def run(self, play, *words):
         """What each task says, by its name."""
-        done = subprocess.run(["ansible-playbook", os.path.join(TOP, play), *self.words, *words], env=self.env, stdin=subprocess.DEVNULL, capture_output=True, text=True)
+        command = ["ansible-playbook", os.path.join(TOP, play), *self.words, *words]
+        done = subprocess.run(command, env=self.env, stdin=subprocess.DEVNULL, capture_output=True, text=True)
         try:
             tasks = json.loads(done.stdout[done.stdout.index("{"):])["plays"][0]["tasks"]
         except (ValueError, LookupError):
@@ -155,7 +160,8 @@ def main():
     plays.changes("bench/plays/absent.yml", {}, None, "--check")
     plays.changes("bench/plays/absent.yml", ABSENT, None)
     plays.changes("bench/plays/absent.yml", {}, [])
-    print(f"plays: {plays.tasks} tasks of Ansible's netbox.netbox, each as it should be: a second run changes nothing but by claims, and `absent` takes the named record and no other")
+    print(f"plays: {plays.tasks} tasks of Ansible's netbox.netbox, each as it should be: a second run changes nothing but by claims, "
+          "and `absent` takes the named record and no other")
 
 
 if __name__ == "__main__":

@@ -1,9 +1,9 @@
 #!/usr/bin/env bash
-# nginx in front of `serve`, with examples/nginx-ipamd.conf as it stands but for its ports and files: TLS, passwords and tokens, and the user in the log; HEAD and what
-# follows it on the same connection, bodies of 4 MiB and one byte more, a body in chunks, requests over kept connections; filters that are refused, addresses with
-# their masks, links of pages; changes that are held; and a request every half second for more than twice the 30 seconds that the register gives a connection, of
-# which none may fail. By the built program (./ipamd builds it; IPAMD=PROGRAM takes another one). It needs nginx, curl and openssl, and two minutes. --short leaves
-# the last two minutes out.   bench/proxy.sh [--short] [PORT]
+# nginx in front of `serve`, with examples/nginx-ipamd.conf as it stands but for its ports and files: TLS, passwords and tokens, and the user in the log; HEAD
+# and what follows it on the same connection, bodies of 4 MiB and one byte more, a body in chunks; filters that are refused, addresses with their masks, links
+# of pages; changes that are held; requests over kept connections; and a request every half second for more than twice the 30 seconds that the register gives
+# a connection, of which none may fail. By the built program (./ipamd builds it; IPAMD=PROGRAM takes another one). It needs nginx, curl and openssl, and two
+# minutes and more; --short leaves the last two steps out.   bench/proxy.sh [--short] [PORT]
 set -euo pipefail
 top=$(cd "$(dirname "$0")/.." && pwd)
 program=${IPAMD:-$top/crates/ipamd/out/ipamd}
@@ -61,8 +61,10 @@ gives() {
 finds() {
     want 200 "$base/ip-addresses/?$2"
     local told
-    told=$(python3 -c 'import json, sys; page = json.load(sys.stdin); assert page["count"] == len(page["results"]); print(*(row["id"] for row in page["results"]))' < "$folder/answer") ||
-        fail "$2: $(cat "$folder/answer")"
+    told=$(python3 -c 'import json, sys
+page = json.load(sys.stdin)
+assert page["count"] == len(page["results"])
+print(*(row["id"] for row in page["results"]))' < "$folder/answer") || fail "$2: $(cat "$folder/answer")"
     [ "$told" = "$1" ] || fail "$2: found '$told' in place of '$1'"
 }
 
@@ -97,7 +99,9 @@ ask -I "$base/prefixes/" --next -sS --max-time 30 --cacert "$folder/register.pem
 grep -q '^HTTP/1.1 405' "$folder/both" && grep -q '"prefix":"10.0.0.0/16"' "$folder/both" || fail "HEAD, and a GET behind it: $(cat "$folder/both")"
 want 200 -H "Authorization: Token $token" "$base/prefixes/1/"
 sleep 0.2
-grep -q ' anna .*"POST /api/ipam/prefixes/ HTTP/1.1" 201 ' "$folder/register.log" && grep -q ' bert .*"GET /api/ipam/prefixes/1/ HTTP/1.1" 200 ' "$folder/register.log" || fail "the log: $(cat "$folder/register.log")"
+for line in ' anna .*"POST /api/ipam/prefixes/ HTTP/1.1" 201 ' ' bert .*"GET /api/ipam/prefixes/1/ HTTP/1.1" 200 '; do
+    grep -q "$line" "$folder/register.log" || fail "the log: $(cat "$folder/register.log")"
+done
 
 # bodies: the largest, one byte more, and one in chunks
 python3 - "$folder" <<'P'
@@ -123,24 +127,28 @@ want 405 -X OPTIONS "$base/prefixes/1/"
 
 # links of pages have the scheme and the host; a text of a record that looks like one stays as it is
 want 200 "$base/prefixes/?limit=1&offset=1"
-grep -q "^{\"count\":3,\"next\":\"https://register.example.net:$outer/api/ipam/prefixes/?limit=1&offset=2\",\"previous\":\"https://register.example.net:$outer/api/ipam/prefixes/?limit=1&offset=0\"," "$folder/answer" ||
-    fail "the links: $(cat "$folder/answer")"
+links="{\"count\":3,\"next\":\"$base/prefixes/?limit=1&offset=2\",\"previous\":\"$base/prefixes/?limit=1&offset=0\","
+[[ "$(cat "$folder/answer")" == "$links"* ]] || fail "the links: $(cat "$folder/answer")"
 want 201 -d '{"name":"x","description":"\"next\":\"/api/ \"previous\":\"/api/ {\"address\":\""}' "$base/vrfs/"
 gives 200 '{"description":"\"next\":\"/api/ \"previous\":\"/api/ {\"address\":\"","enforce_unique":true,"id":1,"name":"x","rd":null}' vrfs/1/
 
 # filters of other profiles, each of ours, and one twice
-for query in 'prefixes/?tenant=1' 'prefixes/?limit=1&q=x' 'vrfs/?name__ic=x' 'rirs/?name=x&id=1' 'roles/?tag=x' 'aggregates/?prefix=10.0.0.0/8' 'ip-ranges/?parent=10.0.0.0/8' 'ip-addresses/?vrf=x' \
-    'ip-addresses/?address=10.0.0.1&device=1' 'prefixes/?%76rf_id=1' 'vrfs/?names=x'; do
+for query in 'prefixes/?tenant=1' 'prefixes/?limit=1&q=x' 'vrfs/?name__ic=x' 'rirs/?name=x&id=1' 'roles/?tag=x' 'aggregates/?prefix=10.0.0.0/8' \
+    'ip-ranges/?parent=10.0.0.0/8' 'ip-addresses/?vrf=x' \
+    'ip-addresses/?address=10.0.0.1&device=1' 'prefixes/?%76rf_id=1' 'vrfs/?names=x' 'prefixes/1/?x=1' 'prefixes/1/utilization/?limit=1' \
+    'prefixes/1/available-ips/?offset=1' 'prefixes/1/available-prefixes/?limit=1&prefix_length=26' 'ip-ranges/1/available-ips/?x'; do
     name=${query##*[?&]}
     gives 400 "{\"detail\":\"filter ${name%%=*} is not in this profile\"}" "$query"
 done
-for query in 'prefixes/?status=active&family=4&status=reserved' 'vrfs/?name=x&name=x' 'ip-addresses/?address=10.0.0.1&address=10.0.0.2' 'roles/?limit=1&limit=2'; do
+for query in 'prefixes/?status=active&family=4&status=reserved' 'vrfs/?name=x&name=x' 'ip-addresses/?address=10.0.0.1&address=10.0.0.2' \
+    'roles/?limit=1&limit=2' 'prefixes/1/available-ips/?limit=1&limit=1'; do
     name=${query##*[?&]}
     gives 400 "{\"detail\":\"filter ${name%%=*} is not in this profile more than once\"}" "$query"
 done
-for query in 'vrfs/?name=x&rd=1&limit=1&offset=0' 'rirs/?name=x&slug=x' 'roles/?name=x&slug=x' 'aggregates/?family=4&rir_id=1' 'prefixes/?family=4&vrf_id=1&role_id=1&status=active' \
-    'prefixes/?prefix=10.0.0.0/8&within=10.0.0.0/8&within_include=10.0.0.0/8&contains=10.0.0.0/8' 'ip-ranges/?family=4&vrf_id=1&role_id=null&status=active&contains=10.0.0.1' \
-    'ip-addresses/?family=4&vrf_id=1&status=active&role=vip&parent=10.0.0.0/8&dns_name=x' 'prefixes/1/?x=1' 'prefixes/1/available-ips/?limit=1' 'vrfs/?name' 'vrfs/?limit=1&'; do
+for query in 'vrfs/?name=x&rd=1&limit=1&offset=0' 'rirs/?name=x&slug=x' 'roles/?name=x&slug=x' 'aggregates/?family=4&rir_id=1' \
+    'prefixes/?family=4&vrf_id=1&role_id=1&status=active' 'prefixes/?prefix=10.0.0.0/8&within=10.0.0.0/8&within_include=10.0.0.0/8&contains=10.0.0.0/8' \
+    'ip-ranges/?family=4&vrf_id=1&role_id=null&status=active&contains=10.0.0.1' 'prefixes/1/?' 'prefixes/1/available-ips/?limit=1' 'vrfs/?name' 'vrfs/?limit=1&' \
+    'ip-addresses/?family=4&vrf_id=1&status=active&role=vip&parent=10.0.0.0/8&dns_name=x'; do
     want 200 "$base/$query"
 done
 
@@ -187,7 +195,8 @@ gives 400 '{"code":"field","detail":"parent is missing or malformed"}' 'ip-addre
 touch "$folder/hold"
 for method in POST PATCH DELETE; do
     want 503 -X "$method" -d '{}' -D "$folder/head" "$base/prefixes/1/"
-    grep -q '^Retry-After: 2.$' "$folder/head" && grep -q '"code":"held"' "$folder/answer" || fail "a change that is held: $(cat "$folder/head" "$folder/answer")"
+    grep -q '^Retry-After: 2.$' "$folder/head" && grep -q '"code":"held"' "$folder/answer" ||
+        fail "a change that is held: $(cat "$folder/head" "$folder/answer")"
 done
 want 503 -d '{}' "$base/prefixes/1/available-ips/"
 want 200 "$base/prefixes/1/"

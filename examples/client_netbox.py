@@ -26,7 +26,8 @@ def beside_records(nb, url):
     choices = nb.ipam.ip_addresses.choices()
     assert [one["value"] for one in choices["status"]] == ["active", "reserved", "deprecated", "dhcp", "slaac"] and len(choices["role"]) == 8
     assert [one["value"] for one in nb.ipam.prefixes.choices()["status"]] == ["container", "active", "reserved", "deprecated"]
-    assert len(nb.ipam.ip_ranges.choices()["status"]) == 3 and nb.ipam.vrfs.choices() == nb.ipam.rirs.choices() == nb.ipam.roles.choices() == nb.ipam.aggregates.choices() == {}
+    assert len(nb.ipam.ip_ranges.choices()["status"]) == 3
+    assert nb.ipam.vrfs.choices() == nb.ipam.rirs.choices() == nb.ipam.roles.choices() == nb.ipam.aggregates.choices() == {}
     for token in (None, "0" * 40):
         stranger = pynetbox.api(url, token=token)
         raises(pynetbox.RequestError, lambda: stranger.ipam.prefixes.count())
@@ -55,7 +56,8 @@ def records(ipam):
     assert aggregate.delete() and ipam.aggregates.get(aggregate.id) is None
     # an address by its text: with its mask, without, and with another one
     assert ipam.ip_addresses.get(address="10.20.0.1/24").id == gateway.id == ipam.ip_addresses.get(address="10.20.0.1").id
-    assert ipam.ip_addresses.get(address="2001:db8::1/64", vrf_id=vrf.id).id == six.id and ipam.ip_addresses.get(address="2001:db8::1/64", vrf_id="null") is None
+    assert ipam.ip_addresses.get(address="2001:db8::1/64", vrf_id=vrf.id).id == six.id
+    assert ipam.ip_addresses.get(address="2001:db8::1/64", vrf_id="null") is None
     assert ipam.ip_addresses.get(address="10.20.0.1/25") is None and len(ipam.ip_addresses.filter(address="10.20.0.1/23")) == 0
     print("records: created, found by filters and by the text of an address, changed and deleted")
     return office
@@ -83,8 +85,8 @@ def differences(ipam, office):
     """What does not go as with NetBox."""
     assert isinstance(office.role, int) and ipam.roles.get(office.role).name == "Office LAN" and office.family == 4
     raises(AttributeError, lambda: str(ipam.ip_ranges.get(1)))
-    for filters, name in (({"tenant": "x"}, "tenant"), ({"q": "desks"}, "q"), ({"description__ic": "desks"}, "description__ic"), ({"id": 1}, "id"), ({"vrf": "65000:10"}, "vrf")):
-        told = raises(pynetbox.RequestError, lambda: ipam.prefixes.get(**filters))
+    for name in ("tenant", "q", "description__ic", "id", "vrf"):
+        told = raises(pynetbox.RequestError, lambda: ipam.prefixes.get(**{name: 1}))
         assert told == f'{{"detail":"filter {name} is not in this profile"}}', told
     assert "more than once" in raises(pynetbox.RequestError, lambda: list(ipam.prefixes.filter(status=["active", "reserved"])))
     assert '"code":"bad_json"' in raises(pynetbox.RequestError, lambda: ipam.prefixes.create([{"prefix": "10.1.0.0/16"}]))

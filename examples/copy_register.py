@@ -3,9 +3,9 @@
 
     copy.py http://127.0.0.1:8080 register-2026-11-29.db [--next KIND=N ..] [--hold FLAG] [--passes N]
 
-It reads all pages of all kinds over one connection. Where the register was changed between the first and the last page, it begins anew: all records of a copy are
-of one moment. Ids are kept. FILE must not exist; it appears once it is whole and on the disk. The last line that is printed has the numbers of records and
-`Ipam-Place`, the number of changes that the register had made since its start.
+It reads all pages of all kinds over one connection. Where the register was changed between the first and the last page, it begins anew: all records of a
+copy are of one moment. Ids are kept. FILE must not exist; it appears once it is whole and on the disk. The line that is printed has the numbers of records,
+and `Ipam-Place`, the number of changes that the register had made since its start.
 
 --next   the next id of a kind, as `prefixes=4711`. Without it, that is the one after the greatest id that there is: a register does not tell the ids of its
          last records once they are deleted.
@@ -183,7 +183,8 @@ def main():
         if os.path.lexists(path):
             sys.exit(f"copy: {path} exists")
     # the flag is removed also where the copy is ended by a signal
-    signal.signal(signal.SIGTERM, lambda *_: sys.exit("copy: ended by a signal"))
+    for number in (signal.SIGTERM, signal.SIGHUP):
+        signal.signal(number, lambda *_: sys.exit("copy: ended by a signal"))
     try:
         pages, place = read_all(parts.hostname, parts.port or 80, given.hold, given.passes)
         counts = write(given.file, pages, dict(given.next))
