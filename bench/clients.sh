@@ -1,8 +1,8 @@
 #!/usr/bin/env bash
 # The scripts of examples/ and the pictures of docs/, by the built program (./ipamd builds it; IPAMD=PROGRAM takes another one): curl's day; pynetbox, without
-# nginx and behind it; plays of Ansible's netbox.netbox behind nginx, each twice; the moves from NetBox, phpIPAM and a spreadsheet with what they print and
-# the CSV files that they write; and that docs/layers.svg and docs/tree.svg are still what their scripts draw. Each has a register of its own. It says what
-# could not be run. Debian's packages python3-pynetbox, nginx-light, openssl and ansible have what is needed.   bench/clients.sh [PORT]
+# nginx and behind it; random filters behind nginx; plays of Ansible's netbox.netbox behind nginx, each twice; the moves from NetBox, phpIPAM and a spreadsheet
+# with what they print and the CSV files that they write; and that docs/layers.svg and docs/tree.svg are still what their scripts draw. Each has a register of
+# its own. It says what could not be run. Debian's packages python3-pynetbox, nginx-light, openssl and ansible have what is needed.   bench/clients.sh [PORT]
 set -euo pipefail
 top=$(cd "$(dirname "$0")/.." && pwd)
 program=${IPAMD:-$top/crates/ipamd/out/ipamd}
@@ -94,6 +94,10 @@ else
     /usr/bin/python3 "$top/examples/client_netbox.py" "https://localhost:$((port + 1))" "$(cat "$folder/front/token")" > "$folder/out" 2>&1 ||
         fail "pynetbox behind nginx: $(cat "$folder/out")"
     tail -n 1 "$folder/out"
+    stop_front
+    start
+    start_front
+    python3 "$top/bench/filters.py" "$port" "$folder/front" $((port + 1))
     stop_front
     if [ -n "$(command -v ansible-playbook)" ]; then
         start

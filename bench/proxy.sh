@@ -180,14 +180,15 @@ for text in 2001:db8::1 2001:db8:1:2:3:4:5:6 ::ffff:102:304 2001:db8:0:1:2:3:4:0
     finds "$id" "address=$text/$mask"
     finds "$id" "address=$encoded%2F$mask"
     finds "$id" "address=$encoded/$mask&family=6"
-    finds "$id" "address=$(tr a-f A-F <<< "$text")/$mask"
-    finds "$id" "address=$(tr A-Z a-z <<< "$encoded")"
+    finds "$id" "address=${encoded//%3A/%3a}%2f$mask"
+    finds "$id" "address=${encoded//%3A/%3a}"
     finds "" "address=$text/63"
     finds "" "address=$encoded%2F63"
     id=$((id + 1))
 done
-gives 400 '{"detail":"filter address is not in this profile but with an address"}' 'ip-addresses/?address=gw'
-gives 400 '{"detail":"filter address is not in this profile but with an address"}' 'ip-addresses/?address='
+gives 400 '{"detail":"filter address is not in this profile but with an address in lower case"}' 'ip-addresses/?address=gw'
+gives 400 '{"detail":"filter address is not in this profile but with an address in lower case"}' 'ip-addresses/?address='
+gives 400 '{"detail":"filter address is not in this profile but with an address in lower case"}' 'ip-addresses/?address=2001:DB8::1/64'
 gives 400 '{"detail":"filter address is not in this profile beside parent"}' 'ip-addresses/?address=10.9.0.1&parent=10.0.0.0/8'
 gives 400 '{"code":"field","detail":"parent is missing or malformed"}' 'ip-addresses/?address=10.9.0.1.2'
 
