@@ -1,12 +1,15 @@
 #!/usr/bin/env bash
-# nginx in front of `serve`, with examples/nginx-ipamd.conf as it stands but for its ports and files: TLS, the password, HEAD and what follows it on the same
-# connection, bodies of 4 MiB and one byte more, a body in chunks, requests over kept connections; and a request every half second for more than twice the 30
-# seconds that the register gives a connection, of which none may fail. By the built program (./ipamd builds it; IPAMD=PROGRAM takes another one). It
-# needs nginx, curl and openssl, and two minutes.   bench/proxy.sh [PORT]
+# nginx in front of `serve`, with examples/nginx-ipamd.conf as it stands but for its ports and files: TLS, passwords and tokens, and the user in the log; HEAD
+# and what follows it on the same connection, bodies of 4 MiB and one byte more, a body in chunks; filters that are refused, addresses with their masks, links
+# of pages; changes that are held; requests over kept connections; and a request every half second for more than twice the 30 seconds that the register gives
+# a connection, of which none may fail. By the built program (./ipamd builds it; IPAMD=PROGRAM takes another one). It needs nginx, curl and openssl, and two
+# minutes and more; --short leaves the last two steps out.   bench/proxy.sh [--short] [PORT]
 set -euo pipefail
 top=$(cd "$(dirname "$0")/.." && pwd)
 program=${IPAMD:-$top/crates/ipamd/out/ipamd}
 [ -x "$program" ] || { echo "build the program first: ./ipamd free 10.0.0.0/8 </dev/null" >&2; exit 1; }
+long=yes
+[ "${1:-}" != --short ] || { long=; shift; }
 port=${1:-18480}
 outer=$((port + 1))
 folder=$(mktemp -d)
@@ -31,9 +34,13 @@ wait_for() {
     fail "the port $1 does not listen: $(cat "$folder/errors" 2>/dev/null)"
 }
 
-# status and answer of a request through nginx
+# a request through nginx, with no user; by a password
+outside() {
+    curl -sS -g --max-time 30 --cacert "$folder/register.pem" --resolve "register.example.net:$outer:127.0.0.1" "$@"
+}
+
 ask() {
-    curl -sS --max-time 30 --cacert "$folder/register.pem" --resolve "register.example.net:$outer:127.0.0.1" -u anna:secret "$@"
+    outside -u anna:secret "$@"
 }
 
 want() {
@@ -43,34 +50,58 @@ want() {
     [ "$told" = "$wanted" ] || fail "$*: $told in place of $wanted: $(head -c 300 "$folder/answer")"
 }
 
-openssl req -x509 -newkey ec -pkeyopt ec_paramgen_curve:prime256v1 -nodes -days 2 -subj /CN=register.example.net -addext subjectAltName=DNS:register.example.net \
-    -keyout "$folder/register.key" -out "$folder/register.pem" 2>/dev/null
-printf 'anna:%s\n' "$(openssl passwd -apr1 secret)" > "$folder/register.users"
-sed "s|127.0.0.1:8080|127.0.0.1:$port|; s|listen 443|listen 127.0.0.1:$outer|; s|/etc/ssl/certs/|$folder/|; s|/etc/ssl/private/|$folder/|; s|/etc/nginx/|$folder/|" \
-    "$top/examples/nginx-ipamd.conf" > "$folder/ipamd.conf"
-cat > "$folder/nginx.conf" <<N
-$([ "$(id -u)" != 0 ] || echo "user root;")
-worker_processes 1; daemon off; pid $folder/nginx.pid; error_log $folder/errors;
-events {}
-http {
-    log_format told '\$status \$upstream_addr \$upstream_status'; access_log $folder/told told;
-    client_body_temp_path $folder/body; proxy_temp_path $folder/proxied; fastcgi_temp_path $folder/f; uwsgi_temp_path $folder/u; scgi_temp_path $folder/s;
-    include $folder/ipamd.conf;
+# a GET whose answer is this
+gives() {
+    local status=$1 wanted=$2
+    want "$status" "$base/$3"
+    [ "$(cat "$folder/answer")" = "$wanted" ] || fail "$3: $(head -c 600 "$folder/answer")"
 }
-N
+
+# the ids of the addresses that are found, one behind the other
+finds() {
+    want 200 "$base/ip-addresses/?$2"
+    local told
+    told=$(python3 -c 'import json, sys
+page = json.load(sys.stdin)
+assert page["count"] == len(page["results"])
+print(*(row["id"] for row in page["results"]))' < "$folder/answer") || fail "$2: $(cat "$folder/answer")"
+    [ "$told" = "$1" ] || fail "$2: found '$told' in place of '$1'"
+}
+
 "$program" serve --bind "127.0.0.1:$port" --workers 16 > /dev/null 2> "$folder/serve_errors" < /dev/null &
 server=$!
 wait_for "$port"
-nginx -c "$folder/nginx.conf" -p "$folder" 2> "$folder/start" &
+"$top/bench/front.sh" "$folder" "$port" "$outer" 2> "$folder/start" &
 proxy=$!
 wait_for "$outer"
+token=$(cat "$folder/token")
 base=https://register.example.net:$outer/api/ipam
 
-# the password, a creation, HEAD and a GET behind it on one connection
-[ "$(curl -sS --max-time 30 --cacert "$folder/register.pem" --resolve "register.example.net:$outer:127.0.0.1" -o /dev/null -w '%{http_code}' "$base/prefixes/")" = 401 ] || fail "no password is asked for"
+# passwords and tokens: the right ones, wrong ones, and none
+refused_users() {
+    local told
+    for told in "$@"; do
+        [ "$(outside -o /dev/null -w '%{http_code}' -H "Authorization: Token $token" "$told")" = 200 ] || fail "$told with a token"
+        [ "$(outside -o /dev/null -w '%{http_code}' -u anna:secret "$told")" = 200 ] || fail "$told with a password"
+        [ "$(outside -o /dev/null -w '%{http_code}' "$told")" = 401 ] || fail "$told without a user"
+        [ "$(outside -o /dev/null -w '%{http_code}' -u anna:wrong "$told")" = 401 ] || fail "$told with a wrong password"
+        [ "$(outside -o /dev/null -w '%{http_code}' -H "Authorization: Token ${token:1}0" "$told")" = 401 ] || fail "$told with a wrong token"
+        [ "$(outside -o /dev/null -w '%{http_code}' -H "Authorization: Token " "$told")" = 401 ] || fail "$told with an empty token"
+    done
+}
+refused_users "$base/prefixes/" "$base/ip-addresses/" "$base/ip-addresses/?address=10.0.0.1/24" "${base%ipam}status/"
+[ "$(outside -o /dev/null -w '%{http_code}' "$base/prefixes/?tenant=1")" = 401 ] || fail "a filter that is refused, without a user"
+[ "$(outside -o /dev/null -w '%{http_code}' -X OPTIONS "$base/prefixes/")" = 401 ] || fail "OPTIONS without a user"
+
+# a creation, HEAD and a GET behind it on one connection
 want 201 -d '{"prefix":"10.0.0.0/16"}' "$base/prefixes/"
 ask -I "$base/prefixes/" --next -sS --max-time 30 --cacert "$folder/register.pem" --resolve "register.example.net:$outer:127.0.0.1" -u anna:secret "$base/prefixes/1/" > "$folder/both"
 grep -q '^HTTP/1.1 405' "$folder/both" && grep -q '"prefix":"10.0.0.0/16"' "$folder/both" || fail "HEAD, and a GET behind it: $(cat "$folder/both")"
+want 200 -H "Authorization: Token $token" "$base/prefixes/1/"
+sleep 0.2
+for line in ' anna .*"POST /api/ipam/prefixes/ HTTP/1.1" 201 ' ' bert .*"GET /api/ipam/prefixes/1/ HTTP/1.1" 200 '; do
+    grep -q "$line" "$folder/register.log" || fail "the log: $(cat "$folder/register.log")"
+done
 
 # bodies: the largest, one byte more, and one in chunks
 python3 - "$folder" <<'P'
@@ -82,6 +113,102 @@ P
 want 201 --data-binary "@$folder/largest" "$base/prefixes/"
 want 413 --data-binary "@$folder/larger" "$base/prefixes/"
 want 201 -H 'Transfer-Encoding: chunked' -d '{"prefix":"10.2.0.0/16"}' "$base/prefixes/"
+
+# what the clients of NetBox ask beside the register's own paths
+outside -i "${base%ipam}" > "$folder/answer"
+grep -q '^API-Version: 4.1.$' "$folder/answer" || fail "the version: $(cat "$folder/answer")"
+want 200 "${base%ipam}status/"
+[ "$(cat "$folder/answer")" = '{"netbox-version":"4.1.0"}' ] || fail "the status: $(cat "$folder/answer")"
+for kind in vrfs rirs roles aggregates prefixes ip-ranges ip-addresses; do
+    want 200 -X OPTIONS "$base/$kind/"
+    python3 -c 'import json, sys; json.load(sys.stdin)["actions"]["POST"]' < "$folder/answer" || fail "the choices of $kind"
+done
+want 405 -X OPTIONS "$base/prefixes/1/"
+
+# links of pages have the scheme and the host; a text of a record that looks like one stays as it is
+want 200 "$base/prefixes/?limit=1&offset=1"
+links="{\"count\":3,\"next\":\"$base/prefixes/?limit=1&offset=2\",\"previous\":\"$base/prefixes/?limit=1&offset=0\","
+[[ "$(cat "$folder/answer")" == "$links"* ]] || fail "the links: $(cat "$folder/answer")"
+want 201 -d '{"name":"x","description":"\"next\":\"/api/ \"previous\":\"/api/ {\"address\":\""}' "$base/vrfs/"
+gives 200 '{"description":"\"next\":\"/api/ \"previous\":\"/api/ {\"address\":\"","enforce_unique":true,"id":1,"name":"x","rd":null}' vrfs/1/
+
+# filters of other profiles, each of ours, and one twice
+for query in 'prefixes/?tenant=1' 'prefixes/?limit=1&q=x' 'vrfs/?name__ic=x' 'rirs/?name=x&id=1' 'roles/?tag=x' 'aggregates/?prefix=10.0.0.0/8' \
+    'ip-ranges/?parent=10.0.0.0/8' 'ip-addresses/?vrf=x' \
+    'ip-addresses/?address=10.0.0.1&device=1' 'prefixes/?%76rf_id=1' 'vrfs/?names=x' 'prefixes/1/?x=1' 'prefixes/1/utilization/?limit=1' \
+    'prefixes/1/available-ips/?offset=1' 'prefixes/1/available-prefixes/?limit=1&prefix_length=26' 'ip-ranges/1/available-ips/?x'; do
+    name=${query##*[?&]}
+    gives 400 "{\"detail\":\"filter ${name%%=*} is not in this profile\"}" "$query"
+done
+for query in 'prefixes/?status=active&family=4&status=reserved' 'vrfs/?name=x&name=x' 'ip-addresses/?address=10.0.0.1&address=10.0.0.2' \
+    'roles/?limit=1&limit=2' 'prefixes/1/available-ips/?limit=1&limit=1'; do
+    name=${query##*[?&]}
+    gives 400 "{\"detail\":\"filter ${name%%=*} is not in this profile more than once\"}" "$query"
+done
+for query in 'vrfs/?name=x&rd=1&limit=1&offset=0' 'rirs/?name=x&slug=x' 'roles/?name=x&slug=x' 'aggregates/?family=4&rir_id=1' \
+    'prefixes/?family=4&vrf_id=1&role_id=1&status=active' 'prefixes/?prefix=10.0.0.0/8&within=10.0.0.0/8&within_include=10.0.0.0/8&contains=10.0.0.0/8' \
+    'ip-ranges/?family=4&vrf_id=1&role_id=null&status=active&contains=10.0.0.1' 'prefixes/1/?' 'prefixes/1/available-ips/?limit=1' 'vrfs/?name' 'vrfs/?limit=1&' \
+    'ip-addresses/?family=4&vrf_id=1&status=active&role=vip&parent=10.0.0.0/8&dns_name=x'; do
+    want 200 "$base/$query"
+done
+
+# address=: with the mask of the record, with another one, without; encoded and bare; one host in several tables
+want 201 -d '{"address":"10.9.0.1/24"}' "$base/ip-addresses/"
+want 201 -d '{"address":"10.9.0.1/24","vrf":1}' "$base/ip-addresses/"
+want 201 -d '{"address":"10.9.0.2/24"}' "$base/ip-addresses/"
+want 201 -d '{"address":"10.9.0.2/25","vrf":1}' "$base/ip-addresses/"
+for text in 2001:db8::1/64 2001:db8:1:2:3:4:5:6/64 ::ffff:102:304/128 2001:db8:0:1:2:3:4:0/126 1:2::/64 1:2:3::4:5/64; do
+    want 201 -d "{\"address\":\"$text\"}" "$base/ip-addresses/"
+done
+finds "1 2" address=10.9.0.1/24
+finds 1 'address=10.9.0.1%2F24&vrf_id=null'
+finds 2 'vrf_id=1&address=10.9.0.1%2f24&limit=5'
+finds "" 'address=10.9.0.1/25&vrf_id=1'
+finds "" 'address=10.9.0.1%2F2&vrf_id=1'
+finds "" address=10.9.0.3/24
+finds 3 'address=10.9.0.2/24&vrf_id=null'
+finds "" 'address=10.9.0.2/24&vrf_id=1'
+finds "3 4" address=10.9.0.2
+finds "1 2 3 4" parent=10.9.0.0/24
+# two hosts of which one has another mask: no JSON
+want 200 "$base/ip-addresses/?address=10.9.0.2/24"
+python3 -c 'import json, sys; json.load(sys.stdin)' < "$folder/answer" 2> /dev/null && fail "an answer with a record of another mask: $(cat "$folder/answer")"
+id=5
+for text in 2001:db8::1 2001:db8:1:2:3:4:5:6 ::ffff:102:304 2001:db8:0:1:2:3:4:0 1:2:: 1:2:3::4:5; do
+    mask=$(ask "$base/ip-addresses/$id/" | sed 's|{"address":"[^/]*/\([0-9]*\)".*|\1|')
+    encoded=${text//:/%3A}
+    finds "$id" "address=$text/$mask"
+    finds "$id" "address=$encoded%2F$mask"
+    finds "$id" "address=$encoded/$mask&family=6"
+    finds "$id" "address=${encoded//%3A/%3a}%2f$mask"
+    finds "$id" "address=${encoded//%3A/%3a}"
+    finds "" "address=$text/63"
+    finds "" "address=$encoded%2F63"
+    id=$((id + 1))
+done
+gives 400 '{"detail":"filter address is not in this profile but with an address in lower case"}' 'ip-addresses/?address=gw'
+gives 400 '{"detail":"filter address is not in this profile but with an address in lower case"}' 'ip-addresses/?address='
+gives 400 '{"detail":"filter address is not in this profile but with an address in lower case"}' 'ip-addresses/?address=2001:DB8::1/64'
+gives 400 '{"detail":"filter address is not in this profile beside parent"}' 'ip-addresses/?address=10.9.0.1&parent=10.0.0.0/8'
+gives 400 '{"code":"field","detail":"parent is missing or malformed"}' 'ip-addresses/?address=10.9.0.1.2'
+
+# changes are held, and reading goes on
+touch "$folder/hold"
+for method in POST PATCH DELETE; do
+    want 503 -X "$method" -d '{}' -D "$folder/head" "$base/prefixes/1/"
+    grep -q '^Retry-After: 2.$' "$folder/head" && grep -q '"code":"held"' "$folder/answer" ||
+        fail "a change that is held: $(cat "$folder/head" "$folder/answer")"
+done
+want 503 -d '{}' "$base/prefixes/1/available-ips/"
+want 200 "$base/prefixes/1/"
+finds 3 'address=10.9.0.2/24&vrf_id=null'
+want 200 -X OPTIONS "$base/prefixes/"
+rm "$folder/hold"
+want 200 -X PATCH -d '{}' "$base/prefixes/1/"
+if [ -z "$long" ]; then
+    echo "proxy: short"
+    exit 0
+fi
 
 # two thousand requests over four connections: few connections to the register
 for number in 1 2 3 4; do
@@ -100,7 +227,7 @@ for _ in $(seq 140); do
 done
 sleep 31
 want 201 -d '{}' "$base/prefixes/1/available-ips/"
-claimed=$(ask "$base/ip-addresses/?limit=1" | sed 's/{"count":\([0-9]*\),.*/\1/')
+claimed=$(ask "$base/ip-addresses/?parent=10.0.0.0/16&limit=1" | sed 's/{"count":\([0-9]*\),.*/\1/')
 [ "$claimed" = 141 ] || fail "$claimed addresses of 141 claims"
 [ ! -s "$folder/serve_errors" ] || fail "the messages: $(cat "$folder/serve_errors")"
-echo "proxy: TLS, password, HEAD, bodies of 4 MiB and in chunks; 2,000 requests over at most $made connections to the register; 141 claims over $((140 / 2 + 31)) seconds and more, none lost or made twice; nginx $(nginx -v 2>&1 | sed 's|.*/||')"
+echo "proxy: TLS, passwords and tokens, filters, HEAD, bodies of 4 MiB and in chunks; 2,000 requests over at most $made connections to the register; 141 claims over $((140 / 2 + 31)) seconds and more, none lost or made twice; nginx $(nginx -v 2>&1 | sed 's|.*/||')"

@@ -10,7 +10,7 @@ root=${1:-/var/tmp/ipamd-debian}
 packages=systemd,systemd-sysv,dbus,curl,nginx-light,openssl,sqlite3,procps,iproute2,man-db
 [ -e "$root/made" ] || { debootstrap --variant=minbase --include="$packages" bookworm "$root" > "$root.log" 2>&1 && touch "$root/made"; }
 
-rm -rf "$root/root/ipamd" "$root/root/told" "$root/var/lib/private/ipamd" "$root/var/lib/ipamd" "$root/etc/systemd/system/ipamd.service.d" "$root/etc/nginx/register.users"
+rm -rf "$root/root/ipamd" "$root/root/told" "$root/var/lib/private/ipamd" "$root/var/lib/ipamd" "$root/etc/systemd/system/ipamd.service.d" "$root"/etc/nginx/{register.users,register.tokens,conf.d/ipamd.conf}
 mkdir -p "$root/root/ipamd"
 git -C "$top" archive HEAD | tar -x -C "$root/root/ipamd"
 # what is tried is what stands here, also where it is not committed yet

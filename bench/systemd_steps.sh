@@ -66,10 +66,14 @@ grep -qxF -- "    $users" docs/OPERATING.md || { bad=$((bad + 1)); echo "BAD  no
 printf '%s\n' "$users" > /root/users.sh
 look 0 '' '(sleep 1; echo secret; sleep 1; echo secret; sleep 1) | script -qec "bash /root/users.sh" /dev/null'
 look 0 '^anna:\$apr1\$' 'cat /etc/nginx/register.users'
+step 0 '' "printf '\"Token %s\" bert;\\n' \"\$(openssl rand -hex 20)\" >> /etc/nginx/register.tokens"
+step 0 '' 'chmod 600 /etc/nginx/register.tokens'
 step 0 'test is successful' 'nginx -t && systemctl reload nginx'
 outside="curl -s -w '%{http_code}' --cacert /etc/ssl/certs/register.pem --resolve register.example.net:443:127.0.0.1"
 look 0 '"count":1,.*200$' "sleep 1; $outside -u anna:secret https://register.example.net/api/ipam/prefixes/"
 look 0 '401$' "$outside https://register.example.net/api/ipam/prefixes/"
+look 0 '"count":1,.*200$' "$outside -H \"Authorization: \$(sed 's/\"\(.*\)\".*/\1/' /etc/nginx/register.tokens)\" https://register.example.net/api/ipam/prefixes/"
+look 0 ' bert ' 'cat /var/log/nginx/register.log'
 
 # a copy, and what is made behind it
 step 0 '' 'systemctl stop ipamd'

@@ -1,0 +1,24 @@
+#!/usr/bin/env bash
+# nginx in front of a register on the port INNER of this machine, on the port OUTER, with examples/nginx-ipamd.conf as it stands but for its ports and files.
+# All files are in FOLDER: the certificate register.pem for localhost and register.example.net, the password `secret` of anna, the token of bert in
+# FOLDER/token, the log register.log, and `hold`, which holds changes. It goes on until it is ended.   bench/front.sh FOLDER INNER OUTER
+set -euo pipefail
+top=$(cd "$(dirname "$0")/.." && pwd)
+folder=$1 inner=$2 outer=$3
+openssl req -x509 -newkey ec -pkeyopt ec_paramgen_curve:prime256v1 -nodes -days 2 -subj /CN=register.example.net \
+    -addext subjectAltName=DNS:register.example.net,DNS:localhost -keyout "$folder/register.key" -out "$folder/register.pem" 2>/dev/null
+printf 'anna:%s\n' "$(openssl passwd -apr1 secret)" > "$folder/register.users"
+openssl rand -hex 20 > "$folder/token"
+printf '"Token %s" bert;\n' "$(cat "$folder/token")" > "$folder/register.tokens"
+sed "s|127.0.0.1:8080|127.0.0.1:$inner|; s|listen 443|listen 127.0.0.1:$outer|; s|/etc/ssl/certs/|$folder/|; s|/etc/ssl/private/|$folder/|
+    s|/etc/nginx/|$folder/|; s|/var/log/nginx/|$folder/|; s|/run/ipamd.hold|$folder/hold|" "$top/examples/nginx-ipamd.conf" > "$folder/ipamd.conf"
+cat > "$folder/nginx.conf" <<N
+$([ "$(id -u)" != 0 ] || echo "user root;")
+worker_processes 1; daemon off; pid $folder/nginx.pid; error_log $folder/errors;
+events {}
+http {
+    client_body_temp_path $folder/body; proxy_temp_path $folder/proxied; fastcgi_temp_path $folder/f; uwsgi_temp_path $folder/u; scgi_temp_path $folder/s;
+    include $folder/ipamd.conf;
+}
+N
+exec nginx -c "$folder/nginx.conf" -p "$folder"
