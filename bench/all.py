@@ -25,6 +25,7 @@ BENCHES = [
     Bench("words", ["words.sh"], ["words.sh"], 60),
     Bench("hostile", ["hostile.py"], ["hostile.py"], 600),
     Bench("agree", ["agree.sh", "--streams", "60"], ["agree.sh", "--streams", "5", "--requests", "100"], 900),
+    Bench("openapi", ["openapi.sh"], ["openapi.sh", "--streams", "3"], 600),
     Bench("files", ["files.sh"], ["files.sh"], 300),
     Bench("serve_smoke", ["serve_smoke.sh"], ["serve_smoke.sh"], 120, ["curl"]),
     Bench("clients", ["clients.sh"], ["clients.sh"], 300, ["curl"]),
