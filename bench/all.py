@@ -31,7 +31,7 @@ BENCHES = [
     Bench("clients", ["clients.sh"], ["clients.sh"], 300, ["curl"]),
     Bench("operating", ["operating.sh"], ["operating.sh"], 300, ["curl", "sqlite3"]),
     Bench("pages", ["pages.py", "--quiet"], ["pages.py", "--quiet"], 300, ["curl", "socat"]),
-    Bench("systemd", ["systemd.sh"], ["systemd.sh"], 600, ["debootstrap", "systemd-nspawn"]),
+    Bench("systemd", ["systemd.sh"], ["systemd.sh"], 600, ["debootstrap", "systemd-nspawn", "dpkg-shlibdeps", "strip"]),
     Bench("proxy", ["proxy.sh"], ["proxy.sh"], 400, ["curl", "nginx", "openssl"]),
     Bench("keepalive", ["keepalive.sh"], ["keepalive.sh"], 400),
     Bench("kill", ["kill.sh", "3"], ["kill.sh", "1"], 600),
