@@ -23,6 +23,7 @@ class Bench:
 
 BENCHES = [
     Bench("words", ["words.sh"], ["words.sh"], 60),
+    Bench("refusals", ["refusals.py"], ["refusals.py"], 120),
     Bench("hostile", ["hostile.py"], ["hostile.py"], 600),
     Bench("agree", ["agree.sh", "--streams", "60"], ["agree.sh", "--streams", "5", "--requests", "100"], 900),
     Bench("openapi", ["openapi.sh"], ["openapi.sh", "--streams", "3"], 600),

@@ -173,6 +173,7 @@ STEPS = [
     clients("/usr/bin/python3 examples/client_pynetbox.py http://127.0.0.1:8080", r"client_pynetbox: "),
     None,
     lambda folder: os.remove(os.path.join(folder, "office.db")),
+    operating("packaging/build-deb.sh", r"\Abuilt \S*/packaging/out/ipamd_[\d.]+_amd64\.deb\n\Z"),
     operating("./install.sh /usr/local", r"\Ainstalled ipamd [\d.]+: "),
     operating(r"printf '10.0.0.0/24\n' | ipamd free 10.0.0.0/22", r"\A10\.0\.1\.0/24\n10\.0\.2\.0/23\n\Z"),
     operating("ipamd serve --bind 127.0.0.1:8080 --workers 16 --db office.db &", "", stays=True),
