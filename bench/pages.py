@@ -198,6 +198,7 @@ ELSE = [
     ("docs/CLIENTS.md", "for offset", "Python, in examples/client_pynetbox.py"),
     ("docs/CLIENTS.md", "    page", "Python, in examples/client_pynetbox.py"),
     ("docs/OPERATING.md", "curl -s -H", "no NetBox is at hand"),
+    ("docs/OPERATING.md", "apt install", "bench/systemd.sh runs it"),
     ("docs/OPERATING.md", "proxy:", "bench/proxy.sh prints it"),
     ("docs/OPERATING.md", "systemd:", "bench/systemd.sh prints it"),
     ("docs/OPERATING.md", "500,001 items", "bench/full_log.sh prints it"),
