@@ -18,12 +18,14 @@ ABOUT = """The HTTP interface of `ipamd serve` and `ipamd session`. docs/USING.m
 refusal with its bounds.
 
 - A value that its schema does not allow is refused with the code `field`, unless `x-refused` in the schema names another code for the keyword that it breaks.
+  `zero_mask`, `dns_name` and `limit` are refusals of the register: it comes after all members are read.
 - Parameters and members are read in the order in which they stand here, and the first that is malformed is named in the refusal.
 - Unknown parameters and members are ignored. If one occurs twice, the last one counts.
 - A number in a path or a query is decimal, without a sign or a leading zero. A number in a body has no fraction and no exponent.
 - Patterns are those of ECMA-262. The format `cidr-block` asks for more: no bit is set past the length of a block. `x-max-bytes` counts bytes of UTF-8.
 - The register checks its rules after all members are read. So a body that its schema allows can still be refused, by the codes of the answer.
-- `x-limits` has the limits that no schema has. `x-other-paths` and `x-other-methods` say what is answered where this document has no path or no method.
+- `x-limits` has the limits that no schema has. `x-other-paths` and `x-other-methods` say what is answered where this document has no path or no method;
+  an answer to HEAD has no body.
 - `Content-Type` and `Authorization` of a request are ignored. There is no authentication and no TLS: put a proxy in front."""
 
 

@@ -53,6 +53,7 @@ class Edge:
     code: str = None
     register: str = "small"
     operation: dict = None
+    limited: bool = False  # no file may grow, as on a full disk
 
 
 def request(method, target, body=None):
@@ -165,10 +166,9 @@ def joined(base, others, member, name):
 
 
 def body_edges(document, template, method, operation):
-    name = document.raw["paths"][template][method]["requestBody"]["content"]["application/json"]["schema"]["$ref"].split("/")[-1]
-    base, schema = VALID.get(name, {}), operation["requestBody"]["content"]["application/json"]["schema"]
+    base, schema = body_of(document, template, method), operation["requestBody"]["content"]["application/json"]["schema"]
     # addresses are claimed from the prefix of IPv6, so that each status is allowed
-    target = template.replace("{id}", "2" if name == "AddressClaim" and "prefixes" in template else "1")
+    target = template.replace("{id}", "2" if template == API + "prefixes/{id}/available-ips/" else "1")
     small = Place(document, operation, method, target, base, "small", 1)
     named = Place(document, operation, method, target, base, "named", document.limits["ids"])
     item, shapes = schema, [lambda text: text]
@@ -235,8 +235,7 @@ def path_edges(document, template, item):
     last = document.limits["ids"]
     texts = ["0", "1", "01", "+1", "-1", "1.0", "x", "", "1x", "%31", str(last), str(last + 1), str(last + 2), "99999999999"]
     for method in [one for one in METHODS if one in item]:
-        operation = item[method]
-        body = claim_or_change(template) if "requestBody" in operation else None
+        operation, body = item[method], body_of(document, template, method)
         for text, register in [(text, "small") for text in texts] + [(str(last), "last")]:
             target = template.replace("{id}", text)
             code = "no_route" if document.route(target)[1] is not item else None if register == "last" or text == "1" else "not_found"
@@ -246,8 +245,10 @@ def path_edges(document, template, item):
             yield Edge(f"{method} {target} in {register}", request(method.upper(), target, body), status, code, register, operation)
 
 
-def claim_or_change(template):
-    return VALID["BlockClaim"] if template.endswith("available-prefixes/") else {}
+def body_of(document, template, method):
+    """A body that the operation accepts, or None where it has none."""
+    asked = document.raw["paths"][template][method].get("requestBody")
+    return asked and VALID.get(asked["content"]["application/json"]["schema"]["$ref"].split("/")[-1], {})
 
 
 def method_edges(document, template, item):
@@ -285,12 +286,21 @@ def limit_edges(document):
     yield Edge("a coding", line + b"Transfer-Encoding: chunked\r\n\r\n", 501, "coding", "small", listing)
     for kind in limits["records"]:
         create, target = document.paths[API + kind + "/"]["post"], API + kind + "/"
-        body = VALID[document.raw["paths"][target]["post"]["requestBody"]["content"]["application/json"]["schema"]["$ref"].split("/")[-1]]
+        body = body_of(document, target, "post")
         if kind in FULL:
             yield Edge(f"the last of the {kind}", request("POST", target, body), 201, None, kind + " but one", create)
             yield Edge(f"one more of the {kind}", request("POST", target, body), 507, "limit", kind + " all", create)
         body = {**body, "rir": limits["ids"]} if kind == "aggregates" else body
         yield Edge(f"no id is left for {kind}", request("POST", target, body), 507, "limit", "last", create)
+
+
+def full_disk_edges(document):
+    """Each operation where the file cannot grow: what changes is answered 503, what reads as ever."""
+    for template, item in document.paths.items():
+        for method in [one for one in METHODS if one in item]:
+            sent = request(method.upper(), template.replace("{id}", "1"), body_of(document, template, method))
+            status, code = (success_of(item[method]), None) if method == "get" else (document.status("keeper"), "keeper")
+            yield Edge(f"{method} {template} on a full disk", sent, status, code, "small", item[method], True)
 
 
 # ---- the registers
@@ -339,13 +349,15 @@ def edges_of(document):
             yield from path_edges(document, template, item)
         yield from method_edges(document, template, item)
     yield from limit_edges(document)
+    yield from full_disk_edges(document)
 
 
 def differs(document, program, folder, number, edge):
     """What is answered otherwise than the document says, or None."""
     path = os.path.join(folder, str(number))
     shutil.copy(os.path.join(folder, edge.register), path)
-    done = subprocess.run([program, "session", "--db", path], input=edge.sent, capture_output=True)
+    command = ["bash", "-c", 'trap "" XFSZ; ulimit -f 4; exec "$@"', "-"] if edge.limited else []
+    done = subprocess.run([*command, program, "session", "--db", path], input=edge.sent, capture_output=True)
     os.remove(path)
     is_head = edge.sent.startswith(b"HEAD ")
     answers = answers_in(done.stdout, ["HEAD"] if is_head else [])
@@ -370,3 +382,4 @@ def check_edges(document, program):
     told = Counter(f"{edge.status} {edge.code or ''}".strip() for edge in edges)
     print(f"openapi: {len(edges)} requests at the edges ({len({edge.sent for edge in edges})} different ones), all as the document says")
     print("   " + ", ".join(f"{what} {count}" for what, count in sorted(told.items())))
+    return {edge.code for edge in edges}
