@@ -294,6 +294,17 @@ def limit_edges(document):
         yield Edge(f"no id is left for {kind}", request("POST", target, body), 507, "limit", "last", create)
 
 
+def framing_edges(document):
+    """Each operation with a request that is refused before its path is looked at."""
+    many = "".join(f"A{number}: b\r\n" for number in range(document.limits["head_fields"] + 1))
+    long = f"Content-Length: {document.limits['body_bytes'] + 1}\r\n"
+    for template, item in document.paths.items():
+        for method in [one for one in METHODS if one in item]:
+            line = f"{method.upper()} {template.replace('{id}', '1')} HTTP/1.1\r\n"
+            for fields, code in ((many, "bad_head"), (long, "too_large"), ("Transfer-Encoding: gzip\r\n", "coding")):
+                yield Edge(f"{method} {template} {code}", f"{line}{fields}\r\n".encode(), document.status(code), code, "small", item[method])
+
+
 def full_disk_edges(document):
     """Each operation where the file cannot grow: what changes is answered 503, what reads as ever."""
     for template, item in document.paths.items():
@@ -349,6 +360,7 @@ def edges_of(document):
             yield from path_edges(document, template, item)
         yield from method_edges(document, template, item)
     yield from limit_edges(document)
+    yield from framing_edges(document)
     yield from full_disk_edges(document)
 
 

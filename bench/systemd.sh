@@ -1,7 +1,7 @@
 #!/usr/bin/env bash
 # docs/OPERATING.md under systemd: a Debian of its own is made by debootstrap below a folder (once; two minutes), started by systemd-nspawn without a network, and in it
 # bench/systemd_steps.sh goes through the steps as they are written. By the built program (./ipamd builds it; IPAMD=PROGRAM takes another one). As root, with
-# debootstrap, systemd-container, dpkg-dev and binutils.   bench/systemd.sh [FOLDER]
+# debootstrap, systemd-container, dpkg-dev, binutils and python3.   bench/systemd.sh [FOLDER]
 set -euo pipefail
 top=$(cd "$(dirname "$0")/.." && pwd)
 program=${IPAMD:-$top/crates/ipamd/out/ipamd}

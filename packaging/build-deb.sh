@@ -1,7 +1,7 @@
 #!/bin/sh
 # Makes the Debian package ipamd_VERSION_amd64.deb out of the built program, by dpkg-deb; the program is built first where it is not built yet (./build).
 # IPAMD=PROGRAM packs one that is built, VERSION=V gives another version than that of the first heading of CHANGES.md. The same input makes the same
-# bytes. It needs dpkg-dev and binutils.
+# bytes. It needs dpkg-dev, binutils and python3.
 # usage: packaging/build-deb.sh [FOLDER]     FOLDER: where the package is put, packaging/out by default
 set -eu
 top=$(cd "$(dirname "$0")/.." && pwd)
