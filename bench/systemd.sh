@@ -22,6 +22,11 @@ install -m 755 "$program" "$root/root/program"
 # the package, and one of a higher version
 version=$(sed -n 's/^## \([0-9][0-9.]*\).*/\1/p' "$top/CHANGES.md" | head -n 1)
 for one in "$version" "$version.1"; do VERSION=$one IPAMD=$program "$top/packaging/build-deb.sh" "$root/root/ipamd/packaging/out" > /dev/null; done
+if command -v lintian > /dev/null; then
+    lintian --allow-root --fail-on error "$root/root/ipamd/packaging/out/ipamd_${version}_amd64.deb"
+else
+    echo "systemd: lintian is not there, so the package was not checked by it" >&2
+fi
 cat > "$root/etc/systemd/system/steps.service" <<U
 [Unit]
 Description=the steps of OPERATING.md
