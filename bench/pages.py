@@ -89,6 +89,7 @@ KINDS = "vrfs rirs roles aggregates prefixes ip-ranges ip-addresses"
 # steps in their order; a function makes a file, or gives the words of a register that serves from there on; None ends what runs
 STEPS = [
     readme(r"printf '10.0.0.0/24\n10.0.4.0/22\n' | ./ipamd free 10.0.0.0/16", r"\A10\.0\.1\.0/24\n(.*\n){5}10\.0\.128\.0/17\n\Z"),
+    readme("./build", r"\A\Z"),
     readme("./ipamd serve --bind 127.0.0.1:8080 --workers 4 --db office.db &", "", stays=True),
     readme("""curl -s -d '{"prefix":"10.0.0.0/24"}' http://127.0.0.1:8080/api/ipam/prefixes/""", r'"id":1,.*"prefix":"10\.0\.0\.0/24"'),
     readme("""curl -s -d '{}' http://127.0.0.1:8080/api/ipam/prefixes/1/available-ips/ | grep -o '"address":"[^"]*"'""", r'\A"address":"10\.0\.0\.1/24"\n\Z'),
