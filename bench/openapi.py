@@ -16,7 +16,7 @@ from jsonschema import Draft202012Validator
 import openapi_document
 import openapi_edges
 from agree import CLOSINGS, CUT, LIST, Talker
-from openapi_reading import EARLY, METHODS, Document, answers_in, wrong_in
+from openapi_reading import EARLY, METHODS, Document, accepts, answers_in, wrong_in
 from plain_register import Service, converse
 
 HERE = os.path.dirname(os.path.abspath(__file__))
@@ -76,6 +76,8 @@ def check_answer(document, request, answer):
         found = answer.code if answer.code in EARLY else None
         if found != (early and early[0]) or early and early[1] and answer.value["detail"] != early[1]:
             wrong = f"the document says {early}"
+    if not wrong and answer.status < 300 and not accepts(operation, body):
+        wrong = "the document does not allow this body"
     if not wrong and answer.status == 405 and answer.headers["Allow"] != document.methods(document.route(unquoted(target))[1]):
         wrong = f"Allow: {answer.headers['Allow']}"
     if wrong:

@@ -18,7 +18,8 @@ ABOUT = """The HTTP interface of `ipamd serve` and `ipamd session`. docs/USING.m
 refusal with its bounds.
 
 - A value that its schema does not allow is refused with the code `field`, unless `x-refused` in the schema names another code for the keyword that it breaks.
-  `zero_mask`, `dns_name` and `limit` are refusals of the register: it comes after all members are read.
+  `zero_mask`, `dns_name` and `limit` are refusals of the register: it comes after all members are read. Where a body may be an object or a list, the schema
+  of what it is counts.
 - Parameters and members are read in the order in which they stand here, and the first that is malformed is named in the refusal.
 - Unknown parameters and members are ignored. If one occurs twice, the last one counts.
 - A number in a path or a query is decimal, without a sign or a leading zero. A number in a body has no fraction and no exponent.
@@ -182,7 +183,7 @@ def page(kind):
 
 def claim(item):
     """One object, or a list of them."""
-    return {"type": ["object", "array"], "x-refused": {"type": "bad_json", "oneOf": "bad_json"}, "oneOf": [ref(item), claim_list(item)]}
+    return {"type": ["object", "array"], "x-refused": {"type": "bad_json"}, "oneOf": [ref(item), claim_list(item)]}
 
 
 def claim_list(item):

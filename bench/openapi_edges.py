@@ -12,7 +12,7 @@ from collections import Counter
 from concurrent.futures import ThreadPoolExecutor
 from dataclasses import dataclass
 
-from openapi_reading import METHODS, answers_in, as_parameter, faults, wrong_in
+from openapi_reading import METHODS, accepts, answers_in, as_parameter, faults, wrong_in
 from plain_texts import host_text, read_host, width
 
 API = "/api/ipam/"
@@ -44,6 +44,10 @@ SIGNS = ["a", "\u00e9", "\u20ac", "\U0001f600"]
 CONTROLS = ["\u0000", "\u0009", "\u000a", "\u001f", "\u0020", "\u007e", "\u007f", "\u0080", "\u009f", "\u2028", "\ufeff"]
 
 
+# the ends of the classes of letters and digits, and their neighbours
+CLASSES = "/09:@AZ[`az{_-.,*"
+
+
 @dataclass
 class Edge:
     """A request, the register that it meets, and what is to come: a status, and a code where it is refused."""
@@ -71,7 +75,8 @@ def quoted(text):
 def text_edges(schema):
     least, most = schema.get("minLength", 0), schema["maxLength"]
     found = [sign * length for sign in SIGNS for length in (least - 1, least, most, most + 1) if length >= 0]
-    return [quoted(text) for text in dict.fromkeys(found)] + [quoted("a" + sign + "b") for sign in CONTROLS] + [quoted("a\n"), '"\\ud800"', '"\\u0061"']
+    found += ["a" + sign + "b" for sign in CONTROLS] + list(CLASSES) + ["a\n"]
+    return [quoted(text) for text in dict.fromkeys(found)] + ['"\\ud800"', '"\\u0061"']
 
 
 def word_edges(schema):
@@ -91,7 +96,8 @@ def value_edges(name, schema):
         found = [quoted(text) for text in NETS]
     elif name == "dns_name":
         most = schema["x-max-bytes"]
-        found = [quoted(text) for text in HOST_NAMES + ["a" * most, "a" * (most + 1), "\u00e9" * (most // 2), "\u00e9" * (most // 2 + 1)]]
+        found = HOST_NAMES + ["a" * most, "a" * (most + 1), "\u00e9" * (most // 2), "\u00e9" * (most // 2 + 1)]
+        found = [quoted(text) for text in found + list(CLASSES) + ["a." + sign for sign in CLASSES]]
     elif "integer" in types:
         found = number_edges(schema)
     elif "enum" in schema:
@@ -380,10 +386,23 @@ def differs(document, program, folder, number, edge):
     wrong = wrong_in(document, answer, said, is_head)
     if not wrong and (answer.status, answer.code) != (edge.status, edge.code):
         wrong = f"wanted {edge.status} {edge.code or ''}"
+    if not wrong and answer.status < 300 and not accepts(edge.operation, edge.sent.partition(b"\r\n\r\n")[2]):
+        wrong = "the document does not allow this body"
     return wrong and f"{wrong}\nanswer   {answer.status} {answer.text[:600]!r}"
 
 
+def check_connection(document, program):
+    """The last answer of a connection says that it closes, and no other does; what is behind it is not answered."""
+    most, operation = document.limits["answers_of_a_connection"], document.paths[API + "vrfs/"]["get"]
+    done = subprocess.run([program, "session"], input=request("GET", API + "vrfs/") * (most + 1), capture_output=True)
+    answers = answers_in(done.stdout, [])
+    wrong = next((found for found in (wrong_in(document, answer, operation) for answer in answers) if found), None)
+    if wrong or done.returncode != 0 or ["Connection" in answer.headers for answer in answers] != [False] * (most - 1) + [True]:
+        sys.exit(f"openapi: {most + 1} requests on a connection: {len(answers)} answers, {wrong}")
+
+
 def check_edges(document, program):
+    check_connection(document, program)
     edges = [edge for edge in edges_of(document) if edge]
     with tempfile.TemporaryDirectory(dir="/dev/shm" if os.access("/dev/shm", os.W_OK) else None) as folder:
         make_registers(document, program, folder)

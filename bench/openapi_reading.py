@@ -134,6 +134,11 @@ class Document:
         return None
 
 
+def accepts(operation, body):
+    """Whether the whole schema of an operation allows the body, or it has none."""
+    return "requestBody" not in operation or same(operation["requestBody"]["content"]["application/json"]["schema"], read_json(body))
+
+
 def as_number(text):
     """A parameter that is to be a number: decimal, without a sign or a leading zero."""
     return int(text) if re.fullmatch("0|[1-9][0-9]*", text) else text
