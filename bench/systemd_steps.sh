@@ -127,7 +127,7 @@ listens
 look 0 '^\{"count":2,' 'curl -s http://127.0.0.1:8080/api/ipam/prefixes/'
 # the package in place of what install.sh put there; the register stays
 version=$(sed -n 's/^## \([0-9][0-9.]*\).*/\1/p' CHANGES.md | head -n 1)
-look 0 '' 'systemctl disable --now ipamd; cd /usr/local && rm bin/ipamd share/man/man1/ipamd.1 lib/systemd/system/ipamd.service && systemctl daemon-reload'
+look 0 '' 'systemctl disable --now ipamd; cd /usr/local; rm bin/ipamd share/man/man1/ipamd.1 lib/systemd/system/ipamd.service && systemctl daemon-reload'
 step 0 'not started. To start it now and at each boot: systemctl enable --now ipamd.?$' "apt install ./packaging/out/ipamd_${version}_amd64.deb"
 look 3 '^inactive$' 'systemctl is-active ipamd'
 look 1 '^disabled$' 'systemctl is-enabled ipamd'
@@ -151,7 +151,8 @@ look 1 '' 'systemctl show -p MainPID ipamd | cmp -s - /root/before'
 look 0 '^\{"count":3,' 'curl -s http://127.0.0.1:8080/api/ipam/prefixes/'
 
 # the package removed; the register is kept, and the next package finds it
-step 0 '^ipamd: the register in /var/lib/ipamd is kept. To remove it: rm -r /var/lib/private/ipamd /var/lib/ipamd.?$' 'apt purge -y ipamd'
+kept='^ipamd: the register in /var/lib/ipamd is kept. To remove it: rm -r /var/lib/private/ipamd /var/lib/ipamd.?$'
+step 0 "$kept" 'apt purge -y ipamd'
 look 3 '^inactive$' 'systemctl is-active ipamd'
 look 0 'register.db' 'ls /var/lib/private/ipamd'
 look 1 '' 'test -L /etc/systemd/system/multi-user.target.wants/ipamd.service || test -e /usr/bin/ipamd'

@@ -12,7 +12,8 @@ MAINTAINER = "Tingsaom maintainers <maintainers@users.noreply.tingsaom.example>"
 def entry(version, date, body):
     day = datetime.date.fromisoformat(date).strftime("%a, %d %b %Y")
     points = [" ".join(point.split()) for point in re.findall(r"^- (.*(?:\n  .*)*)", body, re.M)]
-    lines = [line for point in points for line in textwrap.wrap(point, 76, initial_indent="  * ", subsequent_indent="    ", break_long_words=False, break_on_hyphens=False)]
+    wrapper = textwrap.TextWrapper(76, initial_indent="  * ", subsequent_indent="    ", break_long_words=False, break_on_hyphens=False)
+    lines = [line for point in points for line in wrapper.wrap(point)]
     return "\n".join([f"ipamd ({version}) bookworm; urgency=medium", "", *lines, "", f" -- {MAINTAINER}  {day} 00:00:00 +0000", ""])
 
 
