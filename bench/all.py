@@ -23,15 +23,17 @@ class Bench:
 
 BENCHES = [
     Bench("words", ["words.sh"], ["words.sh"], 60),
+    Bench("refusals", ["refusals.py"], ["refusals.py"], 120),
     Bench("hostile", ["hostile.py"], ["hostile.py"], 600),
     Bench("agree", ["agree.sh", "--streams", "60"], ["agree.sh", "--streams", "5", "--requests", "100"], 900),
+    Bench("openapi", ["openapi.sh"], ["openapi.sh", "--streams", "3"], 600),
     Bench("files", ["files.sh"], ["files.sh"], 300),
     Bench("serve_smoke", ["serve_smoke.sh"], ["serve_smoke.sh"], 120, ["curl"]),
     Bench("clients", ["clients.sh"], ["clients.sh"], 600, ["curl"]),
     Bench("copies", ["copies.sh", "--full"], ["copies.sh"], 900, ["nginx", "openssl"]),
     Bench("operating", ["operating.sh"], ["operating.sh"], 300, ["curl", "sqlite3"]),
     Bench("pages", ["pages.py", "--quiet"], ["pages.py", "--quiet"], 300, ["curl", "socat"]),
-    Bench("systemd", ["systemd.sh"], ["systemd.sh"], 600, ["debootstrap", "systemd-nspawn"]),
+    Bench("systemd", ["systemd.sh"], ["systemd.sh"], 600, ["debootstrap", "systemd-nspawn", "dpkg-shlibdeps", "strip"]),
     Bench("proxy", ["proxy.sh"], ["proxy.sh"], 400, ["curl", "nginx", "openssl"]),
     Bench("keepalive", ["keepalive.sh"], ["keepalive.sh"], 400),
     Bench("kill", ["kill.sh", "3"], ["kill.sh", "1"], 600),

@@ -1,7 +1,7 @@
 #!/usr/bin/env bash
 # docs/OPERATING.md under systemd: a Debian of its own is made by debootstrap below a folder (once; two minutes), started by systemd-nspawn without a network, and in it
 # bench/systemd_steps.sh goes through the steps as they are written. By the built program (./ipamd builds it; IPAMD=PROGRAM takes another one). As root, with
-# debootstrap and systemd-container.   bench/systemd.sh [FOLDER]
+# debootstrap, systemd-container, dpkg-dev, binutils and python3.   bench/systemd.sh [FOLDER]
 set -euo pipefail
 top=$(cd "$(dirname "$0")/.." && pwd)
 program=${IPAMD:-$top/crates/ipamd/out/ipamd}
@@ -10,6 +10,7 @@ root=${1:-/var/tmp/ipamd-debian}
 packages=systemd,systemd-sysv,dbus,curl,nginx-light,openssl,sqlite3,procps,iproute2,man-db
 [ -e "$root/made" ] || { debootstrap --variant=minbase --include="$packages" bookworm "$root" > "$root.log" 2>&1 && touch "$root/made"; }
 
+chroot "$root" dpkg --purge ipamd > /dev/null 2>&1 || true
 rm -rf "$root/root/ipamd" "$root/root/told" "$root/var/lib/private/ipamd" "$root/var/lib/ipamd" "$root/etc/systemd/system/ipamd.service.d" "$root"/etc/nginx/{register.users,register.tokens,conf.d/ipamd.conf}
 mkdir -p "$root/root/ipamd"
 git -C "$top" archive HEAD | tar -x -C "$root/root/ipamd"
@@ -18,6 +19,14 @@ cp "$top"/bench/systemd_steps.sh "$root/root/ipamd/bench/"
 cp "$top"/docs/OPERATING.md "$root/root/ipamd/docs/"
 cp "$top"/examples/* "$root/root/ipamd/examples/" 2>/dev/null || true
 install -m 755 "$program" "$root/root/program"
+# the package, and one of a higher version
+version=$(sed -n 's/^## \([0-9][0-9.]*\).*/\1/p' "$top/CHANGES.md" | head -n 1)
+for one in "$version" "$version.1"; do VERSION=$one IPAMD=$program "$top/packaging/build-deb.sh" "$root/root/ipamd/packaging/out" > /dev/null; done
+if command -v lintian > /dev/null; then
+    lintian --allow-root --fail-on error "$root/root/ipamd/packaging/out/ipamd_${version}_amd64.deb"
+else
+    echo "systemd: lintian is not there, so the package was not checked by it" >&2
+fi
 cat > "$root/etc/systemd/system/steps.service" <<U
 [Unit]
 Description=the steps of OPERATING.md

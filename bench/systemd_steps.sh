@@ -129,6 +129,41 @@ step 0 '^installed ipamd' './install.sh /usr/local'
 step 0 '' 'systemctl daemon-reload && systemctl start ipamd'
 listens
 look 0 '^\{"count":2,' 'curl -s http://127.0.0.1:8080/api/ipam/prefixes/'
+# the package in place of what install.sh put there; the register stays
+version=$(sed -n 's/^## \([0-9][0-9.]*\).*/\1/p' CHANGES.md | head -n 1)
+look 0 '' 'systemctl disable --now ipamd; cd /usr/local; rm bin/ipamd share/man/man1/ipamd.1 lib/systemd/system/ipamd.service && systemctl daemon-reload'
+step 0 'not started. To start it now and at each boot: systemctl enable --now ipamd.?$' "apt install ./packaging/out/ipamd_${version}_amd64.deb"
+look 3 '^inactive$' 'systemctl is-active ipamd'
+look 1 '^disabled$' 'systemctl is-enabled ipamd'
+look 0 '^IPAMD\(1\)' 'man ipamd | cat'
+look 0 '^10.0.1.0/24$' "printf '10.0.0.0/24\\n' | /usr/bin/ipamd free 10.0.0.0/22"
+look 0 '^complete -F _ipamd ipamd$' '. /usr/share/bash-completion/completions/ipamd; complete -p ipamd'
+look 0 '^README.md$' 'ls /usr/share/doc/ipamd'
+step 0 '' 'systemctl enable --now ipamd'
+listens
+look 0 '^\{"count":2,' 'curl -s http://127.0.0.1:8080/api/ipam/prefixes/'
+post 10.0.3.0/24 '201$'
+
+# a package of a higher version: the unit is restarted by it, and the new program answers
+look 0 '' 'systemctl show -p MainPID ipamd > /root/before'
+look 0 '' "apt install ./packaging/out/ipamd_${version}.1_amd64.deb"
+listens
+look 0 '^active$' 'systemctl is-active ipamd'
+look 0 "^Description=ipamd ${version}.1," 'systemctl show -p Description ipamd'
+look 0 '^/usr/bin/ipamd$' 'readlink /proc/$(systemctl show -p MainPID --value ipamd)/exe'
+look 1 '' 'systemctl show -p MainPID ipamd | cmp -s - /root/before'
+look 0 '^\{"count":3,' 'curl -s http://127.0.0.1:8080/api/ipam/prefixes/'
+
+# the package removed; the register is kept, and the next package finds it
+kept='^ipamd: the register in /var/lib/ipamd is kept. To remove it: rm -r /var/lib/private/ipamd /var/lib/ipamd.?$'
+step 0 "$kept" 'apt purge -y ipamd'
+look 3 '^inactive$' 'systemctl is-active ipamd'
+look 0 'register.db' 'ls /var/lib/private/ipamd'
+look 1 '' 'test -L /etc/systemd/system/multi-user.target.wants/ipamd.service || test -e /usr/bin/ipamd'
+look 0 'not started' "apt install ./packaging/out/ipamd_${version}_amd64.deb && systemctl start ipamd"
+listens
+look 0 '^\{"count":3,' 'curl -s http://127.0.0.1:8080/api/ipam/prefixes/'
+
 if [ "$bad" = 0 ]; then
     echo "systemd: $steps lines of OPERATING.md and $looks looks, systemd $(systemctl --version | sed -n '1s/systemd \([0-9]*\).*/\1/p'): all as it should be"
 else

@@ -1,0 +1,156 @@
+"""docs/openapi.json, beside the program; bench/openapi.sh says how.
+
+    openapi.py --write                     writes docs/openapi.json
+    openapi.py [--program PROGRAM] [--streams N] [--requests N] [--seed N]
+"""
+import argparse
+import json
+import os
+import re
+import subprocess
+import sys
+from collections import Counter
+
+from jsonschema import Draft202012Validator
+
+import openapi_document
+import openapi_edges
+from agree import CLOSINGS, CUT, LIST, Talker
+from openapi_reading import EARLY, METHODS, Document, accepts, answers_in, wrong_in
+from plain_register import Service, converse
+
+HERE = os.path.dirname(os.path.abspath(__file__))
+DOCUMENT = os.path.join(HERE, "..", "docs", "openapi.json")
+# ---- the document alone
+
+def schemas_in(node, is_schema=False):
+    """The Schema Objects of the document, outermost ones."""
+    if isinstance(node, list):
+        for one in node:
+            yield from schemas_in(one)
+    elif isinstance(node, dict):
+        for name, one in node.items():
+            if name == "schema":
+                yield one
+            elif name == "schemas":
+                yield from one.values()
+            else:
+                yield from schemas_in(one)
+
+
+def check_document(document):
+    with open(os.path.join(HERE, "openapi_3.1_schema.json"), encoding="utf-8") as text:
+        schema = json.load(text)
+    Draft202012Validator.check_schema(schema)
+    for error in Draft202012Validator(schema).iter_errors(document.raw):
+        sys.exit(f"openapi: the document: {error.json_path}: {error.message[:300]}")
+    count = 0
+    for one in schemas_in(document.raw):
+        Draft202012Validator.check_schema(one)
+        count += 1
+    names = [item[method]["operationId"] for item in document.paths.values() for method in METHODS if method in item]
+    if len(set(names)) != len(names):
+        sys.exit("openapi: an operationId stands twice")
+    for template, item in document.paths.items():
+        if re.findall(r"\{(\w+)\}", template) != [one["name"] for one in item.get("parameters", []) if one["in"] == "path"]:
+            sys.exit(f"openapi: the parameters of {template}")
+    used = set(re.findall(r'"#/components/(\w+/\w+)"', json.dumps(document.raw)))
+    unused = {f"{part}/{name}" for part, found in document.raw["components"].items() for name in found} - used
+    if unused:
+        sys.exit(f"openapi: nothing names {sorted(unused)}")
+    print(f"openapi: {len(document.paths)} paths, {len(names)} operations, {count} schemas: valid")
+
+
+# ---- random conversations
+
+def check_answer(document, request, answer):
+    """Compares an answer with what the document says of the request; gives the operation and the code that are counted."""
+    head, _, body = request.partition(b"\r\n\r\n")
+    method, target, _ = head.split(b"\r\n")[0].split(b" ")
+    early, operation = document.early(method.decode("latin-1"), target, body)
+    if answer.code in ("bad_head", "too_large", "coding"):
+        early = None
+    said = operation or (document.other_path if early and early[0] == "no_route" else document.other_method)
+    wrong = wrong_in(document, answer, said, method == b"HEAD")
+    if not wrong and method != b"HEAD":
+        found = answer.code if answer.code in EARLY else None
+        if found != (early and early[0]) or early and early[1] and answer.value["detail"] != early[1]:
+            wrong = f"the document says {early}"
+    if not wrong and answer.status < 300 and not accepts(operation, body):
+        wrong = "the document does not allow this body"
+    if not wrong and answer.status == 405 and answer.headers["Allow"] != document.methods(document.route(unquoted(target))[1]):
+        wrong = f"Allow: {answer.headers['Allow']}"
+    if wrong:
+        sys.exit(f"openapi: {wrong}\nrequest  {request[:2000]!r}\nanswer   {answer.status} {answer.headers} {answer.text[:2000]!r}")
+    return operation["operationId"] if operation else "none", f"{answer.status} {answer.code or ''}".strip()
+
+
+def unquoted(target):
+    return target.partition(b"?")[0].decode("latin-1")
+
+
+def conversation(seed, count):
+    """Random requests, and one that closes the connection or is cut."""
+    service = Service(bool(seed % 4))
+    talker, requests = Talker(seed, service), []
+    for _ in range(count):
+        requests.append(talker.request())
+        list(converse(requests[-1], service))
+    return "yes" if seed % 4 else "no", requests, talker.pick.choice(CLOSINGS + CUT)
+
+
+def replay(document, given):
+    seen = Counter()
+    for seed in range(given.seed, given.seed + given.streams):
+        unique, requests, last = conversation(seed, given.requests)
+        done = subprocess.run([given.program, "session", "--global-unique", unique], input=b"".join(requests) + last, capture_output=True)
+        methods = [one.split(b" ")[0].decode("latin-1") for one in requests]
+        answers = answers_in(done.stdout, methods)
+        if done.returncode != 0 or not len(requests) <= len(answers) <= len(requests) + 1:
+            sys.exit(f"openapi: stream {seed}: status {done.returncode}, {len(answers)} answers")
+        for request, answer in zip(requests, answers):
+            seen[check_answer(document, request, answer)] += 1
+        for answer in answers[len(requests):]:
+            wrong = wrong_in(document, answer, document.paths["/api/ipam/vrfs/"]["get"])
+            if wrong and (last.startswith(LIST) or answer.code in ("bad_head", "too_large", "coding")):
+                sys.exit(f"openapi: {wrong}\nrequest  {last[:300]!r}\nanswer   {answer.text!r}")
+            seen["the end of a conversation", f"{answer.status} {answer.code or ''}".strip()] += 1
+    return tell(document, seen)
+
+
+def tell(document, seen):
+    """Says how many answers there were; the refusals that were among them."""
+    codes = Counter()
+    for (_, what), count in seen.items():
+        codes[what] += count
+    operations = {item[method]["operationId"] for item in document.paths.values() for method in METHODS if method in item}
+    print(f"openapi: {sum(seen.values())} answers of random conversations, all as the document says")
+    print("   " + ", ".join(f"{what} {count}" for what, count in sorted(codes.items())))
+    done = {name for name, what in seen if what.startswith("2")}
+    print(f"   operations without a success: {', '.join(sorted(operations - done)) or 'none'}")
+    return {what.split(" ")[-1] for what in codes}
+
+
+def main():
+    words = argparse.ArgumentParser()
+    words.add_argument("--write", action="store_true")
+    words.add_argument("--program", default=os.environ.get("IPAMD", os.path.join(HERE, "..", "crates", "ipamd", "out", "ipamd")))
+    words.add_argument("--streams", type=int, default=20)
+    words.add_argument("--requests", type=int, default=300)
+    words.add_argument("--seed", type=int, default=1)
+    given = words.parse_args()
+    if given.write:
+        with open(DOCUMENT, "w", encoding="utf-8") as text:
+            text.write(openapi_document.written())
+        return
+    with open(DOCUMENT, encoding="utf-8") as text:
+        if text.read() != openapi_document.written():
+            sys.exit("openapi: docs/openapi.json is not what bench/openapi.py --write writes")
+    document = Document(DOCUMENT)
+    check_document(document)
+    seen = replay(document, given) | openapi_edges.check_edges(document, given.program)
+    print(f"openapi: refusals of the document that neither saw: {', '.join(sorted(set(document.refusals) - seen)) or 'none'}")
+
+
+if __name__ == "__main__":
+    main()

@@ -1,0 +1,47 @@
+#!/bin/sh
+# Makes the Debian package ipamd_VERSION_amd64.deb out of the built program, by dpkg-deb; the program is built first where it is not built yet (./build).
+# IPAMD=PROGRAM packs one that is built, VERSION=V gives another version than that of the first heading of CHANGES.md. The same input makes the same
+# bytes. It needs dpkg-dev, binutils and python3.
+# usage: packaging/build-deb.sh [FOLDER]     FOLDER: where the package is put, packaging/out by default
+set -eu
+top=$(cd "$(dirname "$0")/.." && pwd)
+program=${IPAMD:-$top/crates/ipamd/out/ipamd}
+[ -n "${IPAMD:-}" ] || "$top/build"
+version=${VERSION:-$(sed -n 's/^## \([0-9][0-9.]*\).*/\1/p' "$top/CHANGES.md" | head -n 1)}
+mkdir -p "${1:-$top/packaging/out}"
+folder=$(cd "${1:-$top/packaging/out}" && pwd)
+umask 022
+work=$(mktemp -d)
+trap 'rm -rf "$work"' EXIT
+root=$work/root
+doc=$root/usr/share/doc/ipamd
+SOURCE_DATE_EPOCH=$(date -u -d "$(sed -n 's/^## [0-9][0-9.]*, //p' "$top/CHANGES.md" | head -n 1)" +%s)
+export SOURCE_DATE_EPOCH
+
+install -d "$root/DEBIAN" "$root/usr/bin" "$root/usr/share/man/man1" "$root/lib/systemd/system" "$root/usr/share/bash-completion/completions" "$doc/docs"
+install -m 755 "$program" "$root/usr/bin/ipamd"
+strip --strip-all --remove-section=.comment --remove-section=.note "$root/usr/bin/ipamd"
+sed "s|@VERSION@|$version|" "$top/docs/ipamd.1" | gzip -9n > "$root/usr/share/man/man1/ipamd.1.gz"
+sed "s|@BIN@|/usr/bin|; s|@VERSION@|$version|" "$top/examples/ipamd.service" > "$root/lib/systemd/system/ipamd.service"
+install -m 644 "$top/packaging/ipamd.bash-completion" "$root/usr/share/bash-completion/completions/ipamd"
+
+# the pages keep their places beside one another, so that their links hold
+install -m 644 "$top/README.md" "$top/CHANGES.md" "$doc/"
+install -m 644 "$top"/docs/*.md "$top"/docs/*.svg "$top/docs/openapi.json" "$doc/docs/"
+cp -r "$top/examples" "$doc/examples"
+rm -rf "$doc/examples/__pycache__" "$doc/examples/ipamd.service"
+find "$doc/examples" -type f | while IFS= read -r file; do case $(head -c 2 "$file") in "#!") chmod 755 "$file" ;; *) chmod 644 "$file" ;; esac; done
+install -m 644 "$top/packaging/copyright" "$doc/copyright"
+"$top/packaging/changelog.py" "$version" < "$top/CHANGES.md" | gzip -9n > "$doc/changelog.gz"
+
+for script in postinst prerm postrm; do install -m 755 "$top/packaging/$script" "$root/DEBIAN/$script"; done
+mkdir "$work/debian"
+printf 'Source: ipamd\n\nPackage: ipamd\nArchitecture: amd64\n' > "$work/debian/control"
+depends=$(cd "$work" && dpkg-shlibdeps -O -e root/usr/bin/ipamd 2> /dev/null | sed -n 's/^shlibs:Depends=//p')
+[ -n "$depends" ] || { echo "build-deb: the libraries of the program are not known to dpkg" >&2; exit 1; }
+size=$(du -sk --apparent-size --exclude=DEBIAN "$root" | cut -f1)
+sed "s|@VERSION@|$version|; s|@SIZE@|$size|; s|@DEPENDS@|$depends|" "$top/packaging/control" > "$root/DEBIAN/control"
+(cd "$root" && find . -type f ! -path './DEBIAN/*' -printf '%P\0' | LC_ALL=C sort -z | xargs -0 md5sum) > "$root/DEBIAN/md5sums"
+chmod -R go-w "$root"
+dpkg-deb --root-owner-group --build "$root" "$folder/ipamd_${version}_amd64.deb" > /dev/null
+echo "built $folder/ipamd_${version}_amd64.deb"
