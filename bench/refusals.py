@@ -90,6 +90,7 @@ def on_import(row, line, words, sent, then_sent=None, **more):
 
 TWO = (("import prefixes --global-unique no", "prefix\n10.0.0.0/24\n10.0.0.0/24\n"),)
 ONE = ((PREFIXES, "prefix\n10.0.0.0/24\n"),)
+LISTED, CHECKED = (command + " --family 4 --style plain --name X" for command in ("prefix-list", "prefix-check"))
 UNREAD, UNWRITTEN = "store: the store could not be read", "keeper: the store could not be written"
 CASES = [
     Case("usage: ipamd COMMAND", "usage: ipamd COMMAND", 2, "load 01", then_words="load 1"),
@@ -117,6 +118,17 @@ CASES = [
          file=sql("INSERT INTO vrfs SELECT 1001, 'y', '', 'true', ''"), then_file=sql("DELETE FROM vrfs WHERE id = 1001")),
     Case("not_found: prefixes N is not there", "not_found: prefixes 9 is not there", 1, "report free --prefix 9", before=ONE,
          then_words="report free --prefix 1"),
+    Case("not_found: prefixes N is not there", "not_found: prefixes 9 is not there", 1, "reverse --prefix 9", before=ONE, then_words="reverse --prefix 1"),
+    Case("not_found: vrfs N is not there", "not_found: vrfs 9 is not there", 1, LISTED + " --table 9", before=ONE, then_words=LISTED + " --table global"),
+    Case("not_found: vrfs N is not there", "not_found: vrfs 9 is not there", 1, CHECKED + " --table 9", before=ONE, then_words=CHECKED + " --table global"),
+    Case("line N: not of the style", "line 2: not of the style", 1, CHECKED + " --table global", "10.0.0.0/24\n10.0.1.0/24\r\n", before=ONE,
+         then_sent="10.0.0.0/24\n10.0.1.0/24\n"),
+    Case("line N: not a PTR line", "line 1: not a PTR line", 1, "reverse-read", "1 IN PTR x.\n", then_sent="1.2.0.192.in-addr.arpa. IN PTR x.\n"),
+    Case("address N: the name does not fit the DNS", "address 1: the name does not fit the DNS", 1, "reverse --prefix 1",
+         before=(*ONE, (ADDRESSES, "address,dns_name\n10.0.0.1/24," + "a" * 64 + "\n")), then_file=sql("UPDATE ip_addresses SET dns_name = 'a'")),
+    Case("too_large: the body exceeds 4194304 bytes", "too_large: the body exceeds 4194304 bytes", 1, CHECKED + " --table global", "\n" * 4194305, before=ONE,
+         then_sent="\n" * 4194304),
+    Case("too_large: the body exceeds 4194304 bytes", "too_large: the body exceeds 4194304 bytes", 1, "reverse-read", "\n" * 4194305, then_sent="\n" * 4194304),
     Case(UNWRITTEN, UNWRITTEN, 4, VRFS, names(1, 900), before=((VRFS, names(0, 1)),), limited=65536),
     on_import("too_large: the body exceeds 4194304 bytes", "too_large: the body exceeds 4194304 bytes", VRFS, "name\n" + "x" * 4194300, names(0, 9)),
     on_import("limit: rows would exceed 10000", "limit: rows would exceed 10000", RIRS, "name,slug\n" * 10002, "name,slug\nx,x\n"),
@@ -159,7 +171,7 @@ def run(words, sent, path, limited=0):
     def limit():
         signal.signal(signal.SIGXFSZ, signal.SIG_IGN)
         resource.setrlimit(resource.RLIMIT_FSIZE, (limited, limited))
-    command = [PROGRAM, *words.split(), *(["--db", path] if words.split()[0] not in ("free", "load") else [])]
+    command = [PROGRAM, *words.split(), *(["--db", path] if words.split()[0] not in ("free", "load", "reverse-read") else [])]
     sent = sent if isinstance(sent, bytes) else sent.encode()
     done = subprocess.run(command, input=sent, capture_output=True, preexec_fn=limit if limited else None, check=False)
     return done.returncode, done.stdout.decode(), done.stderr.decode()
