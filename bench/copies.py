@@ -415,6 +415,9 @@ def with_next(program, port, folder, live):
     print("   with --next for each kind: the rows and the numbers of the stopped file, and the copy is served with the next id")
 
 
+LISTED = ("prefix-list", "--table", "global", "--family", "4", "--style", "plain", "--name", "OFFICE")
+
+
 def cron(program, port, folder):
     """The lines of cron in docs/OPERATING.md, as they are written but for the folders and the port."""
     place = f"{folder}/backups"
@@ -430,6 +433,14 @@ def cron(program, port, folder):
         open(path, "w").close()
         os.utime(path, (0, 0))
     for line in lines:
+        if "router.txt" in line:
+            # a router that has the list of the register
+            with open(f"{place}/router.txt", "wb") as file:
+                file.write(output(program, *LISTED, "--db", f"{place}/hour.db"))
+        if " reverse " in line:
+            store = sqlite3.connect(f"{place}/hour.db")
+            line = line.replace("--prefix 1", f"--prefix {store.execute('SELECT min(id) FROM prefixes').fetchone()[0]}")
+            store.close()
         for mine, ours in ((r"\%", "%"), ("/var/backups", place), ("127.0.0.1:8080", f"127.0.0.1:{port}"), ("/run/ipamd.hold", f"{folder}/cron_hold")):
             line = line.replace(mine, ours)
         done = subprocess.run(["sh", "-c", line], env={"PATH": f"{folder}/bin:{os.path.dirname(sys.executable)}:/usr/bin:/bin"}, capture_output=True, text=True)
@@ -442,7 +453,9 @@ def cron(program, port, folder):
                 fail(f"{name} has not what the copy has")
     if os.path.exists(old) or not os.path.exists(kept):
         fail("the old copies")
-    print(f"   {len(lines)} lines of cron: a copy, its reports, and the removal of old copies")
+    if not os.path.exists(f"{place}/names.txt"):
+        fail("no names")
+    print(f"   {len(lines)} lines of cron: a copy, its reports, a router's list compared, names, and the removal of old copies")
 
 
 def full(program, port, folder):
