@@ -10,11 +10,11 @@ use Rattle.ipam_data.specs.declared.address.IpAddress.{IpAddress}
 use Rattle.ipam_data.specs.Rows.{address_id}
 use Rattle.reverse_zone.specs.Names.{fits_dns}
 use Rattle.reverse_zone.specs.Zones.{is_zone_row}
-use Rattle.command_zones.specs.declared.zone.Spot.{Spot}
+use Rattle.command_zones.specs.declared.zone.Place.{Place}
 use Rattle.command_zones.specs.declared.zone.ZoneRefusal.TheVariants.{Absent, Unfit}
 use Rattle.command_zones.specs.declared.zone.ZoneStop.{ZoneStop}
 use Rattle.command_zones.specs.declared.zone.ZoneStop.TheVariants.{Refused, Unwritten, Memory}
-use Rattle.command_zones.specs.Zone.{name_of, is_unfit, spot_of, spots_at, IsSpotIn, AreSpots, IsRowStop, IsRowsStop}
+use Rattle.command_zones.specs.Zone.{name_of, is_unfit, place_of, places_at, IsPlaceIn, ArePlaces, IsRowStop, IsRowsStop}
 
 module _ {T : Type 0} (p : T → Bool) where
   -- a test that finds nothing so far finds nothing yet where the next one does not pass
@@ -46,21 +46,21 @@ fit_of false f e h = cc
 
 module _ (rows : List IpAddress) (prefix : Prefix) where
   -- no row was looked at
-  pub spots_none : (spots : List Spot) → spots ≡ [] → AreSpots rows prefix [] spots
-  spots_none spots e = subst (AreSpots rows prefix []) (sym e) (record { named = λ d. refl; there = λ k d h. absurd (omega arith); fit = refl })
+  pub places_none : (places : List Place) → places ≡ [] → ArePlaces rows prefix [] places
+  places_none places e = subst (ArePlaces rows prefix []) (sym e) (record { named = λ d. refl; there = λ k d h. absurd (omega arith); fit = refl })
 
   -- one more row was looked at
-  pub spots_more : (k : ℕ) (row : IpAddress) (spots more : List Spot) → Some row ≡ slice_get rows k → AreSpots rows prefix (take k rows) spots
+  pub places_more : (k : ℕ) (row : IpAddress) (places more : List Place) → Some row ≡ slice_get rows k → ArePlaces rows prefix (take k rows) places
       → is_unfit prefix row ≡ false
-      → more ≡ spots ++ spots_at prefix k row → AreSpots rows prefix (take (k + 1) rows) more
-  spots_more k row spots more at are fit is =
-      subst (λ (some : List IpAddress). AreSpots rows prefix some more) (sym taken) (subst (AreSpots rows prefix (take k rows ++ row ∷ [])) (sym is) (record {
+      → more ≡ places ++ places_at prefix k row → ArePlaces rows prefix (take (k + 1) rows) more
+  places_more k row places more at are fit is =
+      subst (λ (some : List IpAddress). ArePlaces rows prefix some more) (sym taken) (subst (ArePlaces rows prefix (take k rows ++ row ∷ [])) (sym is) (record {
         named = λ d.
-            map-append (λ (spot : Spot). get_or rows spot.index d) spots (spots_at prefix k row)
-            ∙ ap (λ (xs : List IpAddress). xs ++ map (λ (spot : Spot). get_or rows spot.index d) (spots_at prefix k row)) (are.named d)
+            map-append (λ (place : Place). get_or rows place.index d) places (places_at prefix k row)
+            ∙ ap (λ (xs : List IpAddress). xs ++ map (λ (place : Place). get_or rows place.index d) (places_at prefix k row)) (are.named d)
             ∙ ap (λ (xs : List IpAddress). filter (is_zone_row prefix) (take k rows) ++ xs) (one d (is_zone_row prefix row))
             ∙ sym (filter-append (is_zone_row prefix) (take k rows) (row ∷ []));
-        there = All-append (IsSpotIn rows) spots (spots_at prefix k row) are.there (added (is_zone_row prefix row) refl);
+        there = All-append (IsPlaceIn rows) places (places_at prefix k row) are.there (added (is_zone_row prefix row) refl);
         fit = none_behind (is_unfit prefix) (take k rows) row are.fit fit;
       }))
     where
@@ -71,28 +71,28 @@ module _ (rows : List IpAddress) (prefix : Prefix) where
       taken = take_more rows k row (slice_get_within rows k row found) ∙ ap (λ (r : IpAddress). take k rows ++ r ∷ [])
           (get_or_from_slice_get rows k row row found)
 
-      one : (d : IpAddress) (t : Bool) → map (λ (spot : Spot). get_or rows spot.index d) (cond t (spot_of k row ∷ []) []) ≡ cond t (row ∷ []) []
+      one : (d : IpAddress) (t : Bool) → map (λ (place : Place). get_or rows place.index d) (cond t (place_of k row ∷ []) []) ≡ cond t (row ∷ []) []
       one d true = ap (λ (r : IpAddress). let rs : List IpAddress = r ∷ [] in rs) (get_or_from_slice_get rows k row d found)
       one d false = refl
 
-      added : (t : Bool) → is_zone_row prefix row ≡ t → All (IsSpotIn rows) (cond t (spot_of k row ∷ []) [])
+      added : (t : Bool) → is_zone_row prefix row ≡ t → All (IsPlaceIn rows) (cond t (place_of k row ∷ []) [])
       added true e =
-          let here : IsSpotIn rows (spot_of k row) =
+          let here : IsPlaceIn rows (place_of k row) =
           record { row = row; found = found; address_is = refl; id_is = refl; fits = fit_of (is_zone_row prefix row) (fits_dns (name_of row)) e fit } in
-          All-cons (IsSpotIn rows) (spot_of k row) [] here (λ j d h. absurd (omega arith))
+          All-cons (IsPlaceIn rows) (place_of k row) [] here (λ j d h. absurd (omega arith))
       added false e = λ j d h. absurd (omega arith)
 
   -- the row stops the command
-  pub rows_stop : (k : ℕ) (row : IpAddress) (spots : List Spot) (stop : ZoneStop) → Some row ≡ slice_get rows k → AreSpots rows prefix (take k rows) spots
+  pub rows_stop : (k : ℕ) (row : IpAddress) (places : List Place) (stop : ZoneStop) → Some row ≡ slice_get rows k → ArePlaces rows prefix (take k rows) places
       → IsRowStop prefix row stop
       → IsRowsStop prefix rows stop
-  rows_stop k row spots (Refused (Absent n)) at are h = absurd h
-  rows_stop k row spots (Refused (Unfit n)) at are h =
+  rows_stop k row places (Refused (Absent n)) at are h = absurd h
+  rows_stop k row places (Refused (Unfit n)) at are h =
       ap (λ (o : Option IpAddress). option_map address_id o) (found_next (is_unfit prefix) rows k row (sym at) are.fit h.1)
       ∙ ap (λ (m : ℕ). let o : Option ℕ = Some m in o) (sym h.0)
-  rows_stop k row spots Unwritten at are h = absurd h
-  rows_stop k row spots Memory at are h = tt
+  rows_stop k row places Unwritten at are h = absurd h
+  rows_stop k row places Memory at are h = tt
 
   -- all rows were looked at
-  pub spots_all : (k : ℕ) (spots : List Spot) → length rows ≤ k → AreSpots rows prefix (take k rows) spots → AreSpots rows prefix rows spots
-  spots_all k spots whole are = subst (λ (some : List IpAddress). AreSpots rows prefix some spots) (take_all k rows whole) are
+  pub places_all : (k : ℕ) (places : List Place) → length rows ≤ k → ArePlaces rows prefix (take k rows) places → ArePlaces rows prefix rows places
+  places_all k places whole are = subst (λ (some : List IpAddress). ArePlaces rows prefix some places) (take_all k rows whole) are

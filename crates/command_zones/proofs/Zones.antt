@@ -11,33 +11,33 @@ use Rattle.ipam_data.specs.Rows.{prefix_id, address_id}
 use Rattle.ipam_data.specs.RowList.{row_at, Rises}
 use Rattle.ipam_data.specs.State.{State}
 use Rattle.reverse_zone.specs.Zones.{is_zone_row, IsBefore, zone_text_of}
-use Rattle.command_zones.specs.declared.zone.Spot.{Spot}
+use Rattle.command_zones.specs.declared.zone.Place.{Place}
 use Rattle.command_zones.specs.declared.zone.ZoneRefusal.TheVariants.{Absent, Unfit}
 use Rattle.command_zones.specs.declared.zone.ZoneStop.{ZoneStop}
 use Rattle.command_zones.specs.declared.zone.ZoneStop.TheVariants.{Refused, Unwritten, Memory}
-use Rattle.command_zones.specs.Zone.{place_of, place_cmp, lines_at, IsSpotIn, AreSpots, IsZone, IsRowsStop, IsZoneStop}
+use Rattle.command_zones.specs.Zone.{key_of, key_cmp, lines_at, IsPlaceIn, ArePlaces, IsZone, IsRowsStop, IsZoneStop}
 use Rattle.command_zones.proofs.Ids.{having, having_one, rises_filtered}
-use Rattle.command_zones.proofs.Order.{row_at_spot, in_order, lines_are}
+use Rattle.command_zones.proofs.Order.{row_at_place, in_order, lines_are}
 
 -- the rows that sorted places name are those of the zone, in order
-pub record Named (all : List IpAddress) (prefix : Prefix) (sorted : List Spot) : Type 0 where
+pub record Named (all : List IpAddress) (prefix : Prefix) (sorted : List Place) : Type 0 where
   pub rows : List IpAddress
   pub those : IsPermutation rows (filter (is_zone_row prefix) all)
   pub order : AllAdjacentBelow IsBefore rows (length rows)
   pub lines : lines_at all sorted ≡ zone_text_of rows
 
-no_rows : (prefix : Prefix) (sorted : List Spot) → AllByRecursion (IsSpotIn []) sorted → Named [] prefix sorted
+no_rows : (prefix : Prefix) (sorted : List Place) → AllByRecursion (IsPlaceIn []) sorted → Named [] prefix sorted
 no_rows prefix [] there = record { rows = []; those = IsPermutation-refl []; order = λ k d h. absurd (omega arith); lines = refl }
 no_rows prefix (p ∷ ps) there = let found = there.0.found in absurd (cc)
 
-some_rows : (all : List IpAddress) (d : IpAddress) (prefix : Prefix) (found sorted : List Spot) → Rises address_id 0 all → AreSpots all prefix all found
+some_rows : (all : List IpAddress) (d : IpAddress) (prefix : Prefix) (found sorted : List Place) → Rises address_id 0 all → ArePlaces all prefix all found
     → IsPermutation found sorted
-    → AllByRecursion (IsSpotIn all) sorted → IsSortedByKey place_of place_cmp sorted → Named all prefix sorted
+    → AllByRecursion (IsPlaceIn all) sorted → IsSortedByKey key_of key_cmp sorted → Named all prefix sorted
 some_rows all d prefix found sorted rises are same there up =
     let zone : List IpAddress = filter (is_zone_row prefix) all in
-    let rows : List IpAddress = map (row_at_spot all d) sorted in
+    let rows : List IpAddress = map (row_at_place all d) sorted in
     let mapped : IsPermutation zone rows =
-    subst (λ (xs : List IpAddress). IsPermutation xs rows) (are.named d) (IsPermutation-map (row_at_spot all d) found sorted same) in
+    subst (λ (xs : List IpAddress). IsPermutation xs rows) (are.named d) (IsPermutation-map (row_at_place all d) found sorted same) in
     let once : (n : ℕ) → having address_id n rows ≤ 1 = λ n.
     (let one = having_one address_id n 0 zone (rises_filtered address_id (is_zone_row prefix) 0 all rises) in
     let equal : having address_id n rows ≡ having address_id n zone = sum_by-IsPermutation (λ (r : IpAddress). cond (address_id r == n) 1 0) zone rows mapped in
@@ -49,19 +49,19 @@ some_rows all d prefix found sorted rises are same there up =
       lines = lines_are all d sorted there;
     }
 
-named : (all : List IpAddress) (prefix : Prefix) (found sorted : List Spot) → Rises address_id 0 all → AreSpots all prefix all found
+named : (all : List IpAddress) (prefix : Prefix) (found sorted : List Place) → Rises address_id 0 all → ArePlaces all prefix all found
     → IsPermutation found sorted
-    → AllByRecursion (IsSpotIn all) sorted → IsSortedByKey place_of place_cmp sorted → Named all prefix sorted
+    → AllByRecursion (IsPlaceIn all) sorted → IsSortedByKey key_of key_cmp sorted → Named all prefix sorted
 named [] prefix found sorted rises are same there up = no_rows prefix sorted there
 named (x ∷ xs) prefix found sorted rises are same there up = some_rows (x ∷ xs) x prefix found sorted rises are same there up
 
-pub zone_is : (s : State) (id : ℕ) (prefix : Prefix) (found sorted : List Spot) → row_at prefix_id s.prefixes.rows id ≡ Some prefix
+pub zone_is : (s : State) (id : ℕ) (prefix : Prefix) (found sorted : List Place) → row_at prefix_id s.prefixes.rows id ≡ Some prefix
     → Rises address_id 0 s.addresses.rows
-    → AreSpots s.addresses.rows prefix s.addresses.rows found → IsPermutation found sorted → IsSortedByKey place_of place_cmp sorted → IsZone s id sorted
+    → ArePlaces s.addresses.rows prefix s.addresses.rows found → IsPermutation found sorted → IsSortedByKey key_of key_cmp sorted → IsZone s id sorted
 zone_is s id prefix found sorted is rises are same up =
     let all : List IpAddress = s.addresses.rows in
-    let there : All (IsSpotIn all) sorted = All-permutation (IsSpotIn all) found sorted same are.there in
-    let n : Named all prefix sorted = named all prefix found sorted rises are same (recursion_from_All (IsSpotIn all) sorted there) up in
+    let there : All (IsPlaceIn all) sorted = All-permutation (IsPlaceIn all) found sorted same are.there in
+    let n : Named all prefix sorted = named all prefix found sorted rises are same (recursion_from_All (IsPlaceIn all) sorted there) up in
     record {
       text = record {
         prefix = prefix;

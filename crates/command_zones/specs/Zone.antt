@@ -10,7 +10,7 @@ use Rattle.ipam_data.specs.State.{State}
 use Rattle.reverse_zone.specs.Names.{fits_dns}
 use Rattle.reverse_zone.specs.Zones.{row_name_of, is_zone_row, AreZoneRows, row_line_of, zone_text_of}
 use Rattle.command_streams.specs.Streams.{Told, Gains, GainsFront, Failed}
-use Rattle.command_zones.specs.declared.zone.Spot.{Spot}
+use Rattle.command_zones.specs.declared.zone.Place.{Place}
 use Rattle.command_zones.specs.declared.zone.ZoneRefusal.{ZoneRefusal}
 use Rattle.command_zones.specs.declared.zone.ZoneRefusal.TheVariants.{Absent, Unfit}
 use Rattle.command_zones.specs.declared.zone.ZoneStop.{ZoneStop}
@@ -47,31 +47,31 @@ IsZoneRefusal s id (Unfit n) = (prefix : Prefix) × (row_at prefix_id s.prefixes
 -- ---- how the rows are found
 
 -- the place of the row at an index
-abbrev pub spot_of : ℕ → IpAddress → Spot
-spot_of index row = record { address = row.host.addr.value; id = row.id; index = index }
+abbrev pub place_of : ℕ → IpAddress → Place
+place_of index row = record { address = row.host.addr.value; id = row.id; index = index }
 
-abbrev pub spots_at : Prefix → ℕ → IpAddress → List Spot
-spots_at prefix index row = if is_zone_row prefix row then spot_of index row ∷ [] else []
+abbrev pub places_at : Prefix → ℕ → IpAddress → List Place
+places_at prefix index row = if is_zone_row prefix row then place_of index row ∷ [] else []
 
 -- places are compared by the address, and those of one address by the id
-abbrev pub place_of : Spot → ℕ × ℕ
-place_of spot = (spot.address, spot.id)
+abbrev pub key_of : Place → ℕ × ℕ
+key_of place = (place.address, place.id)
 
-abbrev pub place_cmp : ℕ × ℕ → ℕ × ℕ → Ordering
-place_cmp x y = ordering_then (nat_cmp x.0 y.0) (nat_cmp x.1 y.1)
+abbrev pub key_cmp : ℕ × ℕ → ℕ × ℕ → Ordering
+key_cmp x y = ordering_then (nat_cmp x.0 y.0) (nat_cmp x.1 y.1)
 
 -- the place is that of one of these rows, whose name fits
-pub record IsSpotIn (rows : List IpAddress) (spot : Spot) : Type 0 where
+pub record IsPlaceIn (rows : List IpAddress) (place : Place) : Type 0 where
   pub row : IpAddress
-  pub found : slice_get rows spot.index ≡ Some row
-  pub address_is : spot.address ≡ row.host.addr.value
-  pub id_is : spot.id ≡ row.id
+  pub found : slice_get rows place.index ≡ Some row
+  pub address_is : place.address ≡ row.host.addr.value
+  pub id_is : place.id ≡ row.id
   pub fits : IsTrue (fits_dns (name_of row))
 
 -- of some of all rows, these are the places of those in the prefix's zone, in their order, and all names in it fit
-pub record AreSpots (rows : List IpAddress) (prefix : Prefix) (some : List IpAddress) (spots : List Spot) : Type 0 where
-  pub named : (d : IpAddress) → map (λ (spot : Spot). slice_index_or rows spot.index d) spots ≡ filter (is_zone_row prefix) some
-  pub there : All (IsSpotIn rows) spots
+pub record ArePlaces (rows : List IpAddress) (prefix : Prefix) (some : List IpAddress) (places : List Place) : Type 0 where
+  pub named : (d : IpAddress) → map (λ (place : Place). slice_index_or rows place.index d) places ≡ filter (is_zone_row prefix) some
+  pub there : All (IsPlaceIn rows) places
   pub fit : find (is_unfit prefix) some ≡ None
 
 -- the line of the row at an index
@@ -79,13 +79,13 @@ abbrev pub line_at : List IpAddress → ℕ → List ℕ
 line_at rows index = unwrap_or (option_map row_line_of (slice_get rows index)) []
 
 -- the lines of the rows at these places
-abbrev pub lines_at : List IpAddress → List Spot → List ℕ
-lines_at rows spots = flat_map (λ (spot : Spot). line_at rows spot.index) spots
+abbrev pub lines_at : List IpAddress → List Place → List ℕ
+lines_at rows places = flat_map (λ (place : Place). line_at rows place.index) places
 
 -- the places of the rows of a prefix's zone, in order: their lines are the text
-pub record IsZone (s : State) (id : ℕ) (spots : List Spot) : Type 0 where
-  pub text : IsTextOf s id (lines_at s.addresses.rows spots)
-  pub there : All (IsSpotIn s.addresses.rows) spots
+pub record IsZone (s : State) (id : ℕ) (places : List Place) : Type 0 where
+  pub text : IsTextOf s id (lines_at s.addresses.rows places)
+  pub there : All (IsPlaceIn s.addresses.rows) places
 
 -- ---- why there are none
 

@@ -6,10 +6,10 @@ ghost use Rattle.ipam_edge.specs.Writing.{AppendsFront, WritesAll};
 ghost use Rattle.reverse_zone.specs.Names.{fits_dns};
 ghost use Rattle.reverse_zone.specs.Zones.{row_line_of};
 ghost use Rattle.command_streams.specs.Streams.{told};
-ghost use Rattle.command_zones.specs.Zone.{name_of, line_at, lines_at, IsSpotIn, IsZoneEnd};
+ghost use Rattle.command_zones.specs.Zone.{name_of, line_at, lines_at, IsPlaceIn, IsZoneEnd};
 ghost use Rattle.command_zones.specs.Printing.{Passes};
 
-use crate::zone::{Spot, ZoneStop, name_of, zone_of};
+use crate::zone::{Place, ZoneStop, name_of, zone_of};
 use ipam_data::address::IpAddress;
 use ipam_edge::{Failed, Sink, write_all};
 use ipam_keeper::keeper::Keeper;
@@ -51,13 +51,13 @@ fn push_row(piece: &mut Vec<u8>, row: &IpAddress)
 }
 
 /// Puts the line of the row at a place behind the piece, which has room for it.
-fn push_line(piece: &mut Vec<u8>, addresses: &Addresses, spot: Spot)
-    requires there { IsSpotIn addresses.now.rows spot }
+fn push_line(piece: &mut Vec<u8>, addresses: &Addresses, place: Place)
+    requires there { IsPlaceIn addresses.now.rows place }
     requires room { vec_len piece.old + 404 ≤ vec_capacity piece.old }
-    ensures items { piece.new.items ≡ piece.old.items ++ line_at addresses.now.rows spot.index }
+    ensures items { piece.new.items ≡ piece.old.items ++ line_at addresses.now.rows place.index }
     ensures capacity { vec_capacity piece.old ≤ vec_capacity piece.new }
 {
-    match addresses.at(spot.index) {
+    match addresses.at(place.index) {
         Some(row) => push_row(piece, row),
         None => unreachable!(),
     }
@@ -67,19 +67,19 @@ fn push_line(piece: &mut Vec<u8>, addresses: &Addresses, spot: Spot)
 fn write_lines<Si: Sink>(
     output: &mut Si,
     addresses: &Addresses,
-    spots: &[Spot],
+    places: &[Place],
     buffer: Vec<u8>,
 ) -> Result<(), Failed>
-    requires there { All (IsSpotIn addresses.now.rows) spots.now }
+    requires there { All (IsPlaceIn addresses.now.rows) places.now }
     requires room { 32768 ≤ vec_capacity buffer }
     requires empty { buffer.items ≡ [] }
-    ensures told { WritesAll (Si.written output.old) (Si.written output.new) result (lines_at addresses.now.rows spots.now) }
+    ensures told { WritesAll (Si.written output.old) (Si.written output.new) result (lines_at addresses.now.rows places.now) }
     ensures cause { HasCause (Si.faults output.old) (Si.faults output.new) result }
 {
     let mut piece = buffer;
-    for spot in spots {
+    for place in places {
         make_room(output, &mut piece)?;
-        push_line(&mut piece, addresses, *spot);
+        push_line(&mut piece, addresses, *place);
     }
     write_all(output, piece.as_slice())
 }
@@ -95,9 +95,9 @@ pub(crate) fn print_zone<K: Keeper, Si: Sink>(
     ensures end { IsZoneEnd register.now.state id (told Si.written Si.faults output.old) (told Si.written Si.faults output.new) result }
     ensures later { Si.faults output.old ≤ Si.faults output.new }
 {
-    let spots = zone_of(alloc, register, id)?;
+    let places = zone_of(alloc, register, id)?;
     let buffer = Vec::with_capacity(alloc, ROOM)?;
-    match write_lines(output, register.addresses(), spots.as_slice(), buffer) {
+    match write_lines(output, register.addresses(), places.as_slice(), buffer) {
         Ok(()) => Ok(()),
         Err(_) => Err(ZoneStop::Unwritten),
     }

@@ -4,7 +4,7 @@ ghost use Rattle.std.specs.Prelude.{◌≡◌, ◌<◌, ◌++◌, false, Some, I
 ghost use Rattle.ipam_data.specs.Claims.{is_container, sees_all, is_child_address};
 ghost use Rattle.reverse_zone.specs.Names.{fits_dns};
 ghost use Rattle.reverse_zone.specs.Zones.{row_name_of, is_zone_row};
-ghost use Rattle.command_zones.specs.Zone.{name_of, is_unfit, spots_at, place_of, place_cmp, AreSpots, IsRowStop, IsRowsStop, IsZone, IsZoneStop};
+ghost use Rattle.command_zones.specs.Zone.{name_of, is_unfit, places_at, key_of, key_cmp, ArePlaces, IsRowStop, IsRowsStop, IsZone, IsZoneStop};
 
 use inet_num::block_holds;
 use ipam_data::address::IpAddress;
@@ -60,7 +60,7 @@ impl<T: Drop> From<AllocFailed<T>> for ZoneStop {
 
 /// Where a row stands in the zone, and at which index among all rows: by these numbers the rows are sorted, and the rows stay where they are.
 #[derive(Clone, Copy, Debug)]
-pub(crate) struct Spot {
+pub(crate) struct Place {
     pub(crate) address: u128,
     pub(crate) id: u32,
     pub(crate) index: u32,
@@ -129,12 +129,12 @@ fn has_fit_name(row: &IpAddress) -> bool
 
 /// Adds the place of the row at an index, if the row is one of the prefix's zone.
 fn add_row(
-    spots: &mut Vec<Spot>,
+    places: &mut Vec<Place>,
     prefix: &Prefix,
     row: &IpAddress,
     index: u32,
 ) -> Result<(), ZoneStop>
-    ensures items { OnOk result (spots.new.items ≡ spots.old.items ++ spots_at prefix.now index row.now) }
+    ensures items { OnOk result (places.new.items ≡ places.old.items ++ places_at prefix.now index row.now) }
     ensures fits { OnOk result (is_unfit prefix.now row.now ≡ false) }
     ensures stop { IfErr result (IsRowStop prefix.now row.now) }
 {
@@ -144,7 +144,7 @@ fn add_row(
     if !has_fit_name(row) {
         return Err(ZoneStop::Refused(ZoneRefusal::Unfit(row.id)));
     }
-    spots.push(Spot {
+    places.push(Place {
         address: row.host.addr().value(),
         id: row.id,
         index,
@@ -164,25 +164,29 @@ fn address_at(addresses: &Addresses, index: u32) -> &IpAddress
 }
 
 /// The places of the rows of a prefix's zone, in the order of their ids, where all their names fit.
-fn zone_spots(alloc: Global, addresses: &Addresses, prefix: &Prefix) -> Result<Vec<Spot>, ZoneStop>
-    ensures spots { IfOk result (λ v. AreSpots addresses.now.rows prefix.now addresses.now.rows v.items) }
+fn zone_places(
+    alloc: Global,
+    addresses: &Addresses,
+    prefix: &Prefix,
+) -> Result<Vec<Place>, ZoneStop>
+    ensures places { IfOk result (λ v. ArePlaces addresses.now.rows prefix.now addresses.now.rows v.items) }
     ensures stop { IfErr result (IsRowsStop prefix.now addresses.now.rows) }
 {
-    let mut spots = Vec::new(alloc);
+    let mut places = Vec::new(alloc);
     let count = addresses.len();
     'rows: for index in 0..count {
         let row = address_at(addresses, index);
-        add_row(&mut spots, prefix, row, index)?;
+        add_row(&mut places, prefix, row, index)?;
     }
-    Ok(spots)
+    Ok(places)
 }
 
 /// Puts places in the order of their addresses, and those of one address in the order of their ids.
-fn sort(spots: &mut Vec<Spot>)
-    ensures same { IsPermutation spots.old.items spots.new.items }
-    ensures sorted { IsSortedByKey place_of place_cmp spots.new.items }
+fn sort(places: &mut Vec<Place>)
+    ensures same { IsPermutation places.old.items places.new.items }
+    ensures sorted { IsSortedByKey key_of key_cmp places.new.items }
 {
-    spots.sort_unstable_by_key(|spot| (spot.address, spot.id));
+    places.sort_unstable_by_key(|place| (place.address, place.id));
 }
 
 /// The places of the rows of a prefix's zone, in their order, or why there are none: the prefix is not there, or a name does not fit.
@@ -190,7 +194,7 @@ pub(crate) fn zone_of<K: Keeper>(
     alloc: Global,
     register: &Register<K>,
     id: u32,
-) -> Result<Vec<Spot>, ZoneStop>
+) -> Result<Vec<Place>, ZoneStop>
     ensures zone { IfOk result (λ v. IsZone register.now.state id v.items) }
     ensures stop { IfErr result (IsZoneStop register.now.state id) }
 {
@@ -200,7 +204,7 @@ pub(crate) fn zone_of<K: Keeper>(
     let addresses = register.addresses();
     // A hint to the prover: the ids of the rows rise.
     let _count = addresses.len();
-    let mut spots = zone_spots(alloc, addresses, prefix)?;
-    sort(&mut spots);
-    Ok(spots)
+    let mut places = zone_places(alloc, addresses, prefix)?;
+    sort(&mut places);
+    Ok(places)
 }
