@@ -11,7 +11,7 @@ use Rattle.import_rows.specs.Imports.{import_plan}
 use Rattle.csv_import.specs.Files.{IsFileOf}
 use Rattle.csv_import.proofs.OneFile.{file_is_one}
 use Rattle.command_words.specs.declared.asked.Command.{Command}
-use Rattle.command_words.specs.declared.asked.Command.TheVariants.{Session, Serve, Import, Export, Report}
+use Rattle.command_words.specs.declared.asked.Command.TheVariants.{Session, Serve, Import, Export, Report, PrefixList, PrefixCheck, Reverse}
 use Rattle.command_words.specs.declared.asked.KindName.{KindName}
 use Rattle.command_words.specs.declared.asked.Report.{Report as ReportName}
 use Rattle.command_words.specs.declared.asked.Store.{Store}
@@ -94,8 +94,22 @@ module _ (words : List (List ℕ)) (old new : Outside) (before after : ListenerV
         | inr c ↦ elim c [
           | inl exports ↦ not_done (Export exports.0 store) exports.1 (λ z. (
               let s = ((h.export exports.0 store exports.1).0.done z).1 in not_loaded store old s.0 bad s.1))
-          | inr reports ↦ not_done (Report reports.0 store) reports.1 (λ z. (
-              let s = ((h.report reports.0 store reports.1).0.done z).1 in not_loaded store old s.0 bad s.1))
+          | inr d ↦ elim d [
+            | inl reports ↦ not_done (Report reports.0 store) reports.1 (λ z. (
+                let s = ((h.report reports.0 store reports.1).0.done z).1 in not_loaded store old s.0 bad s.1))
+            | inr e ↦ elim e [
+              | inl lists ↦ (
+                  let mine : HasBadTables lists.0.store old = subst (λ (t : Store). HasBadTables t old) (sym lists.2) bad in
+                  elim lists.1 [
+                    | inl asks ↦ not_done (PrefixList lists.0) asks (λ z. (
+                        let s = ((h.answers (PrefixList lists.0) asks).0.done z).of_table in not_loaded lists.0.store old s.0 mine s.1.loaded))
+                    | inr asks ↦ not_done (PrefixCheck lists.0) asks (λ z. (
+                        let s = ((h.answers (PrefixCheck lists.0) asks).0.done z).of_both in not_loaded lists.0.store old s.0 mine s.2.loaded))
+                  ])
+              | inr zones ↦ not_done (Reverse zones.0 store) zones.1 (λ z. (
+                  let s = ((h.answers (Reverse zones.0 store) zones.1).0.done z).1 in not_loaded store old s.0 bad s.1))
+            ]
+          ]
         ]
       ]
     ]

@@ -14,6 +14,7 @@ use Rattle.command_words.specs.declared.asked.Command.{Command}
 use Rattle.command_words.specs.declared.asked.KindName.{KindName}
 use Rattle.command_words.specs.declared.asked.Report.{Report as ReportName}
 use Rattle.command_words.specs.declared.asked.Store.{Store}
+use Rattle.command_words.specs.declared.asked.ListAsked.{ListAsked}
 use Rattle.command_words.specs.declared.asked.Serving.{Serving}
 use Rattle.command_words.specs.Asked.{Asks}
 use Rattle.command_store.specs.Outside.{Outside, AnyFailed}
@@ -22,13 +23,14 @@ use Rattle.command_serve.specs.Serve.{ListenerView}
 use Rattle.command_files.specs.Files.{kind_named}
 use Rattle.command_files.specs.Report.{IsAbsentIn}
 use Rattle.ipam_command.specs.Runs.{Runs}
-use Rattle.ipam_command.specs.Clauses.{AsksStore, AsksServe, AsksImport, AsksExport, AsksReport, ListenerFailed}
+use Rattle.ipam_command.specs.Clauses.{AsksStore, AsksServe, AsksImport, AsksExport, AsksReport, AsksPrefixList, AsksPrefixCheck, AsksReverse, ListenerFailed}
 
 -- the words ask for a command that opens the register of this store
 abbrev pub Opens : List (List ℕ) → Store → Type 0
 Opens words store =
     AsksStore words store ⊎ ((serving : Serving) × AsksServe words serving × (serving.store ≡ store)) ⊎ ((kind : KindName) × AsksImport words kind store)
     ⊎ ((kind : KindName) × AsksExport words kind store) ⊎ ((report : ReportName) × AsksReport words report store)
+    ⊎ ((asked : ListAsked) × (AsksPrefixList words asked ⊎ AsksPrefixCheck words asked) × (asked.store ≡ store)) ⊎ ((prefix : ℕ) × AsksReverse words prefix store)
 
 -- the tables that the store tells have a fault
 pub record HasBadTables (store : Store) (old : Outside) : Type 0 where
