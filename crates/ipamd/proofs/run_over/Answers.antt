@@ -10,7 +10,7 @@ pub program-requires : goal.program-requires
 program-requires g c κs = (
   param_send 3 _ (arg_send _ no _ (door.the_send _ _ c.type_bounds.sync-R)),
   (
-    param_send 4 _ (arg_send _ no _ (source.the_send _ _ _ c.type_bounds.sync-R stream.the_send)),
+    param_send 4 _ (arg_send _ no _ (source.the_send _ _ _ stream.the_send c.type_bounds.sync-R)),
     (
       param_send 5 _ (arg_send _ no _ (sink.the_send _ _ c.type_bounds.sync-R)),
       (
