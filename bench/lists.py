@@ -164,7 +164,7 @@ def compared(folder, blocks, opening, rng):
     have, by = spans_of(4, blocks), spans_of(4, others)
     wanted = [f"missing {block}" for block in fewest(4, beyond(have, by))] + [f"beyond {block}" for block in fewest(4, beyond(by, have))]
     same("prefix-check", run.text.split("\n")[:-1], wanted)
-    print(f"prefix-check of them with {size:,} bytes in no order, {len(wanted):,} lines: {run.seconds - opening[0]:.2f} s and {run.memory - opening[1]:.0f} MB beyond the opening", flush=True)
+    print(f"prefix-check of them with {size:,} bytes in no order, {len(wanted):,} lines: {run.seconds - opening[0]:.2f} s and {max(0, run.memory - opening[1]):.0f} MB beyond the opening", flush=True)
 
 
 def single(folder, rng):
@@ -197,8 +197,12 @@ def router(folder, rng):
     db, rows = os.path.join(folder, "router.db"), os.path.join(folder, "rows")
     write(rows, ["prefix", *{text_of(family, *block) for family in (4, 6) for block in random_blocks(family, 2_000, rng)}])
     Run([PROGRAM, "import", "prefixes", "--db", db], rows)
-    daemon = subprocess.Popen([zebra, "-u", "root", "-g", "root", "--vty_socket", folder, "-i", f"{folder}/zebra.pid", "-z", f"{folder}/zserv.api"],
-                              stdout=subprocess.DEVNULL, stderr=subprocess.DEVNULL)
+    # zebra runs as the user of its package, and writes into a folder of its own
+    own = os.path.join(folder, "frr")
+    os.mkdir(own)
+    os.chmod(folder, 0o711)
+    shutil.chown(own, "frr", "frr")
+    daemon = subprocess.Popen([zebra, "--vty_socket", own, "-i", f"{own}/zebra.pid", "-z", f"{own}/zserv.api"], stdout=subprocess.DEVNULL, stderr=subprocess.DEVNULL)
     try:
         time.sleep(2)
         for family, front in ((4, "ip"), (6, "ipv6")):
@@ -206,8 +210,8 @@ def router(folder, rng):
             listed = Run(listing("prefix-list", family, "ios", "--db", db))
             with open(path, "w") as out:
                 out.write(listed.text)
-            subprocess.run(["vtysh", "--vty_socket", folder, "-f", path], check=True, stdout=subprocess.DEVNULL)
-            shown = subprocess.run(["vtysh", "--vty_socket", folder, "-c", "show running-config"], check=True, capture_output=True).stdout.decode()
+            subprocess.run(["vtysh", "--vty_socket", own, "-f", path], check=True, stdout=subprocess.DEVNULL)
+            shown = subprocess.run(["vtysh", "--vty_socket", own, "-c", "show running-config"], check=True, capture_output=True).stdout.decode()
             cut = [line for line in shown.splitlines() if re.match(f"{front} prefix-list OFFICE ", line)]
             write(path, cut)
             if Run(listing("prefix-check", family, "ios", "--db", db), path).text:
