@@ -235,6 +235,8 @@ ELSE = [
     ("docs/OPERATING.md", "30 2 ", "a line of cron, which bench/copies.sh runs"),
     ("docs/OPERATING.md", "45 2 ", "a line of cron, which bench/copies.sh runs"),
     ("docs/OPERATING.md", "5 * ", "a line of cron, which bench/copies.sh runs"),
+    ("docs/OPERATING.md", "10 * ", "a line of cron, which bench/copies.sh runs"),
+    ("docs/OPERATING.md", "15 * ", "a line of cron, which bench/copies.sh runs"),
     ("docs/OPERATING.md", "500,001 items", "bench/full_log.sh prints it"),
     ("docs/OPERATING.md", "1,000,000 items", "bench/full_log.sh prints it"),
     ("docs/OPERATING.md", "the next change", "bench/full_log.sh prints it"),
