@@ -5,7 +5,7 @@ import sys
 import threading
 import time
 
-from full import BASE, Connection, request
+from full import BASE, Connection, make, request
 
 # A client that sends nothing more is let go after so many seconds.
 LEAST, MOST = 29.0, 40.0
@@ -102,9 +102,8 @@ def still_sending(port):
 
 def unread(port):
     """Over one worker: many large answers, of which nothing is taken, and another client behind them."""
-    connection = Connection(port)
-    answered(connection, request("POST", "prefixes/", [{"prefix": f"10.{n >> 8}.{n & 255}.0/24"} for n in range(1000)]), 201)
-    connection.end()
+    # the thousandth answer ends their connection
+    make(port, [request("POST", "prefixes/", {"prefix": f"10.{n >> 8}.{n & 255}.0/24"}) for n in range(1000)])
     greedy = socket.socket()
     greedy.setsockopt(socket.SOL_SOCKET, socket.SO_RCVBUF, 4096)
     greedy.connect(("127.0.0.1", port))
