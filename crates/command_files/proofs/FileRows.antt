@@ -3,15 +3,13 @@ use Rattle.std.proofs.Common.{◌≡◌, ℕ, ◌⊎◌, List, [], inl, inr, Opt
 use Rattle.ipam_data.specs.declared.kinds.Kind.{Kind}
 use Rattle.ipam_data.specs.declared.replies.Refusal.{Refusal}
 use Rattle.ipam_data.specs.declared.replies.Refusal.TheVariants.{Memory as NoMemory}
-use Rattle.import_rows.specs.declared.rows.ImportRow.{ImportRow}
-use Rattle.import_rows.specs.Imports.{AreOfKind}
+use Rattle.ipam_data.specs.declared.imports.ImportRow.{ImportRow}
 use Rattle.csv_import.specs.Files.{IsFileOf, most_bytes}
 use Rattle.command_streams.specs.Streams.{Told}
 use Rattle.ipam_edge.specs.Whole.{IsWhole}
 use Rattle.command_files.specs.declared.files.FileStop.{FileStop}
 use Rattle.command_files.specs.declared.files.FileStop.TheVariants.{Unread, Refused, Memory}
 use Rattle.command_files.specs.Files.{GivesRows, RefusesFile, IsStopOf, IsFileStop}
-use Rattle.command_files.proofs.FileKinds.{file_kind}
 
 module _ (kind : Kind) (items bytes : List ℕ) (same : bytes ≡ items) where
   given_at : (left after : Option (List ℕ)) (rows : List ImportRow) → IfSome left (λ all. (all ≡ items) × (after ≡ Some [])) → IsFileOf kind bytes (Ok rows)
@@ -28,9 +26,6 @@ module _ (kind : Kind) (items bytes : List ℕ) (same : bytes ≡ items) where
   pub rows_given : (old new : Told) (rows given : List ImportRow) → IsWhole most_bytes old.bytes new.bytes items → IsFileOf kind bytes (Ok rows) → given ≡ rows
       → GivesRows kind old new given
   rows_given old new rows given whole file is = subst (GivesRows kind old new) (sym is) (given_at old.bytes new.bytes rows whole.told file)
-
-  pub kind_given : (rows given : List ImportRow) → IsFileOf kind bytes (Ok rows) → given ≡ rows → AreOfKind kind given
-  kind_given rows given file is = subst (AreOfKind kind) (sym is) (file_kind kind bytes rows file)
 
   -- it has none
   pub stopped : (old new : Told) (refusal : Refusal) (stop : FileStop) → IsWhole most_bytes old.bytes new.bytes items → (refusal ≡ NoMemory) ⊎ IsFileOf kind bytes (Err refusal)

@@ -5,20 +5,21 @@ use Rattle.ipam_data.specs.declared.replies.Refusal.{Refusal}
 use Rattle.ipam_data.specs.declared.replies.Refusal.TheVariants.{Keeper as NotWritten}
 use Rattle.stored_tables.specs.declared.opening.OpenFault.{OpenFault}
 use Rattle.stored_tables.specs.declared.opening.OpenFault.TheVariants.{Keeper as NotRead, BadTables, Memory as NoMemory, BadRow, Version, BadNext, Limit}
-use Rattle.import_rows.specs.declared.rows.ImportRow.{ImportRow}
+use Rattle.ipam_data.specs.declared.imports.ImportRow.{ImportRow}
 use Rattle.command_words.specs.declared.asked.Store.{Store}
 use Rattle.command_streams.specs.Streams.{EndsWith, Gains, GainsFront}
 use Rattle.command_store.specs.Outside.{Outside, Stores, StoreFailed, NoCountFalls}
 use Rattle.command_store.specs.FaultWords.{IsSaid, fault_line}
 use Rattle.command_files.specs.declared.files.FileStop.{FileStop}
 use Rattle.command_files.specs.declared.files.FileStop.TheVariants.{Unread, Refused as RefusedFile, Memory as NoRoom}
-use Rattle.command_files.specs.declared.import.MakeStop.TheVariants.{Refused, Keeper, Memory}
+use Rattle.command_files.specs.declared.calls.Counts.{Counts}
+use Rattle.command_files.specs.declared.calls.MakeStop.TheVariants.{Refused, Keeper, Memory}
 use Rattle.command_files.specs.declared.import.ImportStop.{ImportStop}
 use Rattle.command_files.specs.declared.import.ImportStop.TheVariants.{Opening, Making}
 use Rattle.command_store.specs.Opening.{IsBadStore}
 use Rattle.command_store.proofs.Refused.{unchanged}
 use Rattle.command_files.specs.Files.{GivesRows, refusal_text, NamesIt, IsFileStop, IsFileStopSaid}
-use Rattle.command_files.specs.Import.{NothingOpened, LeavesAll, PrintsCounts, NamesRefusal, NamesTables, NamesStore, FailsToRead, FailsToPrint, FailsToSay, IsRefusedSo, IsStored, IsImport}
+use Rattle.command_files.specs.Import.{NothingOpened, LeavesAll, counts_text, PrintsCounts, NamesRefusal, NamesTables, NamesUnread, IsUnwritten, NamesUnwritten, FailsToRead, FailsToPrint, FailsToSay, IsRefusedSo, IsStored, IsImport}
 use Rattle.command_files.specs.Making.{HasImported, IsOpenStop, IsImportStop, IsStopSaid}
 
 module _ (kind : Kind) (store : Store) (old new : Outside) (status : ℕ) where
@@ -55,7 +56,7 @@ module _ (kind : Kind) (store : Store) (old new : Outside) (status : ℕ) where
     later = later;
   }
 
-  at_store : status ≡ 4 → NamesStore old new → NoCountFalls old new → IsImport kind store old new status
+  at_store : status ≡ 4 → NamesUnread old new ⊎ NamesUnwritten kind store old new → NoCountFalls old new → IsImport kind store old new status
   at_store four named later = record {
     statuses = inr (inr (inr (inl four)));
     done = λ z. absurd (omega arith);
@@ -106,9 +107,9 @@ module _ (kind : Kind) (store : Store) (old new : Outside) (status : ℕ) where
 
   opening : (fault : OpenFault) → IsOpenStop store old.stores new.stores fault → IsSaid fault old.streams.errors new.streams.errors status → LeavesAll old new → NoCountFalls old new
       → IsImport kind store old new status
-  opening NotRead stop (inl e) left later = at_store e.0 (record { failed = stop.failed refl; said = inl e.1; left = left }) later
+  opening NotRead stop (inl e) left later = at_store e.0 (inl (record { failed = stop.failed refl; said = e.1; left = left })) later
   opening NotRead stop (inr e) left later =
-      at_fault e.0 (inr (inr (record { failed = e.1; text = fault_line NotRead; cause = inr (inr (stop.failed refl, inl refl)); front = e.2; left = left }))) later
+      at_fault e.0 (inr (inr (record { failed = e.1; text = fault_line NotRead; cause = inr (inr (inl (stop.failed refl, refl))); front = e.2; left = left }))) later
   opening NoMemory stop said left later = at_memory said.0 left said.1 later
   opening (BadTables which n rule) stop said left later = bad (BadTables which n rule) (record { of_tables = tt; refused = stop.tables tt }) said left later
   opening (BadRow which n) stop said left later = bad (BadRow which n) (record { of_tables = tt; refused = stop.tables tt }) said left later
@@ -117,11 +118,11 @@ module _ (kind : Kind) (store : Store) (old new : Outside) (status : ℕ) where
   opening (Limit which n) stop said left later = bad (Limit which n) (record { of_tables = tt; refused = stop.tables tt }) said left later
 
   -- the keeper failed
-  unwritten : StoreFailed old new → NamesIt NotWritten 4 old.streams.errors new.streams.errors status → LeavesAll old new → NoCountFalls old new → IsImport kind store old new status
-  unwritten failed (inl (inl e)) left later = at_store e.0 (record { failed = failed; said = inr e.1; left = left }) later
-  unwritten failed (inl (inr e)) left later =
-      at_fault e.0 (inr (inr (record { failed = e.1; text = refusal_text NotWritten; cause = inr (inr (failed, inr refl)); front = e.2; left = left }))) later
-  unwritten failed (inr e) left later = at_memory e.0 left e.1 later
+  unwritten : IsUnwritten kind store old new → NamesIt NotWritten 4 old.streams.errors new.streams.errors status → LeavesAll old new → NoCountFalls old new → IsImport kind store old new status
+  unwritten is (inl (inl e)) left later = at_store e.0 (inr (record { unwritten = is; said = e.1; left = left })) later
+  unwritten is (inl (inr e)) left later =
+      at_fault e.0 (inr (inr (record { failed = e.1; text = refusal_text NotWritten; cause = inr (inr (inr (is, refl))); front = e.2; left = left }))) later
+  unwritten is (inr e) left later = at_memory e.0 left e.1 later
 
   -- the rows did not come into the store
   pub of_stop : (rows : List ImportRow) (stop : ImportStop) → GivesRows kind old.streams.input new.streams.input rows → IsImportStop kind store rows old.stores new.stores stop
@@ -129,31 +130,35 @@ module _ (kind : Kind) (store : Store) (old new : Outside) (status : ℕ) where
   of_stop rows (Opening fault) given stop said output later = opening fault stop.cause said (record { output = output; stored = stop.same }) later
   of_stop rows (Making (Refused refusal)) given stop said output later =
       named refusal (inr (rows, stop.cause.0, record { given = given; loaded = stop.cause.1 }, stop.cause.2)) said (record { output = output; stored = stop.same }) later
-  of_stop rows (Making Keeper) given stop said output later = unwritten stop.cause said (record { output = output; stored = stop.same }) later
+  of_stop rows (Making Keeper) given stop said output later =
+      unwritten (record { rows = rows; state = stop.cause.0; import = record { given = given; loaded = stop.cause.1 }; accepted = stop.cause.2; failed = stop.cause.3 }) said
+      (record { output = output; stored = stop.same }) later
   of_stop rows (Making Memory) given stop said output later = at_memory said.0 (record { output = output; stored = stop.same }) said.1 later
 
   -- they did
-  abbrev stored : (rows : List ImportRow) (text : List ℕ) → GivesRows kind old.streams.input new.streams.input rows → HasImported kind store rows old.stores new.stores text → IsStored kind store old new
-  stored rows text given h = record {
+  abbrev stored : (rows : List ImportRow) (counts : Counts) → GivesRows kind old.streams.input new.streams.input rows → HasImported kind store rows old.stores new.stores counts
+      → IsStored kind store old new
+  stored rows counts given h = record {
     rows = rows;
     state = h.state;
     import = record { given = given; loaded = h.found };
     accepted = h.counted.0;
     holds = (h.told, h.telling, h.tells, h.returned);
-    created = h.counted.1;
-    present = h.counted.2;
-    counts = h.counted.3;
+    created = counts.created;
+    present = counts.present;
+    counts = h.counted.1;
   }
 
-  pub of_done : (rows : List ImportRow) (text message : List ℕ) → GivesRows kind old.streams.input new.streams.input rows → HasImported kind store rows old.stores new.stores text
-      → message ≡ text → EndsWith old.streams.output new.streams.output message 0 status → new.streams.errors ≡ old.streams.errors → NoCountFalls old new
+  pub of_done : (rows : List ImportRow) (counts : Counts) (message : List ℕ) → GivesRows kind old.streams.input new.streams.input rows
+      → HasImported kind store rows old.stores new.stores counts → message ≡ counts_text counts.created counts.present
+      → EndsWith old.streams.output new.streams.output message 0 status → new.streams.errors ≡ old.streams.errors → NoCountFalls old new
       → IsImport kind store old new status
-  of_done rows text message given h is (inl e) silent later =
-      at_done e.0 (record { done = stored rows text given h; printed = subst (λ (t : List ℕ). Gains old.streams.output new.streams.output t) (is ∙ h.counted.4) e.1; silent = silent }) later
-  of_done rows text message given h is (inr e) silent later =
+  of_done rows counts message given h is (inl e) silent later =
+      at_done e.0 (record { done = stored rows counts given h; printed = subst (λ (t : List ℕ). Gains old.streams.output new.streams.output t) is e.1; silent = silent }) later
+  of_done rows counts message given h is (inr e) silent later =
       at_fault e.0 (inr (inl (record {
         failed = e.1;
-        done = stored rows text given h;
-        front = subst (λ (t : List ℕ). GainsFront old.streams.output new.streams.output t) (is ∙ h.counted.4) e.2;
+        done = stored rows counts given h;
+        front = subst (λ (t : List ℕ). GainsFront old.streams.output new.streams.output t) is e.2;
         silent = silent;
       }))) later

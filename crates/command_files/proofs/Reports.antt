@@ -8,8 +8,8 @@ use Rattle.command_store.specs.Outside.{Outside, IsUnused, NoCountFalls}
 use Rattle.command_store.specs.Opening.{IsLoaded}
 use Rattle.command_files.specs.Files.{NamesIt}
 use Rattle.command_files.specs.Export.{IsPrinting}
-use Rattle.command_files.specs.declared.report.ReportStop.{ReportStop}
-use Rattle.command_files.specs.declared.report.ReportStop.TheVariants.{Absent, Memory}
+use Rattle.command_files.specs.declared.calls.ReportStop.{ReportStop}
+use Rattle.command_files.specs.declared.calls.ReportStop.TheVariants.{Absent, Memory}
 use Rattle.command_files.specs.Report.{IsReportText, IsAbsent, IsReportStop, IsReportStopSaid, IsReport}
 
 module _ (report : Report) (store : Store) (old new : Outside) (status : ℕ) where

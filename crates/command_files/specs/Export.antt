@@ -3,7 +3,7 @@ use Rattle.std.specs.Prelude.{◌≡◌, ℕ, ◌⊎◌, List}
 use Rattle.ipam_data.specs.declared.kinds.Kind.{Kind}
 use Rattle.ipam_data.specs.State.{State}
 use Rattle.csv_import.specs.Exports.{rows_text}
-use Rattle.plan_export.specs.Exported.{exported}
+use Rattle.ipam_data.specs.Exported.{exported}
 use Rattle.command_words.specs.declared.asked.Store.{Store}
 use Rattle.command_streams.specs.Streams.{Gains, GainsFront, Failed}
 use Rattle.command_store.specs.Outside.{Outside, AreSame, NoCountFalls}

@@ -5,7 +5,7 @@ use Rattle.ipam_data.specs.declared.kinds.Kind.TheVariants as kind
 use Rattle.ipam_data.specs.declared.replies.Refusal.{Refusal}
 use Rattle.ipam_data.specs.declared.replies.Refusal.TheVariants.{Memory as NoMemory}
 use Rattle.ipam_words.specs.Lines.{refusal_line}
-use Rattle.import_rows.specs.declared.rows.ImportRow.{ImportRow}
+use Rattle.ipam_data.specs.declared.imports.ImportRow.{ImportRow}
 use Rattle.csv_import.specs.Files.{IsFileOf}
 use Rattle.command_words.specs.declared.asked.KindName.{KindName}
 use Rattle.command_words.specs.declared.asked.KindName.TheVariants.{Vrfs, Rirs, Roles, Aggregates, Prefixes, Ranges, Addresses}

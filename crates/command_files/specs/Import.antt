@@ -9,8 +9,8 @@ use Rattle.ipam_data.specs.State.{State, verdict_of}
 use Rattle.ipam_data.specs.Updates.{updated}
 use Rattle.stored_tables.specs.declared.opening.OpenFault.{OpenFault}
 use Rattle.stored_tables.specs.declared.opening.OpenFault.TheVariants.{Keeper as NotRead}
-use Rattle.import_rows.specs.declared.rows.ImportRow.{ImportRow}
-use Rattle.import_rows.specs.Imports.{import_plan}
+use Rattle.ipam_data.specs.declared.imports.ImportRow.{ImportRow}
+use Rattle.ipam_data.specs.Imports.{import_plan}
 use Rattle.command_words.specs.declared.asked.Store.{Store}
 use Rattle.command_streams.specs.Streams.{Gains, GainsFront, Failed}
 use Rattle.command_store.specs.Outside.{Outside, StoreFailed, AreSame, NoCountFalls}
@@ -72,10 +72,24 @@ pub record NamesTables (store : Store) (old new : Outside) : Type 0 where
   pub said : Gains old.streams.errors new.streams.errors (fault_line fault)
   pub left : LeavesAll old new
 
--- 4: the store failed, which was said: it could not be read, or not be written
-pub record NamesStore (old new : Outside) : Type 0 where
+-- 4: the store could not be opened, since it failed, which was said
+pub record NamesUnread (old new : Outside) : Type 0 where
   pub failed : StoreFailed old new
-  pub said : Gains old.streams.errors new.streams.errors (fault_line NotRead) ⊎ Gains old.streams.errors new.streams.errors (refusal_text NotWritten)
+  pub said : Gains old.streams.errors new.streams.errors (fault_line NotRead)
+  pub left : LeavesAll old new
+
+-- no check refuses the import of rows that the input gave, into the state that was loaded; but the store failed
+pub record IsUnwritten (kind : Kind) (store : Store) (old new : Outside) : Type 0 where
+  pub rows : List ImportRow
+  pub state : State
+  pub import : IsImportOf kind store old new rows state
+  pub accepted : verdict_of (import_plan state kind rows) ≡ None
+  pub failed : StoreFailed old new
+
+-- 4: the import could not be stored, which was said
+pub record NamesUnwritten (kind : Kind) (store : Store) (old new : Outside) : Type 0 where
+  pub unwritten : IsUnwritten kind store old new
+  pub said : Gains old.streams.errors new.streams.errors (refusal_text NotWritten)
   pub left : LeavesAll old new
 
 -- 3: the input failed, and nothing was opened
@@ -92,12 +106,13 @@ pub record FailsToPrint (kind : Kind) (store : Store) (old new : Outside) : Type
   pub front : GainsFront old.streams.output new.streams.output (counts_text done.created done.present)
   pub silent : new.streams.errors ≡ old.streams.errors
 
--- the text names what stopped the import: a refusal, the store's tables, or the store that failed
+-- the text names what stopped the import: a refusal, the store's tables, or the store that failed when it was opened or written
 abbrev pub IsToSay : Kind → Store → Outside → Outside → List ℕ → Type 0
 IsToSay kind store old new text =
     ((refusal : Refusal) × IsRefusedSo kind store old new refusal × (text ≡ refusal_text refusal))
     ⊎ ((fault : OpenFault) × IsBadStore store old fault × (text ≡ fault_line fault))
-    ⊎ (StoreFailed old new × ((text ≡ fault_line NotRead) ⊎ (text ≡ refusal_text NotWritten)))
+    ⊎ (StoreFailed old new × (text ≡ fault_line NotRead))
+    ⊎ (IsUnwritten kind store old new × (text ≡ refusal_text NotWritten))
 
 -- 3: what was to be said could not be, and the messages have a front of it
 pub record FailsToSay (kind : Kind) (store : Store) (old new : Outside) : Type 0 where
@@ -113,7 +128,7 @@ pub record IsImport (kind : Kind) (store : Store) (old new : Outside) (status : 
   pub done : status ≡ 0 → PrintsCounts kind store old new
   pub refused : status ≡ 1 → NamesRefusal kind store old new ⊎ NamesTables store old new
   pub fault : status ≡ 3 → FailsToRead old new ⊎ FailsToPrint kind store old new ⊎ FailsToSay kind store old new
-  pub store_fault : status ≡ 4 → NamesStore old new
+  pub store_fault : status ≡ 4 → NamesUnread old new ⊎ NamesUnwritten kind store old new
   -- 5: out of memory. Nothing was said
   pub memory : status ≡ 5 → LeavesAll old new × (new.streams.errors ≡ old.streams.errors)
   -- no count of faults falls

@@ -2,7 +2,8 @@
 use Rattle.std.specs.Prelude.{◌≡◌, ℕ, List, Option, Some, None, IsSome}
 use Rattle.ipam_data.specs.declared.kinds.Kind.{Kind}
 use Rattle.ipam_data.specs.declared.replies.Reply.TheVariants.{Imported}
-use Rattle.ipam_data.specs.declared.replies.Refusal.TheVariants.{Keeper as NotWritten}
+use Rattle.ipam_data.specs.declared.replies.Refusal.{Refusal}
+use Rattle.ipam_data.specs.declared.replies.Refusal.TheVariants.{Keeper as NotWritten, Memory as NoMemory}
 use Rattle.ipam_data.specs.State.{State, Plan, verdict_of}
 use Rattle.ipam_data.specs.Updates.{updated}
 use Rattle.stored_tables.specs.declared.tables.Tables.{Tables}
@@ -10,60 +11,46 @@ use Rattle.stored_tables.specs.declared.opening.OpenFault.{OpenFault}
 use Rattle.stored_tables.specs.declared.opening.OpenFault.TheVariants.{Keeper as NotRead}
 use Rattle.stored_tables.specs.Stored.{Tells}
 use Rattle.stored_tables.specs.Opening.{IsOfTables}
-use Rattle.ipam_keeper.specs.declared.keeper.KeepFault.{KeepFault}
-use Rattle.ipam_keeper.specs.declared.keeper.KeepFault.TheVariants.{Failed as KeeperFailed, Memory as KeeperMemory}
 use Rattle.ipam_keeper.specs.Keeping.{Rose, started, IsReturned}
-use Rattle.import_rows.specs.declared.rows.ImportRow.{ImportRow}
-use Rattle.import_rows.specs.Imports.{import_plan}
+use Rattle.ipam_data.specs.declared.imports.ImportRow.{ImportRow}
+use Rattle.ipam_data.specs.Imports.{import_plan}
 use Rattle.register_core.specs.Opened.{IsOpened, IsUnopened}
 use Rattle.command_words.specs.declared.asked.Store.{Store}
 use Rattle.command_streams.specs.Streams.{Told}
 use Rattle.command_store.specs.Outside.{Stores, AreSame}
 use Rattle.command_store.specs.FaultWords.{IsSaid}
-use Rattle.plan_import.specs.declared.halt.Halt.{Halt}
-use Rattle.plan_import.specs.declared.halt.Halt.TheVariants.{Refused as Halted, Memory as NoMemory}
-use Rattle.command_files.specs.declared.import.MakeStop.{MakeStop}
-use Rattle.command_files.specs.declared.import.MakeStop.TheVariants.{Refused, Keeper, Memory}
+use Rattle.command_files.specs.declared.calls.Counts.{Counts}
+use Rattle.command_files.specs.declared.calls.MakeStop.{MakeStop}
+use Rattle.command_files.specs.declared.calls.MakeStop.TheVariants.{Refused, Keeper, Memory}
 use Rattle.command_files.specs.declared.import.ImportStop.{ImportStop}
 use Rattle.command_files.specs.declared.import.ImportStop.TheVariants.{Opening, Making}
 use Rattle.command_files.specs.Files.{NamesIt}
-use Rattle.command_files.specs.Import.{counts_text}
 
--- what stops an import where its keeper refuses
-abbrev pub stop_by : KeepFault → MakeStop
-stop_by KeeperFailed = Keeper
-stop_by KeeperMemory = Memory
-
--- what stops an import where its rows are halted
-abbrev pub stop_of : Halt → MakeStop
-stop_of (Halted refusal) = Refused refusal
+-- what stops an import that is refused so: the keeper and the want of memory stand by themselves
+abbrev pub stop_of : Refusal → MakeStop
+stop_of NotWritten = Keeper
 stop_of NoMemory = Memory
+stop_of refusal = Refused refusal
 
--- no check of the plan refuses, and this text has the counts of its answer
-abbrev pub IsCounted : Plan → List ℕ → Type 0
-IsCounted plan text = (verdict_of plan ≡ None) × (created present : ℕ) × (plan.reply ≡ Imported created present) × (text ≡ counts_text created present)
+-- no check of the plan refuses, and these are the counts of its answer
+abbrev pub IsCounted : Plan → Counts → Type 0
+IsCounted plan counts = (verdict_of plan ≡ None) × (plan.reply ≡ Imported counts.created counts.present)
 
--- it is no refusal that stops it
-abbrev pub IsNoRefusal : MakeStop → Type 0
-IsNoRefusal (Refused refusal) = ⊥
-IsNoRefusal Keeper = Unit {0}
-IsNoRefusal Memory = Unit {0}
-
--- it stops by the plan's refusal, or by the keeper, or for lack of memory
+-- it stops by the plan's refusal, or by the keeper where no check refuses, or for lack of memory
 abbrev pub IsMakeStop : Plan → MakeStop → Type 0
 IsMakeStop plan (Refused refusal) = verdict_of plan ≡ Some refusal
-IsMakeStop plan Keeper = Unit {0}
+IsMakeStop plan Keeper = verdict_of plan ≡ None
 IsMakeStop plan Memory = Unit {0}
 
 -- the state is the one that the store's tables stand for
 abbrev pub IsFound : Store → Stores → State → Type 0
 IsFound store old state = IsOpened (started old.stored store.db) store.global_unique state
 
--- the rows came into the store, and this text has the counts
-pub record HasImported (kind : Kind) (store : Store) (rows : List ImportRow) (old new : Stores) (text : List ℕ) : Type 0 where
+-- the rows came into the store, with these counts
+pub record HasImported (kind : Kind) (store : Store) (rows : List ImportRow) (old new : Stores) (counts : Counts) : Type 0 where
   pub state : State
   pub found : IsFound store old state
-  pub counted : IsCounted (import_plan state kind rows) text
+  pub counted : IsCounted (import_plan state kind rows) counts
   pub told : Option Tables
   pub telling : IsSome (started old.stored store.db) → IsSome told
   pub tells : Tells told (updated state (import_plan state kind rows).update)
@@ -78,7 +65,8 @@ pub record IsOpenStop (store : Store) (old new : Stores) (fault : OpenFault) : T
 abbrev pub IsStop : Kind → Store → List ImportRow → Stores → Stores → ImportStop → Type 0
 IsStop kind store rows old new (Opening fault) = IsOpenStop store old new fault
 IsStop kind store rows old new (Making (Refused refusal)) = (state : State) × IsFound store old state × (verdict_of (import_plan state kind rows) ≡ Some refusal)
-IsStop kind store rows old new (Making Keeper) = Rose old.faults new.faults
+IsStop kind store rows old new (Making Keeper) =
+    (state : State) × IsFound store old state × (verdict_of (import_plan state kind rows) ≡ None) × Rose old.faults new.faults
 IsStop kind store rows old new (Making Memory) = Unit {0}
 
 -- and told tables are as they were

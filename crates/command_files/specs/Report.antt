@@ -1,5 +1,6 @@
 -- What a run of the command `report` promises of each status: a text about the prefixes of a register, and the store as it was.
 use Rattle.std.specs.Prelude.{◌≡◌, ℕ, ◌⊎◌, List, Option, Some, None, option_map, take}
+use Rattle.inet_num.specs.Net.{Cidr}
 use Rattle.inet_num.specs.Free.{available_blocks_of}
 use Rattle.ipam_data.specs.declared.kinds.Kind.TheVariants.{Prefixes}
 use Rattle.ipam_data.specs.declared.prefix.Prefix.{Prefix}
@@ -17,8 +18,8 @@ use Rattle.command_words.specs.declared.asked.Store.{Store}
 use Rattle.command_streams.specs.Streams.{Told, Gains, GainsFront, Failed}
 use Rattle.command_store.specs.Outside.{Outside, IsUnused, NoCountFalls}
 use Rattle.command_store.specs.Opening.{IsLoaded, NamesFault, NamesFailure, FailsToSay}
-use Rattle.command_files.specs.declared.report.ReportStop.{ReportStop}
-use Rattle.command_files.specs.declared.report.ReportStop.TheVariants.{Absent, Memory}
+use Rattle.command_files.specs.declared.calls.ReportStop.{ReportStop}
+use Rattle.command_files.specs.declared.calls.ReportStop.TheVariants.{Absent, Memory}
 use Rattle.command_files.specs.Files.{refusal_text, NamesIt}
 use Rattle.command_files.specs.Export.{LeavesInput, Prints, PrintsFront}
 
@@ -45,6 +46,16 @@ report_refusal (Free n) = Some (NotFound Prefixes n)
 -- a report of this state has no text since it is of a prefix that is not there, and this is to be said of it
 abbrev pub IsAbsentIn : State → Report → Refusal → Type 0
 IsAbsentIn s report refusal = (report_text s report ≡ None) × (report_refusal report ≡ Some refusal)
+
+-- what a refusal of the blocks of a prefix stands for
+abbrev pub report_stop_of : Refusal → ReportStop
+report_stop_of (NotFound kind n) = Absent (NotFound kind n)
+report_stop_of refusal = Memory
+
+-- these are the first available blocks of the prefix of an id
+abbrev pub IsFirstFree : State → ℕ → List Cidr → Type 0
+IsFirstFree s n list =
+    (row : Prefix) × (row_at prefix_id s.prefixes.rows n ≡ Some row) × (list ≡ take most_blocks (available_blocks_of row.block (child_blocks s.prefixes.rows row)))
 
 -- why a report of this state has no text
 abbrev pub IsReportStop : State → Report → ReportStop → Type 0

@@ -1,25 +1,22 @@
 //! The command `export`.
 
 ghost use Rattle.std.specs.Prelude.{◌≡◌, ◌≤◌, IfOk};
-ghost use Rattle.ipam_data.specs.Lawful.{IsLawful};
 ghost use Rattle.csv_import.specs.Exports.{rows_text};
-ghost use Rattle.plan_export.specs.Exported.{exported};
-ghost use Rattle.register_tables.specs.Held.{state_of};
+ghost use Rattle.ipam_data.specs.Exported.{exported};
 ghost use Rattle.command_streams.specs.Streams.{Told, streams, told};
 ghost use Rattle.command_store.specs.Outside.{outside, stores};
 ghost use Rattle.command_files.specs.Export.{IsExport};
 
-use crate::opened::open_store;
-use command_store::say_fault;
+use crate::calls::export_rows;
+use command_store::{open_store, say_fault};
 use command_streams::{DONE, MEMORY, end_with};
 use command_words::Store;
 use csv_import::write_rows;
-use import_rows::rows::ImportRow;
+use ipam_data::imports::ImportRow;
 use ipam_data::kinds::Kind;
 use ipam_edge::Sink;
-use ipam_keeper::keeper::KeeperOpener;
-use plan_export::rows_of;
-use register_tables::RowTables;
+use ipam_keeper::keeper::{Keeper, KeeperOpener};
+use register_core::Register;
 use std::alloc::{AllocError, Global};
 
 /// The text of a file of these rows. `Err` means out of memory.
@@ -31,14 +28,17 @@ fn text_of(alloc: Global, kind: Kind, rows: &[ImportRow]) -> Result<Vec<u8>, All
     Ok(text)
 }
 
-/// The text of an export of the records of a kind. The records are given away. `Err` means out of memory.
-fn export_text(alloc: Global, kind: Kind, row_tables: RowTables) -> Result<Vec<u8>, AllocError>
-    requires { IsLawful (state_of row_tables) }
-    ensures { IfOk result (λ v. v.items ≡ rows_text kind (exported (state_of row_tables) kind)) }
+/// The text of an export of the records of a kind. `Err` means out of memory.
+fn export_text<K: Keeper>(
+    alloc: Global,
+    kind: Kind,
+    register: &mut Register<K>,
+) -> Result<Vec<u8>, AllocError>
+    ensures text { IfOk result (λ v. v.items ≡ rows_text kind (exported register.old.state kind)) }
+    ensures told { K.told register.new.keeper ≡ K.told register.old.keeper }
+    ensures later { K.faults register.old.keeper ≤ K.faults register.new.keeper }
 {
-    let rows = rows_of(&row_tables, kind);
-    drop(row_tables);
-    let rows = rows?;
+    let rows = export_rows(register, kind)?;
     text_of(alloc, kind, rows.as_slice())
 }
 
@@ -56,9 +56,10 @@ pub fn run_export<Si: Sink, Se: Sink, O: KeeperOpener>(
         (outside (streams input (told Si.written Si.faults output.new) (told Se.written Se.faults errors.new)) (stores O.stored O.faults opener.new)) result }
 {
     match open_store(alloc, store, opener) {
-        Ok((row_tables, kept)) => {
-            let text = export_text(alloc, kind, row_tables);
-            opener.done(kept);
+        Ok(register) => {
+            let mut register = register;
+            let text = export_text(alloc, kind, &mut register);
+            opener.done(register.into_keeper());
             match text {
                 Ok(text) => end_with(output, text.as_slice(), DONE),
                 Err(_) => MEMORY,

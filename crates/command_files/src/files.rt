@@ -1,7 +1,6 @@
 //! A file of rows on the input, and what is said where it is refused.
 
 ghost use Rattle.std.specs.Prelude.{◌≡◌, ◌≤◌, IfOk, IfErr, string_bytes};
-ghost use Rattle.import_rows.specs.Imports.{AreOfKind};
 ghost use Rattle.command_streams.specs.Streams.{told};
 ghost use Rattle.command_files.specs.Files.{GivesRows, IsStopOf, IsFileStop, IsFileStopSaid, NamesIt, kind_named as kind_of_name, refusal_text};
 
@@ -9,7 +8,7 @@ use command_streams::{FAULT, MEMORY, REFUSED, end_with};
 use command_words::KindName;
 use csv_import::files::MOST_BYTES;
 use csv_import::read_rows;
-use import_rows::rows::ImportRows;
+use ipam_data::imports::ImportRows;
 use ipam_data::kinds::Kind;
 use ipam_data::replies::{Part, Refusal};
 use ipam_edge::{Sink, Source, Unread, read_whole};
@@ -59,7 +58,6 @@ pub(crate) fn read_file<So: Source>(
     input: &mut So,
 ) -> Result<ImportRows, FileStop>
     ensures rows { IfOk result (λ v. GivesRows kind (told So.left So.faults input.old) (told So.left So.faults input.new) v) }
-    ensures kind { IfOk result (λ v. AreOfKind kind v) }
     ensures stop { IfErr result (IsFileStop kind (told So.left So.faults input.old) (told So.left So.faults input.new)) }
     ensures later { So.faults input.old ≤ So.faults input.new }
 {

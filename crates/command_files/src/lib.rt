@@ -2,10 +2,10 @@
 //! as one, and `report`, which prints a text about its prefixes. Each opens the register for its one call, and gives its keeper back.
 #![tactic(auto)]
 
+mod calls;
 mod export;
 mod files;
 mod import;
-mod opened;
 mod report;
 
 pub use export::run_export;

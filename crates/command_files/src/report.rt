@@ -1,117 +1,76 @@
 //! The command `report`.
 
 ghost use Rattle.std.specs.Prelude.{◌≡◌, ◌≤◌, Some, IfOk, IfErr};
-ghost use Rattle.ipam_data.specs.Lawful.{IsLawful};
-ghost use Rattle.register_tables.specs.Held.{state_of};
-ghost use Rattle.ipam_data.specs.Survey.{survey_of};
-ghost use Rattle.ipam_report.specs.Reports.{tree_text as tree_lines, table_text as table_lines};
+ghost use Rattle.ipam_report.specs.Reports.{tree_text as tree_lines, table_text as table_lines, free_text as free_lines};
 ghost use Rattle.command_streams.specs.Streams.{Told, streams, told};
 ghost use Rattle.command_store.specs.Outside.{outside, stores};
 ghost use Rattle.command_files.specs.Report.{IsReport, IsReportStop, IsReportStopSaid, report_text as text_of};
-ghost use Rattle.command_words.specs.declared.asked.Report.TheVariants.{Free};
 
+use crate::calls::{ReportStop, first_free, survey_lines};
 use crate::files::say_refusal;
-use crate::opened::open_store;
-use command_store::say_fault;
+use command_store::{open_store, say_fault};
 use command_streams::{DONE, MEMORY, REFUSED, end_with};
 use command_words::{Report, Store};
-use ipam_data::kinds::Kind;
-use ipam_data::replies::Refusal;
+use ipam_data::replies::Blocks;
+use ipam_data::survey::PrefixLines;
 use ipam_edge::Sink;
-use ipam_keeper::keeper::KeeperOpener;
+use ipam_keeper::keeper::{Keeper, KeeperOpener};
 use ipam_report::{free, table, tree};
-use placed_book::Book;
-use plan_survey::survey;
-use register_claims::available_in;
-use register_tables::RowTables;
+use register_core::Register;
 use std::alloc::{AllocError, Global};
 
-/// Most blocks that a report of what is free has.
-const MOST_BLOCKS: u32 = 1_000;
-
-/// Why a report has no text.
-#[derive(Drop)]
-pub enum ReportStop {
-    /// The prefix that it is of is not there: what is to be said.
-    Absent(Refusal),
-    /// Out of memory.
-    Memory,
-}
-
-impl From<AllocError> for ReportStop {
-    ghost use Rattle.std.specs.Prelude.{◌≡◌};
-    ghost use Rattle.command_files.specs.declared.report.ReportStop.TheVariants.{Memory};
-
-    ghost from_gives = { λ _ s. s ≡ Memory };
-
-    fn from(_: AllocError) -> ReportStop {
-        ReportStop::Memory
-    }
-}
-
-/// The tree of the prefixes.
-fn tree_text(alloc: Global, row_tables: &RowTables) -> Result<Vec<u8>, AllocError>
-    requires { IsLawful (state_of row_tables.now) }
-    ensures { IfOk result (λ v. v.items ≡ tree_lines (survey_of (state_of row_tables.now))) }
+/// The tree of prefixes.
+fn tree_text(alloc: Global, lines: &PrefixLines) -> Result<Vec<u8>, AllocError>
+    ensures { IfOk result (λ v. v.items ≡ tree_lines lines.now) }
 {
-    let lines = survey(row_tables)?;
     let mut text = Vec::new(alloc);
     tree(alloc, lines.as_slice(), &mut text)?;
     Ok(text)
 }
 
-/// The table of the prefixes' utilisation.
-fn table_text(alloc: Global, row_tables: &RowTables) -> Result<Vec<u8>, AllocError>
-    requires { IsLawful (state_of row_tables.now) }
-    ensures { IfOk result (λ v. v.items ≡ table_lines (survey_of (state_of row_tables.now))) }
+/// The table of prefixes' utilisation.
+fn table_text(alloc: Global, lines: &PrefixLines) -> Result<Vec<u8>, AllocError>
+    ensures { IfOk result (λ v. v.items ≡ table_lines lines.now) }
 {
-    let lines = survey(row_tables)?;
     let mut text = Vec::new(alloc);
     table(alloc, lines.as_slice(), &mut text)?;
     Ok(text)
 }
 
-/// The first available blocks of the prefix of an id.
-fn free_text(alloc: Global, row_tables: &RowTables, id: u32) -> Result<Vec<u8>, ReportStop>
-    requires { IsLawful (state_of row_tables.now) }
-    ensures ok { IfOk result (λ v. text_of (state_of row_tables.now) (Free id) ≡ Some v.items) }
-    ensures stop { IfErr result (IsReportStop (state_of row_tables.now) (Free id)) }
+/// Blocks with the numbers of their addresses.
+fn free_text(alloc: Global, blocks: &Blocks) -> Result<Vec<u8>, AllocError>
+    ensures { IfOk result (λ v. v.items ≡ free_lines blocks.now) }
 {
-    let Some(row) = row_tables.prefixes().get(id) else {
-        return Err(ReportStop::Absent(Refusal::NotFound(Kind::Prefixes, id)));
-    };
-    let blocks = available_in(row_tables, row, MOST_BLOCKS)?;
     let mut text = Vec::new(alloc);
     free(alloc, blocks.as_slice(), &mut text)?;
     Ok(text)
 }
 
 /// The text of a report.
-fn report_text(alloc: Global, row_tables: &RowTables, report: Report) -> Result<Vec<u8>, ReportStop>
-    requires { IsLawful (state_of row_tables.now) }
-    ensures ok { IfOk result (λ v. text_of (state_of row_tables.now) report ≡ Some v.items) }
-    ensures stop { IfErr result (IsReportStop (state_of row_tables.now) report) }
+fn report_text<K: Keeper>(
+    alloc: Global,
+    register: &mut Register<K>,
+    report: Report,
+) -> Result<Vec<u8>, ReportStop>
+    ensures ok { IfOk result (λ v. text_of register.old.state report ≡ Some v.items) }
+    ensures stop { IfErr result (IsReportStop register.old.state report) }
+    ensures told { K.told register.new.keeper ≡ K.told register.old.keeper }
+    ensures later { K.faults register.old.keeper ≤ K.faults register.new.keeper }
 {
     match report {
-        Report::Tree => Ok(tree_text(alloc, row_tables)?),
-        Report::Utilization => Ok(table_text(alloc, row_tables)?),
-        Report::Free(id) => free_text(alloc, row_tables, id),
+        Report::Tree => {
+            let lines = survey_lines(register)?;
+            Ok(tree_text(alloc, &lines)?)
+        }
+        Report::Utilization => {
+            let lines = survey_lines(register)?;
+            Ok(table_text(alloc, &lines)?)
+        }
+        Report::Free(id) => {
+            let blocks = first_free(register, id)?;
+            Ok(free_text(alloc, &blocks)?)
+        }
     }
-}
-
-/// The text of a report of records that are given away.
-fn text_of_given(
-    alloc: Global,
-    report: Report,
-    row_tables: RowTables,
-) -> Result<Vec<u8>, ReportStop>
-    requires { IsLawful (state_of row_tables) }
-    ensures ok { IfOk result (λ v. text_of (state_of row_tables) report ≡ Some v.items) }
-    ensures stop { IfErr result (IsReportStop (state_of row_tables) report) }
-{
-    let text = report_text(alloc, &row_tables, report);
-    drop(row_tables);
-    text
 }
 
 /// Says why a report has no text, and gives the status of that.
@@ -139,9 +98,10 @@ pub fn run_report<Si: Sink, Se: Sink, O: KeeperOpener>(
         (outside (streams input (told Si.written Si.faults output.new) (told Se.written Se.faults errors.new)) (stores O.stored O.faults opener.new)) result }
 {
     match open_store(alloc, store, opener) {
-        Ok((row_tables, kept)) => {
-            let text = text_of_given(alloc, report, row_tables);
-            opener.done(kept);
+        Ok(register) => {
+            let mut register = register;
+            let text = report_text(alloc, &mut register, report);
+            opener.done(register.into_keeper());
             match text {
                 Ok(text) => end_with(output, text.as_slice(), DONE),
                 Err(stop) => say_stop(alloc, &stop, errors),

@@ -6,8 +6,8 @@ use Rattle.ipam_data.specs.State.{State, verdict_of}
 use Rattle.stored_tables.specs.declared.tables.Tables.{Tables}
 use Rattle.stored_tables.specs.Opening.{IsOpening}
 use Rattle.ipam_keeper.specs.Keeping.{IsTold}
-use Rattle.import_rows.specs.declared.rows.ImportRow.{ImportRow}
-use Rattle.import_rows.specs.Imports.{import_plan}
+use Rattle.ipam_data.specs.declared.imports.ImportRow.{ImportRow}
+use Rattle.ipam_data.specs.Imports.{import_plan}
 use Rattle.csv_import.specs.Files.{IsFileOf}
 use Rattle.csv_import.proofs.OneFile.{file_is_one}
 use Rattle.command_words.specs.declared.asked.Command.{Command}

@@ -24,7 +24,7 @@ use Rattle.command_serve.specs.Serve.{ListenerView, ListeningFailed, NobodyCame,
 use Rattle.command_load.specs.LoadText.{load_text}
 use Rattle.command_load.specs.Load.{IsLoad}
 use Rattle.command_files.specs.Files.{kind_named}
-use Rattle.command_files.specs.Import.{PrintsCounts, NamesRefusal, NamesTables, NamesStore, IsStored, IsImport}
+use Rattle.command_files.specs.Import.{PrintsCounts, NamesRefusal, NamesTables, NamesUnread, NamesUnwritten, IsStored, IsImport}
 use Rattle.command_files.specs.Export.{IsExportText, Prints as PrintsText, IsExport}
 use Rattle.command_files.specs.Report.{IsReportText, NamesAbsent, IsReport}
 use Rattle.command_lists.specs.PrefixList.{PrintsList, NamesAbsent as NamesAbsentTable}
@@ -169,7 +169,7 @@ pub record HasClauses (words : List (List ℕ)) (old new : Outside) (before afte
   -- 4: the words ask for a register of a store, the opener failed, which was said, and nothing else was used; or for an import, and the
   -- store could not be read or not be written, which was said, and told tables are as they were
   pub store_fault : status ≡ 4 → NobodyCame before after
-      × ((AsksRegister words × NamesFailure old new) ⊎ ((kind : KindName) × (store : Store) × AsksImport words kind store × NamesStore old new))
+      × ((AsksRegister words × NamesFailure old new) ⊎ ((kind : KindName) × (store : Store) × AsksImport words kind store × (NamesUnread old new ⊎ NamesUnwritten (kind_named kind) store old new)))
   -- 5: out of memory. Nothing was said, and `free` and `serve` have nothing on the output
   pub memory : status ≡ 5 → (new.streams.errors ≡ old.streams.errors) × (((store : Store) × AsksStore words store) ⊎ (new.streams.output ≡ old.streams.output))
   -- `free` has nothing on the output unless the status is 0 or a write of it failed

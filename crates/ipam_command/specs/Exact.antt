@@ -7,8 +7,8 @@ use Rattle.ipam_data.specs.State.{State, verdict_of}
 use Rattle.stored_tables.specs.declared.opening.OpenFault.{OpenFault}
 use Rattle.stored_tables.specs.declared.tables.Tables.{Tables}
 use Rattle.stored_tables.specs.Opening.{IsOfTables, IsOpening, IsRefused}
-use Rattle.import_rows.specs.declared.rows.ImportRow.{ImportRow}
-use Rattle.import_rows.specs.Imports.{import_plan}
+use Rattle.ipam_data.specs.declared.imports.ImportRow.{ImportRow}
+use Rattle.ipam_data.specs.Imports.{import_plan}
 use Rattle.csv_import.specs.Files.{IsFileOf}
 use Rattle.command_words.specs.declared.asked.Command.{Command}
 use Rattle.command_words.specs.declared.asked.KindName.{KindName}

@@ -11,7 +11,7 @@ use Rattle.ipam_data.specs.Rows.{most_vrfs, most_rirs, most_roles, most_aggregat
 use Rattle.ipam_data.specs.Ranges.{most_of_range}
 use Rattle.ipam_data.specs.Checks.{most_spent}
 use Rattle.ipam_data.specs.Claims.{most_items}
-use Rattle.import_rows.specs.Imports.{most_rows}
+use Rattle.ipam_data.specs.Imports.{most_rows}
 use Rattle.csv_import.specs.Files.{most_bytes}
 use Rattle.rest_query.specs.Readings.{most_listed}
 use Rattle.command_words.specs.Values.{most_workers, most_connections, most_claims, most_id}

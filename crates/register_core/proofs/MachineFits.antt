@@ -7,7 +7,7 @@ use Rattle.ipam_data.specs.declared.calls.Call.{Call}
 use Rattle.ipam_data.specs.declared.replies.Refusal.{Refusal}
 use Rattle.ipam_data.specs.declared.replies.Refusal.TheVariants.{BadHead, TooLarge, Coding, NoRoute, Method, BadJson, Field, NotFound, Rule as Breaks, InUse, NoSpace, Limit, Keeper, Memory, Row}
 use Rattle.ipam_data.specs.declared.replies.Reply.{Reply}
-use Rattle.ipam_data.specs.declared.replies.Reply.TheVariants.{Made, MadeMany, Changed, Gone, Imported, One, Page, Blocks, Addrs, Percent, Refused}
+use Rattle.ipam_data.specs.declared.replies.Reply.TheVariants.{Made, MadeMany, Changed, Gone, Imported, One, Page, Blocks, Addrs, Percent, Rows, Lines, Refused}
 use Rattle.ipam_data.specs.State.{State}
 use Rattle.ipam_data.specs.Steps.{plain_step}
 use Rattle.ipam_data.specs.Replays.{Entry, replay, is_accepted}
@@ -37,6 +37,8 @@ answers old new call (Page count views) h = told_of old new call (Page count vie
 answers old new call (Blocks vrf list) h = told_of old new call (Blocks vrf list) h (λ e. cc) (λ e. cc)
 answers old new call (Addrs vrf len list) h = told_of old new call (Addrs vrf len list) h (λ e. cc) (λ e. cc)
 answers old new call (Percent figure) h = told_of old new call (Percent figure) h (λ e. cc) (λ e. cc)
+answers old new call (Rows rows) h = told_of old new call (Rows rows) h (λ e. cc) (λ e. cc)
+answers old new call (Lines lines) h = told_of old new call (Lines lines) h (λ e. cc) (λ e. cc)
 answers old new call (Refused BadHead) h = told_of old new call (Refused BadHead) h (λ e. cc) (λ e. cc)
 answers old new call (Refused (TooLarge part)) h = told_of old new call (Refused (TooLarge part)) h (λ e. cc) (λ e. cc)
 answers old new call (Refused Coding) h = told_of old new call (Refused Coding) h (λ e. cc) (λ e. cc)
@@ -82,6 +84,8 @@ grows old new who call (Page count views) h = ap (λ (es : List Entry). map pair
 grows old new who call (Blocks vrf list) h = ap (λ (es : List Entry). map pair_of es) h
 grows old new who call (Addrs vrf len list) h = ap (λ (es : List Entry). map pair_of es) h
 grows old new who call (Percent figure) h = ap (λ (es : List Entry). map pair_of es) h
+grows old new who call (Rows rows) h = ap (λ (es : List Entry). map pair_of es) h
+grows old new who call (Lines lines) h = ap (λ (es : List Entry). map pair_of es) h
 grows old new who call (Refused r) h = ap (λ (es : List Entry). map pair_of es) h ∙ sym (grown_refusal r who call (map pair_of old))
 
 keeper_of : (r : Refusal) → refusal_kind r ≡ fault → r ≡ Keeper
@@ -113,4 +117,6 @@ fault_told (Page count views) e = cc
 fault_told (Blocks vrf list) e = cc
 fault_told (Addrs vrf len list) e = cc
 fault_told (Percent figure) e = cc
+fault_told (Rows rows) e = cc
+fault_told (Lines lines) e = cc
 fault_told (Refused r) e = ap Refused (keeper_of r e)

@@ -4,7 +4,7 @@ use Rattle.std.proofs.Common.{◌≡◌, ◌≢◌, ℕ, ◌+◌, Bool, true, fa
 use Rattle.ipam_data.specs.declared.kinds.Kind.{Kind}
 use Rattle.ipam_data.specs.declared.kinds.Kind.TheVariants.{Vrfs, Rirs, Roles, Aggregates, Prefixes, Ranges, Addresses}
 use Rattle.ipam_data.specs.declared.calls.Call.{Call}
-use Rattle.ipam_data.specs.declared.calls.Call.TheVariants.{List as ListOf, Get, Create, Change, Delete, Blocks as BlocksOf, PrefixAddrs, RangeAddrs, ClaimBlocks, ClaimPrefixAddrs, ClaimRangeAddrs, Utilization}
+use Rattle.ipam_data.specs.declared.calls.Call.TheVariants.{List as ListOf, Get, Create, Change, Delete, Blocks as BlocksOf, PrefixAddrs, RangeAddrs, ClaimBlocks, ClaimPrefixAddrs, ClaimRangeAddrs, Utilization, Import, Export, Survey}
 use Rattle.ipam_data.specs.declared.calls.Answered.{Answered}
 use Rattle.ipam_data.specs.declared.calls.Answered.TheVariants.{AsOne, AsList}
 use Rattle.ipam_data.specs.declared.calls.BlockItem.{BlockItem}
@@ -18,8 +18,13 @@ use Rattle.ipam_data.specs.declared.replies.View.{View}
 use Rattle.ipam_data.specs.declared.replies.View.TheVariants.{Vrf as VrfView, Rir as RirView, Role as RoleView, Aggregate as AggregateView, Prefix as PrefixView, IpRange as RangeView, IpAddress as AddressView}
 use Rattle.ipam_data.specs.declared.replies.Which.{Which}
 use Rattle.ipam_data.specs.declared.replies.Refusal.{Refusal}
-use Rattle.ipam_data.specs.declared.replies.Refusal.TheVariants.{Rule as Breaks, Limit, InUse, NotFound}
-use Rattle.ipam_data.specs.declared.replies.Which.TheVariants.{Claims}
+use Rattle.ipam_data.specs.declared.replies.FieldName.{FieldName}
+use Rattle.ipam_data.specs.declared.replies.FieldName.TheVariants.{Row as RowField}
+use Rattle.ipam_data.specs.declared.replies.RowFault.{RowFault}
+use Rattle.ipam_data.specs.declared.replies.RowFault.TheVariants as fault
+use Rattle.ipam_data.specs.declared.replies.Refusal.TheVariants.{BadHead, TooLarge, Coding, NoRoute, Method, BadJson, Field, NotFound, Rule as Breaks, InUse, NoSpace, Limit, Keeper, Memory, Row}
+use Rattle.ipam_data.specs.declared.replies.Which.TheVariants.{Claims, Rows as ImportedRows}
+use Rattle.ipam_data.specs.declared.imports.ImportRow.{ImportRow}
 use Rattle.ipam_data.specs.declared.prefix.Prefix.{Prefix}
 use Rattle.inet_num.specs.declared.Family.{Family}
 use Rattle.std.specs.List.{flat_map}
@@ -32,11 +37,11 @@ use Rattle.ipam_data.specs.HostNames.{is_dns_name}
 use Rattle.ipam_data.specs.Addresses.{is_slaac_of_v4}
 use Rattle.ipam_data.specs.Claims.{child_blocks, wanted_length, claim, served, most_items, no_space, told_of_block, told_of_address, usable_in, usable_of_range, prefix_figure, range_figure, aggregate_figure, figure_plan, utilization_plan}
 use Rattle.ipam_data.specs.declared.replies.Reply.{Reply}
-use Rattle.ipam_data.specs.declared.replies.Reply.TheVariants.{Made, MadeMany, Changed, Gone, Imported, One, Page, Blocks, Addrs, Percent, Refused}
+use Rattle.ipam_data.specs.declared.replies.Reply.TheVariants.{Made, MadeMany, Changed, Gone, Imported, One, Page, Blocks, Addrs, Percent, Rows, Lines, Refused}
 use Rattle.ipam_data.specs.RowList.{row_at}
 use Rattle.ipam_data.specs.Checks.{first, too_many, no_ids, no_log, no_such, breaks}
 use Rattle.ipam_data.specs.State.{State, Plan, verdict_of, reading}
-use Rattle.ipam_data.specs.Plans.{KindRules, broken, no_seats, no_place, create, replace, change, take_out, delete, get, list, with_found, nothing_told}
+use Rattle.ipam_data.specs.Plans.{KindRules, broken, no_seats, no_place, creation, create, replace, change, take_out, delete, get, list, with_found, nothing_told}
 use Rattle.ipam_data.specs.Vrfs.{vrf_rules}
 use Rattle.ipam_data.specs.Rirs.{rir_rules}
 use Rattle.ipam_data.specs.Roles.{role_rules}
@@ -47,6 +52,7 @@ use Rattle.ipam_data.specs.Addresses.{address_rules}
 use Rattle.ipam_data.specs.Updates.{updated, answered, outcome}
 use Rattle.ipam_data.specs.ByKind.{by_view}
 use Rattle.ipam_data.specs.Fields.{drafted, told_of_draft, kind_of_edit, edited_vrf, edited_rir, edited_role, edited_aggregate, edited_prefix, edited_range, edited_address, told_of_change}
+use Rattle.ipam_data.specs.Imports.{name_rules, value_rules, kind_rule, draft_of, Progress, begun, makes_one, record_of, after_row, at_row, create_checks, row_checks, row_verdict, row_verdicts, items_of, import_plan, most_rows}
 use Rattle.ipam_data.specs.Steps.{next_for, create_plan, change_of_kind, change_plan, delete_plan, get_plan, list_plan, plan_of, plain_step}
 use Rattle.register_core.specs.Spaces.{is_claim}
 
@@ -56,6 +62,8 @@ pub record IsApart (bad : Refusal) : Type 0 where
   pub limit : (which : Which) (most : ℕ) → Some (Limit which most) ≢ Some bad
   pub used : (kind : Kind) (n : ℕ) → Some (InUse kind n) ≢ Some bad
   pub absent : (kind : Kind) (n : ℕ) → Some (NotFound kind n) ≢ Some bad
+  pub field : (member : FieldName) → Some (Field member) ≢ Some bad
+  pub row : (n : ℕ) (fault : RowFault) → Some (Row n fault) ≢ Some bad
 
 module _ (bad : Refusal) (apart : IsApart bad) where
   -- of two lists of checks neither of which refuses so, none does together
@@ -100,6 +108,8 @@ module _ (bad : Refusal) (apart : IsApart bad) where
   answered_alike s (Blocks vrf list) h = λ e. cc
   answered_alike s (Addrs vrf len list) h = λ e. cc
   answered_alike s (Percent figure) h = λ e. cc
+  answered_alike s (Rows rows) h = λ e. cc
+  answered_alike s (Lines lines) h = λ e. cc
   answered_alike s (Refused refusal) h = λ e. h refusal refl
 
   pub never_outcome : (s : State) (plan : Plan) → IsOfRules plan → (outcome s plan).1 ≢ Refused bad
@@ -130,9 +140,12 @@ module _ (bad : Refusal) (apart : IsApart bad) where
         never_append (too_many _ rules.most (length (rules.row_list s).rows + more) ∷ []) (no_ids (rules.row_list s).next more ∷ []) (never_one (too_many _ rules.most (length (rules.row_list s).rows + more)) (never_many _ _ _))
         (never_one (no_ids (rules.row_list s).next more) (limited (nat_le _ _) _ _))
 
+    never_created : (told : List (Option Rule)) (row : T) → first (creation rules s told row) ≢ Some bad
+    never_created told row = never_append (broken rules s None told row) (no_seats rules s 1) (never_breaks (rules.references s row ++ told ++ rules.faults s None row)) (never_seats 1)
+
     create_rules : (told : List (Option Rule)) (row : T) → IsOfRules (create rules s told row)
     create_rules told row = record {
-      checks = never_append (broken rules s None told row ++ no_seats rules s 1) (no_log s.spent 1 ∷ []) (never_append (broken rules s None told row) (no_seats rules s 1) (never_breaks (rules.references s row ++ told ++ rules.faults s None row)) (never_seats 1)) (never_log 1);
+      checks = never_append (creation rules s told row) (no_log s.spent 1 ∷ []) (never_created told row) (never_log 1);
       reply = λ v refusal e. cc;
     }
 
@@ -255,6 +268,75 @@ module _ (bad : Refusal) (apart : IsApart bad) where
   utilization_all s Ranges n = figure_rules range_rules s range_figure n
   utilization_all s Addresses n = record { checks = apart.absent Addresses n; reply = λ v refusal e. cc }
 
+  -- ---- imports
+
+  view_created : (s : State) (told : List (Option Rule)) (view : View) → first (by_view view (λ T rules row. creation rules s told row)) ≢ Some bad
+  view_created s told (VrfView row) = never_created vrf_rules s told row
+  view_created s told (RirView row) = never_created rir_rules s told row
+  view_created s told (RoleView row) = never_created role_rules s told row
+  view_created s told (AggregateView row) = never_created aggregate_rules s told row
+  view_created s told (PrefixView row depth children) = never_created prefix_rules s told row
+  view_created s told (RangeView row) = never_created range_rules s told row
+  view_created s told (AddressView row) = never_created address_rules s told row
+
+  made_checked : (makes : Bool) (s : State) (draft : Draft) → first (create_checks makes s draft) ≢ Some bad
+  made_checked true s draft = view_created s (told_of_draft draft) (record_of s draft)
+  made_checked false s draft = λ e. cc
+
+  -- the refusal of a row tells its number
+  numbered : (n : ℕ) (r : Option Refusal) → r ≢ Some bad → option_map (at_row n) r ≢ Some bad
+  numbered n None h = λ e. cc
+  numbered n (Some (Breaks rule)) h = apart.row n (fault.Rule rule)
+  numbered n (Some (Limit which most)) h = apart.row n (fault.Limit which most)
+  numbered n (Some (Field member)) h = apart.row n (fault.Field member)
+  numbered n (Some BadHead) h = h
+  numbered n (Some (TooLarge part)) h = h
+  numbered n (Some Coding) h = h
+  numbered n (Some NoRoute) h = h
+  numbered n (Some Method) h = h
+  numbered n (Some BadJson) h = h
+  numbered n (Some (NotFound kind id)) h = h
+  numbered n (Some (InUse kind id)) h = h
+  numbered n (Some (NoSpace item)) h = h
+  numbered n (Some Keeper) h = h
+  numbered n (Some Memory) h = h
+  numbered n (Some (Row other why)) h = h
+
+  kind_checked : (kind : Kind) (row : ImportRow) → first (kind_rule kind row ∷ []) ≢ Some bad
+  kind_checked kind row = never_one _ (go _)
+    where
+      go : (same : Bool) → (if same then None else Some (Field RowField)) ≢ Some bad
+      go true = λ e. cc
+      go false = apart.field RowField
+
+  row_checked : (old : State) (kind : Kind) (so : Progress) (row : ImportRow) → first (row_checks old kind so row) ≢ Some bad
+  row_checked old kind so row =
+      let creates = create_checks (makes_one old kind so.seen (draft_of old row)) so.state (draft_of old row) in
+      let values = map breaks (value_rules row) in
+      let names = map breaks (name_rules old row) in
+      never_append (kind_rule kind row ∷ []) (names ++ (values ++ creates)) (kind_checked kind row)
+      (never_append names (values ++ creates) (never_breaks (name_rules old row))
+      (never_append values creates (never_breaks (value_rules row)) (made_checked (makes_one old kind so.seen (draft_of old row)) so.state (draft_of old row))))
+
+  rows_checked : (old : State) (kind : Kind) (so : Progress) (n : ℕ) (rows : List ImportRow) → first (row_verdicts old kind so n rows) ≢ Some bad
+  rows_checked old kind so n [] = λ e. cc
+  rows_checked old kind so n (row ∷ rows) =
+      never_append (row_verdict old kind so n row ∷ []) (row_verdicts old kind (after_row old kind so row) (n + 1) rows)
+      (never_one (row_verdict old kind so n row) (numbered n (first (row_checks old kind so row)) (row_checked old kind so row)))
+      (rows_checked old kind (after_row old kind so row) (n + 1) rows)
+
+  import_all : (s : State) (kind : Kind) (rows : List ImportRow) → IsOfRules (import_plan s kind rows)
+  import_all s kind rows =
+      let few = too_many ImportedRows most_rows (length rows) in
+      let verdicts = row_verdicts s kind (begun s) 1 rows in
+      let log = no_log s.spent (items_of rows) in
+      record {
+        checks = never_append (few ∷ verdicts) (log ∷ [])
+            (never_append (few ∷ []) verdicts (never_one few (never_many ImportedRows most_rows (length rows))) (rows_checked s kind (begun s) 1 rows))
+            (never_one log (never_many _ _ _));
+        reply = λ v refusal e. cc;
+      }
+
   -- of a claim it is shown apart: it alone is looked for space
   all_rules : (s : State) (call : Call) → is_claim call ≡ false → IsOfRules (plan_of s call)
   all_rules s (ListOf kind filter limit offset) n = list_all s filter limit offset
@@ -269,6 +351,9 @@ module _ (bad : Refusal) (apart : IsApart bad) where
   all_rules s (ClaimPrefixAddrs id form items) n = cc
   all_rules s (ClaimRangeAddrs id form items) n = cc
   all_rules s (Utilization kind id) n = utilization_all s kind id
+  all_rules s (Import kind rows) n = import_all s kind rows
+  all_rules s (Export kind) n = read_rules _ (λ refusal e. cc)
+  all_rules s Survey n = read_rules _ (λ refusal e. cc)
 
   -- a call that is no claim is not answered so
   pub never_answered : (s : State) (call : Call) → is_claim call ≡ false → (plain_step s call).1 ≢ Refused bad

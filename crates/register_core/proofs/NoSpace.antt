@@ -9,7 +9,7 @@ use Rattle.block_space.specs.Usable.{addressed}
 use Rattle.ipam_data.specs.declared.prefix.Prefix.{Prefix}
 use Rattle.ipam_data.specs.declared.range.IpRange.{IpRange}
 use Rattle.ipam_data.specs.declared.calls.Call.{Call}
-use Rattle.ipam_data.specs.declared.calls.Call.TheVariants.{List as ListOf, Get, Create, Change, Delete, Blocks, PrefixAddrs, RangeAddrs, ClaimBlocks, ClaimPrefixAddrs, ClaimRangeAddrs, Utilization}
+use Rattle.ipam_data.specs.declared.calls.Call.TheVariants.{List as ListOf, Get, Create, Change, Delete, Blocks, PrefixAddrs, RangeAddrs, ClaimBlocks, ClaimPrefixAddrs, ClaimRangeAddrs, Utilization, Import, Export, Survey}
 use Rattle.ipam_data.specs.declared.calls.Answered.{Answered}
 use Rattle.ipam_data.specs.declared.calls.BlockItem.{BlockItem}
 use Rattle.ipam_data.specs.declared.calls.AddrItem.{AddrItem}
@@ -36,7 +36,7 @@ use Rattle.register_core.specs.Spaces.{FallsShort, LacksSpace}
 use Rattle.register_core.proofs.Never.{IsApart, never_begun, never_placed, told_blocks, told_addresses, never_answered, answered_alike, never_served}
 
 apart : (i : ℕ) → IsApart (NoSpace i)
-apart i = record { rule = λ broken e. cc; limit = λ which most e. cc; used = λ kind n e. cc; absent = λ kind n e. cc }
+apart i = record { rule = λ broken e. cc; limit = λ which most e. cc; used = λ kind n e. cc; absent = λ kind n e. cc; field = λ member e. cc; row = λ n fault e. cc }
 
 -- what a list of checks says, by what its first part says
 past_none : (xs ys : List (Option Refusal)) → first xs ≡ None → first (xs ++ ys) ≡ first ys
@@ -189,6 +189,9 @@ space_lacks s (Blocks n limit) i e = never_answered (NoSpace i) (apart i) s (Blo
 space_lacks s (PrefixAddrs n limit) i e = never_answered (NoSpace i) (apart i) s (PrefixAddrs n limit) refl e
 space_lacks s (RangeAddrs n limit) i e = never_answered (NoSpace i) (apart i) s (RangeAddrs n limit) refl e
 space_lacks s (Utilization kind n) i e = never_answered (NoSpace i) (apart i) s (Utilization kind n) refl e
+space_lacks s (Import kind rows) i e = never_answered (NoSpace i) (apart i) s (Import kind rows) refl e
+space_lacks s (Export kind) i e = never_answered (NoSpace i) (apart i) s (Export kind) refl e
+space_lacks s Survey i e = never_answered (NoSpace i) (apart i) s Survey refl e
 
 -- and where space falls short, the call is refused so
 pub lacks_space : (s : State) (call : Call) (i : ℕ) → LacksSpace s call i → verdict s call ≡ Some (NoSpace i)
@@ -209,6 +212,9 @@ lacks_space s (Blocks n limit) i e = absurd e
 lacks_space s (PrefixAddrs n limit) i e = absurd e
 lacks_space s (RangeAddrs n limit) i e = absurd e
 lacks_space s (Utilization kind n) i e = absurd e
+lacks_space s (Import kind rows) i e = absurd e
+lacks_space s (Export kind) i e = absurd e
+lacks_space s Survey i e = absurd e
 
 pub lacking_answered : (s : State) (call : Call) (i : ℕ) → LacksSpace s call i → (plain_step s call).1 ≡ Refused (NoSpace i)
 lacking_answered s call i e = refused_so s (plan_of s call) (NoSpace i) (lacks_space s call i e)

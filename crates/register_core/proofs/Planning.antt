@@ -4,7 +4,7 @@ use Rattle.ipam_data.specs.declared.calls.Call.{Call}
 use Rattle.stored_tables.specs.declared.tables.Change.{Change as StoredChange}
 use Rattle.ipam_data.specs.declared.update.Update.{Update}
 use Rattle.ipam_data.specs.declared.replies.Reply.{Reply}
-use Rattle.ipam_data.specs.declared.replies.Reply.TheVariants.{Made, MadeMany, Changed, Gone, Imported, One, Page, Blocks, Addrs, Percent, Refused}
+use Rattle.ipam_data.specs.declared.replies.Reply.TheVariants.{Made, MadeMany, Changed, Gone, Imported, One, Page, Blocks, Addrs, Percent, Rows, Lines, Refused}
 use Rattle.ipam_data.specs.State.{State, Plan, verdict_of}
 use Rattle.ipam_data.specs.Steps.{plan_of, plain_step, HasCallBounds}
 use Rattle.ipam_data.specs.Updates.{updated, answered, outcome}
@@ -54,6 +54,8 @@ accepted_alike s (Page count views) = refl
 accepted_alike s (Blocks vrf list) = refl
 accepted_alike s (Addrs vrf len list) = refl
 accepted_alike s (Percent figure) = refl
+accepted_alike s (Rows rows) = refl
+accepted_alike s (Lines lines) = refl
 accepted_alike s (Refused refusal) = refl
 
 pub change_accepted : (s t : State) (call : Call) (p : Planned) (u : Update) (reply answer : Reply) → p ≡ Change u reply → IsPlanned (plan_of s call) p → answer ≡ answered t reply → is_accepted answer ≡ true
@@ -61,13 +63,20 @@ change_accepted s t call p u reply answer e h a =
     let is = change_is (plan_of s call) p u reply e h in
     ap is_accepted a ∙ accepted_alike t reply ∙ is.accepted
 
+outcome_is : (s : State) (plan : Plan) → verdict_of plan ≡ None → outcome s plan ≡ (updated s plan.update, answered (updated s plan.update) plan.reply)
+outcome_is s plan v = rw (v, outcome) refl
+
+-- a change that was planned is one that the plain step accepts
+pub change_asked : (s : State) (call : Call) (p : Planned) (u : Update) (reply : Reply) → p ≡ Change u reply → IsPlanned (plan_of s call) p → is_accepted (plain_step s call).1 ≡ true
+change_asked s call p u reply e h =
+    let is = change_is (plan_of s call) p u reply e h in
+    ap (λ (q : State × Reply). is_accepted q.1) (outcome_is s (plan_of s call) is.verdict)
+    ∙ accepted_alike (updated s (plan_of s call).update) (plan_of s call).reply ∙ ap is_accepted is.says ∙ is.accepted
+
 -- the change that was made leads from the tables before to those after
 pub change_leads : (s new : State) (u : Update) (change : StoredChange) → IsLawful s → CanUpdate s u → new ≡ updated s u → change ≡ change_of u → Leads s new (Some change)
 change_leads s new u change l can n c =
     (change, refl, subst (λ (d : StoredChange). changed d (tables_of s) ≡ tables_of new) (sym c) (change_told s u (lawful_ordered s l) can ∙ ap tables_of (sym n)))
-
-outcome_is : (s : State) (plan : Plan) → verdict_of plan ≡ None → outcome s plan ≡ (updated s plan.update, answered (updated s plan.update) plan.reply)
-outcome_is s plan v = rw (v, outcome) refl
 
 -- the plain step of a change that was planned
 pub change_steps : (s new : State) (call : Call) (p : Planned) (u : Update) (reply : Reply) → p ≡ Change u reply → IsPlanned (plan_of s call) p → new ≡ updated s u → plain_step s call ≡ (new, answered new reply)

@@ -5,7 +5,7 @@ use Rattle.ipam_data.specs.declared.calls.Call.{Call}
 use Rattle.ipam_data.specs.declared.replies.Refusal.{Refusal}
 use Rattle.ipam_data.specs.declared.replies.Refusal.TheVariants.{BadHead, TooLarge, Coding, NoRoute, Method, BadJson, Field, NotFound, Rule as Breaks, InUse, NoSpace, Limit, Keeper, Memory, Row}
 use Rattle.ipam_data.specs.declared.replies.Reply.{Reply}
-use Rattle.ipam_data.specs.declared.replies.Reply.TheVariants.{Made, MadeMany, Changed, Gone, Imported, One, Page, Blocks, Addrs, Percent, Refused}
+use Rattle.ipam_data.specs.declared.replies.Reply.TheVariants.{Made, MadeMany, Changed, Gone, Imported, One, Page, Blocks, Addrs, Percent, Rows, Lines, Refused}
 use Rattle.ipam_data.specs.Replays.{Entry}
 
 -- out of memory and a keeper that failed are kinds of their own, and every other refusal a plain answer
@@ -38,6 +38,8 @@ kind_of (Page count views) = plain
 kind_of (Blocks vrf list) = plain
 kind_of (Addrs vrf len list) = plain
 kind_of (Percent figure) = plain
+kind_of (Rows rows) = plain
+kind_of (Lines lines) = plain
 kind_of (Refused refusal) = refusal_kind refusal
 
 -- the caller's number and its call

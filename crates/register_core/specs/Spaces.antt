@@ -5,7 +5,7 @@ use Rattle.block_space.specs.Fit.{fits_of}
 use Rattle.ipam_data.specs.declared.prefix.Prefix.{Prefix}
 use Rattle.ipam_data.specs.declared.range.IpRange.{IpRange}
 use Rattle.ipam_data.specs.declared.calls.Call.{Call}
-use Rattle.ipam_data.specs.declared.calls.Call.TheVariants.{List as ListOf, Get, Create, Change, Delete, Blocks, PrefixAddrs, RangeAddrs, ClaimBlocks, ClaimPrefixAddrs, ClaimRangeAddrs, Utilization}
+use Rattle.ipam_data.specs.declared.calls.Call.TheVariants.{List as ListOf, Get, Create, Change, Delete, Blocks, PrefixAddrs, RangeAddrs, ClaimBlocks, ClaimPrefixAddrs, ClaimRangeAddrs, Utilization, Import, Export, Survey}
 use Rattle.ipam_data.specs.declared.replies.Refusal.{Refusal}
 use Rattle.ipam_data.specs.declared.replies.Which.TheVariants.{Claims}
 use Rattle.ipam_data.specs.RowList.{row_at}
@@ -28,6 +28,9 @@ is_claim (ClaimBlocks n answered items) = true
 is_claim (ClaimPrefixAddrs n answered items) = true
 is_claim (ClaimRangeAddrs n answered items) = true
 is_claim (Utilization kind n) = false
+is_claim (Import kind rows) = false
+is_claim (Export kind) = false
+is_claim Survey = false
 
 -- of so many items that are wanted so many get something, so that the item of this number, from 0, is the first that gets nothing;
 -- there are not too many items, and nothing is told of them
@@ -57,3 +60,6 @@ LacksSpace s (Blocks n limit) i = ⊥
 LacksSpace s (PrefixAddrs n limit) i = ⊥
 LacksSpace s (RangeAddrs n limit) i = ⊥
 LacksSpace s (Utilization kind n) i = ⊥
+LacksSpace s (Import kind rows) i = ⊥
+LacksSpace s (Export kind) i = ⊥
+LacksSpace s Survey i = ⊥

@@ -7,6 +7,9 @@ ghost use Rattle.register_tables.specs.Held.{state_of};
 ghost use Rattle.register_tables.specs.Planned.{IsPlanned};
 
 use ipam_data::calls::Call;
+use plan_export::plan_rows;
+use plan_import::plan_import;
+use plan_survey::plan_survey;
 use register_claims::{
     plan_available_blocks, plan_claim_blocks, plan_claim_prefix_addrs, plan_claim_range_addrs,
     plan_prefix_addrs, plan_range_addrs, plan_utilization,
@@ -15,8 +18,8 @@ use register_plans::{plan_draft, plan_edit, plan_gone, plan_one, plan_page};
 use register_tables::{Planned, RowTables};
 use std::alloc::AllocError;
 
-/// What a call comes to. The state stays: a claim of blocks takes a space out of its book and puts it back, and all others change
-/// nothing. `Err` means out of memory.
+/// What a call comes to. The state stays: a claim of blocks takes a space out of its book and puts it back, an import makes its rows
+/// and cuts them again, and all others change nothing. `Err` means out of memory.
 pub(crate) fn plan(row_tables: &mut RowTables, call: &Call) -> Result<Planned, AllocError>
     requires { IsLawful (state_of row_tables.old) }
     ensures state { state_of row_tables.new ≡ state_of row_tables.old }
@@ -52,5 +55,8 @@ pub(crate) fn plan(row_tables: &mut RowTables, call: &Call) -> Result<Planned, A
             items,
         } => plan_claim_range_addrs(row_tables, *id, *answered, items.as_slice()),
         Call::Utilization { kind, id } => Ok(plan_utilization(row_tables, *kind, *id)),
+        Call::Import { kind, rows } => plan_import(row_tables, *kind, rows.as_slice()),
+        Call::Export { kind } => plan_rows(row_tables, *kind),
+        Call::Survey => plan_survey(row_tables),
     }
 }

@@ -13,5 +13,5 @@ mod stop;
 
 pub use log::Entry;
 pub use machine::SeenState;
-pub use opening::{open, open_row_tables};
+pub use opening::open;
 pub use register::{Register, Settings, begin};

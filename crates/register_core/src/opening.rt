@@ -65,12 +65,7 @@ fn check(
 /// The tables in memory of the state for which the tables of a keeper stand, and the keeper again. The tables are loaded once and checked in
 /// passes, each over all rows by kind and id before the next begins. The keeper keeps what it tells, as does the keeper that a refusal
 /// hands back.
-///
-/// `Err` is `Version` exactly where the version is not 1; `BadRow` exactly where a row has id 0 or can't be read, the first such;
-/// `Limit` exactly where a kind has more rows than it may, the first such; `BadTables` exactly where a row breaks a rule beside the
-/// rows before it, the first such with its first rule, references first; `BadNext` exactly where a next id is absent, 0 or not above
-/// all ids of its kind, the first such kind; `Keeper` only where the keeper failed in this call; `Memory` for lack of memory.
-pub fn open_row_tables<K: Keeper + Drop>(
+fn load_row_tables<K: Keeper + Drop>(
     alloc: Global,
     keeper: K,
     settings: Settings,
@@ -101,8 +96,13 @@ pub fn open_row_tables<K: Keeper + Drop>(
     }
 }
 
-/// A register over a keeper, of the state for which its tables stand, as `open_row_tables` finds it. The register has an empty log and no
-/// last change, and the keeper keeps what it tells, as does the keeper that a refusal hands back. `Err` is what `open_row_tables` answers.
+/// A register over a keeper, of the state for which its tables stand. The register has an empty log and no last change, and the keeper
+/// keeps what it tells, as does the keeper that a refusal hands back.
+///
+/// `Err` is `Version` exactly where the version is not 1; `BadRow` exactly where a row has id 0 or can't be read, the first such;
+/// `Limit` exactly where a kind has more rows than it may, the first such; `BadTables` exactly where a row breaks a rule beside the
+/// rows before it, the first such with its first rule, references first; `BadNext` exactly where a next id is absent, 0 or not above
+/// all ids of its kind, the first such kind; `Keeper` only where the keeper failed in this call; `Memory` for lack of memory.
 pub fn open<K: Keeper + Drop>(
     alloc: Global,
     keeper: K,
@@ -117,7 +117,7 @@ pub fn open<K: Keeper + Drop>(
     ensures err_told { IfErr result (λ e. K.told e.0 ≡ K.told keeper) }
     ensures err_later { IfErr result (λ e. K.faults keeper ≤ K.faults e.0) }
 {
-    match open_row_tables(alloc, keeper, settings) {
+    match load_row_tables(alloc, keeper, settings) {
         Ok((row_tables, keeper)) => Ok(Register::over(alloc, Books::of(row_tables), keeper)),
         Err(refused) => Err(refused),
     }

@@ -2,7 +2,7 @@ use Rattle.std.proofs.Common.{Some, subst, refl}
 use Rattle.ipam_data.specs.State.{State}
 use Rattle.register_tables.specs.declared.planned.Planned.TheVariants.{Change}
 use Rattle.register_core.specs.Kept.{Leads}
-use Rattle.register_core.proofs.Planning.{state_same, plan_same, change_can, change_lawful, change_leads, change_steps}
+use Rattle.register_core.proofs.Planning.{state_same, plan_same, change_asked, change_can, change_lawful, change_leads, change_steps}
 use Rattle.register_core.proofs.History.{whole_grows}
 use Rattle.register_core.proofs.register.Register.perform.Goals as goal
 
@@ -34,3 +34,6 @@ returns-in-Ok-clause-change g c =
     let can = change_can c.self.inside.books c.args.call (Change c.args.update c.args.reply) c.args.update c.args.reply refl here c.lawful.ensures c.bounds.ensures in
     subst (λ (s : State). Leads s c.commit.new.self (Some c.in-Ok.change)) same
     (change_leads c.self.inside.books c.commit.new.self c.args.update c.in-Ok.change c.lawful.ensures can c.in-Ok.ensures.ok c.in-Ok.ensures.change)
+
+pub returns-clause-asked : goal.returns-clause-asked
+returns-clause-asked g c = change_asked c.args.self.now.state c.args.call (Change c.args.update c.args.reply) c.args.update c.args.reply refl c.requires
