@@ -1,6 +1,5 @@
-pub mod FileKinds
 pub mod Imports
 pub mod Exports
-pub mod Stored
+pub mod Replied
 pub mod FileRows
 pub mod Reports
