@@ -1,10 +1,10 @@
 -- The update of an import that no check refuses may be made: its records are new ones, under the next ids.
-use Rattle.std.proofs.Common.{◌≡◌, ℕ, ◌+◌, ◌≤◌, ◌<◌, Bool, true, false, List, [], ◌∷◌, ◌++◌, length, map, fold, Option, Some, None, refl, ap, sym, ◌∙◌, subst, arith, inr}
+use Rattle.std.proofs.Common.{◌≡◌, ℕ, ◌+◌, ◌<◌, Bool, true, false, List, [], ◌∷◌, ◌++◌, length, map, fold, Option, None, refl, ap, sym, ◌∙◌, subst, arith, inr}
 use Rattle.std.specs.List.{AllByRecursion}
 use Rattle.ipam_data.specs.declared.kinds.Kind.{Kind}
 use Rattle.ipam_data.specs.declared.kinds.Kind.TheVariants.{Vrfs, Rirs, Roles, Aggregates, Prefixes, Ranges, Addresses}
-use Rattle.import_rows.specs.declared.rows.ImportRow.{ImportRow}
-use Rattle.import_rows.specs.declared.rows.ImportRow.TheVariants.{Vrf as VrfRow, Rir as RirRow, Role as RoleRow, Aggregate as AggregateRow, Prefix as PrefixRow, IpRange as RangeRow, IpAddress as AddressRow}
+use Rattle.ipam_data.specs.declared.imports.ImportRow.{ImportRow}
+use Rattle.ipam_data.specs.declared.imports.ImportRow.TheVariants.{Vrf as VrfRow, Rir as RirRow, Role as RoleRow, Aggregate as AggregateRow, Prefix as PrefixRow, IpRange as RangeRow, IpAddress as AddressRow}
 use Rattle.ipam_data.specs.declared.replies.Rule.{Rule}
 use Rattle.ipam_data.specs.declared.replies.Refusal.{Refusal}
 use Rattle.ipam_data.specs.declared.replies.Which.TheVariants.{Rows}
@@ -13,7 +13,6 @@ use Rattle.ipam_data.specs.Checks.{first, breaks, too_many, no_log}
 use Rattle.ipam_data.specs.State.{State, verdict_of}
 use Rattle.ipam_data.specs.Plans.{KindRules, broken, no_seats, creation}
 use Rattle.ipam_data.specs.Updates.{with_view, with_next, AreFit, CanUpdate}
-use Rattle.stored_tables.specs.Stored.{next_of}
 use Rattle.ipam_data.specs.Vrfs.{vrf_rules}
 use Rattle.ipam_data.specs.Rirs.{rir_rules}
 use Rattle.ipam_data.specs.Roles.{role_rules}
@@ -22,11 +21,10 @@ use Rattle.ipam_data.specs.Prefixes.{prefix_rules}
 use Rattle.ipam_data.specs.Ranges.{range_rules, range_told}
 use Rattle.ipam_data.specs.Addresses.{address_rules}
 use Rattle.ipam_data.specs.Lawful.{IsLawful}
-use Rattle.import_rows.specs.Imports.{most_rows, kind_of_row, name_rules, value_rules, draft_of, Progress, begun, makes_one, with_draft, after_row, after_rows, at_row, create_checks, row_checks, row_verdict, row_verdicts, items_of, import_plan, AreOfKind, HasRowBounds}
-use Rattle.import_rows.specs.Laws.{ImportsCanUpdate}
+use Rattle.ipam_data.specs.Imports.{most_rows, kind_of_row, kind_rule, next_of, name_rules, value_rules, draft_of, Progress, begun, makes_one, with_draft, after_row, after_rows, at_row, create_checks, row_checks, row_verdict, row_verdicts, items_of, import_plan, HasRowBounds}
 use Rattle.ipam_data.proofs.Verdicts.{none_head, none_rest, none_left, none_right, room_from}
 use Rattle.ipam_data.proofs.Ties.{IsTied, fits_append, vrfs_tied, rirs_tied, roles_tied, aggregates_tied, prefixes_tied, ranges_tied, addresses_tied}
-use Rattle.import_rows.proofs.ImportLaws.{IsMade, made_more, begun_made, draft_bounds, none_mapped, rows_keep, record_keeps}
+use Rattle.ipam_data.proofs.ImportLaws.{AreOfKind, of_kind, IsMade, made_more, begun_made, draft_bounds, none_mapped, rows_keep, record_keeps}
 
 -- one record more fits beside those that were made
 record_fits : {T : Type 0} (rules : KindRules T) → IsTied rules → (old : State) (so : Progress) (told : List (Option Rule)) (row : T) → next_of so.state rules.kind ≡ (rules.row_list so.state).next
@@ -65,7 +63,7 @@ rows_fit old kind so n (row ∷ rows) q b h m f v =
     let creates : List (Option Refusal) = create_checks (makes_one old kind so.seen d) so.state d in
     let names : List (Option Refusal) = map breaks (name_rules old row) in
     let one = none_mapped (at_row n) (first (row_checks old kind so row)) (none_head (row_verdict old kind so n row) rest v) in
-    let checks = none_right values creates (none_right names (values ++ creates) one) in
+    let checks = none_right values creates (none_right names (values ++ creates) (none_rest (kind_rule kind row) (names ++ (values ++ creates)) one)) in
     rows_fit old kind (after_row old kind so row) (n + 1) rows q.1 b.1 (keeps (makes_one old kind so.seen d) checks) (made_more old kind so row q.0 m) (fits (makes_one old kind so.seen d) checks)
     (none_rest (row_verdict old kind so n row) rest v)
   where
@@ -86,13 +84,13 @@ next_low Prefixes s h = let top = h.prefixes.row_list.next_fits in omega arith
 next_low Ranges s h = let top = h.ranges.row_list.next_fits in omega arith
 next_low Addresses s h = let top = h.addresses.row_list.next_fits in omega arith
 
-pub import_can : ImportsCanUpdate
-import_can s kind rows h q b v =
+pub import_can : (s : State) (kind : Kind) (rows : List ImportRow) → IsLawful s → AllByRecursion HasRowBounds rows → verdict_of (import_plan s kind rows) ≡ None → CanUpdate s (import_plan s kind rows).update
+import_can s kind rows h b v =
     let few : Option Refusal = too_many Rows most_rows (length rows) in
     let verdicts : List (Option Refusal) = row_verdicts s kind (begun s) 1 rows in
     let none = none_rest few verdicts (none_left (few ∷ verdicts) (no_log s.spent (items_of rows) ∷ []) v) in
     record {
-      puts = rows_fit s kind (begun s) 1 rows q b h (begun_made s kind) tt none;
+      puts = rows_fit s kind (begun s) 1 rows (of_kind s kind (begun s) 1 rows none) b h (begun_made s kind) tt none;
       cuts = tt;
       next = (next_low kind (after_rows s kind (begun s) rows).state (rows_keep s kind (begun s) 1 rows h b none), tt);
     }

@@ -5,17 +5,18 @@ use Rattle.ipam_data.specs.declared.kinds.Kind.{Kind}
 use Rattle.ipam_data.specs.declared.kinds.Kind.TheVariants.{Vrfs, Rirs, Roles, Aggregates, Prefixes, Ranges, Addresses}
 use Rattle.ipam_data.specs.declared.calls.Draft.{Draft}
 use Rattle.ipam_data.specs.declared.calls.Draft.TheVariants.{Vrf as VrfDraft, Rir as RirDraft, Role as RoleDraft, Aggregate as AggregateDraft, Prefix as PrefixDraft, IpRange as RangeDraft, IpAddress as AddressDraft}
-use Rattle.import_rows.specs.declared.rows.ImportRow.{ImportRow}
-use Rattle.import_rows.specs.declared.rows.ImportRow.TheVariants.{Vrf as VrfRow, Rir as RirRow, Role as RoleRow, Aggregate as AggregateRow, Prefix as PrefixRow, IpRange as RangeRow, IpAddress as AddressRow}
+use Rattle.ipam_data.specs.declared.imports.ImportRow.{ImportRow}
+use Rattle.ipam_data.specs.declared.imports.ImportRow.TheVariants.{Vrf as VrfRow, Rir as RirRow, Role as RoleRow, Aggregate as AggregateRow, Prefix as PrefixRow, IpRange as RangeRow, IpAddress as AddressRow}
 use Rattle.ipam_data.specs.declared.replies.Rule.{Rule}
 use Rattle.ipam_data.specs.declared.replies.Refusal.{Refusal}
 use Rattle.ipam_data.specs.declared.replies.View.{View}
 use Rattle.ipam_data.specs.declared.replies.View.TheVariants.{Vrf as VrfView, Rir as RirView, Role as RoleView, Aggregate as AggregateView, Prefix as PrefixView, IpRange as RangeView, IpAddress as AddressView}
-use Rattle.ipam_data.specs.Rows.{HasVrfBounds, HasRirBounds, HasRoleBounds, HasAggregateBounds, HasPrefixBounds, HasRangeBounds, HasAddressBounds}
-use Rattle.ipam_data.specs.declared.replies.Reply.TheVariants.{Refused}
+use Rattle.ipam_data.specs.Rows.{same_kind, HasVrfBounds, HasRirBounds, HasRoleBounds, HasAggregateBounds, HasPrefixBounds, HasRangeBounds, HasAddressBounds}
+use Rattle.ipam_data.specs.declared.replies.Refusal.TheVariants.{Field}
+use Rattle.ipam_data.specs.declared.replies.FieldName.TheVariants as member
 use Rattle.ipam_data.specs.declared.replies.Which.TheVariants.{Rows}
 use Rattle.ipam_data.specs.Checks.{first, breaks, too_many, no_log}
-use Rattle.ipam_data.specs.State.{State, Plan, verdict_of}
+use Rattle.ipam_data.specs.State.{State, verdict_of}
 use Rattle.ipam_data.specs.Plans.{KindRules, creation, add_row}
 use Rattle.ipam_data.specs.Vrfs.{vrf_rules}
 use Rattle.ipam_data.specs.Rirs.{rir_rules}
@@ -25,14 +26,12 @@ use Rattle.ipam_data.specs.Prefixes.{prefix_rules}
 use Rattle.ipam_data.specs.Ranges.{range_rules}
 use Rattle.ipam_data.specs.Addresses.{address_rules}
 use Rattle.ipam_data.specs.Updates.{with_view, with_next, with_spent, updated, outcome}
-use Rattle.stored_tables.specs.Stored.{next_of}
-use Rattle.ipam_data.specs.Steps.{next_for}
 use Rattle.ipam_data.specs.ByKind.{by_view}
-use Rattle.ipam_data.specs.Fields.{drafted, told_of_draft, HasDraftBounds}
+use Rattle.ipam_data.specs.Fields.{drafted, next_for, told_of_draft, HasDraftBounds}
 use Rattle.ipam_data.specs.Lawful.{IsLawful}
-use Rattle.import_rows.specs.Laws.{ImportsKeepLawful, RefusedImportsLeave}
-use Rattle.import_rows.specs.Imports.{most_rows, kind_of_row, name_rules, value_rules, draft_of, Progress, begun, makes_one, with_record, with_draft, after_row, after_rows, at_row, create_checks, row_checks, row_verdict, row_verdicts, items_of, import_plan, AreOfKind, HasRowBounds}
-use Rattle.ipam_data.proofs.Verdicts.{none_head, none_rest, none_left, none_right}
+use Rattle.ipam_data.specs.Imports.{most_rows, kind_of_row, kind_rule, next_of, name_rules, value_rules, draft_of, Progress, begun, makes_one, with_record, with_draft, after_row, after_rows, at_row, create_checks, row_checks, row_verdict, row_verdicts, items_of, import_plan, HasRowBounds}
+use Rattle.ipam_data.proofs.Verdicts.{none_head, none_rest, none_left, none_right, test_holds}
+use Rattle.ipam_data.proofs.SameDrafts.{kinds}
 use Rattle.ipam_data.proofs.Ties.{IsTied, add_behind, puts_append, vrfs_tied, rirs_tied, roles_tied, aggregates_tied, prefixes_tied, ranges_tied, addresses_tied}
 use Rattle.ipam_data.proofs.Sound.{log_from, spent_keeps, outcome_keeps, add_keeps}
 use Rattle.ipam_data.proofs.DraftLaws.{drafted_next, drafted_bounds, HasRowBounds as HasViewBounds}
@@ -44,13 +43,36 @@ use Rattle.ipam_data.proofs.PrefixLaws.{prefixes_sound}
 use Rattle.ipam_data.proofs.RangeLaws.{ranges_sound}
 use Rattle.ipam_data.proofs.AddressLaws.{addresses_sound}
 
+-- ---- the kind of the rows
+
+-- all rows are of the kind
+abbrev pub AreOfKind : Kind → List ImportRow → Type 0
+AreOfKind kind rows = AllByRecursion (λ row. kind_of_row row ≡ kind) rows
+
+pub none_mapped : {A B : Type 0} (f : A → B) (r : Option A) → option_map f r ≡ None → r ≡ None
+none_mapped f None e = refl
+none_mapped f (Some x) e = cc
+
+-- so they are where none is refused
+pub of_kind : (old : State) (kind : Kind) (so : Progress) (n : ℕ) (rows : List ImportRow) → first (row_verdicts old kind so n rows) ≡ None → AreOfKind kind rows
+of_kind old kind so n [] v = tt
+of_kind old kind so n (row ∷ rows) v =
+    let rest : List (Option Refusal) = row_verdicts old kind (after_row old kind so row) (n + 1) rows in
+    let values : List (Option Refusal) = map breaks (value_rules row) in
+    let creates : List (Option Refusal) = create_checks (makes_one old kind so.seen (draft_of old row)) so.state (draft_of old row) in
+    let names : List (Option Refusal) = map breaks (name_rules old row) in
+    let one = none_mapped (at_row n) (first (row_checks old kind so row)) (none_head (row_verdict old kind so n row) rest v) in (
+      (kinds (kind_of_row row) kind).0 (test_holds (same_kind (kind_of_row row) kind) (Field member.Row) (none_head (kind_rule kind row) (names ++ (values ++ creates)) one)),
+      of_kind old kind (after_row old kind so row) (n + 1) rows (none_rest (row_verdict old kind so n row) rest v),
+    )
+
 -- ---- the records that were made, and the next id, lead to the state
 
 pub record IsMade (old : State) (kind : Kind) (so : Progress) : Type 0 where
   pub leads : with_next (fold with_view old so.made) (kind, next_of so.state kind) ≡ so.state
 
 -- one record more
-step : {T : Type 0} (rules : KindRules T) → IsTied rules → (old : State) (so : Progress) (seen : List (List (List ℕ))) (row : T)
+step : {T : Type 0} (rules : KindRules T) → IsTied rules → (old : State) (so : Progress) (seen : List Draft) (row : T)
     → next_of so.state rules.kind ≡ (rules.row_list so.state).next → next_of (add_row rules so.state row) rules.kind ≡ (rules.row_list so.state).next + 1
     → IsMade old rules.kind so → IsMade old rules.kind (record { state = add_row rules so.state row; seen = seen; made = so.made ++ rules.view row ∷ [] })
 step {T} rules tied old so seen row here then h =
@@ -141,10 +163,6 @@ draft_bounds s (PrefixRow block vrf status role is_pool mark_utilized descriptio
 draft_bounds s (RangeRow start end vrf status role mark_utilized description) b = b
 draft_bounds s (AddressRow host vrf status role dns_name description) b = b
 
-pub none_mapped : {A B : Type 0} (f : A → B) (r : Option A) → option_map f r ≡ None → r ≡ None
-none_mapped f None e = refl
-none_mapped f (Some x) e = cc
-
 pub rows_keep : (old : State) (kind : Kind) (so : Progress) (n : ℕ) (rows : List ImportRow) → IsLawful so.state → AllByRecursion HasRowBounds rows
     → first (row_verdicts old kind so n rows) ≡ None → IsLawful (after_rows old kind so rows).state
 rows_keep old kind so n [] h b v = h
@@ -155,7 +173,7 @@ rows_keep old kind so n (row ∷ rows) h b v =
     let creates : List (Option Refusal) = create_checks (makes_one old kind so.seen d) so.state d in
     let names : List (Option Refusal) = map breaks (name_rules old row) in
     let one = none_mapped (at_row n) (first (row_checks old kind so row)) (none_head (row_verdict old kind so n row) rest v) in
-    let checks = none_right values creates (none_right names (values ++ creates) one) in
+    let checks = none_right values creates (none_right names (values ++ creates) (none_rest (kind_rule kind row) (names ++ (values ++ creates)) one)) in
     rows_keep old kind (after_row old kind so row) (n + 1) rows (go (makes_one old kind so.seen d) checks) b.1 (none_rest (row_verdict old kind so n row) rest v)
   where
     go : (t : Bool) → first (create_checks t so.state (draft_of old row)) ≡ None → IsLawful (with_draft t so (draft_of old row)).state
@@ -166,8 +184,8 @@ rows_keep old kind so n (row ∷ rows) h b v =
 pub import_leads : (s : State) (kind : Kind) (rows : List ImportRow) → AreOfKind kind rows → updated s (import_plan s kind rows).update ≡ with_spent (after_rows s kind (begun s) rows).state (items_of rows)
 import_leads s kind rows q = ap (λ (t : State). with_spent t (items_of rows)) (made_all s kind (begun s) rows q (begun_made s kind)).leads
 
-pub imports_keep : ImportsKeepLawful
-imports_keep s kind rows h q b = outcome_keeps s (import_plan s kind rows) h after
+pub import_keeps : (s : State) (kind : Kind) (rows : List ImportRow) → IsLawful s → AllByRecursion HasRowBounds rows → IsLawful (outcome s (import_plan s kind rows)).0
+import_keeps s kind rows h b = outcome_keeps s (import_plan s kind rows) h after
   where
     after : verdict_of (import_plan s kind rows) ≡ None → IsLawful (updated s (import_plan s kind rows).update)
     after v =
@@ -175,14 +193,7 @@ imports_keep s kind rows h q b = outcome_keeps s (import_plan s kind rows) h aft
         let verdicts : List (Option Refusal) = row_verdicts s kind (begun s) 1 rows in
         let log : List (Option Refusal) = no_log s.spent (items_of rows) ∷ [] in
         let done = (after_rows s kind (begun s) rows).state in
-        let kept : IsLawful done = rows_keep s kind (begun s) 1 rows h b (none_rest few verdicts (none_left (few ∷ verdicts) log v)) in
+        let none = none_rest few verdicts (none_left (few ∷ verdicts) log v) in
+        let kept : IsLawful done = rows_keep s kind (begun s) 1 rows h b none in
         let room = log_from s.spent (items_of rows) (none_right (few ∷ verdicts) log v) in
-        subst IsLawful (sym (import_leads s kind rows q)) (spent_keeps done (items_of rows) kept (rw (spent_all s kind (begun s) rows) room))
-
--- ---- refused imports
-
-outcome_refused : (s : State) (plan : Plan) (refusal : Refusal) → verdict_of plan ≡ Some refusal → outcome s plan ≡ (s, Refused refusal)
-outcome_refused s plan refusal v = rw (v, outcome) refl
-
-pub refused_leave : RefusedImportsLeave
-refused_leave s kind rows refusal v = outcome_refused s (import_plan s kind rows) refusal v
+        subst IsLawful (sym (import_leads s kind rows (of_kind s kind (begun s) 1 rows none))) (spent_keeps done (items_of rows) kept (rw (spent_all s kind (begun s) rows) room))

@@ -1,24 +1,20 @@
 -- An import that was accepted makes nothing when it is made again: what it left has each row's fields as often as its rows do.
-use Rattle.std.proofs.Common.{◌≡◌, ℕ, ◌+◌, ◌-◌, ◌≤◌, Bool, true, false, cond, ◌&&◌, nat_le, List, [], ◌∷◌, ◌++◌, length, map, Option, Some, None, option_map, refl, ap, sym, ◌∙◌, ap₂, subst, arith, count_by}
+use Rattle.std.proofs.Common.{◌≡◌, ℕ, ◌+◌, ◌-◌, ◌≤◌, Bool, true, false, cond, nat_le, List, [], ◌∷◌, ◌++◌, length, map, Option, Some, None, option_map, refl, ap, sym, ◌∙◌, ap₂, subst, arith, count_by}
 use Rattle.std.specs.List.{AllByRecursion}
-use Rattle.std.specs.Cmp.Lexicographic.{pointwise}
-use Rattle.std.specs.Prelude.{bytes_eq}
 use Rattle.std.proofs.lemmas.Bool.Decides.{nat_tests}
 use Rattle.std.proofs.lemmas.List.Sums.{sum_by-cons}
-use Rattle.std.proofs.lemmas.Slice.Eq.{bytes_eq-Decides}
 use Rattle.ipam_data.specs.declared.kinds.Kind.{Kind}
 use Rattle.ipam_data.specs.declared.kinds.Kind.TheVariants.{Vrfs, Rirs, Roles, Aggregates, Prefixes, Ranges, Addresses}
 use Rattle.ipam_data.specs.declared.calls.Draft.{Draft}
 use Rattle.ipam_data.specs.declared.calls.Draft.TheVariants.{Vrf as VrfDraft, Rir as RirDraft, Role as RoleDraft, Aggregate as AggregateDraft, Prefix as PrefixDraft, IpRange as RangeDraft, IpAddress as AddressDraft}
-use Rattle.import_rows.specs.declared.rows.ImportRow.{ImportRow}
-use Rattle.import_rows.specs.declared.rows.ImportRow.TheVariants.{Vrf as VrfRow, Rir as RirRow, Role as RoleRow, Aggregate as AggregateRow, Prefix as PrefixRow, IpRange as RangeRow, IpAddress as AddressRow}
+use Rattle.ipam_data.specs.declared.imports.ImportRow.{ImportRow}
+use Rattle.ipam_data.specs.declared.imports.ImportRow.TheVariants.{Vrf as VrfRow, Rir as RirRow, Role as RoleRow, Aggregate as AggregateRow, Prefix as PrefixRow, IpRange as RangeRow, IpAddress as AddressRow}
 use Rattle.ipam_data.specs.declared.replies.Rule.{Rule}
 use Rattle.ipam_data.specs.declared.replies.Refusal.{Refusal}
 use Rattle.ipam_data.specs.declared.replies.Reply.{Reply}
 use Rattle.ipam_data.specs.declared.replies.Reply.TheVariants.{Imported}
 use Rattle.ipam_data.specs.declared.replies.Which.TheVariants.{Rows}
 use Rattle.ipam_data.specs.declared.replies.View.{View}
-use Rattle.stored_tables.specs.declared.tables.Row.{Row}
 use Rattle.ipam_data.specs.Rows.{vrf_id, rir_id, role_id, aggregate_id, prefix_id, range_id, address_id}
 use Rattle.ipam_data.specs.RowList.{with_row, AllBelow}
 use Rattle.ipam_data.specs.Checks.{first, breaks, too_many, no_log, most_spent}
@@ -32,51 +28,40 @@ use Rattle.ipam_data.specs.Prefixes.{prefix_rules}
 use Rattle.ipam_data.specs.Ranges.{range_rules}
 use Rattle.ipam_data.specs.Addresses.{address_rules}
 use Rattle.ipam_data.specs.Updates.{with_spent, updated, answered, outcome}
-use Rattle.stored_tables.specs.Stored.{stored_row, vrf_texts, rir_texts, role_texts, aggregate_texts, prefix_texts, range_texts, address_texts}
-use Rattle.ipam_data.specs.Lawful.{IsLawful}
-use Rattle.import_rows.specs.Laws.{ImportAgainMakesNothing}
-use Rattle.import_rows.specs.Imports.{texts_of, times, records_of, kind_of_row, name_rules, value_rules, draft_of, Progress, begun, makes_one, record_of, with_record, with_draft, after_row, after_rows, at_row, create_checks, row_checks, row_verdict, row_verdicts, items_of, import_plan, most_rows, AreOfKind}
+use Rattle.ipam_data.specs.Fields.{recorded, stored_draft, same_draft}
+use Rattle.ipam_data.specs.Replays.{is_accepted}
+use Rattle.ipam_data.specs.Lawful.{IsLawful, ImportAgainMakesNothing}
+use Rattle.ipam_data.specs.Imports.{times, records_of, kind_of_row, kind_rule, name_rules, value_rules, draft_of, Progress, begun, makes_one, record_of, with_record, with_draft, after_row, after_rows, at_row, create_checks, row_checks, row_verdict, row_verdicts, items_of, import_plan, most_rows}
 use Rattle.ipam_data.proofs.RowLists.{with_row_above}
 use Rattle.ipam_data.proofs.Placed.{below_more, below_with}
 use Rattle.ipam_data.proofs.Verdicts.{none_head, none_rest, none_left, none_right}
-use Rattle.import_rows.proofs.ImportLaws.{import_leads, spent_all}
-
--- ---- rows with the same fields
-
-texts_same : (xs ys : List (List ℕ)) → pointwise bytes_eq xs ys ≡ true → xs ≡ ys
-texts_same [] [] e = refl
-texts_same [] (y ∷ ys) e = cc
-texts_same (x ∷ xs) [] e = cc
-texts_same (x ∷ xs) (y ∷ ys) e = go (bytes_eq x y) refl e (texts_same xs ys)
-  where
-    go : (t : Bool) → bytes_eq x y ≡ t → (t && pointwise bytes_eq xs ys) ≡ true → (pointwise bytes_eq xs ys ≡ true → xs ≡ ys) → x ∷ xs ≡ y ∷ ys
-    go true t e ih = let a : x ≡ y = (bytes_eq-Decides x y).0 t in let b : xs ≡ ys = ih e in cc
-    go false t e ih = cc
+use Rattle.ipam_data.proofs.ImportLaws.{AreOfKind, of_kind, none_mapped, import_leads, spent_all}
+use Rattle.ipam_data.proofs.SameDrafts.{same_decides}
 
 -- ---- how often fields are there
 
-count-cons : (p : List (List ℕ) → Bool) (x : List (List ℕ)) (xs : List (List (List ℕ))) → count_by p (x ∷ xs) ≡ count_by p (x ∷ []) + count_by p xs
+count-cons : (p : Draft → Bool) (x : Draft) (xs : List Draft) → count_by p (x ∷ xs) ≡ count_by p (x ∷ []) + count_by p xs
 count-cons p x xs =
     let a : count_by p (x ∷ xs) ≡ cond (p x) 1 0 + count_by p xs = sum_by-cons (λ y. cond (p y) 1 0) x xs in
     let b : count_by p (x ∷ []) ≡ cond (p x) 1 0 + 0 = sum_by-cons (λ y. cond (p y) 1 0) x [] in omega arith
 
-times-cons : (e d : List (List ℕ)) (xs : List (List (List ℕ))) → times e (d ∷ xs) ≡ times e (d ∷ []) + times e xs
+times-cons : (e d : Draft) (xs : List Draft) → times e (d ∷ xs) ≡ times e (d ∷ []) + times e xs
 unfolding times
-times-cons e d xs = count-cons (pointwise bytes_eq e) d xs
+times-cons e d xs = count-cons (same_draft e) d xs
 
-times-none : (e : List (List ℕ)) → times e [] ≡ 0
+times-none : (e : Draft) → times e [] ≡ 0
 unfolding times
 times-none e = refl
 
-times-push : (e d : List (List ℕ)) (xs : List (List (List ℕ))) → times e (xs ++ d ∷ []) ≡ times e xs + times e (d ∷ [])
+times-push : (e d : Draft) (xs : List Draft) → times e (xs ++ d ∷ []) ≡ times e xs + times e (d ∷ [])
 times-push e d [] = let z = times-none e in omega arith
 times-push e d (x ∷ xs) = let ih = times-push e d xs in let a = times-cons e x (xs ++ d ∷ []) in let b = times-cons e x xs in omega arith
 
 -- the same fields are there as often
-times_same : (e d : List (List ℕ)) (xs : List (List (List ℕ))) → pointwise bytes_eq e d ≡ true → times e xs ≡ times d xs
-times_same e d xs s = ap (λ (t : List (List ℕ)). times t xs) (texts_same e d s)
+times_same : (e d : Draft) (xs : List Draft) → same_draft e d ≡ true → times e xs ≡ times d xs
+times_same e d xs s = ap (λ (t : Draft). times t xs) ((same_decides e d).0 s)
 
-times_other : (e d : List (List ℕ)) → pointwise bytes_eq e d ≡ false → times e (d ∷ []) ≡ 0
+times_other : (e d : Draft) → same_draft e d ≡ false → times e (d ∷ []) ≡ 0
 unfolding times
 times_other e d s = rw s refl
 
@@ -170,8 +155,8 @@ reads : (kind : Kind) (s t : State) (row : ImportRow) → kind_of_row row ≡ ki
 reads kind s t row e h = reads_of s t row (subst (λ (k : Kind). IsRead k s t) (sym e) h)
 
 -- what one more record does
-pub record Grows (kind : Kind) (s t : State) (texts : List (List ℕ)) : Type 0 where
-  pub records : records_of t kind ≡ records_of s kind ++ texts ∷ []
+pub record Grows (kind : Kind) (s t : State) (d : Draft) : Type 0 where
+  pub records : records_of t kind ≡ records_of s kind ++ d ∷ []
   pub fresh : IsFresh t kind
   pub read : IsRead kind s t
 
@@ -180,28 +165,25 @@ map-push f [] x = refl
 map-push f (y ∷ ys) x = ap (λ zs. f y ∷ zs) (map-push f ys x)
 
 grown : {T : Type 0} (rules : KindRules T) (rows : List T) (row : T) → AllBelow rules.id (rules.id row) rows
-    → map (λ (r : Row). r.fields) (map (λ (x : T). stored_row (rules.view x)) (with_row rules.id rows row))
-    ≡ map (λ (r : Row). r.fields) (map (λ (x : T). stored_row (rules.view x)) rows) ++ (stored_row (rules.view row)).fields ∷ []
+    → map (λ (x : T). recorded (rules.view x)) (with_row rules.id rows row) ≡ map (λ (x : T). recorded (rules.view x)) rows ++ recorded (rules.view row) ∷ []
 grown {T} rules rows row below =
-    ap (λ (xs : List T). map (λ (r : Row). r.fields) (map (λ (x : T). stored_row (rules.view x)) xs)) (with_row_above rules.id rows row below)
-    ∙ ap (map (λ (r : Row). r.fields)) (map-push (λ (x : T). stored_row (rules.view x)) rows row)
-    ∙ map-push (λ (r : Row). r.fields) (map (λ (x : T). stored_row (rules.view x)) rows) (stored_row (rules.view row))
+    ap (map (λ (x : T). recorded (rules.view x))) (with_row_above rules.id rows row below) ∙ map-push (λ (x : T). recorded (rules.view x)) rows row
 
 fresher : {T : Type 0} (id : T → ℕ) (rows : List T) (row : T) → AllBelow id (id row) rows → AllBelow id (id row + 1) (with_row id rows row)
 fresher id rows row below = below_with id (id row + 1) rows row (below_more id (id row) (id row + 1) rows (omega arith) below) (omega arith)
 
--- the fields of a record say nothing of its id
-texts_made : (s : State) (d : Draft) → (stored_row (record_of s d)).fields ≡ texts_of d
-unfolding texts_of vrf_texts rir_texts role_texts aggregate_texts prefix_texts range_texts address_texts
-texts_made s (VrfDraft name rd enforce_unique description) = refl
-texts_made s (RirDraft name slug is_private description) = refl
-texts_made s (RoleDraft name slug weight description) = refl
-texts_made s (AggregateDraft block rir description) = refl
-texts_made s (PrefixDraft block vrf status role is_pool mark_utilized description) = refl
-texts_made s (RangeDraft start end vrf status role mark_utilized description) = refl
-texts_made s (AddressDraft host vrf status role dns_name description) = refl
+-- a record has the fields of its draft, and these say nothing of its id
+draft_made : (s : State) (d : Draft) → recorded (record_of s d) ≡ stored_draft d
+unfolding stored_draft
+draft_made s (VrfDraft name rd enforce_unique description) = refl
+draft_made s (RirDraft name slug is_private description) = refl
+draft_made s (RoleDraft name slug weight description) = refl
+draft_made s (AggregateDraft block rir description) = refl
+draft_made s (PrefixDraft block vrf status role is_pool mark_utilized description) = refl
+draft_made s (RangeDraft start end vrf status role mark_utilized description) = refl
+draft_made s (AddressDraft host vrf status role dns_name description) = refl
 
-grows_of : (old s : State) (row : ImportRow) → IsFresh s (kind_of_row row) → Grows (kind_of_row row) s (with_record s (draft_of old row)) (stored_row (record_of s (draft_of old row))).fields
+grows_of : (old s : State) (row : ImportRow) → IsFresh s (kind_of_row row) → Grows (kind_of_row row) s (with_record s (draft_of old row)) (recorded (record_of s (draft_of old row)))
 unfolding IsFresh IsRead
 grows_of old s (VrfRow name rd enforce_unique description) f = record { records = grown vrf_rules s.vrfs.rows _ f; fresh = fresher vrf_id s.vrfs.rows _ f; read = tt }
 grows_of old s (RirRow name slug is_private description) f = record { records = grown rir_rules s.rirs.rows _ f; fresh = fresher rir_id s.rirs.rows _ f; read = tt }
@@ -211,10 +193,10 @@ grows_of old s (PrefixRow block vrf status role is_pool mark_utilized descriptio
 grows_of old s (RangeRow start end vrf status role mark_utilized description) f = record { records = grown range_rules s.ranges.rows _ f; fresh = fresher range_id s.ranges.rows _ f; read = (refl, refl) }
 grows_of old s (AddressRow host vrf status role dns_name description) f = record { records = grown address_rules s.addresses.rows _ f; fresh = fresher address_id s.addresses.rows _ f; read = refl }
 
-grows : (kind : Kind) (old s : State) (row : ImportRow) → kind_of_row row ≡ kind → IsFresh s kind → Grows kind s (with_record s (draft_of old row)) (texts_of (draft_of old row))
+grows : (kind : Kind) (old s : State) (row : ImportRow) → kind_of_row row ≡ kind → IsFresh s kind → Grows kind s (with_record s (draft_of old row)) (stored_draft (draft_of old row))
 grows kind old s row e f =
-    subst (λ (texts : List (List ℕ)). Grows kind s (with_record s (draft_of old row)) texts) (texts_made s (draft_of old row))
-    (subst (λ (k : Kind). IsFresh s k → Grows k s (with_record s (draft_of old row)) (stored_row (record_of s (draft_of old row))).fields) e (grows_of old s row) f)
+    subst (λ (d : Draft). Grows kind s (with_record s (draft_of old row)) d) (draft_made s (draft_of old row))
+    (subst (λ (k : Kind). IsFresh s k → Grows k s (with_record s (draft_of old row)) (recorded (record_of s (draft_of old row)))) e (grows_of old s row) f)
 
 -- ---- the import itself
 
@@ -223,8 +205,8 @@ grows kind old s row e f =
 pub record CameTo (old : State) (kind : Kind) (so : Progress) : Type 0 where
   pub fresh : IsFresh so.state kind
   pub read : IsRead kind old so.state
-  pub more : (e : List (List ℕ)) → times e (records_of old kind) ≤ times e (records_of so.state kind)
-  pub all : (e : List (List ℕ)) → times e so.seen ≤ times e (records_of so.state kind)
+  pub more : (e : Draft) → times e (records_of old kind) ≤ times e (records_of so.state kind)
+  pub all : (e : Draft) → times e so.seen ≤ times e (records_of so.state kind)
 
 came_to : (old : State) (kind : Kind) → IsLawful old → CameTo old kind (begun old)
 came_to old kind h = record {
@@ -235,11 +217,11 @@ came_to old kind h = record {
 }
 
 -- a row that makes nothing is there often enough
-enough : (old : State) (kind : Kind) (seen : List (List (List ℕ))) (d : Draft) → makes_one old kind seen d ≡ false → times (texts_of d) (texts_of d ∷ seen) ≤ times (texts_of d) (records_of old kind)
+enough : (old : State) (kind : Kind) (seen : List Draft) (d : Draft) → makes_one old kind seen d ≡ false → times (stored_draft d) (stored_draft d ∷ seen) ≤ times (stored_draft d) (records_of old kind)
 unfolding makes_one
 enough old kind seen d e = grind (arith, nat_tests, e)
 
-not_one : (old : State) (kind : Kind) (seen : List (List (List ℕ))) (d : Draft) → times (texts_of d) (texts_of d ∷ seen) ≤ times (texts_of d) (records_of old kind) → makes_one old kind seen d ≡ false
+not_one : (old : State) (kind : Kind) (seen : List Draft) (d : Draft) → times (stored_draft d) (stored_draft d ∷ seen) ≤ times (stored_draft d) (records_of old kind) → makes_one old kind seen d ≡ false
 unfolding makes_one
 not_one old kind seen d h = grind (arith, nat_tests, h)
 
@@ -248,9 +230,9 @@ one_more old kind so row q h = go (makes_one old kind so.seen (draft_of old row)
   where
     go : (t : Bool) → makes_one old kind so.seen (draft_of old row) ≡ t → CameTo old kind (with_draft t so (draft_of old row))
     go true t =
-        let d = texts_of (draft_of old row) in
+        let d = stored_draft (draft_of old row) in
         let g = grows kind old so.state row q h.fresh in
-        let count = λ (e : List (List ℕ)). ap (times e) g.records ∙ times-push e d (records_of so.state kind) in
+        let count = λ (e : Draft). ap (times e) g.records ∙ times-push e d (records_of so.state kind) in
         record {
           fresh = g.fresh;
           read = read_on kind old so.state (with_record so.state (draft_of old row)) h.read g.read;
@@ -263,19 +245,19 @@ one_more old kind so row q h = go (makes_one old kind so.seen (draft_of old row)
           fresh = h.fresh;
           read = h.read;
           more = h.more;
-          all = λ e. same e (pointwise bytes_eq e (texts_of (draft_of old row))) refl there;
+          all = λ e. same e (same_draft e (stored_draft (draft_of old row))) refl there;
         }
       where
-        same : (e : List (List ℕ)) (u : Bool) → pointwise bytes_eq e (texts_of (draft_of old row)) ≡ u
-            → times (texts_of (draft_of old row)) (texts_of (draft_of old row) ∷ so.seen) ≤ times (texts_of (draft_of old row)) (records_of old kind)
-            → times e (texts_of (draft_of old row) ∷ so.seen) ≤ times e (records_of so.state kind)
+        same : (e : Draft) (u : Bool) → same_draft e (stored_draft (draft_of old row)) ≡ u
+            → times (stored_draft (draft_of old row)) (stored_draft (draft_of old row) ∷ so.seen) ≤ times (stored_draft (draft_of old row)) (records_of old kind)
+            → times e (stored_draft (draft_of old row) ∷ so.seen) ≤ times e (records_of so.state kind)
         same e true u there =
-            let d = texts_of (draft_of old row) in
+            let d = stored_draft (draft_of old row) in
             let a = times_same e d (d ∷ so.seen) u in
             let b = times_same e d (records_of old kind) u in
             let c = h.more e in omega arith
         same e false u there =
-            let d = texts_of (draft_of old row) in
+            let d = stored_draft (draft_of old row) in
             let a = times-cons e d so.seen in
             let b = times_other e d u in
             let c = h.all e in omega arith
@@ -285,62 +267,67 @@ all_rows old kind so [] q h = h
 all_rows old kind so (row ∷ rows) q h = all_rows old kind (after_row old kind so row) rows q.1 (one_more old kind so row q.0 h)
 
 -- the fields of rows, as drafts of a state
-abbrev fields_in : State → List ImportRow → List (List (List ℕ))
-fields_in s rows = map (λ (row : ImportRow). texts_of (draft_of s row)) rows
+abbrev fields_in : State → List ImportRow → List Draft
+fields_in s rows = map (λ (row : ImportRow). stored_draft (draft_of s row)) rows
 
-with_draft-seen : (t : Bool) (so : Progress) (d : Draft) → (with_draft t so d).seen ≡ texts_of d ∷ so.seen
+with_draft-seen : (t : Bool) (so : Progress) (d : Draft) → (with_draft t so d).seen ≡ stored_draft d ∷ so.seen
 with_draft-seen true so d = refl
 with_draft-seen false so d = refl
 
 -- the rows so far are all rows in the end
-seen_all : (old : State) (kind : Kind) (so : Progress) (rows : List ImportRow) (e : List (List ℕ))
+seen_all : (old : State) (kind : Kind) (so : Progress) (rows : List ImportRow) (e : Draft)
     → times e (after_rows old kind so rows).seen ≡ times e (fields_in old rows) + times e so.seen
 seen_all old kind so [] e = let z = times-none e in omega arith
 seen_all old kind so (row ∷ rows) e =
     let d = draft_of old row in
     let ih = seen_all old kind (after_row old kind so row) rows e in
     let a = ap (times e) (with_draft-seen (makes_one old kind so.seen d) so d) in
-    let b = times-cons e (texts_of d) so.seen in
-    let c = times-cons e (texts_of d) (fields_in old rows) in omega arith
+    let b = times-cons e (stored_draft d) so.seen in
+    let c = times-cons e (stored_draft d) (fields_in old rows) in omega arith
 
 -- ---- again
 
--- no rule is broken by the row's names, nor by its values
-pub record IsClean (s : State) (row : ImportRow) : Type 0 where
+-- no rule is broken by the row's kind, its names or its values
+pub record IsClean (s : State) (kind : Kind) (row : ImportRow) : Type 0 where
+  pub kinds : kind_rule kind row ≡ None
   pub names : first (map breaks (name_rules s row)) ≡ None
   pub values : first (map breaks (value_rules row)) ≡ None
+
+both_none : {A : Type 0} (x : Option A) (xs : List (Option A)) → x ≡ None → first xs ≡ None → first (x ∷ xs) ≡ None
+both_none None xs e f = f
+both_none (Some y) xs e f = cc
 
 first_past : {A : Type 0} (xs ys : List (Option A)) → first xs ≡ None → first (xs ++ ys) ≡ first ys
 first_past [] ys e = refl
 first_past (None ∷ xs) ys e = first_past xs ys e
 first_past (Some x ∷ xs) ys e = cc
 
-none_mapped : {A B : Type 0} (f : A → B) (r : Option A) → option_map f r ≡ None → r ≡ None
-none_mapped f None e = refl
-none_mapped f (Some x) e = cc
-
 -- the rows of an accepted import are clean
-clean : (old : State) (kind : Kind) (so : Progress) (n : ℕ) (rows : List ImportRow) → first (row_verdicts old kind so n rows) ≡ None → AllByRecursion (IsClean old) rows
+clean : (old : State) (kind : Kind) (so : Progress) (n : ℕ) (rows : List ImportRow) → first (row_verdicts old kind so n rows) ≡ None → AllByRecursion (IsClean old kind) rows
 clean old kind so n [] e = tt
 clean old kind so n (row ∷ rows) e =
     let d = draft_of old row in
     let rest : List (Option Refusal) = row_verdicts old kind (after_row old kind so row) (n + 1) rows in
     let one = none_mapped (at_row n) (first (row_checks old kind so row)) (none_head (row_verdict old kind so n row) rest e) in
     let values : List (Option Refusal) = map breaks (value_rules row) in
-    let creates : List (Option Refusal) = create_checks (makes_one old kind so.seen d) so.state d in (
+    let creates : List (Option Refusal) = create_checks (makes_one old kind so.seen d) so.state d in
+    let names : List (Option Refusal) = map breaks (name_rules old row) in
+    let past = none_rest (kind_rule kind row) (names ++ (values ++ creates)) one in (
       record {
-        names = none_left (map breaks (name_rules old row)) (values ++ creates) one;
-        values = none_left values creates (none_right (map breaks (name_rules old row)) (values ++ creates) one);
+        kinds = none_head (kind_rule kind row) (names ++ (values ++ creates)) one;
+        names = none_left names (values ++ creates) past;
+        values = none_left values creates (none_right names (values ++ creates) past);
       },
       clean old kind (after_row old kind so row) (n + 1) rows (none_rest (row_verdict old kind so n row) rest e),
     )
 
 -- clean rows are so in a state in which they stand for the same drafts
-still_clean : (kind : Kind) (s t : State) (rows : List ImportRow) → IsRead kind s t → AreOfKind kind rows → AllByRecursion (IsClean s) rows → AllByRecursion (IsClean t) rows
+still_clean : (kind : Kind) (s t : State) (rows : List ImportRow) → IsRead kind s t → AreOfKind kind rows → AllByRecursion (IsClean s kind) rows → AllByRecursion (IsClean t kind) rows
 still_clean kind s t [] r q c = tt
 still_clean kind s t (row ∷ rows) r q c =
     let same = reads kind s t row q.0 r in (
       record {
+        kinds = c.0.kinds;
         names = ap (λ (xs : List (Option Rule)). first (map breaks xs)) same.names ∙ c.0.names;
         values = c.0.values;
       },
@@ -349,7 +336,7 @@ still_clean kind s t (row ∷ rows) r q c =
 
 same_fields : (kind : Kind) (s t : State) (rows : List ImportRow) → IsRead kind s t → AreOfKind kind rows → fields_in t rows ≡ fields_in s rows
 same_fields kind s t [] r q = refl
-same_fields kind s t (row ∷ rows) r q = ap₂ (λ (x : List (List ℕ)) (xs : List (List (List ℕ))). x ∷ xs) (ap texts_of (reads kind s t row q.0 r).draft) (same_fields kind s t rows r q.1)
+same_fields kind s t (row ∷ rows) r q = ap₂ (λ (x : Draft) (xs : List Draft). x ∷ xs) (ap stored_draft (reads kind s t row q.0 r).draft) (same_fields kind s t rows r q.1)
 
 -- rows that are all there make nothing, and none is refused
 pub record MakesNothing (t : State) (kind : Kind) (so : Progress) (n : ℕ) (rows : List ImportRow) : Type 0 where
@@ -357,11 +344,11 @@ pub record MakesNothing (t : State) (kind : Kind) (so : Progress) (n : ℕ) (row
   pub made : (after_rows t kind so rows).made ≡ so.made
   pub verdicts : first (row_verdicts t kind so n rows) ≡ None
 
-makes_nothing : (t : State) (kind : Kind) (so : Progress) (n : ℕ) (rows : List ImportRow) → AllByRecursion (IsClean t) rows
-    → ((e : List (List ℕ)) → times e (fields_in t rows) + times e so.seen ≤ times e (records_of t kind)) → MakesNothing t kind so n rows
+makes_nothing : (t : State) (kind : Kind) (so : Progress) (n : ℕ) (rows : List ImportRow) → AllByRecursion (IsClean t kind) rows
+    → ((e : Draft) → times e (fields_in t rows) + times e so.seen ≤ times e (records_of t kind)) → MakesNothing t kind so n rows
 makes_nothing t kind so n [] c h = record { state = refl; made = refl; verdicts = refl }
 makes_nothing t kind so n (row ∷ rows) c h =
-    let d = texts_of (draft_of t row) in
+    let d = stored_draft (draft_of t row) in
     let once : times d (d ∷ so.seen) ≤ times d (records_of t kind) = (
     let a = h d in let b = times-cons d d (fields_in t rows) in let f = times-cons d d so.seen in omega arith) in
     let none = not_one t kind so.seen (draft_of t row) once in
@@ -370,23 +357,20 @@ makes_nothing t kind so n (row ∷ rows) c h =
     let all = go (makes_one t kind so.seen (draft_of t row)) none rest in
     record { state = all.0; made = all.1; verdicts = all.2 }
   where
-    go : (m : Bool) → m ≡ false → MakesNothing t kind (record { state = so.state; seen = texts_of (draft_of t row) ∷ so.seen; made = so.made }) (n + 1) rows
+    go : (m : Bool) → m ≡ false → MakesNothing t kind (record { state = so.state; seen = stored_draft (draft_of t row) ∷ so.seen; made = so.made }) (n + 1) rows
         → ((after_rows t kind (with_draft m so (draft_of t row)) rows).state ≡ so.state)
         × ((after_rows t kind (with_draft m so (draft_of t row)) rows).made ≡ so.made)
-        × (first (option_map (at_row n) (first (map breaks (name_rules t row) ++ (map breaks (value_rules row) ++ create_checks m so.state (draft_of t row))))
+        × (first (option_map (at_row n) (first (kind_rule kind row ∷ map breaks (name_rules t row) ++ (map breaks (value_rules row) ++ create_checks m so.state (draft_of t row))))
         ∷ row_verdicts t kind (with_draft m so (draft_of t row)) (n + 1) rows) ≡ None)
     go true none rest = cc
     go false none rest =
-        let e : first (map breaks (name_rules t row) ++ (map breaks (value_rules row) ++ [])) ≡ None =
+        let rules : first (map breaks (name_rules t row) ++ (map breaks (value_rules row) ++ [])) ≡ None =
         first_past (map breaks (name_rules t row)) (map breaks (value_rules row) ++ []) c.0.names ∙ first_past (map breaks (value_rules row)) [] c.0.values in
+        let e = both_none (kind_rule kind row) (map breaks (name_rules t row) ++ (map breaks (value_rules row) ++ [])) c.0.kinds rules in
         (rest.state, rest.made, rw e rest.verdicts)
 
 outcome_none : (s : State) (plan : Plan) → verdict_of plan ≡ None → outcome s plan ≡ (updated s plan.update, answered (updated s plan.update) plan.reply)
 outcome_none s plan v = rw (v, outcome) refl
-
-both_none : {A : Type 0} (x : Option A) (xs : List (Option A)) → x ≡ None → first xs ≡ None → first (x ∷ xs) ≡ None
-both_none None xs e f = f
-both_none (Some y) xs e f = cc
 
 log_free : (spent more : ℕ) → spent + more ≤ most_spent → first (no_log spent more ∷ []) ≡ None
 log_free spent more h = let e : nat_le (spent + more) most_spent ≡ true = grind (arith, nat_tests) in rw e refl
@@ -405,7 +389,7 @@ again_on s kind rows t is h q v room =
     let read : IsRead kind s t = subst (λ (x : State). IsRead kind s x) (sym is) (read_on kind s done (with_spent done n) came.read (read_spent kind done n)) in
     let records : records_of t kind ≡ records_of done kind = ap (λ (x : State). records_of x kind) is ∙ records_spent kind done n in
     let clean_rows = still_clean kind s t rows read q (clean s kind (begun s) 1 rows (none_rest few old checked)) in
-    let there = λ (e : List (List ℕ)). (
+    let there = λ (e : Draft). (
     let a = ap (times e) (same_fields kind s t rows read q) in
     let b = seen_all s kind (begun s) rows e in
     let c = came.all e in
@@ -424,5 +408,18 @@ again_on s kind rows t is h q v room =
     ap (λ (views : List View). Imported (length views) (length rows - length views)) made ∙ ap (λ (m : ℕ). Imported 0 m) count in
     outcome_none t (import_plan t kind rows) none ∙ ap₂ (λ (x : State) (y : Reply). (x, y)) state reply
 
+accepted_none : (s : State) (plan : Plan) → is_accepted (outcome s plan).1 ≡ true → verdict_of plan ≡ None
+accepted_none s plan a = go (verdict_of plan) refl
+  where
+    go : (v : Option Refusal) → verdict_of plan ≡ v → verdict_of plan ≡ None
+    go None e = e
+    go (Some refusal) e = let f : false ≡ true = rw (e, outcome) at a in cc
+
 pub import_again : ImportAgainMakesNothing
-import_again s kind rows h q v room = again_on s kind rows (updated s (import_plan s kind rows).update) (import_leads s kind rows q) h q v room
+import_again s kind rows h a room =
+    let plan = import_plan s kind rows in
+    let v = accepted_none s plan a in
+    let few : Option Refusal = too_many Rows most_rows (length rows) in
+    let verdicts : List (Option Refusal) = row_verdicts s kind (begun s) 1 rows in
+    let q = of_kind s kind (begun s) 1 rows (none_rest few verdicts (none_left (few ∷ verdicts) (no_log s.spent (items_of rows) ∷ []) v)) in
+    again_on s kind rows (outcome s plan).0 (ap (λ (p : State × Reply). p.0) (outcome_none s plan v) ∙ import_leads s kind rows q) h q v room
