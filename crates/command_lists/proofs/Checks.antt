@@ -4,7 +4,7 @@ use Rattle.inet_num.specs.Net.{Cidr}
 use Rattle.prefix_list.proofs.Readings.{reading_is_one}
 use Rattle.command_words.specs.declared.asked.ListAsked.{ListAsked}
 use Rattle.command_streams.specs.Streams.{Told, EndsWith}
-use Rattle.command_store.specs.Outside.{Outside, AnyFailed, AreSame, IsUnused, NoCountFalls}
+use Rattle.command_store.specs.Outside.{Outside, AnyFailed, AreSame, IsUnused, NoCountFalls, NoCountRises}
 use Rattle.command_store.specs.Opening.{NamesFault, NamesFailure, FailsToSay}
 use Rattle.command_lists.specs.Texts.{style_named}
 use Rattle.command_lists.specs.Inputs.{GivesList}
@@ -21,7 +21,8 @@ readable_so asked old new list given = go old.bytes given
     go None h = tt
     go (Some bytes) (few, is, ended) = (few, λ n refused. reading_is_one.apart (style_named asked.style) asked.name asked.family bytes list n is refused)
 
-module _ (asked : ListAsked) (old new : Outside) (status : ℕ) (keeps : AreSame old.stores.stored new.stores.stored) (later : NoCountFalls old new) where
+module _ (asked : ListAsked) (old new : Outside) (status : ℕ) (keeps : AreSame old.stores.stored new.stores.stored) (later : NoCountFalls old new)
+    (quiet : status ≡ 5 → NoCountRises old new) where
   at_done : status ≡ 0 → PrintsDifference asked old new → IsPrefixCheck asked old new status
   at_done zero done = record {
     statuses = inl zero;
@@ -38,6 +39,7 @@ module _ (asked : ListAsked) (old new : Outside) (status : ℕ) (keeps : AreSame
     ));
     keeps = keeps;
     later = later;
+    quiet = quiet;
   }
 
   refused_so : NamesFault asked.store old new ⊎ NamesAbsent asked old new ⊎ NamesInput asked old new → IsCheckRefused asked old
@@ -56,6 +58,7 @@ module _ (asked : ListAsked) (old new : Outside) (status : ℕ) (keeps : AreSame
     exact = λ told none. inr (inl (one, refused_so refused));
     keeps = keeps;
     later = later;
+    quiet = quiet;
   }
 
   failed_so : FailsToPrintDifference asked old new ⊎ FailsToRead asked old new ⊎ FailsToSay asked.store old new ⊎ FailsToSayAbsent asked old new ⊎ FailsToSayInput asked old new
@@ -79,6 +82,7 @@ module _ (asked : ListAsked) (old new : Outside) (status : ℕ) (keeps : AreSame
     exact = λ told none. absurd (none (failed_so fault));
     keeps = keeps;
     later = later;
+    quiet = quiet;
   }
 
   at_store : status ≡ 4 → NamesFailure old new → IsPrefixCheck asked old new status
@@ -92,6 +96,7 @@ module _ (asked : ListAsked) (old new : Outside) (status : ℕ) (keeps : AreSame
     exact = λ told none. absurd (none (inr named.failed));
     keeps = keeps;
     later = later;
+    quiet = quiet;
   }
 
   at_memory : status ≡ 5 → new.streams.output ≡ old.streams.output → new.streams.errors ≡ old.streams.errors → IsPrefixCheck asked old new status
@@ -105,6 +110,7 @@ module _ (asked : ListAsked) (old new : Outside) (status : ℕ) (keeps : AreSame
     exact = λ told none. inl five;
     keeps = keeps;
     later = later;
+    quiet = quiet;
   }
 
   -- the difference was printed, or could not be

@@ -2,13 +2,14 @@
 use Rattle.std.proofs.Common.{◌≡◌, ℕ, ◌⊎◌, List, inl, inr, arith}
 use Rattle.command_words.specs.declared.asked.ListAsked.{ListAsked}
 use Rattle.command_streams.specs.Streams.{EndsWith}
-use Rattle.command_store.specs.Outside.{Outside, AnyFailed, AreSame, IsUnused, NoCountFalls}
+use Rattle.command_store.specs.Outside.{Outside, AnyFailed, AreSame, IsUnused, NoCountFalls, NoCountRises}
 use Rattle.command_store.specs.Opening.{NamesFault, NamesFailure, FailsToSay}
 use Rattle.command_lists.specs.PrefixList.{IsListText, PrintsList, FailsToPrintList, NamesAbsent, FailsToSayAbsent, IsListRefused, IsPrefixList}
 use Rattle.command_lists.proofs.Presence.{not_absent}
 use Rattle.command_lists.proofs.Stops.{TableStops}
 
-module _ (asked : ListAsked) (old new : Outside) (status : ℕ) (keeps : AreSame old.stores.stored new.stores.stored) (later : NoCountFalls old new) where
+module _ (asked : ListAsked) (old new : Outside) (status : ℕ) (keeps : AreSame old.stores.stored new.stores.stored) (later : NoCountFalls old new)
+    (quiet : status ≡ 5 → NoCountRises old new) where
   at_done : status ≡ 0 → PrintsList asked old new → IsPrefixList asked old new status
   at_done zero done = record {
     statuses = inl zero;
@@ -20,6 +21,7 @@ module _ (asked : ListAsked) (old new : Outside) (status : ℕ) (keeps : AreSame
     exact = λ told none. inr (inr (zero, (done.of_table.0, done.of_table.1), not_absent asked old done.of_table.0 done.of_table.1 told));
     keeps = keeps;
     later = later;
+    quiet = quiet;
   }
 
   refused_so : NamesFault asked.store old new ⊎ NamesAbsent asked old new → IsListRefused asked old
@@ -37,6 +39,7 @@ module _ (asked : ListAsked) (old new : Outside) (status : ℕ) (keeps : AreSame
     exact = λ told none. inr (inl (one, refused_so refused));
     keeps = keeps;
     later = later;
+    quiet = quiet;
   }
 
   failed_so : FailsToPrintList asked old new ⊎ FailsToSay asked.store old new ⊎ FailsToSayAbsent asked old new → AnyFailed old new
@@ -55,6 +58,7 @@ module _ (asked : ListAsked) (old new : Outside) (status : ℕ) (keeps : AreSame
     exact = λ told none. absurd (none (failed_so fault));
     keeps = keeps;
     later = later;
+    quiet = quiet;
   }
 
   at_store : status ≡ 4 → NamesFailure old new → IsPrefixList asked old new status
@@ -68,6 +72,7 @@ module _ (asked : ListAsked) (old new : Outside) (status : ℕ) (keeps : AreSame
     exact = λ told none. absurd (none (inr named.failed));
     keeps = keeps;
     later = later;
+    quiet = quiet;
   }
 
   at_memory : status ≡ 5 → IsUnused old new → new.streams.errors ≡ old.streams.errors → IsPrefixList asked old new status
@@ -81,6 +86,7 @@ module _ (asked : ListAsked) (old new : Outside) (status : ℕ) (keeps : AreSame
     exact = λ told none. inl five;
     keeps = keeps;
     later = later;
+    quiet = quiet;
   }
 
   -- the list was printed, or could not be

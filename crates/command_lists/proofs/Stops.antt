@@ -1,11 +1,14 @@
 -- What a run leaves where it stops before anything is printed: where the table was not read, or the input gave no list.
-use Rattle.std.proofs.Common.{◌≡◌, ℕ, ◌⊎◌, List, inl, inr, refl}
+use Rattle.std.proofs.Common.{◌≡◌, ℕ, ◌⊎◌, List, inl, inr, refl, ap, arith}
+use Rattle.std.proofs.Math.Logic.{⊎_map}
 use Rattle.ipam_data.specs.State.{State}
 use Rattle.stored_tables.specs.declared.opening.OpenFault.{OpenFault}
 use Rattle.stored_tables.specs.declared.opening.OpenFault.TheVariants.{Keeper, BadTables, Memory as NoMemory, BadRow, Version, BadNext, Limit}
 use Rattle.command_words.specs.declared.asked.ListAsked.{ListAsked}
-use Rattle.command_streams.specs.Streams.{EndsWith}
-use Rattle.command_store.specs.Outside.{Outside, IsUnused}
+use Rattle.ipam_edge.proofs.FaultLemmas.{unless}
+use Rattle.command_streams.specs.Streams.{Told, EndsWith}
+use Rattle.command_store.specs.Outside.{Outside, IsUnused, NoCountRises}
+use Rattle.command_store.proofs.Refused.{quiet_refused}
 use Rattle.command_store.specs.FaultWords.{IsSaid, fault_line}
 use Rattle.command_store.specs.Opening.{IsBadStore, NamesFault, NamesFailure, FailsToSay}
 use Rattle.command_lists.specs.declared.table.TableStop.{TableStop}
@@ -71,3 +74,37 @@ module _ (asked : ListAsked) (old new : Outside) (status : ℕ) where
     of_input_stop TooLong cause said = of_refused too_large_text (inl (cause, refl)) said
     of_input_stop (Line n) cause said = of_refused (line_text n) (inr (n, cause, refl)) said
     of_input_stop NoRoom cause said = inr (inr (said.0, said.1))
+
+-- ---- out of memory
+
+named_want : (message : List ℕ) (old new : Told) (status : ℕ) → status ≡ 5 → NamesIt message old new status → new ≡ old
+named_want message old new status five (inl (inl e)) = (let one = e.0 in absurd (omega arith))
+named_want message old new status five (inl (inr e)) = (let three = e.0 in absurd (omega arith))
+named_want message old new status five (inr e) = e.1
+
+-- where a table was not read, and memory ran out, no count rose
+pub quiet_table_stop : (old new : Outside) (stop : TableStop) (status : ℕ) → (stop ≡ Opening Keeper) ⊎ (new.stores.faults ≡ old.stores.faults)
+    → IsTableStopSaid stop old.streams.errors new.streams.errors status → new.streams.input.faults ≡ old.streams.input.faults → new.streams.output.faults ≡ old.streams.output.faults
+    → status ≡ 5 → NoCountRises old new
+quiet_table_stop old new (Opening fault) status still said read wrote five = quiet_refused old new fault status (⊎_map (λ (k : Opening fault ≡ Opening Keeper). cc) (λ same. same) still) said read wrote five
+quiet_table_stop old new (Absent n) status still said read wrote five =
+    record { streams = record { input = read; output = wrote; errors = ap (λ (t : Told). t.faults) (named_want (absent_text n) _ _ status five said) }; stores = unless (λ k. cc k) still }
+quiet_table_stop old new Memory status still said read wrote five =
+    record { streams = record { input = read; output = wrote; errors = ap (λ (t : Told). t.faults) said.1 }; stores = unless (λ k. cc k) still }
+
+-- where the input gave no list, and memory ran out, no count rose
+pub quiet_input_stop : (old new : Outside) (stop : InputStop) (status : ℕ) → (stop ≡ Unread) ⊎ (new.streams.input.faults ≡ old.streams.input.faults)
+    → IsInputStopSaid stop old.streams.errors new.streams.errors status → new.streams.output.faults ≡ old.streams.output.faults → new.stores.faults ≡ old.stores.faults
+    → status ≡ 5 → NoCountRises old new
+quiet_input_stop old new Unread status kept said wrote same five = (let three = said.0 in absurd (omega arith))
+quiet_input_stop old new TooLong status kept said wrote same five =
+    record { streams = record { input = unless (λ k. cc k) kept; output = wrote; errors = ap (λ (t : Told). t.faults) (named_want too_large_text _ _ status five said) }; stores = same }
+quiet_input_stop old new (Line n) status kept said wrote same five =
+    record { streams = record { input = unless (λ k. cc k) kept; output = wrote; errors = ap (λ (t : Told). t.faults) (named_want (line_text n) _ _ status five said) }; stores = same }
+quiet_input_stop old new NoRoom status kept said wrote same five =
+    record { streams = record { input = unless (λ k. cc k) kept; output = wrote; errors = ap (λ (t : Told). t.faults) said.1 }; stores = same }
+
+-- a text that was printed, or could not be, is no want of memory
+pub not_want : (old new : Told) (text : List ℕ) (status : ℕ) → EndsWith old new text 0 status → status ≡ 5 → ⊥
+not_want old new text status (inl e) five = (let zero_ = e.0 in absurd (omega arith))
+not_want old new text status (inr e) five = (let three = e.0 in absurd (omega arith))

@@ -6,7 +6,7 @@ use Rattle.ipam_data.specs.State.{State}
 use Rattle.stored_tables.specs.declared.opening.OpenFault.{OpenFault}
 use Rattle.command_words.specs.declared.asked.ListAsked.{ListAsked}
 use Rattle.command_streams.specs.Streams.{Told, Gains, GainsFront, Failed}
-use Rattle.command_store.specs.Outside.{Outside, AnyFailed, AreSame, NoCountFalls}
+use Rattle.command_store.specs.Outside.{Outside, AnyFailed, AreSame, NoCountFalls, NoCountRises}
 use Rattle.command_store.specs.Opening.{found_tables, IsBadStore, NamesFault, NamesFailure, FailsToSay}
 use Rattle.command_lists.specs.Tables.{table_blocks}
 use Rattle.command_lists.specs.Texts.{IsDifferenceText}
@@ -107,3 +107,5 @@ pub record IsPrefixCheck (asked : ListAsked) (old new : Outside) (status : ℕ) 
   -- with each status told tables are as they were
   pub keeps : AreSame old.stores.stored new.stores.stored
   pub later : NoCountFalls old new
+  -- 5: no count of faults rose
+  pub quiet : status ≡ 5 → NoCountRises old new

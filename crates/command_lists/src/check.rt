@@ -1,6 +1,6 @@
 //! The command `prefix-check`.
 
-ghost use Rattle.std.specs.Prelude.{◌≡◌, ◌≤◌, IfOk, IfErr};
+ghost use Rattle.std.specs.Prelude.{◌≡◌, ◌≤◌, ◌⊎◌, IfOk, IfErr, IsErrOf};
 ghost use Rattle.prefix_list.specs.Lists.{ShareFamily, AreOf, addresses_beyond};
 ghost use Rattle.command_streams.specs.Streams.{EndsWith, streams, told};
 ghost use Rattle.command_store.specs.Outside.{Stores, AreSame, outside, stores};
@@ -50,6 +50,7 @@ fn compare<So: Source>(
     ensures compared { IfOk result (λ d. IsCompared asked.now table.now (told So.left So.faults input.old) (told So.left So.faults input.new) d) }
     ensures stop { IfErr result (IsInputStop asked.now (told So.left So.faults input.old) (told So.left So.faults input.new)) }
     ensures later { So.faults input.old ≤ So.faults input.new }
+    ensures kept { IsErrOf result InputStop.Unread ⊎ (So.faults input.new ≡ So.faults input.old) }
 {
     let list = read_input(alloc, asked, input)?;
     let found = difference_of(alloc, table, &list)?;
@@ -78,7 +79,7 @@ fn check_input<So: Source, Si: Sink, Se: Sink>(
     errors: &mut Se,
 ) -> u8
     requires { AreOf asked.now.family table.now }
-    ensures { (old new : Stores) → IsRead asked.now old table.now → AreSame old.stored new.stored → old.faults ≤ new.faults → IsPrefixCheck asked.now
+    ensures { (old new : Stores) → IsRead asked.now old table.now → AreSame old.stored new.stored → new.faults ≡ old.faults → IsPrefixCheck asked.now
         (outside (streams (told So.left So.faults input.old) (told Si.written Si.faults output.old) (told Se.written Se.faults errors.old)) old)
         (outside (streams (told So.left So.faults input.new) (told Si.written Si.faults output.new) (told Se.written Se.faults errors.new)) new) result }
 {

@@ -1,6 +1,6 @@
 //! The command `prefix-list`.
 
-ghost use Rattle.std.specs.Prelude.{◌≡◌, ◌≤◌, IfOk, IfErr};
+ghost use Rattle.std.specs.Prelude.{◌≡◌, ◌≤◌, ◌⊎◌, IfOk, IfErr, IsErrOf};
 ghost use Rattle.prefix_list.specs.Styles.{front_of};
 ghost use Rattle.command_streams.specs.Streams.{Told, EndsWith, streams, told};
 ghost use Rattle.command_store.specs.Outside.{AreSame, outside, stores};
@@ -19,6 +19,7 @@ use ipam_edge::Sink;
 use ipam_keeper::keeper::KeeperOpener;
 use prefix_list::{fewest, push_front};
 use std::alloc::{AllocError, Global};
+use stored_tables::opening::OpenFault;
 
 /// A list for a router: what each line begins with, and the blocks.
 #[derive(Drop)]
@@ -51,6 +52,7 @@ fn list_of<O: KeeperOpener>(
     ensures stop { IfErr result (IsStopped asked.now (stores O.stored O.faults opener.old) (stores O.stored O.faults opener.new)) }
     ensures same { AreSame (O.stored opener.old) (O.stored opener.new) }
     ensures later { O.faults opener.old ≤ O.faults opener.new }
+    ensures still { IsErrOf result (TableStop.Opening OpenFault.Keeper) ⊎ (O.faults opener.new ≡ O.faults opener.old) }
 {
     let table = read_table(alloc, asked, opener)?;
     let blocks = fewest(alloc, &table)?;

@@ -1,6 +1,6 @@
 //! A router's list on the input.
 
-ghost use Rattle.std.specs.Prelude.{◌≡◌, ◌≤◌, IfOk, IfErr};
+ghost use Rattle.std.specs.Prelude.{◌≡◌, ◌≤◌, ◌⊎◌, IfOk, IfErr, IsErrOf};
 ghost use Rattle.prefix_list.specs.Lists.{AreOf};
 ghost use Rattle.command_streams.specs.Streams.{told};
 ghost use Rattle.command_lists.specs.Texts.{style_named as style_of_name};
@@ -68,6 +68,7 @@ pub(crate) fn read_input<So: Source>(
     ensures family { IfOk result (λ v. AreOf asked.now.family v.items) }
     ensures stop { IfErr result (IsInputStop asked.now (told So.left So.faults input.old) (told So.left So.faults input.new)) }
     ensures later { So.faults input.old ≤ So.faults input.new }
+    ensures kept { IsErrOf result InputStop.Unread ⊎ (So.faults input.new ≡ So.faults input.old) }
 {
     let name = name_of(alloc, &asked.name)?;
     let bytes = match read_whole(alloc, input, MOST_BYTES) {

@@ -1,6 +1,6 @@
 //! The prefixes of a table, read from the register of a store.
 
-ghost use Rattle.std.specs.Prelude.{◌≡◌, ◌≤◌, ◌<◌, ◌++◌, ◌∷◌, [], true, length, slice_get, Some, IfOk, IfErr, OnOk};
+ghost use Rattle.std.specs.Prelude.{◌≡◌, ◌≤◌, ◌⊎◌, ◌<◌, ◌++◌, ◌∷◌, [], true, length, slice_get, Some, IfOk, IfErr, IsErrOf, OnOk};
 ghost use Rattle.prefix_list.specs.Lists.{AreOf};
 ghost use Rattle.command_words.specs.declared.asked.TableName.TheVariants.{Vrf};
 ghost use Rattle.command_store.specs.Outside.{AreSame, stores};
@@ -56,7 +56,8 @@ fn table_named(table: TableName) -> Table
 
 /// What the refusal of a call for the VRF of this id says of its table.
 fn stop_by(id: u32, refusal: &Refusal) -> TableStop
-    ensures { IsStopBy id refusal.now result }
+    ensures stop { IsStopBy id refusal.now result }
+    ensures failed { refusal.now ≡ Refusal.Keeper → result ≡ TableStop.Opening OpenFault.Keeper }
 {
     match refusal {
         Refusal::NotFound(_, _) => TableStop::Absent(id),
@@ -67,7 +68,8 @@ fn stop_by(id: u32, refusal: &Refusal) -> TableStop
 
 /// What the reply to a call for the VRF of this id says of its table.
 fn answer(id: u32, reply: &Reply) -> Result<(), TableStop>
-    ensures { IsAnswer id reply.now result }
+    ensures answer { IsAnswer id reply.now result }
+    ensures failed { reply.now ≡ Reply.Refused Refusal.Keeper → IsErrOf result (TableStop.Opening OpenFault.Keeper) }
 {
     match reply {
         Reply::One(_) => Ok(()),
@@ -83,6 +85,7 @@ fn ask_vrf<K: Keeper>(register: &mut Register<K>, id: u32) -> Result<(), TableSt
     ensures state { register.new.state ≡ register.old.state }
     ensures told { K.told register.new.keeper ≡ K.told register.old.keeper }
     ensures later { K.faults register.old.keeper ≤ K.faults register.new.keeper }
+    ensures still { IsErrOf result (TableStop.Opening OpenFault.Keeper) ⊎ (K.faults register.new.keeper ≡ K.faults register.old.keeper) }
 {
     // Hints to the prover: what holds of every register.
     register.told();
@@ -105,6 +108,7 @@ fn ask_table<K: Keeper>(register: &mut Register<K>, table: TableName) -> Result<
     ensures state { register.new.state ≡ register.old.state }
     ensures told { K.told register.new.keeper ≡ K.told register.old.keeper }
     ensures later { K.faults register.old.keeper ≤ K.faults register.new.keeper }
+    ensures still { IsErrOf result (TableStop.Opening OpenFault.Keeper) ⊎ (K.faults register.new.keeper ≡ K.faults register.old.keeper) }
 {
     match table {
         TableName::Global => Ok(()),
@@ -182,6 +186,7 @@ fn blocks_in<K: Keeper>(
     ensures stop { IfErr result (IsTableStop register.old.state table (K.faults register.old.keeper) (K.faults register.new.keeper)) }
     ensures told { K.told register.new.keeper ≡ K.told register.old.keeper }
     ensures later { K.faults register.old.keeper ≤ K.faults register.new.keeper }
+    ensures still { IsErrOf result (TableStop.Opening OpenFault.Keeper) ⊎ (K.faults register.new.keeper ≡ K.faults register.old.keeper) }
 {
     ask_table(register, table)?;
     let blocks = blocks_of(alloc, register, table_named(table), family)?;
@@ -200,6 +205,7 @@ pub(crate) fn read_table<O: KeeperOpener>(
     ensures stop { IfErr result (IsStopped asked.now (stores O.stored O.faults opener.old) (stores O.stored O.faults opener.new)) }
     ensures same { AreSame (O.stored opener.old) (O.stored opener.new) }
     ensures later { O.faults opener.old ≤ O.faults opener.new }
+    ensures still { IsErrOf result (TableStop.Opening OpenFault.Keeper) ⊎ (O.faults opener.new ≡ O.faults opener.old) }
 {
     match open_store(alloc, &asked.store, opener) {
         Ok(register) => {

@@ -5,14 +5,14 @@ use Rattle.register_server.specs.Serving.{IsListening, IsServedFrom}
 use Rattle.register_server.specs.declared.ending.Listening.{Listening}
 use Rattle.register_server.specs.declared.ending.Listening.TheVariants.{Whole, Broken}
 use Rattle.command_words.specs.declared.asked.Serving.{Serving}
-use Rattle.command_streams.specs.Streams.{Gains, GainsFront, Failed, EndsWith}
+use Rattle.command_streams.specs.Streams.{Told, Gains, GainsFront, Failed, EndsWith}
 use Rattle.command_store.specs.Outside.{Outside}
 use Rattle.command_serve.specs.Serve.{ListenerView, ListeningFailed, AllCame, NoneFailed, IsBoundBy, ServesStore, entries_line, listening_status, IsServe}
 use Rattle.command_serve.proofs.Unserved.{Whatever}
 
 -- the count of the changes is on the output
 printed : (serving : Serving) (old new : Outside) (before after : ListenerView) (entries : ℕ) (listening : Listening) (status : ℕ)
-    → Whatever serving old new before after → ServesStore serving old new before after entries
+    → Whatever serving old new before after status → ServesStore serving old new before after entries
     → IsListening (AllCame serving before after × NoneFailed before after) (ListeningFailed before after) listening
     → status ≡ listening_status listening → Gains old.streams.output new.streams.output (entries_line entries)
     → IsServe serving old new before after status
@@ -28,6 +28,7 @@ printed serving old new before after entries Whole status all serves came zero s
   bound = λ came. serves.bound;
   later = all.later;
   listener_later = all.listener_later;
+  quiet = all.quiet;
 }
 printed serving old new before after entries Broken status all serves failed three said = record {
   statuses = inr (inr (inl three));
@@ -41,11 +42,12 @@ printed serving old new before after entries Broken status all serves failed thr
   bound = λ came. serves.bound;
   later = all.later;
   listener_later = all.listener_later;
+  quiet = all.quiet;
 }
 
 -- the output failed
 not_printed : (serving : Serving) (old new : Outside) (before after : ListenerView) (entries status : ℕ)
-    → Whatever serving old new before after → ServesStore serving old new before after entries
+    → Whatever serving old new before after status → ServesStore serving old new before after entries
     → status ≡ 3 → Failed old.streams.output new.streams.output → GainsFront old.streams.output new.streams.output (entries_line entries)
     → IsServe serving old new before after status
 not_printed serving old new before after entries status all serves three failed front = record {
@@ -60,6 +62,7 @@ not_printed serving old new before after entries status all serves three failed 
   bound = λ came. serves.bound;
   later = all.later;
   listener_later = all.listener_later;
+  quiet = all.quiet;
 }
 
 -- the store was served, by the keeper that came back
@@ -80,7 +83,7 @@ serves_store told serving old new before after entries from bound silent = recor
 
 -- the register was served, and its count was said as far as that could be
 pub of_served : {K : Type 0} (told : K → Option Tables) (serving : Serving) (old new : Outside) (before after : ListenerView) (entries : ℕ) (listening : Listening) (status : ℕ)
-    → Whatever serving old new before after
+    → Whatever serving old new before after status
     → IsServedFrom told serving.store.db serving.store.global_unique old.stores.stored new.stores.stored old.stores.faults new.stores.faults
     before.returned after.returned (AllCame serving before after) entries
     → IsBoundBy serving after
@@ -91,3 +94,9 @@ of_served told serving old new before after entries listening status all from bo
     printed serving old new before after entries listening status all (serves_store told serving old new before after entries from bound silent) heard said.0 said.1
 of_served told serving old new before after entries listening status all from bound heard silent (inr said) =
     not_printed serving old new before after entries status all (serves_store told serving old new before after entries from bound silent) said.0 said.1 said.2
+
+-- a count that was said, or could not be, is no want of memory
+pub not_want : (old new : Told) (line : List ℕ) (listening : Listening) (status : ℕ) → EndsWith old new line (listening_status listening) status → status ≡ 5 → ⊥
+not_want old new line Whole status (inl said) five = (let zero_ = said.0 in absurd (omega arith))
+not_want old new line Broken status (inl said) five = (let three = said.0 in absurd (omega arith))
+not_want old new line listening status (inr said) five = (let three = said.0 in absurd (omega arith))

@@ -14,18 +14,19 @@ use Rattle.register_server.specs.declared.ending.Unserved.TheVariants.{Opening, 
 use Rattle.command_words.specs.declared.asked.Store.{Store}
 use Rattle.command_words.specs.declared.asked.Serving.{Serving}
 use Rattle.command_streams.specs.Streams.{Told, Streams, EndsWith}
-use Rattle.command_store.specs.Outside.{Outside, StoreFailed, AreSame, IsUnused, NoCountFalls}
+use Rattle.command_store.specs.Outside.{Outside, StoreFailed, AreSame, IsUnused, NoCountFalls, NoCountRises}
 use Rattle.command_store.specs.FaultWords.{IsSaid, fault_line}
 use Rattle.command_store.specs.Opening.{found_tables, IsBadStore}
-use Rattle.command_store.proofs.Refused.{back_again, unchanged}
+use Rattle.command_store.proofs.Refused.{back_again, quiet_refused, unchanged}
 use Rattle.command_serve.specs.Serve.{ListenerView, ListeningFailed, AllCame, NoneFailed, NobodyCame, IsBoundBy, IsLeft, IsUnserved, IsUnservedSaid, IsServe}
 
 -- what holds of a run whatever its status
-pub record Whatever (serving : Serving) (old new : Outside) (before after : ListenerView) : Type 0 where
+pub record Whatever (serving : Serving) (old new : Outside) (before after : ListenerView) (status : ℕ) : Type 0 where
   pub unread : new.streams.input ≡ old.streams.input
   pub lanes_back : length after.returned + before.lanes ≡ length before.returned + after.lanes
   pub later : NoCountFalls old new
   pub listener_later : before.faults ≤ after.faults
+  pub quiet : status ≡ 5 → NoCountRises old new
 
 -- streams of which each is as before
 pub same_streams : (a b : Streams) → b.input ≡ a.input → b.output ≡ a.output → b.errors ≡ a.errors → b ≡ a
@@ -55,7 +56,7 @@ left_same store old new why refusal (inl same) = unchanged old.stores.stored new
 left_same store old new why refusal (inr (told, before, returned)) = back_again store.db told old.stores.stored new.stores.stored (before.refused refusal) returned
 
 -- for lack of memory
-of_memory : (serving : Serving) (old new : Outside) (before after : ListenerView) (status : ℕ) (why : Unserved) → Whatever serving old new before after
+of_memory : (serving : Serving) (old new : Outside) (before after : ListenerView) (status : ℕ) (why : Unserved) → Whatever serving old new before after status
     → new.streams.output ≡ old.streams.output → IsLeft serving.store old new why → after ≡ before
     → status ≡ 5 → new.streams.errors ≡ old.streams.errors → IsServe serving old new before after status
 of_memory serving old new before after status why all output left idle five silent = let none = nobody_came before after idle in record {
@@ -70,10 +71,11 @@ of_memory serving old new before after status why all output left idle five sile
   bound = nobody_bound serving before after none;
   later = all.later;
   listener_later = all.listener_later;
+  quiet = all.quiet;
 }
 
 -- since the store failed
-of_keeper : (serving : Serving) (old new : Outside) (before after : ListenerView) (status : ℕ) → Whatever serving old new before after
+of_keeper : (serving : Serving) (old new : Outside) (before after : ListenerView) (status : ℕ) → Whatever serving old new before after status
     → StoreFailed old new → IsUnused old new → after ≡ before
     → EndsWith old.streams.errors new.streams.errors (fault_line Keeper) 4 status → IsServe serving old new before after status
 of_keeper serving old new before after status all failed unused idle (inl said) = let four = said.0 in let none = nobody_came before after idle in record {
@@ -88,6 +90,7 @@ of_keeper serving old new before after status all failed unused idle (inl said) 
   bound = nobody_bound serving before after none;
   later = all.later;
   listener_later = all.listener_later;
+  quiet = all.quiet;
 }
 of_keeper serving old new before after status all failed unused idle (inr said) = let three = said.0 in let none = nobody_came before after idle in record {
   statuses = inr (inr (inl three));
@@ -101,10 +104,11 @@ of_keeper serving old new before after status all failed unused idle (inr said) 
   bound = nobody_bound serving before after none;
   later = all.later;
   listener_later = all.listener_later;
+  quiet = all.quiet;
 }
 
 -- for what the store holds
-of_bad : (serving : Serving) (old new : Outside) (before after : ListenerView) (status : ℕ) (fault : OpenFault) → Whatever serving old new before after
+of_bad : (serving : Serving) (old new : Outside) (before after : ListenerView) (status : ℕ) (fault : OpenFault) → Whatever serving old new before after status
     → IsBadStore serving.store old fault → IsUnused old new → after ≡ before
     → EndsWith old.streams.errors new.streams.errors (fault_line fault) 1 status → IsServe serving old new before after status
 of_bad serving old new before after status fault all bad unused idle (inl said) = let one = said.0 in let none = nobody_came before after idle in record {
@@ -119,6 +123,7 @@ of_bad serving old new before after status fault all bad unused idle (inl said) 
   bound = nobody_bound serving before after none;
   later = all.later;
   listener_later = all.listener_later;
+  quiet = all.quiet;
 }
 of_bad serving old new before after status fault all bad unused idle (inr said) = let three = said.0 in let none = nobody_came before after idle in record {
   statuses = inr (inr (inl three));
@@ -132,10 +137,11 @@ of_bad serving old new before after status fault all bad unused idle (inr said) 
   bound = nobody_bound serving before after none;
   later = all.later;
   listener_later = all.listener_later;
+  quiet = all.quiet;
 }
 
 -- the tables of the store have a fault, which was said, or memory ran out to say it
-of_tables : (serving : Serving) (old new : Outside) (before after : ListenerView) (status : ℕ) (fault : OpenFault) → Whatever serving old new before after
+of_tables : (serving : Serving) (old new : Outside) (before after : ListenerView) (status : ℕ) (fault : OpenFault) → Whatever serving old new before after status
     → new.streams.output ≡ old.streams.output → IsLeft serving.store old new (Opening fault) → after ≡ before
     → IsBadStore serving.store old fault → IsUnused old new
     → EndsWith old.streams.errors new.streams.errors (fault_line fault) 1 status ⊎ ((status ≡ 5) × (new.streams.errors ≡ old.streams.errors))
@@ -145,7 +151,7 @@ of_tables serving old new before after status fault all output left idle bad unu
     of_memory serving old new before after status (Opening fault) all output left idle said.0 said.1
 
 -- the place could not be had
-of_place : (serving : Serving) (old new : Outside) (before after : ListenerView) (status : ℕ) → Whatever serving old new before after
+of_place : (serving : Serving) (old new : Outside) (before after : ListenerView) (status : ℕ) → Whatever serving old new before after status
     → new.streams.output ≡ old.streams.output → IsLeft serving.store old new Place → NobodyCame before after → ListeningFailed before after
     → status ≡ 3 → new.streams.errors ≡ old.streams.errors → IsServe serving old new before after status
 of_place serving old new before after status all output left none failed three silent = record {
@@ -163,15 +169,16 @@ of_place serving old new before after status all output left none failed three s
   bound = nobody_bound serving before after none;
   later = all.later;
   listener_later = all.listener_later;
+  quiet = all.quiet;
 }
 
 -- nothing was used, where the tables were refused
-unused : (serving : Serving) (old new : Outside) (before after : ListenerView) (why : Unserved) → Whatever serving old new before after
+unused : (serving : Serving) (old new : Outside) (before after : ListenerView) (why : Unserved) → Whatever serving old new before after status
     → new.streams.output ≡ old.streams.output → IsLeft serving.store old new why → IsRefusal why → IsUnused old new
 unused serving old new before after why all output left refusal =
     record { input = all.unread; output = output; stored = left_same serving.store old new why refusal left }
 
-of_why : (serving : Serving) (old new : Outside) (before after : ListenerView) (status : ℕ) (why : Unserved) → Whatever serving old new before after
+of_why : (serving : Serving) (old new : Outside) (before after : ListenerView) (status : ℕ) (why : Unserved) → Whatever serving old new before after status
     → new.streams.output ≡ old.streams.output → IsLeft serving.store old new why → NobodyCame before after
     → IsFaultOf (found_tables serving.store old) serving.store.global_unique old.stores.faults new.stores.faults why
     → IsListened (AllCame serving before after × NoneFailed before after) (ListeningFailed before after) (after ≡ before) (Err why)
@@ -211,7 +218,7 @@ heard_of_view came failed unused idle Place tell heard = heard
 
 -- nobody was served
 pub of_unserved : {K : Type 0} (told : K → Option Tables) (serving : Serving) (old new : Outside) (before after : ListenerView) (status : ℕ) (why : Unserved)
-    → Whatever serving old new before after → new.streams.output ≡ old.streams.output
+    → Whatever serving old new before after status → new.streams.output ≡ old.streams.output
     → AreLeft told serving.store.db old.stores.stored new.stores.stored why × (after.returned ≡ before.returned)
     × IsFaultOf (found_tables serving.store old) serving.store.global_unique old.stores.faults new.stores.faults why
     → IsListened (AllCame serving before after × NoneFailed before after) (ListeningFailed before after) (after ≡ before) (Err why)
@@ -231,5 +238,14 @@ not_begun serving old new before after status five same same_listener =
       lanes_back = refl;
       later = record { streams = record { input = omega arith; output = omega arith; errors = omega arith }; stores = omega arith };
       listener_later = omega arith;
+      quiet = λ z. record { streams = record { input = refl; output = refl; errors = refl }; stores = refl };
     })
     refl (inl refl) refl five refl))
+
+-- where memory ran out no count rose
+pub quiet_unserved : (old new : Outside) (why : Unserved) (status : ℕ)
+    → ((fault : OpenFault) → why ≡ Opening fault → (fault ≡ Keeper) ⊎ (new.stores.faults ≡ old.stores.faults))
+    → IsUnservedSaid why old.streams.errors new.streams.errors status → new.streams.input.faults ≡ old.streams.input.faults → new.streams.output.faults ≡ old.streams.output.faults
+    → status ≡ 5 → NoCountRises old new
+quiet_unserved old new (Opening fault) status still said read wrote five = quiet_refused old new fault status (still fault refl) said read wrote five
+quiet_unserved old new Place status still said read wrote five = (let three = said.0 in absurd (omega arith))

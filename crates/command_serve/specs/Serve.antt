@@ -17,7 +17,7 @@ use Rattle.register_server.specs.declared.ending.Unserved.TheVariants.{Opening, 
 use Rattle.command_words.specs.declared.asked.Store.{Store}
 use Rattle.command_words.specs.declared.asked.Serving.{Serving}
 use Rattle.command_streams.specs.Streams.{Told, Gains, GainsFront, Failed}
-use Rattle.command_store.specs.Outside.{Outside, NoCountFalls}
+use Rattle.command_store.specs.Outside.{Outside, NoCountFalls, NoCountRises}
 use Rattle.command_store.specs.FaultWords.{IsSaid}
 use Rattle.command_store.specs.Opening.{found_tables, IsLoaded, Holds, NamesFault, NamesFailure, FailsToSay}
 
@@ -154,3 +154,5 @@ pub record IsServe (serving : Serving) (old new : Outside) (before after : Liste
   -- no count of faults falls
   pub later : NoCountFalls old new
   pub listener_later : before.faults ≤ after.faults
+  -- 5: none rose
+  pub quiet : status ≡ 5 → NoCountRises old new

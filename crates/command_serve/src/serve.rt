@@ -1,8 +1,9 @@
 //! The command `serve`.
 
-ghost use Rattle.std.specs.Prelude.{◌≡◌, ◌≤◌, ◌+◌, IfOk, length};
+ghost use Rattle.std.specs.Prelude.{◌≡◌, ◌≤◌, ◌⊎◌, ◌+◌, IfOk, IsErrOf, length};
 ghost use Rattle.ipam_edge.specs.Faults.{Rose};
 ghost use Rattle.ipam_listen.specs.Connections.{binding};
+ghost use Rattle.stored_tables.specs.declared.opening.OpenFault.{OpenFault};
 ghost use Rattle.command_streams.specs.Streams.{Told, streams, told};
 ghost use Rattle.register_server.specs.Serving.{IsListened, IsServing};
 ghost use Rattle.command_store.specs.Outside.{outside, stores};
@@ -38,6 +39,7 @@ fn serve_store<R: Threads + Wait + Sync, L: Listener, O: KeeperOpener>(
     ensures bound { IfOk result (λ _. L.bound listener.new ≡ binding serving.now.bind serving.now.connections) }
     ensures listened { IsListened ((L.lanes listener.new ≡ L.lanes listener.old + serving.now.workers) × (L.faults listener.new ≡ L.faults listener.old)) (Rose (L.faults listener.old) (L.faults listener.new)) (listener.new ≡ listener.old) result }
     ensures opener_later { O.faults opener.old ≤ O.faults opener.new }
+    ensures opener_still { (fault : OpenFault) → IsErrOf result (Unserved.Opening fault) → (fault ≡ OpenFault.Keeper) ⊎ (O.faults opener.new ≡ O.faults opener.old) }
     ensures listener_later { L.faults listener.old ≤ L.faults listener.new }
 {
     let path = match path_of(alloc, &serving.store.db) {

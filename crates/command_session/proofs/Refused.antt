@@ -6,7 +6,7 @@ use Rattle.stored_tables.specs.Opening.{IsOfTables}
 use Rattle.register_core.specs.Opened.{IsUnopened}
 use Rattle.command_words.specs.declared.asked.Store.{Store}
 use Rattle.command_streams.specs.Streams.{EndsWith}
-use Rattle.command_store.specs.Outside.{Outside, StoreFailed, IsUnused, NoCountFalls}
+use Rattle.command_store.specs.Outside.{Outside, StoreFailed, IsUnused, NoCountFalls, NoCountRises}
 use Rattle.command_store.specs.FaultWords.{IsSaid, fault_line}
 use Rattle.command_store.specs.Opening.{found_tables, IsBadStore}
 use Rattle.command_store.proofs.Refused.{not_used}
@@ -14,8 +14,8 @@ use Rattle.command_session.specs.Session.{IsSession}
 
 -- for lack of memory
 of_memory : (store : Store) (old new : Outside) (status : ℕ) → status ≡ 5 → new.streams.errors ≡ old.streams.errors → IsUnused old new → NoCountFalls old new
-    → IsSession store old new status
-of_memory store old new status five silent unused later = record {
+    → NoCountRises old new → IsSession store old new status
+of_memory store old new status five silent unused later none = record {
   statuses = inr (inr (inr (inr five)));
   done = λ z. absurd (omega arith);
   refused = λ z. absurd (omega arith);
@@ -23,6 +23,7 @@ of_memory store old new status five silent unused later = record {
   store_fault = λ z. absurd (omega arith);
   memory = λ z. (silent, inl unused);
   later = later;
+  quiet = λ z. (none.streams, inl none.stores);
 }
 
 -- since the store failed
@@ -36,6 +37,7 @@ of_keeper store old new status failed (inl said) unused later = let four = said.
   store_fault = λ z. record { failed = failed; said = said.1; unused = unused };
   memory = λ z. absurd (omega arith);
   later = later;
+  quiet = λ z. absurd (omega arith);
 }
 of_keeper store old new status failed (inr said) unused later = let three = said.0 in record {
   statuses = inr (inr (inl three));
@@ -45,13 +47,14 @@ of_keeper store old new status failed (inr said) unused later = let three = said
   store_fault = λ z. absurd (omega arith);
   memory = λ z. absurd (omega arith);
   later = later;
+  quiet = λ z. absurd (omega arith);
 }
 
 -- for what the store holds
 of_bad : (store : Store) (old new : Outside) (status : ℕ) (fault : OpenFault) → IsBadStore store old fault
     → EndsWith old.streams.errors new.streams.errors (fault_line fault) 1 status ⊎ ((status ≡ 5) × (new.streams.errors ≡ old.streams.errors))
-    → IsUnused old new → NoCountFalls old new → IsSession store old new status
-of_bad store old new status fault bad (inl (inl said)) unused later = let one = said.0 in record {
+    → IsUnused old new → NoCountFalls old new → (status ≡ 5 → NoCountRises old new) → IsSession store old new status
+of_bad store old new status fault bad (inl (inl said)) unused later none = let one = said.0 in record {
   statuses = inr (inl one);
   done = λ z. absurd (omega arith);
   refused = λ z. record { fault = fault; bad = bad; said = said.1; unused = unused };
@@ -59,8 +62,9 @@ of_bad store old new status fault bad (inl (inl said)) unused later = let one = 
   store_fault = λ z. absurd (omega arith);
   memory = λ z. absurd (omega arith);
   later = later;
+  quiet = λ z. absurd (omega arith);
 }
-of_bad store old new status fault bad (inl (inr said)) unused later = let three = said.0 in record {
+of_bad store old new status fault bad (inl (inr said)) unused later none = let three = said.0 in record {
   statuses = inr (inr (inl three));
   done = λ z. absurd (omega arith);
   refused = λ z. absurd (omega arith);
@@ -68,27 +72,30 @@ of_bad store old new status fault bad (inl (inr said)) unused later = let three 
   store_fault = λ z. absurd (omega arith);
   memory = λ z. absurd (omega arith);
   later = later;
+  quiet = λ z. absurd (omega arith);
 }
-of_bad store old new status fault bad (inr said) unused later = of_memory store old new status said.0 said.1 unused later
+of_bad store old new status fault bad (inr said) unused later none = of_memory store old new status said.0 said.1 unused later (none said.0)
 
 pub of_refused : (store : Store) (old new : Outside) (status : ℕ) (fault : OpenFault)
     → (IsOfTables fault → IsUnopened (found_tables store old) store.global_unique fault) → (fault ≡ Keeper → StoreFailed old new)
-    → IsSaid fault old.streams.errors new.streams.errors status → IsUnused old new → NoCountFalls old new → IsSession store old new status
-of_refused store old new status Keeper bad cause said unused later = of_keeper store old new status (cause refl) said unused later
-of_refused store old new status Memory bad cause said unused later = of_memory store old new status said.0 said.1 unused later
-of_refused store old new status (BadTables kind n rule) bad cause said unused later =
-    of_bad store old new status (BadTables kind n rule) (record { of_tables = tt; refused = bad tt }) said unused later
-of_refused store old new status (BadRow kind n) bad cause said unused later =
-    of_bad store old new status (BadRow kind n) (record { of_tables = tt; refused = bad tt }) said unused later
-of_refused store old new status (Version n) bad cause said unused later =
-    of_bad store old new status (Version n) (record { of_tables = tt; refused = bad tt }) said unused later
-of_refused store old new status (BadNext kind) bad cause said unused later =
-    of_bad store old new status (BadNext kind) (record { of_tables = tt; refused = bad tt }) said unused later
-of_refused store old new status (Limit which n) bad cause said unused later =
-    of_bad store old new status (Limit which n) (record { of_tables = tt; refused = bad tt }) said unused later
+    → IsSaid fault old.streams.errors new.streams.errors status → IsUnused old new → NoCountFalls old new → (status ≡ 5 → NoCountRises old new)
+    → IsSession store old new status
+of_refused store old new status Keeper bad cause said unused later none = of_keeper store old new status (cause refl) said unused later
+of_refused store old new status Memory bad cause said unused later none = of_memory store old new status said.0 said.1 unused later (none said.0)
+of_refused store old new status (BadTables kind n rule) bad cause said unused later none =
+    of_bad store old new status (BadTables kind n rule) (record { of_tables = tt; refused = bad tt }) said unused later none
+of_refused store old new status (BadRow kind n) bad cause said unused later none =
+    of_bad store old new status (BadRow kind n) (record { of_tables = tt; refused = bad tt }) said unused later none
+of_refused store old new status (Version n) bad cause said unused later none =
+    of_bad store old new status (Version n) (record { of_tables = tt; refused = bad tt }) said unused later none
+of_refused store old new status (BadNext kind) bad cause said unused later none =
+    of_bad store old new status (BadNext kind) (record { of_tables = tt; refused = bad tt }) said unused later none
+of_refused store old new status (Limit which n) bad cause said unused later none =
+    of_bad store old new status (Limit which n) (record { of_tables = tt; refused = bad tt }) said unused later none
 
 -- where memory ran out before anything was used
 pub not_begun : (store : Store) (old new : Outside) (status : ℕ) → status ≡ 5 → new ≡ old → IsSession store old new status
 not_begun store old new status five same = subst (λ (t : Outside). IsSession store old t status) (sym same)
     (of_memory store old old status five refl (record { input = refl; output = refl; stored = not_used old.stores.stored })
-    (record { streams = record { input = omega arith; output = omega arith; errors = omega arith }; stores = omega arith }))
+    (record { streams = record { input = omega arith; output = omega arith; errors = omega arith }; stores = omega arith })
+    (record { streams = record { input = refl; output = refl; errors = refl }; stores = refl }))

@@ -6,6 +6,7 @@ use Rattle.ipam_data.specs.State.{State}
 use Rattle.stored_tables.specs.declared.tables.Tables.{Tables}
 use Rattle.stored_tables.specs.Stored.{Tells}
 use Rattle.ipam_keeper.specs.Keeping.{Rose, IsRaised, IsReturned, last_count}
+use Rattle.ipam_keeper.proofs.FaultLemmas.{raised_by_none}
 use Rattle.http_session.specs.Steps.{Grown}
 use Rattle.http_session.specs.Talk.{Answer, May, Run, texts}
 use Rattle.http_session.specs.Requests.{AreAllItems, Item}
@@ -17,10 +18,11 @@ use Rattle.rest_ipam.specs.Answered.{Seen}
 use Rattle.kept_session.specs.Answered.{standing, fresh, answers_kept}
 use Rattle.kept_session.proofs.Plainly.{end_plainly}
 use Rattle.command_words.specs.declared.asked.Store.{Store}
-use Rattle.command_streams.specs.Streams.{Failed}
+use Rattle.ipam_edge.proofs.FaultLemmas.{unless}
+use Rattle.command_streams.specs.Streams.{Told, Failed}
 use Rattle.command_store.specs.Outside.{Outside, NoCountFalls}
 use Rattle.command_store.specs.Opening.{found_tables, IsLoaded}
-use Rattle.command_session.specs.Session.{Serves, IsSession, end_status}
+use Rattle.command_session.specs.Session.{Serves, HasFailedCall, IsSession, end_status}
 
 -- where the session closed, the output has the answers to all requests of the whole input
 prints : {S : Type 0} (may : May S) (first register : S) (left_old left_new written_old written_new : Option (List ℕ)) (n : ℕ) (bytes : List ℕ)
@@ -55,11 +57,12 @@ pub serves : {R : Type 0} (step : Step R) (from to : R) (store : Store) (old new
     → IsLoaded store old state → first ≡ (fresh state).seen
     → IsTalkSession answers_kept step (standing first 0) (standing seen failed) from to old.streams.input.bytes new.streams.input.bytes
     old.streams.output.bytes new.streams.output.bytes how
-    → failed ≤ count → old.stores.faults ≤ mid → IsRaised mid count new.stores.faults
+    → failed ≤ count → (failed ≡ 0 → count ≡ 0) → mid ≡ old.stores.faults → IsRaised mid count new.stores.faults
     → (IsSome (found_tables store old) → IsSome told)
     → Tells told seen.state → IsReturned (Some store.db) told old.stores.stored new.stores.stored
     → new.streams.errors ≡ old.streams.errors → Serves store old new how
-serves step from to store old new how state first seen failed count mid told loaded begins talk few later raised telling tells returned silent =
+serves step from to store old new how state first seen failed count mid told loaded begins talk few none same raised telling tells returned silent =
+    let later : old.stores.faults ≤ mid = omega (arith, same) in
     let ends = subst (λ (k : Seen). IsEnd answers_kept (standing k 0) (standing seen failed) old.streams.output.bytes new.streams.output.bytes talk.bytes new.streams.input.bytes how) begins talk.ends in
     record {
       state = state;
@@ -72,15 +75,24 @@ serves step from to store old new how state first seen failed count mid told loa
       plain = λ well. end_plainly (fresh state) (standing seen failed) old.streams.output.bytes new.streams.output.bytes talk.bytes new.streams.input.bytes how ends
           (none_failed old.stores.faults mid count new.stores.faults failed few later raised well);
       needed = talk.needed;
+      calm = λ zero_. raised_by_none mid count new.stores.faults (none zero_) raised ∙ same;
       holds = (told, telling, tells, returned);
       silent = silent;
     }
 
+-- the opener's count rose only where a call was answered by a failed keeper
+rises : (store : Store) (old new : Outside) (how : SessionEnd) (s : Serves store old new how) (n : ℕ) → s.last.failed ≡ n
+    → (new.stores.faults ≡ old.stores.faults) ⊎ HasFailedCall store old new how
+rises store old new how s zero is = inl (s.calm is)
+rises store old new how s (suc n) is = inr (record { serves = s; failed = omega (arith, is) })
+
 -- a session by its end, as the command's record has it
 pub of_served : (store : Store) (old new : Outside) (how : SessionEnd) → Serves store old new how
     → (how ≡ SourceFault → Failed old.streams.input new.streams.input) → (how ≡ SinkFault → Failed old.streams.output new.streams.output)
-    → NoCountFalls old new → IsSession store old new (end_status how)
-of_served store old new (Closed n) s source sink later = record {
+    → NoCountFalls old new
+    → (how ≡ SourceFault) ⊎ (new.streams.input.faults ≡ old.streams.input.faults) → (how ≡ SinkFault) ⊎ (new.streams.output.faults ≡ old.streams.output.faults)
+    → IsSession store old new (end_status how)
+of_served store old new (Closed n) s source sink later read wrote = record {
   statuses = inl refl;
   done = λ z. record {
     count = n;
@@ -93,8 +105,9 @@ of_served store old new (Closed n) s source sink later = record {
   store_fault = λ z. absurd (omega arith);
   memory = λ z. absurd (omega arith);
   later = later;
+  quiet = λ z. absurd (omega arith);
 }
-of_served store old new SourceFault s source sink later = record {
+of_served store old new SourceFault s source sink later read wrote = record {
   statuses = inr (inr (inl refl));
   done = λ z. absurd (omega arith);
   refused = λ z. absurd (omega arith);
@@ -102,8 +115,9 @@ of_served store old new SourceFault s source sink later = record {
   store_fault = λ z. absurd (omega arith);
   memory = λ z. absurd (omega arith);
   later = later;
+  quiet = λ z. absurd (omega arith);
 }
-of_served store old new SinkFault s source sink later = record {
+of_served store old new SinkFault s source sink later read wrote = record {
   statuses = inr (inr (inl refl));
   done = λ z. absurd (omega arith);
   refused = λ z. absurd (omega arith);
@@ -111,8 +125,9 @@ of_served store old new SinkFault s source sink later = record {
   store_fault = λ z. absurd (omega arith);
   memory = λ z. absurd (omega arith);
   later = later;
+  quiet = λ z. absurd (omega arith);
 }
-of_served store old new Memory s source sink later = record {
+of_served store old new Memory s source sink later read wrote = record {
   statuses = inr (inr (inr (inr refl)));
   done = λ z. absurd (omega arith);
   refused = λ z. absurd (omega arith);
@@ -120,28 +135,34 @@ of_served store old new Memory s source sink later = record {
   store_fault = λ z. absurd (omega arith);
   memory = λ z. (s.silent, inr s);
   later = later;
+  quiet = λ z. (
+    record { input = unless (λ e. cc e) read; output = unless (λ e. cc e) wrote; errors = ap (λ (t : Told). t.faults) s.silent },
+    rises store old new Memory s s.last.failed refl,
+  );
 }
 
 pub of_ended : (store : Store) (old new : Outside) (how : SessionEnd) (status : ℕ) → status ≡ end_status how → Serves store old new how
     → (how ≡ SourceFault → Failed old.streams.input new.streams.input) → (how ≡ SinkFault → Failed old.streams.output new.streams.output)
-    → NoCountFalls old new → IsSession store old new status
-of_ended store old new how status is s source sink later = subst (λ (n : ℕ). IsSession store old new n) (sym is) (of_served store old new how s source sink later)
+    → NoCountFalls old new
+    → (how ≡ SourceFault) ⊎ (new.streams.input.faults ≡ old.streams.input.faults) → (how ≡ SinkFault) ⊎ (new.streams.output.faults ≡ old.streams.output.faults)
+    → IsSession store old new status
+of_ended store old new how status is s source sink later read wrote = subst (λ (n : ℕ). IsSession store old new n) (sym is) (of_served store old new how s source sink later read wrote)
 
 -- a session that was served, by what is known of the opener that lent its keeper
 pub serves_back : {R : Type 0} {K : Type 0} (step : Step R) (from to : R) (store : Store) (old new : Outside) (how : SessionEnd) (state : State) (first seen : Seen)
     (told_by : K → Option Tables) (faults_by : K → ℕ) (lent_out kept keeper : K) (mid : ℕ) (lent : Option (Option (List ℕ))) (mid_stored : Option (List (List ℕ × Tables)))
     → IsLoaded store old state → first ≡ (fresh state).seen
-    → (failed : ℕ) × (failed ≤ faults_by keeper)
+    → (failed : ℕ) × (failed ≤ faults_by keeper) × (failed ≡ 0 → faults_by keeper ≡ faults_by lent_out)
     × IsTalkSession answers_kept step (standing first 0) (standing seen failed) from to old.streams.input.bytes new.streams.input.bytes
     old.streams.output.bytes new.streams.output.bytes how
     → told_by lent_out ≡ found_tables store old → IsSome (told_by lent_out) ↔ IsSome (told_by keeper)
-    → kept ≡ keeper → old.stores.faults ≤ mid → IsRaised mid (faults_by kept) new.stores.faults → Tells (told_by keeper) seen.state
+    → kept ≡ keeper → mid ≡ old.stores.faults → faults_by lent_out ≡ 0 → IsRaised mid (faults_by kept) new.stores.faults → Tells (told_by keeper) seen.state
     → lent ≡ Some store.db → old.stores.stored ≡ mid_stored → IsReturned lent (told_by kept) mid_stored new.stores.stored
     → new.streams.errors ≡ old.streams.errors → Serves store old new how
-serves_back {R} {K} step from to store old new how state first seen told_by faults_by lent_out kept keeper mid lent mid_stored loaded begins talk starts telling same later raised tells out stays returned silent =
+serves_back {R} {K} step from to store old new how state first seen told_by faults_by lent_out kept keeper mid lent mid_stored loaded begins talk starts telling same later fresh_ raised tells out stays returned silent =
     let raised' = subst (λ (k : K). IsRaised mid (faults_by k) new.stores.faults) same raised in
     let back = subst (λ (k : K). IsReturned lent (told_by k) mid_stored new.stores.stored) same returned in
     let here = subst (λ (l : Option (Option (List ℕ))). IsReturned l (told_by keeper) mid_stored new.stores.stored) out back in
     let there = subst (λ (s : Option (List (List ℕ × Tables))). IsReturned (Some store.db) (told_by keeper) s new.stores.stored) (sym stays) here in
     let goes_on = subst (λ (t : Option Tables). IsSome t → IsSome (told_by keeper)) starts telling.0 in
-    serves step from to store old new how state first seen talk.0 (faults_by keeper) mid (told_by keeper) loaded begins talk.2 talk.1 later raised' goes_on tells there silent
+    serves step from to store old new how state first seen talk.0 (faults_by keeper) mid (told_by keeper) loaded begins talk.3 talk.1 (λ zero_. talk.2 zero_ ∙ fresh_) later raised' goes_on tells there silent

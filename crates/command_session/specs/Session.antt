@@ -12,7 +12,7 @@ use Rattle.http_session.specs.declared.session.SessionEnd.TheVariants.{Closed, S
 use Rattle.rest_ipam.specs.Answered.{answers_plainly}
 use Rattle.kept_session.specs.Answered.{Standing, fresh, answers_kept}
 use Rattle.command_words.specs.declared.asked.Store.{Store}
-use Rattle.command_streams.specs.Streams.{Gains, Failed}
+use Rattle.command_streams.specs.Streams.{Gains, Failed, NeverRises}
 use Rattle.command_store.specs.Outside.{Outside, StoreFailed, IsUnused, NoCountFalls}
 use Rattle.command_store.specs.Opening.{IsLoaded, HoldsTold, NamesFault, NamesFailure, FailsToSay}
 
@@ -31,6 +31,8 @@ pub record Serves (store : Store) (old new : Outside) (end : SessionEnd) : Type 
   pub plain : (¬ StoreFailed old new)
       → IsEnd answers_plainly (fresh state).seen last.seen old.streams.output.bytes new.streams.output.bytes bytes new.streams.input.bytes end
   pub needed : IsReadAsNeeded bytes
+  -- .. and it rose only where a call was answered by a failed keeper
+  pub calm : last.failed ≡ 0 → new.stores.faults ≡ old.stores.faults
   -- the store has what was accepted, and tells it where its tables were told
   pub holds : HoldsTold store old new last.seen.state
   -- nothing is said
@@ -68,6 +70,11 @@ end_status SourceFault = 3
 end_status SinkFault = 3
 end_status Memory = 5
 
+-- a call was answered by a failed keeper
+pub record HasFailedCall (store : Store) (old new : Outside) (end : SessionEnd) : Type 0 where
+  pub serves : Serves store old new end
+  pub failed : 1 ≤ serves.last.failed
+
 -- a run of `session` over this store
 pub record IsSession (store : Store) (old new : Outside) (status : ℕ) : Type 0 where
   -- the status is one of these
@@ -84,3 +91,5 @@ pub record IsSession (store : Store) (old new : Outside) (status : ℕ) : Type 0
   pub memory : status ≡ 5 → (new.streams.errors ≡ old.streams.errors) × (IsUnused old new ⊎ Serves store old new Memory)
   -- no count of faults falls
   pub later : NoCountFalls old new
+  -- 5: the count of no stream rose, and the opener's only where a call was answered by a failed keeper
+  pub quiet : status ≡ 5 → NeverRises old.streams new.streams × ((new.stores.faults ≡ old.stores.faults) ⊎ HasFailedCall store old new Memory)

@@ -1,6 +1,6 @@
 //! The command `session`.
 
-ghost use Rattle.std.specs.Prelude.{◌≡◌, ◌≤◌, [], Some};
+ghost use Rattle.std.specs.Prelude.{◌≡◌, ◌≤◌, ◌⊎◌, [], Some};
 ghost use Rattle.ipam_keeper.specs.Keeping.{started};
 ghost use Rattle.register_core.specs.Opened.{IsOpened};
 ghost use Rattle.command_streams.specs.Streams.{Told, streams, told};
@@ -42,15 +42,17 @@ fn serve_opened<So: Source, Si: Sink, O: KeeperOpener>(
     opener: &mut O,
 ) -> SessionEnd
     requires log { register.log ≡ [] }
-    ensures serves { (store : AskedStore) (first : Stores) (errors : Told) → O.lent opener.old ≡ Some store.db → first.stored ≡ O.stored opener.old → first.faults ≤ O.faults opener.old
+    ensures serves { (store : AskedStore) (first : Stores) (errors : Told) → O.lent opener.old ≡ Some store.db → first.stored ≡ O.stored opener.old → O.faults opener.old ≡ first.faults → O.Kept.faults register.keeper ≡ 0
         → IsOpened (started first.stored store.db) store.global_unique register.state
         → O.Kept.told register.keeper ≡ started first.stored store.db
         → Serves store (outside (streams (told So.left So.faults input.old) (told Si.written Si.faults output.old) errors) first)
         (outside (streams (told So.left So.faults input.new) (told Si.written Si.faults output.new) errors) (stores O.stored O.faults opener.new)) result }
     ensures source_later { So.faults input.old ≤ So.faults input.new }
     ensures source { result ≡ SessionEnd.SourceFault → EdgeRose (So.faults input.old) (So.faults input.new) }
+    ensures source_kept { (result ≡ SessionEnd.SourceFault) ⊎ (So.faults input.new ≡ So.faults input.old) }
     ensures sink_later { Si.faults output.old ≤ Si.faults output.new }
     ensures sink { result ≡ SessionEnd.SinkFault → EdgeRose (Si.faults output.old) (Si.faults output.new) }
+    ensures sink_kept { (result ≡ SessionEnd.SinkFault) ⊎ (Si.faults output.new ≡ Si.faults output.old) }
     ensures later { O.faults opener.old ≤ O.faults opener.new }
 {
     let (register, end) = serve_kept(alloc, routes, register, input, output);

@@ -1,12 +1,13 @@
 -- What a store holds behind a keeper that went back, and what is said of a fault of tables.
-use Rattle.std.proofs.Common.{◌≡◌, ℕ, ◌≤◌, List, inl, inr, Option, Some, None, Bool, true, false, bytes_eq, refl, subst, sym, ◌∙◌, arith}
+use Rattle.std.proofs.Common.{◌≡◌, ℕ, ◌≤◌, ◌⊎◌, List, inl, inr, Option, Some, None, Bool, true, false, bytes_eq, refl, subst, sym, ap, ◌∙◌, arith}
 use Rattle.std.proofs.lemmas.Slice.Eq.{bytes_eq-Decides}
 use Rattle.stored_tables.specs.declared.tables.Tables.{Tables}
 use Rattle.stored_tables.specs.declared.opening.OpenFault.{OpenFault}
 use Rattle.stored_tables.specs.declared.opening.OpenFault.TheVariants.{Keeper, BadTables, Memory, BadRow, Version, BadNext, Limit}
 use Rattle.ipam_keeper.specs.Keeping.{Rose, IsRaised, started, tables_at, IsReturned, AreGiven}
+use Rattle.ipam_edge.proofs.FaultLemmas.{unless}
 use Rattle.command_streams.specs.Streams.{Told, EndsWith}
-use Rattle.command_store.specs.Outside.{AreSame}
+use Rattle.command_store.specs.Outside.{AreSame, Outside, NoCountRises}
 use Rattle.command_store.specs.FaultWords.{IsSaid, fault_line}
 
 -- tables that were not used are as they were
@@ -62,3 +63,27 @@ said_of_tables (BadRow kind n) old new message status k m is ends = inl (subst (
 said_of_tables (Version n) old new message status k m is ends = inl (subst (λ (t : List ℕ). EndsWith old new t 1 status) is ends)
 said_of_tables (BadNext kind) old new message status k m is ends = inl (subst (λ (t : List ℕ). EndsWith old new t 1 status) is ends)
 said_of_tables (Limit which n) old new message status k m is ends = inl (subst (λ (t : List ℕ). EndsWith old new t 1 status) is ends)
+
+silent_else : (old new : Told) (line : List ℕ) (status : ℕ) → status ≡ 5 → EndsWith old new line 1 status ⊎ ((status ≡ 5) × (new ≡ old)) → new ≡ old
+silent_else old new line status five (inl (inl (one, gains))) = absurd (omega (arith, five, one))
+silent_else old new line status five (inl (inr (three, rest))) = absurd (omega (arith, five, three))
+silent_else old new line status five (inr (same, silent)) = silent
+
+-- for want of memory nothing is said, of no failure of the store
+pub silent_want : (fault : OpenFault) (old new : Told) (status : ℕ) → status ≡ 5 → IsSaid fault old new status → (fault ≡ Keeper → ⊥) × (new ≡ old)
+silent_want Keeper old new status five (inl (four, gains)) = absurd (omega (arith, five, four))
+silent_want Keeper old new status five (inr (three, rest)) = absurd (omega (arith, five, three))
+silent_want Memory old new status five (same, silent) = (λ e. cc e, silent)
+silent_want (BadTables kind n rule) old new status five said = (λ e. cc e, silent_else old new (fault_line (BadTables kind n rule)) status five said)
+silent_want (BadRow kind n) old new status five said = (λ e. cc e, silent_else old new (fault_line (BadRow kind n)) status five said)
+silent_want (Version n) old new status five said = (λ e. cc e, silent_else old new (fault_line (Version n)) status five said)
+silent_want (BadNext kind) old new status five said = (λ e. cc e, silent_else old new (fault_line (BadNext kind)) status five said)
+silent_want (Limit which n) old new status five said = (λ e. cc e, silent_else old new (fault_line (Limit which n)) status five said)
+
+-- an opening that was refused for want of memory, or whose fault could not be said for want of it: no count rose
+pub quiet_refused : (old new : Outside) (fault : OpenFault) (status : ℕ) → (fault ≡ Keeper) ⊎ (new.stores.faults ≡ old.stores.faults)
+    → IsSaid fault old.streams.errors new.streams.errors status → new.streams.input.faults ≡ old.streams.input.faults → new.streams.output.faults ≡ old.streams.output.faults
+    → status ≡ 5 → NoCountRises old new
+quiet_refused old new fault status still said read wrote five =
+    let want = silent_want fault old.streams.errors new.streams.errors status five said in
+    record { streams = record { input = read; output = wrote; errors = ap (λ t. t.faults) want.1 }; stores = unless want.0 still }

@@ -2,7 +2,7 @@
 use Rattle.std.specs.Prelude.{◌≡◌, ℕ, ◌≤◌, ◌⊎◌, List, Option, Some, None}
 use Rattle.stored_tables.specs.declared.tables.Tables.{Tables}
 use Rattle.ipam_keeper.specs.Keeping.{Rose, tables_at}
-use Rattle.command_streams.specs.Streams.{Streams, SomeFailed, NeverFalls}
+use Rattle.command_streams.specs.Streams.{Streams, SomeFailed, NeverFalls, NeverRises}
 
 -- what an opener tells: the tables under each path, where it tells them, and its count of faults
 pub record Stores : Type 0 where
@@ -44,3 +44,8 @@ AnyFailed old new = SomeFailed old.streams new.streams ⊎ StoreFailed old new
 pub record NoCountFalls (old new : Outside) : Type 0 where
   pub streams : NeverFalls old.streams new.streams
   pub stores : old.stores.faults ≤ new.stores.faults
+
+-- no count of faults rose
+pub record NoCountRises (old new : Outside) : Type 0 where
+  pub streams : NeverRises old.streams new.streams
+  pub stores : new.stores.faults ≡ old.stores.faults

@@ -1,6 +1,6 @@
 //! The opening of a register over the store of a command.
 
-ghost use Rattle.std.specs.Prelude.{◌≡◌, ◌≤◌, [], Some, IfOk, IfErr};
+ghost use Rattle.std.specs.Prelude.{◌≡◌, ◌≤◌, ◌⊎◌, [], Some, IfOk, IfErr};
 ghost use Rattle.stored_tables.specs.Opening.{IsOfTables};
 ghost use Rattle.ipam_keeper.specs.Keeping.{Rose, started};
 ghost use Rattle.register_core.specs.Opened.{IsOpened, IsUnopened};
@@ -31,7 +31,7 @@ pub fn path_of(alloc: Global, word: &Option<WordText>) -> Result<Option<Text>, A
     }
 }
 
-/// Starts a keeper for a store. `Err` is `Keeper` only where the opener's count rose.
+/// Starts a keeper for a store, which has not failed. `Err` is `Keeper` only where the opener's count rose, which it does in no other case.
 pub fn start_keeper<O: KeeperOpener>(
     alloc: Global,
     store: &Store,
@@ -41,8 +41,11 @@ pub fn start_keeper<O: KeeperOpener>(
     ensures ok { IfOk result (λ kept. O.lent opener.new ≡ Some store.now.db) }
     ensures stays { O.stored opener.new ≡ O.stored opener.old }
     ensures later { O.faults opener.old ≤ O.faults opener.new }
+    ensures still { IfOk result (λ _. O.faults opener.new ≡ O.faults opener.old) }
+    ensures fresh { IfOk result (λ kept. O.Kept.faults kept ≡ 0) }
     ensures err { IfErr result (λ fault. ¬ IsOfTables fault) }
     ensures cause { IfErr result (λ fault. fault ≡ OpenFault.Keeper → Rose (O.faults opener.old) (O.faults opener.new)) }
+    ensures err_still { IfErr result (λ fault. (fault ≡ OpenFault.Keeper) ⊎ (O.faults opener.new ≡ O.faults opener.old)) }
 {
     let path = match path_of(alloc, &store.db) {
         Ok(path) => path,
@@ -55,8 +58,8 @@ pub fn start_keeper<O: KeeperOpener>(
     }
 }
 
-/// Opens a register over a store. Where that is refused the keeper went back, and told tables are as they were. `Err` is `Keeper`
-/// only where the opener's count rose.
+/// Opens a register over a store, whose keeper has not failed. Where that is refused the keeper went back, and told tables are as they
+/// were. `Err` is `Keeper` only where the opener's count rose, which it does in no other case.
 pub fn open_store<O: KeeperOpener>(
     alloc: Global,
     store: &Store,
@@ -67,10 +70,13 @@ pub fn open_store<O: KeeperOpener>(
     ensures told { IfOk result (λ r. O.Kept.told r.keeper ≡ started (O.stored opener.old) store.now.db) }
     ensures lent { IfOk result (λ r. O.lent opener.new ≡ Some store.now.db) }
     ensures stays { IfOk result (λ r. O.stored opener.new ≡ O.stored opener.old) }
+    ensures still { IfOk result (λ r. O.faults opener.new ≡ O.faults opener.old) }
+    ensures fresh { IfOk result (λ r. O.Kept.faults r.keeper ≡ 0) }
     ensures later { O.faults opener.old ≤ O.faults opener.new }
     ensures fault { IfErr result (λ fault. IsOfTables fault → IsUnopened (started (O.stored opener.old) store.now.db) store.now.global_unique fault) }
     ensures same { IfErr result (λ fault. AreSame (O.stored opener.old) (O.stored opener.new)) }
     ensures cause { IfErr result (λ fault. fault ≡ OpenFault.Keeper → Rose (O.faults opener.old) (O.faults opener.new)) }
+    ensures err_still { IfErr result (λ fault. (fault ≡ OpenFault.Keeper) ⊎ (O.faults opener.new ≡ O.faults opener.old)) }
 {
     let kept = match start_keeper(alloc, store, opener) {
         Ok(kept) => kept,

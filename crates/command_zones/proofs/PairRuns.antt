@@ -1,12 +1,13 @@
 -- What a run of `reverse-read` leaves, as the command's record has it, by where it ended; and what is known of an input that was read whole.
-use Rattle.std.proofs.Common.{◌≡◌, ℕ, ◌⊎◌, List, [], inl, inr, Option, Some, None, IfSome, subst, sym, arith}
+use Rattle.std.proofs.Common.{◌≡◌, ℕ, ◌⊎◌, List, [], inl, inr, Option, Some, None, IfSome, subst, sym, ap, arith}
 use Rattle.std.specs.Str.Lines.{lines}
 use Rattle.ipam_edge.specs.Whole.{IsWhole}
+use Rattle.ipam_edge.proofs.FaultLemmas.{unless}
 use Rattle.reverse_zone.specs.declared.record.Pair.{Pair}
 use Rattle.reverse_zone.specs.declared.input.PtrFault.{PtrFault}
 use Rattle.reverse_zone.specs.declared.input.PtrFault.TheVariants as ptr
 use Rattle.reverse_zone.specs.Inputs.{ArePairsOf, IsFirstRefused}
-use Rattle.command_streams.specs.Streams.{Told, Streams, NeverFalls}
+use Rattle.command_streams.specs.Streams.{Told, Streams, NeverFalls, NeverRises}
 use Rattle.command_zones.specs.declared.pairs.ReadRefusal.{ReadRefusal}
 use Rattle.command_zones.specs.declared.pairs.ReadRefusal.TheVariants.{TooLong, Line}
 use Rattle.command_zones.specs.declared.pairs.ReadStop.{ReadStop}
@@ -50,7 +51,7 @@ module _ (items bytes : List ℕ) (same : bytes ≡ items) where
 
 -- ---- the run
 
-module _ (old new : Streams) (status : ℕ) (later : NeverFalls old new) where
+module _ (old new : Streams) (status : ℕ) (later : NeverFalls old new) (quiet : status ≡ 5 → NeverRises old new) where
   at_memory : status ≡ 5 → new.output ≡ old.output → new.errors ≡ old.errors → IsReverseRead old new status
   at_memory five output errors = record {
     statuses = inr (inr (inr five));
@@ -59,6 +60,7 @@ module _ (old new : Streams) (status : ℕ) (later : NeverFalls old new) where
     fault = λ z. absurd (omega arith);
     memory = λ z. (output, errors);
     later = later;
+    quiet = quiet;
   }
 
   at_fault : status ≡ 3 → FailsToRead old new ⊎ FailsToPrint old new ⊎ FailsToSayRead old new → IsReverseRead old new status
@@ -69,6 +71,7 @@ module _ (old new : Streams) (status : ℕ) (later : NeverFalls old new) where
     fault = λ z. fault;
     memory = λ z. absurd (omega arith);
     later = later;
+    quiet = quiet;
   }
 
   -- the pairs were printed, or could not be
@@ -81,6 +84,7 @@ module _ (old new : Streams) (status : ℕ) (later : NeverFalls old new) where
     fault = λ z. absurd (omega arith);
     memory = λ z. absurd (omega arith);
     later = later;
+    quiet = quiet;
   }
   of_pairs pairs given (inl (inr (three, failed, front))) errors =
       at_fault three (inr (inl (record { failed = failed; pairs = pairs; given = given; front = front; errors = errors })))
@@ -95,6 +99,7 @@ module _ (old new : Streams) (status : ℕ) (later : NeverFalls old new) where
     fault = λ z. absurd (omega arith);
     memory = λ z. absurd (omega arith);
     later = later;
+    quiet = quiet;
   }
   named refusal cause (inl (inr (three, failed, front))) output =
       at_fault three (inr (inr (record { failed = failed; refusal = refusal; cause = cause; front = front; output = output })))
@@ -106,3 +111,23 @@ module _ (old new : Streams) (status : ℕ) (later : NeverFalls old new) where
   of_stop Unread failed said output = at_fault said.0 (inl (record { failed = failed; output = output; errors = said.1 }))
   of_stop (Refused refusal) cause said output = named refusal cause said output
   of_stop Memory cause said output = at_memory said.0 output said.1
+
+-- ---- out of memory
+
+-- where memory ran out to print pairs, no count rose
+pub quiet_pairs : (old new : Streams) (status : ℕ) (pairs : List Pair) → new.input.faults ≡ old.input.faults → IsPairsSaid pairs old.output new.output status → new.errors ≡ old.errors
+    → status ≡ 5 → NeverRises old new
+quiet_pairs old new status pairs read (inl (inl e)) silent five = (let zero_ = e.0 in absurd (omega arith))
+quiet_pairs old new status pairs read (inl (inr e)) silent five = (let three = e.0 in absurd (omega arith))
+quiet_pairs old new status pairs read (inr e) silent five = record { input = read; output = ap (λ (t : Told). t.faults) e.1; errors = ap (λ (t : Told). t.faults) silent }
+
+-- nor where the input gave none
+pub quiet_stop : (old new : Streams) (status : ℕ) (stop : ReadStop) → (stop ≡ Unread) ⊎ (new.input.faults ≡ old.input.faults) → IsReadStopSaid stop old.errors new.errors status
+    → new.output ≡ old.output → status ≡ 5 → NeverRises old new
+quiet_stop old new status Unread kept said output five = (let three = said.0 in absurd (omega arith))
+quiet_stop old new status (Refused refusal) kept (inl (inl e)) output five = (let one = e.0 in absurd (omega arith))
+quiet_stop old new status (Refused refusal) kept (inl (inr e)) output five = (let three = e.0 in absurd (omega arith))
+quiet_stop old new status (Refused refusal) kept (inr e) output five =
+    record { input = unless (λ k. cc k) kept; output = ap (λ (t : Told). t.faults) output; errors = ap (λ (t : Told). t.faults) e.1 }
+quiet_stop old new status Memory kept said output five =
+    record { input = unless (λ k. cc k) kept; output = ap (λ (t : Told). t.faults) output; errors = ap (λ (t : Told). t.faults) said.1 }

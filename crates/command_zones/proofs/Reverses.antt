@@ -1,13 +1,13 @@
 -- What a run of `reverse` leaves, as the command's record has it, by where it ended.
-use Rattle.std.proofs.Common.{◌≡◌, ℕ, ◌⊎◌, inl, inr, Ok, Err, refl, arith}
+use Rattle.std.proofs.Common.{◌≡◌, ℕ, ◌⊎◌, inl, inr, Ok, Err, refl, ap, arith}
 use Rattle.ipam_data.specs.State.{State}
 use Rattle.stored_tables.specs.declared.opening.OpenFault.{OpenFault}
 use Rattle.stored_tables.specs.declared.opening.OpenFault.TheVariants.{Keeper, BadTables, Memory, BadRow, Version, BadNext, Limit}
 use Rattle.stored_tables.specs.Opening.{IsOfTables}
 use Rattle.register_core.specs.Opened.{IsUnopened}
 use Rattle.command_words.specs.declared.asked.Store.{Store}
-use Rattle.command_streams.specs.Streams.{EndsWith}
-use Rattle.command_store.specs.Outside.{Outside, StoreFailed, IsUnused, AreSame, NoCountFalls}
+use Rattle.command_streams.specs.Streams.{Told, EndsWith}
+use Rattle.command_store.specs.Outside.{Outside, StoreFailed, IsUnused, AreSame, NoCountFalls, NoCountRises}
 use Rattle.command_store.specs.FaultWords.{IsSaid, fault_line}
 use Rattle.command_store.specs.Opening.{found_tables, IsLoaded, IsBadStore, NamesFault, NamesFailure, FailsToSay}
 use Rattle.command_zones.specs.declared.zone.ZoneRefusal.{ZoneRefusal}
@@ -22,7 +22,7 @@ pub record IsKept (old new : Outside) : Type 0 where
   pub stored : AreSame old.stores.stored new.stores.stored
   pub later : NoCountFalls old new
 
-module _ (id : ℕ) (store : Store) (old new : Outside) (status : ℕ) where
+module _ (id : ℕ) (store : Store) (old new : Outside) (status : ℕ) (quiet : status ≡ 5 → NoCountRises old new) where
   at_done : status ≡ 0 → PrintsZone id store old new → IsKept old new → IsReverse id store old new status
   at_done zero done kept = record {
     statuses = inl zero;
@@ -34,6 +34,7 @@ module _ (id : ℕ) (store : Store) (old new : Outside) (status : ℕ) where
     input = kept.input;
     keeps = kept.stored;
     later = kept.later;
+    quiet = quiet;
   }
 
   at_refused : status ≡ 1 → NamesFault store old new ⊎ NamesZoneRefusal id store old new → IsKept old new → IsReverse id store old new status
@@ -47,6 +48,7 @@ module _ (id : ℕ) (store : Store) (old new : Outside) (status : ℕ) where
     input = kept.input;
     keeps = kept.stored;
     later = kept.later;
+    quiet = quiet;
   }
 
   at_fault : status ≡ 3 → PrintsZoneFront id store old new ⊎ FailsToSay store old new ⊎ FailsToSayRefusal id store old new → IsKept old new
@@ -61,6 +63,7 @@ module _ (id : ℕ) (store : Store) (old new : Outside) (status : ℕ) where
     input = kept.input;
     keeps = kept.stored;
     later = kept.later;
+    quiet = quiet;
   }
 
   at_store : status ≡ 4 → NamesFailure old new → IsKept old new → IsReverse id store old new status
@@ -74,6 +77,7 @@ module _ (id : ℕ) (store : Store) (old new : Outside) (status : ℕ) where
     input = kept.input;
     keeps = kept.stored;
     later = kept.later;
+    quiet = quiet;
   }
 
   at_memory : status ≡ 5 → new.streams.output ≡ old.streams.output → new.streams.errors ≡ old.streams.errors → IsKept old new
@@ -88,6 +92,7 @@ module _ (id : ℕ) (store : Store) (old new : Outside) (status : ℕ) where
     input = kept.input;
     keeps = kept.stored;
     later = kept.later;
+    quiet = quiet;
   }
 
   kept_by : IsUnused old new → NoCountFalls old new → IsKept old new
@@ -136,3 +141,15 @@ module _ (id : ℕ) (store : Store) (old new : Outside) (status : ℕ) where
   of_stop (Refused refusal) state loaded (cause, output) said kept = named refusal (state, loaded, cause) said output kept
   of_stop Unwritten state loaded (text, is, failed, front) said kept = at_fault said.0 (inl (text, (state, loaded, is), failed, front, said.1)) kept
   of_stop NoMemory state loaded output said kept = at_memory said.0 output said.1 kept
+
+-- where the names were not printed for want of memory, no count rose
+pub quiet_stop : (id : ℕ) (old new : Outside) (status : ℕ) (stop : ZoneStop) (state : State) → IsZoneEnd state id old.streams.output new.streams.output (Err stop)
+    → IsZoneStopSaid stop old.streams.errors new.streams.errors status → new.streams.input.faults ≡ old.streams.input.faults → new.stores.faults ≡ old.stores.faults
+    → status ≡ 5 → NoCountRises old new
+quiet_stop id old new status (Refused refusal) state (cause, output) (inl (inl e)) read still five = (let one = e.0 in absurd (omega arith))
+quiet_stop id old new status (Refused refusal) state (cause, output) (inl (inr e)) read still five = (let three = e.0 in absurd (omega arith))
+quiet_stop id old new status (Refused refusal) state (cause, output) (inr e) read still five =
+    record { streams = record { input = read; output = ap (λ (t : Told). t.faults) output; errors = ap (λ (t : Told). t.faults) e.1 }; stores = still }
+quiet_stop id old new status Unwritten state end_ said read still five = (let three = said.0 in absurd (omega arith))
+quiet_stop id old new status NoMemory state output said read still five =
+    record { streams = record { input = read; output = ap (λ (t : Told). t.faults) output; errors = ap (λ (t : Told). t.faults) said.1 }; stores = still }

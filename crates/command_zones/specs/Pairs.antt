@@ -9,7 +9,7 @@ use Rattle.reverse_zone.specs.declared.record.Pair.{Pair}
 use Rattle.reverse_zone.specs.declared.input.PtrFault.{PtrFault}
 use Rattle.reverse_zone.specs.declared.input.PtrFault.TheVariants as ptr
 use Rattle.reverse_zone.specs.Inputs.{ArePairsOf, IsFirstRefused}
-use Rattle.command_streams.specs.Streams.{Told, Streams, EndsWith, Gains, GainsFront, Failed, NeverFalls}
+use Rattle.command_streams.specs.Streams.{Told, Streams, EndsWith, Gains, GainsFront, Failed, NeverFalls, NeverRises}
 use Rattle.command_zones.specs.declared.pairs.ReadRefusal.{ReadRefusal}
 use Rattle.command_zones.specs.declared.pairs.ReadRefusal.TheVariants.{TooLong, Line}
 use Rattle.command_zones.specs.declared.pairs.ReadStop.{ReadStop}
@@ -126,3 +126,5 @@ pub record IsReverseRead (old new : Streams) (status : ℕ) : Type 0 where
   -- 5: out of memory. Nothing was printed, and nothing said
   pub memory : status ≡ 5 → (new.output ≡ old.output) × (new.errors ≡ old.errors)
   pub later : NeverFalls old new
+  -- 5: no count of faults rose
+  pub quiet : status ≡ 5 → NeverRises old new

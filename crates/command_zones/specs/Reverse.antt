@@ -6,7 +6,7 @@ use Rattle.ipam_data.specs.State.{State}
 use Rattle.ipam_words.specs.Lines.{refusal_line}
 use Rattle.command_words.specs.declared.asked.Store.{Store}
 use Rattle.command_streams.specs.Streams.{Told, EndsWith, Gains, GainsFront, Failed}
-use Rattle.command_store.specs.Outside.{Outside, AreSame, NoCountFalls}
+use Rattle.command_store.specs.Outside.{Outside, AreSame, NoCountFalls, NoCountRises}
 use Rattle.command_store.specs.Opening.{IsLoaded, NamesFault, NamesFailure, FailsToSay}
 use Rattle.command_zones.specs.declared.zone.ZoneRefusal.{ZoneRefusal}
 use Rattle.command_zones.specs.declared.zone.ZoneRefusal.TheVariants.{Absent, Unfit}
@@ -84,3 +84,5 @@ pub record IsReverse (id : ℕ) (store : Store) (old new : Outside) (status : �
   pub input : new.streams.input ≡ old.streams.input
   pub keeps : AreSame old.stores.stored new.stores.stored
   pub later : NoCountFalls old new
+  -- 5: no count of faults rose
+  pub quiet : status ≡ 5 → NoCountRises old new

@@ -1,6 +1,6 @@
 //! The command `reverse-read`.
 
-ghost use Rattle.std.specs.Prelude.{◌≡◌, ◌≤◌, ◌++◌, IfOk, IfErr, OnOk, string_bytes};
+ghost use Rattle.std.specs.Prelude.{◌≡◌, ◌≤◌, ◌⊎◌, ◌++◌, IfOk, IfErr, IsErrOf, OnOk, string_bytes};
 ghost use Rattle.command_streams.specs.Streams.{streams, told};
 ghost use Rattle.command_zones.specs.Pairs.{pair_text_of, pairs_text_of, GivesPairs, IsReadStop, IsStopBy, IsPairsSaid, IsReverseRead};
 ghost use Rattle.command_zones.specs.Pairs.{long_text, read_refusal_text, NamesReadRefusal, IsReadStopSaid};
@@ -54,6 +54,7 @@ fn read_pairs<So: Source>(alloc: Global, input: &mut So) -> Result<Vec<Pair>, Re
     ensures pairs { IfOk result (λ v. GivesPairs (told So.left So.faults input.old) (told So.left So.faults input.new) v.items) }
     ensures stop { IfErr result (IsReadStop (told So.left So.faults input.old) (told So.left So.faults input.new)) }
     ensures later { So.faults input.old ≤ So.faults input.new }
+    ensures kept { IsErrOf result ReadStop.Unread ⊎ (So.faults input.new ≡ So.faults input.old) }
 {
     let bytes = match read_whole(alloc, input, MOST_BYTES) {
         Ok(bytes) => bytes,

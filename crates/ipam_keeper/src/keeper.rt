@@ -1,6 +1,6 @@
 //! What a keeper and an opener do, whatever they keep tables in.
 
-ghost use Rattle.std.specs.Prelude.{◌≡◌, ℕ, ◌≤◌, List, Option, option_map, option_copied, IfOk, OnOk, OnErr, IsErrOf};
+ghost use Rattle.std.specs.Prelude.{◌≡◌, ℕ, ◌≤◌, ◌⊎◌, List, Option, option_map, option_copied, IfOk, OnOk, OnErr, IsErrOf};
 ghost use Rattle.stored_tables.specs.declared.tables.Tables.{Tables as StoredTables};
 ghost use Rattle.stored_tables.specs.Stored.{changed};
 ghost use Rattle.stored_tables.specs.Order.{AreTables};
@@ -32,23 +32,27 @@ pub trait Keeper {
     /// The tables that it keeps, where it tells them.
     ghost told: { Self → Option StoredTables };
 
-    /// How often it has failed. The count never falls.
+    /// How often it has failed. The count never falls, and rises in calls that fail alone.
     ghost faults: { Self → ℕ };
 
-    /// The tables that it keeps, in order. It leaves them. `Err` is `Failed` only where the count rose.
+    /// The tables that it keeps, in order. It leaves them. `Err` is `Failed` only where the count rose, which it does
+    /// in no other case.
     fn load(&mut self) -> Result<Tables, KeepFault>
         ensures told { IfOk result (λ tables. IsTold (told self.old) tables) }
         ensures order { IfOk result (λ tables. AreTables tables) }
         ensures stays { told self.new ≡ told self.old }
         ensures later { faults self.old ≤ faults self.new }
-        ensures failed { IsErrOf result KeepFault.Failed → Rose (faults self.old) (faults self.new) };
+        ensures failed { IsErrOf result KeepFault.Failed → Rose (faults self.old) (faults self.new) }
+        ensures still { IsErrOf result KeepFault.Failed ⊎ (faults self.new ≡ faults self.old) };
 
-    /// Makes a change, whole or not at all. `Err` is `Failed` only where the count rose, and leaves the tables.
+    /// Makes a change, whole or not at all. `Err` is `Failed` only where the count rose, which it does in no other case, and
+    /// leaves the tables.
     fn apply(&mut self, change: &Change) -> Result<(), KeepFault>
         ensures ok { OnOk result (told self.new ≡ option_map (changed change.now) (told self.old)) }
         ensures err { OnErr result (told self.new ≡ told self.old) }
         ensures later { faults self.old ≤ faults self.new }
-        ensures failed { IsErrOf result KeepFault.Failed → Rose (faults self.old) (faults self.new) };
+        ensures failed { IsErrOf result KeepFault.Failed → Rose (faults self.old) (faults self.new) }
+        ensures still { IsErrOf result KeepFault.Failed ⊎ (faults self.new ≡ faults self.old) };
 }
 
 /// What starts keepers, one at a time: over the tables of a path, or over empty tables of their own.
@@ -61,18 +65,21 @@ pub trait KeeperOpener {
     /// The path of the keeper that was started last and is not back, where one is out; one may have no path.
     ghost lent: { Self → Option (Option (List ℕ)) };
 
-    /// How often it or a keeper that came back has failed. The count never falls.
+    /// How often it or a keeper that came back has failed. The count never falls, and rises where one of them failed alone.
     ghost faults: { Self → ℕ };
 
     /// A keeper over the tables of this path, which are the empty ones where none stand there; without a path over empty tables. It
-    /// changes no path, also where it is refused. `Err` is `Failed` only where the count rose, and leaves out what was out.
+    /// has not failed. No path is changed, also where it is refused. `Err` is `Failed` only where the count rose, which it does in no
+    /// other case, and leaves out what was out.
     fn start(&mut self, path: Option<&Text>) -> Result<Self::Kept, KeepFault>
         ensures told { IfOk result (λ kept. Self.Kept.told kept ≡ started (stored self.old) (option_copied path.entry)) }
+        ensures fresh { IfOk result (λ kept. Self.Kept.faults kept ≡ 0) }
         ensures stays { stored self.new ≡ stored self.old }
         ensures ok { OnOk result (lent self.new ≡ Some (option_copied path.entry)) }
         ensures err { OnErr result (lent self.new ≡ lent self.old) }
         ensures later { faults self.old ≤ faults self.new }
-        ensures failed { IsErrOf result KeepFault.Failed → Rose (faults self.old) (faults self.new) };
+        ensures failed { IsErrOf result KeepFault.Failed → Rose (faults self.old) (faults self.new) }
+        ensures still { IsErrOf result KeepFault.Failed ⊎ (faults self.new ≡ faults self.old) };
 
     /// Takes back the keeper that was started last: its tables are then those of its path, and all other paths are as before. It
     /// takes no memory. The count rises by the keeper's, or up to its last value.

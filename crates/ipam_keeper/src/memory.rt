@@ -147,6 +147,7 @@ impl Keeper for MemoryKeeper {
         ensures stays { Some self.new.tables ≡ Some self.old.tables }
         ensures later { self.old.faults ≤ self.new.faults }
         ensures failed { IsErrOf result KeepFault.Failed → Rose self.old.faults self.new.faults }
+        ensures still { IsErrOf result KeepFault.Failed ⊎ (self.new.faults ≡ self.old.faults) }
         ensures fails { IsErrOf result KeepFault.Failed ↔ IsTrue (is_failing self.old) }
         ensures counted { self.new ≡ counted self.old }
     {
@@ -167,6 +168,7 @@ impl Keeper for MemoryKeeper {
         ensures err { OnErr result (Some self.new.tables ≡ Some self.old.tables) }
         ensures later { self.old.faults ≤ self.new.faults }
         ensures failed { IsErrOf result KeepFault.Failed → Rose self.old.faults self.new.faults }
+        ensures still { IsErrOf result KeepFault.Failed ⊎ (self.new.faults ≡ self.old.faults) }
         ensures fails { IsErrOf result KeepFault.Failed ↔ IsTrue (is_failing self.old) }
         ensures held { MatchResult result (λ done. self.new ≡ holding (counted self.old) (changed change.now self.old.tables)) (λ fault. self.new ≡ counted self.old) }
     {

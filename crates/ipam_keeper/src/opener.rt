@@ -1,6 +1,6 @@
 //! An opener of keepers in memory.
 
-ghost use Rattle.std.specs.Prelude.{◌≡◌, ℕ, ◌+◌, ◌<◌, ◌≤◌, min, List, Some, None, option_copied, IfOk, OnOk, OnErr, IsErrOf, vec_len, vec_capacity};
+ghost use Rattle.std.specs.Prelude.{◌≡◌, ℕ, ◌+◌, ◌<◌, ◌≤◌, ◌⊎◌, min, List, Some, None, option_copied, IfOk, OnOk, OnErr, IsErrOf, vec_len, vec_capacity};
 ghost use Rattle.std.specs.List.{position};
 ghost use Rattle.stored_tables.specs.Order.{AreTables, empty_tables as no_rows};
 ghost use Rattle.ipam_keeper.specs.Keeping.{Rose, IsRaised, started, is_under, tables_at, IsReturned};
@@ -143,13 +143,15 @@ impl KeeperOpener for MemoryOpener {
     /// given. It is refused for lack of memory alone.
     fn start(&mut self, path: Option<&Text>) -> Result<MemoryKeeper, KeepFault>
         ensures told { IfOk result (λ kept. Some kept.tables ≡ started (Some self.old.stored) (option_copied path.entry)) }
+        ensures fresh { IfOk result (λ kept. kept.faults ≡ 0) }
         ensures stays { Some self.new.stored ≡ Some self.old.stored }
         ensures ok { OnOk result (self.new.lent ≡ Some (option_copied path.entry)) }
         ensures err { OnErr result (self.new.lent ≡ self.old.lent) }
         ensures later { self.old.faults ≤ self.new.faults }
         ensures failed { IsErrOf result KeepFault.Failed → Rose self.old.faults self.new.faults }
+        ensures still { IsErrOf result KeepFault.Failed ⊎ (self.new.faults ≡ self.old.faults) }
         ensures never { ¬ IsErrOf result KeepFault.Failed }
-        ensures fails { IfOk result (λ kept. (kept.fails ≡ self.old.fails) × (kept.calls ≡ 0) × (kept.faults ≡ 0)) }
+        ensures fails { IfOk result (λ kept. (kept.fails ≡ self.old.fails) × (kept.calls ≡ 0)) }
         ensures same { self.new ≡ record { stored = self.old.stored; fails = self.old.fails; lent = self.new.lent; faults = self.old.faults } }
     {
         let kept = match path {

@@ -1,6 +1,6 @@
 //! A keeper that keeps nothing, for a register that lasts as long as its program.
 
-ghost use Rattle.std.specs.Prelude.{◌≡◌, ℕ, ◌≤◌, None, option_map, IfOk, OnOk, OnErr, IsErrOf};
+ghost use Rattle.std.specs.Prelude.{◌≡◌, ℕ, ◌≤◌, ◌⊎◌, None, option_map, IfOk, OnOk, OnErr, IsErrOf};
 
 use crate::empty::empty_tables;
 use crate::keeper::{KeepFault, Keeper};

@@ -1,11 +1,11 @@
--- Where memory ran out, the call of a request was not made, or it was and its answer is lost.
-use Rattle.std.proofs.Common.{◌≡◌, ℕ, List, OnErr, Result, Ok, Err, subst, refl, inl, inr, length, IfOk}
+-- Where memory ran out, the call of a request was made and its answer is lost.
+use Rattle.std.proofs.Common.{◌≡◌, ℕ, List, OnErr, Result, Ok, Err, subst, refl, length, IfOk}
 use Rattle.ipam_data.specs.declared.calls.Call.{Call}
 use Rattle.ipam_json.specs.Bodies.{OrMemory}
 use Rattle.ipam_json.specs.declared.replies.Links.{Links}
 use Rattle.http_session.specs.declared.reply.Reply.{Reply}
 use Rattle.http_session.specs.Requests.{Framed}
-use Rattle.http_session.specs.Ends.{IsLeft}
+use Rattle.http_session.specs.Talk.{Answer}
 use Rattle.rest_routes.specs.Requests.{Asked, IsRequest}
 use Rattle.ipam_data.specs.declared.replies.Reply.{Reply as Said}
 use Rattle.http_session.specs.Replies.{answer_of}
@@ -26,12 +26,9 @@ own request method target body asked m t b read =
 
 pub lost_kept : {E : Type 0} (old new : Standing) (request : Framed) (method target body : List ℕ) (call : Call) (links : Links) (answer : Result Reply E)
     → method ≡ request.method → target ≡ request.target → body ≡ request.body → IsRead method target body (Ok (call, links))
-    → IsActed old call links answer new → OnErr answer (IsLeft answers_kept old request new)
+    → IsActed old call links answer new → OnErr answer ((a : Answer) × answers_kept.answers old request a new)
 lost_kept old new request method target body call links (Ok a) m t b read acted = tt
-lost_kept old new request method target body call links (Err e) m t b read acted = elim acted [
-  | inl same ↦ inl same
-  | inr made ↦ inr (made.0, (Ok (call, links), own request method target body (Ok (call, links)) m t b read, made.1))
-]
+lost_kept old new request method target body call links (Err e) m t b read acted = (acted.0, (Ok (call, links), own request method target body (Ok (call, links)) m t b read, acted.1))
 
 -- a call that was replied to, with the answer of that reply, or without one
 pub acted : {E : Type 0} (old new : Standing) (call : Call) (links : Links) (said : Said) (result : Result Reply E) (end place : ℕ) → IsReplied old call said new
@@ -41,7 +38,7 @@ acted old new call links said (Ok a) end place replied ends stands is =
     let there = subst (λ (n : ℕ). answer_of a ≡ reply_answer said (finished_links said n links) place) ends is in
     (said, replied, subst (λ (n : ℕ). answer_of a ≡ reply_answer said (finished_links said (end_of call) links) n) stands there)
 acted old new call links said (Err e) end place replied ends stands is =
-    inr (reply_answer said (finished_links said (end_of call) links) (length old.seen.log), (said, replied, refl))
+    (reply_answer said (finished_links said (end_of call) links) (length old.seen.log), (said, replied, refl))
 
 -- the answer to a request that was read, where there is one
 pub kept_answer : {E : Type 0} (old new : Standing) (request : Framed) (method target body : List ℕ) (call : Call) (links : Links) (answer : Result Reply E)

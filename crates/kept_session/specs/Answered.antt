@@ -64,27 +64,33 @@ answers_kept =
       refuses = IsFramingAnswer;
     }
 
--- a call was made and its answer is this; or memory ran out, and all is as before, or the answer is lost
+-- a call was made and its answer is this; or memory ran out, and its answer is lost
 abbrev pub IsActed : {E : Type 0} → Standing → Call → Links → Result Written E → Standing → Type 0
 IsActed old call links (Ok reply) new = IsTold old call links (answer_of reply) new
-IsActed old call links (Err e) new = (new ≡ old) ⊎ ((answer : Answer) × IsTold old call links answer new)
+IsActed old call links (Err e) new = (answer : Answer) × IsTold old call links answer new
 
 -- a register that was opened with this state, before its first request
 abbrev pub fresh : State → Standing
 fresh state = standing (record { state = state; log = [] }) 0
 
--- what is seen of a seat: its standing, and whether its keeper tells its tables
+-- what is seen of a seat: its standing, whether its keeper tells its tables, and its keeper's count of faults
 pub record Attended : Type 0 where
   pub standing : Standing
   pub tells : Bool
+  pub faults : ℕ
 
-abbrev pub attended : {A : Type 0} → Standing → Option A → Attended
-attended standing told = record { standing = standing; tells = is_some told }
+abbrev pub attended : {A : Type 0} → Standing → Option A → ℕ → Attended
+attended standing told faults = record { standing = standing; tells = is_some told; faults = faults }
 
--- a request is answered so, and a keeper that tells its tables goes on telling them; one that tells none goes on so
+-- where no call was answered by a failed keeper, none was before, and the keeper's count did not rise
+abbrev pub IsCalm : ℕ → ℕ → ℕ → ℕ → Type 0
+IsCalm failed_old failed_new old new = failed_new ≡ 0 → (failed_old ≡ 0) × (new ≡ old)
+
+-- a request is answered so, a keeper that tells its tables goes on telling them, one that tells none goes on so, and its count rises only
+-- where a call is answered by a failed keeper
 abbrev pub answers_telling : May Attended
 answers_telling =
     record {
-      answers = λ old request answer new. answers_kept.answers old.standing request answer new.standing × (new.tells ≡ old.tells);
+      answers = λ old request answer new. answers_kept.answers old.standing request answer new.standing × (new.tells ≡ old.tells) × IsCalm old.standing.failed new.standing.failed old.faults new.faults;
       refuses = IsFramingAnswer;
     }

@@ -1,13 +1,13 @@
 //! One connection that has a register over a keeper for itself.
 
-ghost use Rattle.std.specs.Prelude.{◌≡◌, ◌≢◌, ◌≤◌, ◌↔◌, ℕ, List, [], length, IfOk, OnErr, IsSome, MatchBool};
+ghost use Rattle.std.specs.Prelude.{◌≡◌, ◌≢◌, ◌≤◌, ◌⊎◌, ◌↔◌, ℕ, List, [], length, IfOk, OnErr, IsSome, MatchBool};
 ghost use Rattle.ipam_edge.specs.Faults.{Rose};
 ghost use Rattle.http_session.specs.Steps.{framed};
 ghost use Rattle.http_session.specs.Ends.{IsLeft, IsSession};
 ghost use Rattle.http_session.specs.Replies.{answer_of};
 ghost use Rattle.rest_routes.specs.Answers.{IsRefusedAnswer};
 ghost use Rattle.rest_ipam.specs.Answered.{seen_of};
-ghost use Rattle.kept_session.specs.Answered.{Standing, standing, Attended, attended, IsReplied, IsActed, answers_kept, answers_telling};
+ghost use Rattle.kept_session.specs.Answered.{Standing, standing, Attended, attended, IsReplied, IsActed, IsCalm, answers_kept, answers_telling};
 
 use http_session::{Desk, Fault, HttpRequest, Reply as Answer, SessionEnd, serve};
 use ipam_data::calls::Call;
@@ -63,6 +63,7 @@ fn ask<K: Keeper>(register: &mut Register<K>, failed: &mut u64, call: Call) -> R
     requires few { failed.old ≤ K.faults register.old.keeper }
     ensures few { failed.new ≤ K.faults register.new.keeper }
     ensures telling { IsSome (K.told register.old.keeper) ↔ IsSome (K.told register.new.keeper) }
+    ensures calm { IsCalm failed.old failed.new (K.faults register.old.keeper) (K.faults register.new.keeper) }
     ensures replied { IsReplied (standing (seen_of register.old) failed.old) call result (standing (seen_of register.new) failed.new) }
 {
     let reply = register.act(CALLER, call);
@@ -94,6 +95,7 @@ fn act<K: Keeper>(
     requires few { failed.old ≤ K.faults register.old.keeper }
     ensures few { failed.new ≤ K.faults register.new.keeper }
     ensures telling { IsSome (K.told register.old.keeper) ↔ IsSome (K.told register.new.keeper) }
+    ensures calm { IsCalm failed.old failed.new (K.faults register.old.keeper) (K.faults register.new.keeper) }
     ensures acted { IsActed (standing (seen_of register.old) failed.old) call links result (standing (seen_of register.new) failed.new) }
 {
     let place = place_of(register);
@@ -137,7 +139,7 @@ impl<'a, K: Keeper> Desk for KeptDesk<'a, K> {
 
     ghost View = { Attended };
 
-    ghost view = { λ s. attended (standing (seen_of s.register) s.failed) (K.told s.register.keeper) };
+    ghost view = { λ s. attended (standing (seen_of s.register) s.failed) (K.told s.register.keeper) (K.faults s.register.keeper) };
 
     ghost may = { answers_telling };
 
@@ -179,7 +181,7 @@ impl<'a, K: Keeper> Desk for KeptDesk<'a, K> {
 /// `SinkFault` where a write failed, with a shorter front of the last answer written; `Memory` where memory ran out, before a call
 /// reached the register or for the text of a reply that tells something else: that the register wanted memory is answered like any other
 /// reply. As many answers as `failed` says tell that the keeper failed, and the keeper
-/// failed at least as often. A keeper that tells its tables tells them at the end, and one that tells none goes on so.
+/// failed at least as often, and not at all where none tells so. A keeper that tells its tables tells them at the end, and one that tells none goes on so.
 pub fn serve_kept<K: Keeper, So: Source, Si: Sink>(
     alloc: Global,
     routes: &Routes,
@@ -187,13 +189,15 @@ pub fn serve_kept<K: Keeper, So: Source, Si: Sink>(
     source: &mut So,
     sink: &mut Si,
 ) -> (Register<K>, SessionEnd)
-    ensures session { (failed : ℕ) × (failed ≤ K.faults result.0.keeper)
+    ensures session { (failed : ℕ) × (failed ≤ K.faults result.0.keeper) × (failed ≡ 0 → K.faults result.0.keeper ≡ K.faults register.keeper)
         × IsSession answers_kept So.reads (standing (seen_of register) 0) (standing (seen_of result.0) failed) source.old source.new (So.left source.old) (So.left source.new) (Si.written sink.old) (Si.written sink.new) result.1 }
     ensures telling { IsSome (K.told register.keeper) ↔ IsSome (K.told result.0.keeper) }
     ensures source_later { So.faults source.old ≤ So.faults source.new }
     ensures source { result.1 ≡ SessionEnd.SourceFault → Rose (So.faults source.old) (So.faults source.new) }
+    ensures source_kept { (result.1 ≡ SessionEnd.SourceFault) ⊎ (So.faults source.new ≡ So.faults source.old) }
     ensures sink_later { Si.faults sink.old ≤ Si.faults sink.new }
     ensures sink { result.1 ≡ SessionEnd.SinkFault → Rose (Si.faults sink.old) (Si.faults sink.new) }
+    ensures sink_kept { (result.1 ≡ SessionEnd.SinkFault) ⊎ (Si.faults sink.new ≡ Si.faults sink.old) }
 {
     let desk = KeptDesk {
         routes,

@@ -1,6 +1,6 @@
 //! A register of stored tables.
 
-ghost use Rattle.std.specs.Prelude.{◌≡◌, ℕ, ◌≤◌, [], None, IfOk, IfErr};
+ghost use Rattle.std.specs.Prelude.{◌≡◌, ℕ, ◌≤◌, ◌⊎◌, [], None, IfOk, IfErr};
 ghost use Rattle.ipam_data.specs.Lawful.{IsLawful};
 ghost use Rattle.stored_tables.specs.Order.{AreTables};
 ghost use Rattle.stored_tables.specs.Stored.{Tells};
@@ -75,10 +75,12 @@ fn load_row_tables<K: Keeper + Drop>(
     ensures told { IfOk result (λ r. K.told r.1 ≡ K.told keeper) }
     ensures tells { IfOk result (λ r. Tells (K.told r.1) (state_of r.0)) }
     ensures later { IfOk result (λ r. K.faults keeper ≤ K.faults r.1) }
+    ensures still { IfOk result (λ r. K.faults r.1 ≡ K.faults keeper) }
     ensures fault { IfErr result (λ e. IsOfTables e.1 → IsUnopened (K.told keeper) settings.global_unique e.1) }
     ensures cause { IfErr result (λ e. e.1 ≡ OpenFault.Keeper → Rose (K.faults keeper) (K.faults e.0)) }
     ensures err_told { IfErr result (λ e. K.told e.0 ≡ K.told keeper) }
     ensures err_later { IfErr result (λ e. K.faults keeper ≤ K.faults e.0) }
+    ensures err_still { IfErr result (λ e. (e.1 ≡ OpenFault.Keeper) ⊎ (K.faults e.0 ≡ K.faults keeper)) }
 {
     let mut keeper = keeper;
     let tables = match keeper.load() {
@@ -102,7 +104,8 @@ fn load_row_tables<K: Keeper + Drop>(
 /// `Err` is `Version` exactly where the version is not 1; `BadRow` exactly where a row has id 0 or can't be read, the first such;
 /// `Limit` exactly where a kind has more rows than it may, the first such; `BadTables` exactly where a row breaks a rule beside the
 /// rows before it, the first such with its first rule, references first; `BadNext` exactly where a next id is absent, 0 or not above
-/// all ids of its kind, the first such kind; `Keeper` only where the keeper failed in this call; `Memory` for lack of memory.
+/// all ids of its kind, the first such kind; `Keeper` only where the keeper failed in this call, whose count rises in no other case; `Memory`
+/// for lack of memory.
 pub fn open<K: Keeper + Drop>(
     alloc: Global,
     keeper: K,
@@ -112,10 +115,12 @@ pub fn open<K: Keeper + Drop>(
     ensures fresh { IfOk result (λ r. r ≡ record { opening = r.state; state = r.state; log = []; last = None; keeper = r.keeper }) }
     ensures told { IfOk result (λ r. K.told r.keeper ≡ K.told keeper) }
     ensures later { IfOk result (λ r. K.faults keeper ≤ K.faults r.keeper) }
+    ensures still { IfOk result (λ r. K.faults r.keeper ≡ K.faults keeper) }
     ensures fault { IfErr result (λ e. IsOfTables e.1 → IsUnopened (K.told keeper) settings.global_unique e.1) }
     ensures cause { IfErr result (λ e. e.1 ≡ OpenFault.Keeper → Rose (K.faults keeper) (K.faults e.0)) }
     ensures err_told { IfErr result (λ e. K.told e.0 ≡ K.told keeper) }
     ensures err_later { IfErr result (λ e. K.faults keeper ≤ K.faults e.0) }
+    ensures err_still { IfErr result (λ e. (e.1 ≡ OpenFault.Keeper) ⊎ (K.faults e.0 ≡ K.faults keeper)) }
 {
     match load_row_tables(alloc, keeper, settings) {
         Ok((row_tables, keeper)) => Ok(Register::over(alloc, Books::of(row_tables), keeper)),

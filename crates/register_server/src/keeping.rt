@@ -1,8 +1,9 @@
 //! A register over a keeper from its opening to the end of its service.
-ghost use Rattle.std.specs.Prelude.{◌≡◌, ◌≤◌, ◌+◌, [], IfOk, length, vec_capacity};
+ghost use Rattle.std.specs.Prelude.{◌≡◌, ◌≤◌, ◌⊎◌, ◌+◌, [], IfOk, IsErrOf, length, vec_capacity};
 ghost use Rattle.ipam_edge.specs.Faults.{Rose};
 ghost use Rattle.ipam_listen.specs.Connections.{binding};
 ghost use Rattle.stored_tables.specs.Stored.{Tells};
+ghost use Rattle.stored_tables.specs.declared.opening.OpenFault.{OpenFault};
 ghost use Rattle.register_server.specs.Serving.{IsKeeperOutcome, IsListened, IsListening, IsOutcome, IsServedWhole};
 
 use crate::ending::{Listening, Served, Unserved};
@@ -81,6 +82,7 @@ fn serve_shared<R: Threads + Wait + Sync, K: Keeper + Drop + Send, L: Listener>(
     ensures bound { IfOk result.1 (λ _. L.bound listener.new ≡ binding at.items connections) }
     ensures listened { IsListened ((L.lanes listener.new ≡ L.lanes listener.old + workers) × (L.faults listener.new ≡ L.faults listener.old)) (Rose (L.faults listener.old) (L.faults listener.new)) (listener.new ≡ listener.old) result.1 }
     ensures later { L.faults listener.old ≤ L.faults listener.new }
+    ensures opened { (fault : OpenFault) → ¬ IsErrOf result.1 (Unserved.Opening fault) }
 {
     match listener.bind(at, connections) {
         Ok(()) => {
@@ -114,6 +116,7 @@ fn serve_register<R: Threads + Wait + Sync, K: Keeper + Drop + Send, L: Listener
     ensures bound { IfOk result.1 (λ _. L.bound listener.new ≡ binding at.items connections) }
     ensures listened { IsListened ((L.lanes listener.new ≡ L.lanes listener.old + workers) × (L.faults listener.new ≡ L.faults listener.old)) (Rose (L.faults listener.old) (L.faults listener.new)) (listener.new ≡ listener.old) result.1 }
     ensures later { L.faults listener.old ≤ L.faults listener.new }
+    ensures still { (fault : OpenFault) → IsErrOf result.1 (Unserved.Opening fault) → K.faults result.0 ≡ K.faults register.keeper }
 {
     register.told();
     let Ok(hired) = Vec::with_capacity(alloc, workers as usize) else {
@@ -161,6 +164,7 @@ pub fn serve_keeper<R: Threads + Wait + Sync, K: Keeper + Drop + Send, L: Listen
     ensures bound { IfOk result.1 (λ _. L.bound listener.new ≡ binding at.items connections) }
     ensures listened { IsListened ((L.lanes listener.new ≡ L.lanes listener.old + workers) × (L.faults listener.new ≡ L.faults listener.old)) (Rose (L.faults listener.old) (L.faults listener.new)) (listener.new ≡ listener.old) result.1 }
     ensures later { L.faults listener.old ≤ L.faults listener.new }
+    ensures still { (fault : OpenFault) → IsErrOf result.1 (Unserved.Opening fault) → (fault ≡ OpenFault.Keeper) ⊎ (K.faults result.0 ≡ K.faults keeper) }
 {
     match open(alloc, keeper, settings) {
         Ok(register) => serve_register(rt, alloc, register, at, workers, connections, listener),

@@ -1,8 +1,9 @@
 //! A register served from a path.
-ghost use Rattle.std.specs.Prelude.{◌≡◌, ◌≤◌, ◌+◌, IfOk, length, option_copied};
+ghost use Rattle.std.specs.Prelude.{◌≡◌, ◌≤◌, ◌⊎◌, ◌+◌, IfOk, IsErrOf, length, option_copied};
 ghost use Rattle.ipam_edge.specs.Faults.{Rose};
 ghost use Rattle.ipam_listen.specs.Connections.{binding};
 ghost use Rattle.stored_tables.specs.Opening.{IsOfTables};
+ghost use Rattle.stored_tables.specs.declared.opening.OpenFault.{OpenFault};
 ghost use Rattle.register_server.specs.Serving.{IsListened, IsServing};
 
 use crate::ending::{Served, Unserved};
@@ -20,6 +21,7 @@ use stored_tables::tables::Text;
 /// Why a keeper did not start, as what was found where tables were to be opened.
 fn fault_of(fault: KeepFault) -> OpenFault
     ensures keeper { result ≡ OpenFault.Keeper → fault ≡ KeepFault.Failed }
+    ensures failed { fault ≡ KeepFault.Failed → result ≡ OpenFault.Keeper }
     ensures no_tables { ¬ IsOfTables result }
 {
     match fault {
@@ -60,6 +62,9 @@ pub fn serve<R: Threads + Wait + Sync, O: KeeperOpener, L: Listener>(
     ensures bound { IfOk result (λ _. L.bound listener.new ≡ binding at.now connections) }
     ensures listened { IsListened ((L.lanes listener.new ≡ L.lanes listener.old + workers) × (L.faults listener.new ≡ L.faults listener.old)) (Rose (L.faults listener.old) (L.faults listener.new)) (listener.new ≡ listener.old) result }
     ensures opener_later { O.faults opener.old ≤ O.faults opener.new }
+
+    // Where memory ran out, or the tables have a fault, the opener and its keeper did not fail.
+    ensures still { (fault : OpenFault) → IsErrOf result (Unserved.Opening fault) → (fault ≡ OpenFault.Keeper) ⊎ (O.faults opener.new ≡ O.faults opener.old) }
     ensures listener_later { L.faults listener.old ≤ L.faults listener.new }
 {
     let Ok(at) = Vec::from_slice(alloc, at) else {

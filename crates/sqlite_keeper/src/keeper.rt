@@ -1,6 +1,6 @@
 //! A keeper of tables in a SQLite file.
 
-ghost use Rattle.std.specs.Prelude.{◌≡◌, ℕ, ◌≤◌, None, option_map, IfOk, OnOk, OnErr, IsErrOf};
+ghost use Rattle.std.specs.Prelude.{◌≡◌, ℕ, ◌≤◌, ◌⊎◌, None, option_map, IfOk, OnOk, OnErr, IsErrOf};
 ghost use Rattle.stored_tables.specs.Stored.{changed};
 ghost use Rattle.stored_tables.specs.Order.{AreTables};
 ghost use Rattle.ipam_keeper.specs.Keeping.{Rose, IsTold, IsRaised};
@@ -98,6 +98,7 @@ impl<S: Alter> Keeper for SqliteKeeper<S> {
         ensures order { IfOk result (λ tables. AreTables tables) }
         ensures later { self.old ≤ self.new }
         ensures failed { IsErrOf result KeepFault.Failed → Rose self.old self.new }
+        ensures still { IsErrOf result KeepFault.Failed ⊎ (self.new ≡ self.old) }
         ensures counted { IsCounted result self.old self.new }
     {
         match load_tables(self.alloc, &mut self.conn) {
@@ -111,6 +112,7 @@ impl<S: Alter> Keeper for SqliteKeeper<S> {
     fn apply(&mut self, change: &Change) -> Result<(), KeepFault>
         ensures later { self.old ≤ self.new }
         ensures failed { IsErrOf result KeepFault.Failed → Rose self.old self.new }
+        ensures still { IsErrOf result KeepFault.Failed ⊎ (self.new ≡ self.old) }
         ensures counted { IsCounted result self.old self.new }
     {
         match self.change(change) {

@@ -1,6 +1,6 @@
 //! An opener of keepers over files.
 
-ghost use Rattle.std.specs.Prelude.{◌≡◌, ℕ, ◌≤◌, Some, None, option_map, option_copied, IfOk, OnOk, OnErr, IsErrOf};
+ghost use Rattle.std.specs.Prelude.{◌≡◌, ℕ, ◌≤◌, ◌⊎◌, Some, None, option_map, option_copied, IfOk, OnOk, OnErr, IsErrOf};
 ghost use Rattle.stored_tables.specs.Stored.{changed};
 ghost use Rattle.stored_tables.specs.Order.{AreTables, empty_tables as no_rows};
 ghost use Rattle.ipam_keeper.specs.Keeping.{Rose, IsRaised, IsTold, started, IsReturned};
@@ -52,7 +52,8 @@ pub struct SqliteOpener<C: Connects> {
 
 /// A keeper of empty tables in memory, none of whose calls fails.
 fn empty_keeper(alloc: Global) -> Result<MemoryKeeper, AllocError>
-    ensures { IfOk result (λ k. k.tables ≡ no_rows) }
+    ensures tables { IfOk result (λ k. k.tables ≡ no_rows) }
+    ensures faults { IfOk result (λ k. k.faults ≡ 0) }
 {
     let tables = empty_tables(alloc)?;
     Ok(MemoryKeeper::new(tables, Vec::new(alloc)))
@@ -75,6 +76,7 @@ impl<C: Connects> SqliteOpener<C> {
     fn start_at(&mut self, path: &Text) -> Result<(C::Kept, Text), StoreFault>
         ensures path { IfOk result (λ pair. pair.1 ≡ path.now) }
         ensures told { IfOk result (λ pair. C.Kept.Keeper.told pair.0 ≡ None) }
+        ensures fresh { IfOk result (λ pair. C.Kept.Keeper.faults pair.0 ≡ 0) }
         ensures lent { self.new.lent ≡ self.old.lent }
         ensures faults { self.new.faults ≡ self.old.faults }
     {

@@ -1,4 +1,4 @@
-use Rattle.std.proofs.Common.{rules, arith}
+use Rattle.std.proofs.Common.{rules, arith, refl, ◌∙◌}
 use Rattle.command_lists.proofs.Passing.{puts_at_err}
 use Rattle.command_lists.proofs.Lines.{passes_line, front_line}
 use Rattle.command_lists.proofs.pieces.put_lines.Goals as goal
@@ -12,11 +12,9 @@ returns-in_err-put_line-clause-told g c =
 pub each-preserved : goal.each-preserved
 each-preserved g c =
     let number = c.each.invariant.number in
-    let before = c.each.invariant.later in
-    let now = c.put_line.ensures.cause.later in
     record {
       number = omega arith;
       passed = passes_line c.args.style c.args.front.now c.args.blocks.now c.each.block-index c.each.number c.block-item.result c.each-test.true c.each.invariant.number c.block-item.is
           _ _ _ _ _ _ c.each.invariant.passed c.in_ok-put_line.ensures.told;
-      later = omega arith;
+      same = c.in_ok-put_line.ensures.cause.kept refl ∙ c.each.invariant.same;
     }

@@ -1,7 +1,10 @@
-use Rattle.std.proofs.Common.{ap, subst, ◌∙◌}
+use Rattle.std.proofs.Common.{ap, subst, ◌∙◌, Err}
+use Rattle.std.proofs.Math.Logic.{⊎_map}
 use Rattle.ipam_keeper.specs.Keeping.{IsRaised}
+use Rattle.ipam_keeper.proofs.FaultLemmas.{still_back}
 use Rattle.command_store.specs.Outside.{stores}
 use Rattle.command_store.proofs.Refused.{back_after, raised_later}
+use Rattle.command_lists.specs.declared.table.TableStop.TheVariants.{Opening}
 use Rattle.command_lists.proofs.ReadBack.{read_back, stopped_back, read_are_of}
 use Rattle.command_lists.proofs.table.read_table.Goals as goal
 
@@ -26,3 +29,10 @@ returns-in-Ok-clause-same g c =
 
 pub returns-in-Ok-clause-later : goal.returns-in-Ok-clause-later
 returns-in-Ok-clause-later g c = raised_later _ _ _ _ c.open_store.ensures.later c.done.ensures.raised
+
+pub returns-in-Ok-clause-still : goal.returns-in-Ok-clause-still
+returns-in-Ok-clause-still g c =
+    still_back _ _ _ _ _ c.in-Ok.ensures.still c.in-Ok.ensures.fresh (⊎_map (λ stop. stop) (λ same. ap g.O.Kept.Keeper.faults c.into_keeper.ensures ∙ same) c.blocks_in-blocks.ensures.still) c.done.ensures.raised
+
+pub returns-in-Err-clause-still : goal.returns-in-Err-clause-still
+returns-in-Err-clause-still g c = ⊎_map (λ k. ap Err (ap Opening k)) (λ same. same) c.in-Err.ensures.err_still

@@ -1,7 +1,7 @@
-use Rattle.std.proofs.Common.{◌≡◌, refl, ap, arith}
-use Rattle.command_serve.proofs.Served.{of_served}
+use Rattle.std.proofs.Common.{◌≡◌, Err, refl, ap, arith}
+use Rattle.command_serve.proofs.Served.{not_want, of_served}
 use Rattle.command_serve.specs.Serve.{listener_view, AllCame, NoneFailed, ListeningFailed}
-use Rattle.command_serve.proofs.Unserved.{heard_of_view, of_unserved}
+use Rattle.command_serve.proofs.Unserved.{heard_of_view, of_unserved, quiet_unserved}
 use Rattle.command_serve.proofs.serve.run_serve.Goals as goal
 
 pub returns-in-Ok : goal.returns-in-Ok
@@ -12,6 +12,7 @@ returns-in-Ok g c = λ input.
       lanes_back = c.in-Ok.ensures.lanes_back;
       later = record { streams = record { input = omega arith; output = c.say_entries.ensures.later; errors = omega arith }; stores = c.in-Ok.ensures.opener_later };
       listener_later = c.in-Ok.ensures.listener_later;
+      quiet = λ five. absurd (not_want _ _ _ c.in-Ok.served.listening _ c.say_entries.ensures.said five);
     })
     c.in-Ok.ensures.history c.in-Ok.ensures.bound c.in-Ok.ensures.listened refl c.say_entries.ensures.said
 
@@ -26,6 +27,7 @@ returns-in-Err g c = λ input.
       lanes_back = c.in-Err.ensures.lanes_back;
       later = record { streams = record { input = omega arith; output = omega arith; errors = c.say_unserved.ensures.later }; stores = c.in-Err.ensures.opener_later };
       listener_later = c.in-Err.ensures.listener_later;
+      quiet = λ five. quiet_unserved _ _ c.in-Err.why _ (λ fault is. c.in-Err.ensures.opener_still fault (ap Err is)) c.say_unserved.ensures.said refl refl five;
     })
     refl c.in-Err.ensures.history
     (heard_of_view (AllCame c.args.serving.now before after × NoneFailed before after) (ListeningFailed before after)

@@ -1,6 +1,7 @@
-use Rattle.std.proofs.Common.{rules, arith, ap, subst, get_or, take, List, ℕ}
+use Rattle.std.proofs.Common.{rules, arith, refl, ap, ◌∙◌, subst, get_or, take, List, ℕ}
 use Rattle.std.proofs.lemmas.List.{take_all}
 use Rattle.ipam_edge.specs.Writing.{WritesAll}
+use Rattle.ipam_edge.proofs.FaultLemmas.{cause_behind}
 use Rattle.ipam_edge.proofs.WritingLemmas.{writes_at_err}
 use Rattle.command_zones.specs.declared.zone.Place.{Place}
 use Rattle.command_zones.specs.Zone.{line_at, lines_at}
@@ -20,8 +21,6 @@ loop-place-preserved g c =
     let rows = c.args.addresses.now.rows in
     let places = c.args.places.now in
     let i = c.loop-place.place-index in
-    let before = c.loop-place.invariant.later in
-    let now = c.make_room.ensures.cause.later in
     let room = c.loop-place.invariant.room in
     let kept = c.make_room.ensures.capacity in
     let grown = c.push_line.ensures.capacity in
@@ -31,7 +30,7 @@ loop-place-preserved g c =
           (line_at rows (get_or places i none).index) c.loop-place.invariant.passed c.in_ok-make_room.ensures.passed c.push_line.ensures.items
           (text_more (λ (s : Place). line_at rows s.index) places i none c.loop-place-test.true);
       room = omega arith;
-      later = omega arith;
+      same = c.in_ok-make_room.ensures.cause.kept refl ∙ c.loop-place.invariant.same;
     }
 
 pub returns-clause-told : goal.returns-clause-told
@@ -44,3 +43,6 @@ returns-clause-told g c =
     (subst (λ (bytes : List ℕ). WritesAll (g.Si.Sink.written c.loop-place.output)
     (g.Si.Sink.written c.write_all.new.sink) c.write_all.result bytes) c.as_slice.ensures.value
     c.write_all.ensures.told)
+
+pub returns-clause-cause : goal.returns-clause-cause
+returns-clause-cause g c = cause_behind _ _ _ c.write_all.result c.loop-place.invariant.same c.write_all.ensures.cause
