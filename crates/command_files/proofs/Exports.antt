@@ -3,14 +3,14 @@ use Rattle.std.proofs.Common.{◌≡◌, ℕ, ◌⊎◌, List, inl, inr, refl, a
 use Rattle.stored_tables.specs.declared.opening.OpenFault.{OpenFault}
 use Rattle.stored_tables.specs.declared.opening.OpenFault.TheVariants.{Keeper, BadTables, Memory, BadRow, Version, BadNext, Limit}
 use Rattle.command_words.specs.declared.asked.Store.{Store}
-use Rattle.command_streams.specs.Streams.{EndsWith}
-use Rattle.command_store.specs.Outside.{Outside, IsUnused, NoCountFalls}
+use Rattle.command_streams.specs.Streams.{Told, EndsWith}
+use Rattle.command_store.specs.Outside.{Outside, IsUnused, NoCountFalls, NoCountRises}
 use Rattle.command_store.specs.FaultWords.{IsSaid, fault_line}
 use Rattle.command_store.specs.Opening.{IsBadStore, NamesFault, NamesFailure, FailsToSay}
 use Rattle.command_files.specs.Making.{IsOpenStop}
 use Rattle.command_files.specs.Export.{LeavesInput, Prints, PrintsFront, IsPrinting}
 
-module _ (IsText : List ℕ → Type 0) (store : Store) (old new : Outside) (status : ℕ) where
+module _ (IsText : List ℕ → Type 0) (store : Store) (old new : Outside) (status : ℕ) (quiet : status ≡ 5 → NoCountRises old new) where
   at_done : status ≡ 0 → Prints IsText old new → NoCountFalls old new → IsPrinting IsText store old new status
   at_done zero done later = record {
     statuses = inl zero;
@@ -20,6 +20,7 @@ module _ (IsText : List ℕ → Type 0) (store : Store) (old new : Outside) (sta
     store_fault = λ z. absurd (omega arith);
     memory = λ z. absurd (omega arith);
     later = later;
+    quiet = quiet;
   }
 
   at_refused : status ≡ 1 → NamesFault store old new → NoCountFalls old new → IsPrinting IsText store old new status
@@ -31,6 +32,7 @@ module _ (IsText : List ℕ → Type 0) (store : Store) (old new : Outside) (sta
     store_fault = λ z. absurd (omega arith);
     memory = λ z. absurd (omega arith);
     later = later;
+    quiet = quiet;
   }
 
   at_fault : status ≡ 3 → PrintsFront IsText old new ⊎ FailsToSay store old new → NoCountFalls old new → IsPrinting IsText store old new status
@@ -42,6 +44,7 @@ module _ (IsText : List ℕ → Type 0) (store : Store) (old new : Outside) (sta
     store_fault = λ z. absurd (omega arith);
     memory = λ z. absurd (omega arith);
     later = later;
+    quiet = quiet;
   }
 
   at_store : status ≡ 4 → NamesFailure old new → NoCountFalls old new → IsPrinting IsText store old new status
@@ -53,6 +56,7 @@ module _ (IsText : List ℕ → Type 0) (store : Store) (old new : Outside) (sta
     store_fault = λ z. named;
     memory = λ z. absurd (omega arith);
     later = later;
+    quiet = quiet;
   }
 
   pub at_memory : status ≡ 5 → LeavesInput old new → new.streams.output ≡ old.streams.output → NoCountFalls old new → IsPrinting IsText store old new status
@@ -64,6 +68,7 @@ module _ (IsText : List ℕ → Type 0) (store : Store) (old new : Outside) (sta
     store_fault = λ z. absurd (omega arith);
     memory = λ z. (left, output);
     later = later;
+    quiet = quiet;
   }
 
   bad : (fault : OpenFault) → IsBadStore store old fault → EndsWith old.streams.errors new.streams.errors (fault_line fault) 1 status ⊎ ((status ≡ 5) × (new.streams.errors ≡ old.streams.errors))
@@ -88,3 +93,8 @@ module _ (IsText : List ℕ → Type 0) (store : Store) (old new : Outside) (sta
   pub of_printed : (text : List ℕ) → IsText text → EndsWith old.streams.output new.streams.output text 0 status → LeavesInput old new → NoCountFalls old new → IsPrinting IsText store old new status
   of_printed text is (inl e) left later = at_done e.0 (text, is, e.1, left) later
   of_printed text is (inr e) left later = at_fault e.0 (inl (text, is, e.1, e.2, left)) later
+
+-- a text that was printed, or could not be, is no want of memory
+pub not_want : (old new : Told) (text : List ℕ) (status : ℕ) → EndsWith old new text 0 status → status ≡ 5 → ⊥
+not_want old new text status (inl e) five = (let zero_ = e.0 in absurd (omega arith))
+not_want old new text status (inr e) five = (let three = e.0 in absurd (omega arith))

@@ -1,5 +1,5 @@
 -- What a run of `import` leaves, as the command's record has it, by where it ended.
-use Rattle.std.proofs.Common.{◌≡◌, ℕ, ◌⊎◌, List, inl, inr, refl, subst, ◌∙◌, ap, arith}
+use Rattle.std.proofs.Common.{◌≡◌, ℕ, ◌≤◌, ◌⊎◌, List, inl, inr, refl, subst, ◌∙◌, ap, arith}
 use Rattle.ipam_data.specs.declared.kinds.Kind.{Kind}
 use Rattle.ipam_data.specs.declared.replies.Refusal.{Refusal}
 use Rattle.ipam_data.specs.declared.replies.Refusal.TheVariants.{Keeper as NotWritten}
@@ -7,8 +7,8 @@ use Rattle.stored_tables.specs.declared.opening.OpenFault.{OpenFault}
 use Rattle.stored_tables.specs.declared.opening.OpenFault.TheVariants.{Keeper as NotRead, BadTables, Memory as NoMemory, BadRow, Version, BadNext, Limit}
 use Rattle.ipam_data.specs.declared.imports.ImportRow.{ImportRow}
 use Rattle.command_words.specs.declared.asked.Store.{Store}
-use Rattle.command_streams.specs.Streams.{EndsWith, Gains, GainsFront}
-use Rattle.command_store.specs.Outside.{Outside, Stores, StoreFailed, NoCountFalls}
+use Rattle.command_streams.specs.Streams.{Told, EndsWith, Gains, GainsFront}
+use Rattle.command_store.specs.Outside.{Outside, Stores, StoreFailed, NoCountFalls, NoCountRises}
 use Rattle.command_store.specs.FaultWords.{IsSaid, fault_line}
 use Rattle.command_files.specs.declared.files.FileStop.{FileStop}
 use Rattle.command_files.specs.declared.files.FileStop.TheVariants.{Unread, Refused as RefusedFile, Memory as NoRoom}
@@ -17,12 +17,13 @@ use Rattle.command_files.specs.declared.calls.MakeStop.TheVariants.{Refused, Kee
 use Rattle.command_files.specs.declared.import.ImportStop.{ImportStop}
 use Rattle.command_files.specs.declared.import.ImportStop.TheVariants.{Opening, Making}
 use Rattle.command_store.specs.Opening.{IsBadStore}
-use Rattle.command_store.proofs.Refused.{unchanged}
+use Rattle.ipam_edge.proofs.FaultLemmas.{unless}
+use Rattle.command_store.proofs.Refused.{quiet_refused, unchanged}
 use Rattle.command_files.specs.Files.{GivesRows, refusal_text, NamesIt, IsFileStop, IsFileStopSaid}
 use Rattle.command_files.specs.Import.{NothingOpened, LeavesAll, counts_text, PrintsCounts, NamesRefusal, NamesTables, NamesUnread, IsUnwritten, NamesUnwritten, FailsToRead, FailsToPrint, FailsToSay, IsRefusedSo, IsStored, IsImport}
-use Rattle.command_files.specs.Making.{HasImported, IsOpenStop, IsImportStop, IsStopSaid}
+use Rattle.command_files.specs.Making.{HasImported, IsOpenStop, IsImportStop, IsStopSaid, IsStoreStop}
 
-module _ (kind : Kind) (store : Store) (old new : Outside) (status : ℕ) where
+module _ (kind : Kind) (store : Store) (old new : Outside) (status : ℕ) (quiet : status ≡ 5 → NoCountRises old new) where
   at_done : status ≡ 0 → PrintsCounts kind store old new → NoCountFalls old new → IsImport kind store old new status
   at_done zero done later = record {
     statuses = inl zero;
@@ -32,6 +33,7 @@ module _ (kind : Kind) (store : Store) (old new : Outside) (status : ℕ) where
     store_fault = λ z. absurd (omega arith);
     memory = λ z. absurd (omega arith);
     later = later;
+    quiet = quiet;
   }
 
   at_refused : status ≡ 1 → NamesRefusal kind store old new ⊎ NamesTables store old new → NoCountFalls old new → IsImport kind store old new status
@@ -43,6 +45,7 @@ module _ (kind : Kind) (store : Store) (old new : Outside) (status : ℕ) where
     store_fault = λ z. absurd (omega arith);
     memory = λ z. absurd (omega arith);
     later = later;
+    quiet = quiet;
   }
 
   at_fault : status ≡ 3 → FailsToRead old new ⊎ FailsToPrint kind store old new ⊎ FailsToSay kind store old new → NoCountFalls old new → IsImport kind store old new status
@@ -54,6 +57,7 @@ module _ (kind : Kind) (store : Store) (old new : Outside) (status : ℕ) where
     store_fault = λ z. absurd (omega arith);
     memory = λ z. absurd (omega arith);
     later = later;
+    quiet = quiet;
   }
 
   at_store : status ≡ 4 → NamesUnread old new ⊎ NamesUnwritten kind store old new → NoCountFalls old new → IsImport kind store old new status
@@ -65,6 +69,7 @@ module _ (kind : Kind) (store : Store) (old new : Outside) (status : ℕ) where
     store_fault = λ z. named;
     memory = λ z. absurd (omega arith);
     later = later;
+    quiet = quiet;
   }
 
   at_memory : status ≡ 5 → LeavesAll old new → new.streams.errors ≡ old.streams.errors → NoCountFalls old new → IsImport kind store old new status
@@ -76,6 +81,7 @@ module _ (kind : Kind) (store : Store) (old new : Outside) (status : ℕ) where
     store_fault = λ z. absurd (omega arith);
     memory = λ z. (left, silent);
     later = later;
+    quiet = quiet;
   }
 
   leaves : new.streams.output ≡ old.streams.output → NothingOpened old new → LeavesAll old new
@@ -118,11 +124,10 @@ module _ (kind : Kind) (store : Store) (old new : Outside) (status : ℕ) where
   opening (Limit which n) stop said left later = bad (Limit which n) (record { of_tables = tt; refused = stop.tables tt }) said left later
 
   -- the keeper failed
-  unwritten : IsUnwritten kind store old new → NamesIt NotWritten 4 old.streams.errors new.streams.errors status → LeavesAll old new → NoCountFalls old new → IsImport kind store old new status
-  unwritten is (inl (inl e)) left later = at_store e.0 (inr (record { unwritten = is; said = e.1; left = left })) later
-  unwritten is (inl (inr e)) left later =
+  unwritten : IsUnwritten kind store old new → EndsWith old.streams.errors new.streams.errors (refusal_text NotWritten) 4 status → LeavesAll old new → NoCountFalls old new → IsImport kind store old new status
+  unwritten is (inl e) left later = at_store e.0 (inr (record { unwritten = is; said = e.1; left = left })) later
+  unwritten is (inr e) left later =
       at_fault e.0 (inr (inr (record { failed = e.1; text = refusal_text NotWritten; cause = inr (inr (inr (is, refl))); front = e.2; left = left }))) later
-  unwritten is (inr e) left later = at_memory e.0 left e.1 later
 
   -- the rows did not come into the store
   pub of_stop : (rows : List ImportRow) (stop : ImportStop) → GivesRows kind old.streams.input new.streams.input rows → IsImportStop kind store rows old.stores new.stores stop
@@ -162,3 +167,32 @@ module _ (kind : Kind) (store : Store) (old new : Outside) (status : ℕ) where
         front = subst (λ (t : List ℕ). GainsFront old.streams.output new.streams.output t) is e.2;
         silent = silent;
       }))) later
+
+-- ---- out of memory
+
+named_want : (refusal : Refusal) (wanted : ℕ) (old new : Told) (status : ℕ) → wanted ≤ 4 → status ≡ 5 → NamesIt refusal wanted old new status → new ≡ old
+named_want refusal wanted old new status low five (inl (inl e)) = (let is = e.0 in absurd (omega arith))
+named_want refusal wanted old new status low five (inl (inr e)) = (let three = e.0 in absurd (omega arith))
+named_want refusal wanted old new status low five (inr e) = e.1
+
+-- where the input gave no rows, and memory ran out, no count rose
+pub quiet_file_stop : (old new : Outside) (stop : FileStop) (status : ℕ) → (stop ≡ Unread) ⊎ (new.streams.input.faults ≡ old.streams.input.faults)
+    → IsFileStopSaid stop old.streams.errors new.streams.errors status → new.streams.output.faults ≡ old.streams.output.faults → new.stores.faults ≡ old.stores.faults
+    → status ≡ 5 → NoCountRises old new
+quiet_file_stop old new Unread status kept said wrote same five = (let three = said.0 in absurd (omega arith))
+quiet_file_stop old new (RefusedFile refusal) status kept said wrote same five =
+    record { streams = record { input = unless (λ k. cc k) kept; output = wrote; errors = ap (λ (t : Told). t.faults) (named_want refusal 1 _ _ status (omega arith) five said) }; stores = same }
+quiet_file_stop old new NoRoom status kept said wrote same five =
+    record { streams = record { input = unless (λ k. cc k) kept; output = wrote; errors = ap (λ (t : Told). t.faults) said.1 }; stores = same }
+
+-- nor where the rows did not come into the store
+pub quiet_stop : (old new : Outside) (stop : ImportStop) (status : ℕ) → IsStoreStop stop ⊎ (new.stores.faults ≡ old.stores.faults)
+    → IsStopSaid stop old.streams.errors new.streams.errors status → new.streams.input.faults ≡ old.streams.input.faults → new.streams.output.faults ≡ old.streams.output.faults
+    → status ≡ 5 → NoCountRises old new
+quiet_stop old new (Opening fault) status still said read wrote five = quiet_refused old new fault status still said read wrote five
+quiet_stop old new (Making (Refused refusal)) status still said read wrote five =
+    record { streams = record { input = read; output = wrote; errors = ap (λ (t : Told). t.faults) (named_want refusal 1 _ _ status (omega arith) five said) }; stores = unless (λ k. k) still }
+quiet_stop old new (Making Keeper) status still (inl e) read wrote five = (let four = e.0 in absurd (omega arith))
+quiet_stop old new (Making Keeper) status still (inr e) read wrote five = (let three = e.0 in absurd (omega arith))
+quiet_stop old new (Making Memory) status still said read wrote five =
+    record { streams = record { input = read; output = wrote; errors = ap (λ (t : Told). t.faults) said.1 }; stores = unless (λ k. k) still }

@@ -1,10 +1,11 @@
 -- What a run of `report` leaves, as the command's record has it, by where it ended.
-use Rattle.std.proofs.Common.{◌≡◌, ℕ, ◌⊎◌, List, inl, inr, arith}
+use Rattle.std.proofs.Common.{◌≡◌, ℕ, ◌⊎◌, List, inl, inr, ap, arith}
 use Rattle.ipam_data.specs.declared.replies.Refusal.{Refusal}
 use Rattle.ipam_data.specs.State.{State}
 use Rattle.command_words.specs.declared.asked.Report.{Report}
 use Rattle.command_words.specs.declared.asked.Store.{Store}
-use Rattle.command_store.specs.Outside.{Outside, IsUnused, NoCountFalls}
+use Rattle.command_streams.specs.Streams.{Told}
+use Rattle.command_store.specs.Outside.{Outside, IsUnused, NoCountFalls, NoCountRises}
 use Rattle.command_store.specs.Opening.{IsLoaded}
 use Rattle.command_files.specs.Files.{NamesIt}
 use Rattle.command_files.specs.Export.{IsPrinting}
@@ -12,7 +13,7 @@ use Rattle.command_files.specs.declared.calls.ReportStop.{ReportStop}
 use Rattle.command_files.specs.declared.calls.ReportStop.TheVariants.{Absent, Memory}
 use Rattle.command_files.specs.Report.{IsReportText, IsAbsent, IsReportStop, IsReportStopSaid, IsReport}
 
-module _ (report : Report) (store : Store) (old new : Outside) (status : ℕ) where
+module _ (report : Report) (store : Store) (old new : Outside) (status : ℕ) (quiet : status ≡ 5 → NoCountRises old new) where
   -- it printed the text, or the opening was refused
   pub of_printing : IsPrinting (IsReportText report store old) store old new status → IsReport report store old new status
   of_printing p = record {
@@ -23,6 +24,7 @@ module _ (report : Report) (store : Store) (old new : Outside) (status : ℕ) wh
     store_fault = p.store_fault;
     memory = p.memory;
     later = p.later;
+    quiet = p.quiet;
   }
 
   -- memory ran out
@@ -35,6 +37,7 @@ module _ (report : Report) (store : Store) (old new : Outside) (status : ℕ) wh
     store_fault = λ z. absurd (omega arith);
     memory = λ z. (record { input = unused.input; errors = silent; stored = unused.stored }, unused.output);
     later = later;
+    quiet = quiet;
   }
 
   -- the prefix was not there
@@ -48,6 +51,7 @@ module _ (report : Report) (store : Store) (old new : Outside) (status : ℕ) wh
     store_fault = λ z. absurd (omega arith);
     memory = λ z. absurd (omega arith);
     later = later;
+    quiet = quiet;
   }
   of_absent refusal absent (inl (inr e)) unused later = let three = e.0 in record {
     statuses = inr (inr (inl three));
@@ -57,6 +61,7 @@ module _ (report : Report) (store : Store) (old new : Outside) (status : ℕ) wh
     store_fault = λ z. absurd (omega arith);
     memory = λ z. absurd (omega arith);
     later = later;
+    quiet = quiet;
   }
   of_absent refusal absent (inr e) unused later = of_memory e.0 e.1 unused later
 
@@ -65,3 +70,14 @@ module _ (report : Report) (store : Store) (old new : Outside) (status : ℕ) wh
       → IsReportStopSaid stop old.streams.errors new.streams.errors status → IsUnused old new → NoCountFalls old new → IsReport report store old new status
   of_stop (Absent refusal) state loaded cause said unused later = of_absent refusal (state, loaded, cause) said unused later
   of_stop Memory state loaded cause said unused later = of_memory said.0 said.1 unused later
+
+-- where a report has no text for want of memory, no count rose
+pub quiet_stop : (old new : Outside) (stop : ReportStop) (status : ℕ) → IsReportStopSaid stop old.streams.errors new.streams.errors status
+    → new.streams.input.faults ≡ old.streams.input.faults → new.streams.output.faults ≡ old.streams.output.faults → new.stores.faults ≡ old.stores.faults
+    → status ≡ 5 → NoCountRises old new
+quiet_stop old new (Absent refusal) status (inl (inl e)) read wrote same five = (let one = e.0 in absurd (omega arith))
+quiet_stop old new (Absent refusal) status (inl (inr e)) read wrote same five = (let three = e.0 in absurd (omega arith))
+quiet_stop old new (Absent refusal) status (inr e) read wrote same five =
+    record { streams = record { input = read; output = wrote; errors = ap (λ (t : Told). t.faults) e.1 }; stores = same }
+quiet_stop old new Memory status said read wrote same five =
+    record { streams = record { input = read; output = wrote; errors = ap (λ (t : Told). t.faults) said.1 }; stores = same }

@@ -6,7 +6,7 @@ use Rattle.csv_import.specs.Exports.{rows_text}
 use Rattle.ipam_data.specs.Exported.{exported}
 use Rattle.command_words.specs.declared.asked.Store.{Store}
 use Rattle.command_streams.specs.Streams.{Gains, GainsFront, Failed}
-use Rattle.command_store.specs.Outside.{Outside, AreSame, NoCountFalls}
+use Rattle.command_store.specs.Outside.{Outside, AreSame, NoCountFalls, NoCountRises}
 use Rattle.command_store.specs.Opening.{IsLoaded, NamesFault, NamesFailure, FailsToSay}
 
 -- the text of an export of the state that was loaded
@@ -41,6 +41,8 @@ pub record IsPrinting (IsText : List ℕ → Type 0) (store : Store) (old new : 
   -- 5: out of memory. Nothing was printed, and nothing said
   pub memory : status ≡ 5 → LeavesInput old new × (new.streams.output ≡ old.streams.output)
   pub later : NoCountFalls old new
+  -- 5: no count of faults rose
+  pub quiet : status ≡ 5 → NoCountRises old new
 
 -- a run of `export`
 abbrev pub IsExport : Kind → Store → Outside → Outside → ℕ → Type 0

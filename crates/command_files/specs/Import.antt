@@ -13,7 +13,7 @@ use Rattle.ipam_data.specs.declared.imports.ImportRow.{ImportRow}
 use Rattle.ipam_data.specs.Imports.{import_plan}
 use Rattle.command_words.specs.declared.asked.Store.{Store}
 use Rattle.command_streams.specs.Streams.{Gains, GainsFront, Failed}
-use Rattle.command_store.specs.Outside.{Outside, StoreFailed, AreSame, NoCountFalls}
+use Rattle.command_store.specs.Outside.{Outside, StoreFailed, AreSame, NoCountFalls, NoCountRises}
 use Rattle.command_store.specs.FaultWords.{fault_line}
 use Rattle.command_store.specs.Opening.{IsLoaded, HoldsTold, IsBadStore}
 use Rattle.command_files.specs.Files.{GivesRows, RefusesFile, refusal_text}
@@ -133,3 +133,5 @@ pub record IsImport (kind : Kind) (store : Store) (old new : Outside) (status : 
   pub memory : status ≡ 5 → LeavesAll old new × (new.streams.errors ≡ old.streams.errors)
   -- no count of faults falls
   pub later : NoCountFalls old new
+  -- 5: none rose
+  pub quiet : status ≡ 5 → NoCountRises old new

@@ -16,7 +16,7 @@ use Rattle.ipam_data.specs.declared.imports.ImportRow.{ImportRow}
 use Rattle.ipam_data.specs.Imports.{import_plan}
 use Rattle.register_core.specs.Opened.{IsOpened, IsUnopened}
 use Rattle.command_words.specs.declared.asked.Store.{Store}
-use Rattle.command_streams.specs.Streams.{Told}
+use Rattle.command_streams.specs.Streams.{Told, EndsWith}
 use Rattle.command_store.specs.Outside.{Stores, AreSame}
 use Rattle.command_store.specs.FaultWords.{IsSaid}
 use Rattle.command_files.specs.declared.calls.Counts.{Counts}
@@ -24,7 +24,7 @@ use Rattle.command_files.specs.declared.calls.MakeStop.{MakeStop}
 use Rattle.command_files.specs.declared.calls.MakeStop.TheVariants.{Refused, Keeper, Memory}
 use Rattle.command_files.specs.declared.import.ImportStop.{ImportStop}
 use Rattle.command_files.specs.declared.import.ImportStop.TheVariants.{Opening, Making}
-use Rattle.command_files.specs.Files.{NamesIt}
+use Rattle.command_files.specs.Files.{NamesIt, refusal_text}
 
 -- what stops an import that is refused so: the keeper and the want of memory stand by themselves
 abbrev pub stop_of : Refusal → MakeStop
@@ -69,6 +69,13 @@ IsStop kind store rows old new (Making Keeper) =
     (state : State) × IsFound store old state × (verdict_of (import_plan state kind rows) ≡ None) × Rose old.faults new.faults
 IsStop kind store rows old new (Making Memory) = Unit {0}
 
+-- the store failed
+abbrev pub IsStoreStop : ImportStop → Type 0
+IsStoreStop (Opening fault) = fault ≡ NotRead
+IsStoreStop (Making (Refused refusal)) = ⊥
+IsStoreStop (Making Keeper) = Unit {0}
+IsStoreStop (Making Memory) = ⊥
+
 -- and told tables are as they were
 pub record IsImportStop (kind : Kind) (store : Store) (rows : List ImportRow) (old new : Stores) (stop : ImportStop) : Type 0 where
   pub cause : IsStop kind store rows old new stop
@@ -77,7 +84,7 @@ pub record IsImportStop (kind : Kind) (store : Store) (rows : List ImportRow) (o
 -- why the rows were not made was said, with its status
 abbrev pub IsMakingSaid : MakeStop → Told → Told → ℕ → Type 0
 IsMakingSaid (Refused refusal) old new status = NamesIt refusal 1 old new status
-IsMakingSaid Keeper old new status = NamesIt NotWritten 4 old new status
+IsMakingSaid Keeper old new status = EndsWith old new (refusal_text NotWritten) 4 status
 IsMakingSaid Memory old new status = (status ≡ 5) × (new ≡ old)
 
 -- it was said, with its status

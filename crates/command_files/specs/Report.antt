@@ -16,7 +16,7 @@ use Rattle.command_words.specs.declared.asked.Report.{Report}
 use Rattle.command_words.specs.declared.asked.Report.TheVariants.{Tree, Utilization, Free}
 use Rattle.command_words.specs.declared.asked.Store.{Store}
 use Rattle.command_streams.specs.Streams.{Told, Gains, GainsFront, Failed}
-use Rattle.command_store.specs.Outside.{Outside, IsUnused, NoCountFalls}
+use Rattle.command_store.specs.Outside.{Outside, IsUnused, NoCountFalls, NoCountRises}
 use Rattle.command_store.specs.Opening.{IsLoaded, NamesFault, NamesFailure, FailsToSay}
 use Rattle.command_files.specs.declared.calls.ReportStop.{ReportStop}
 use Rattle.command_files.specs.declared.calls.ReportStop.TheVariants.{Absent, Memory}
@@ -103,3 +103,5 @@ pub record IsReport (report : Report) (store : Store) (old new : Outside) (statu
   -- 5: out of memory. Nothing was printed, and nothing said
   pub memory : status ≡ 5 → LeavesInput old new × (new.streams.output ≡ old.streams.output)
   pub later : NoCountFalls old new
+  -- 5: no count of faults rose
+  pub quiet : status ≡ 5 → NoCountRises old new

@@ -1,6 +1,6 @@
 //! The one call that each command makes of the register that it opened.
 
-ghost use Rattle.std.specs.Prelude.{◌≡◌, ◌≤◌, IfOk, IfErr, OnOk, OnErr, IsErrOf, IsSome};
+ghost use Rattle.std.specs.Prelude.{◌≡◌, ◌≤◌, ◌⊎◌, IfOk, IfErr, OnOk, OnErr, IsErrOf, IsSome};
 ghost use Rattle.stored_tables.specs.Stored.{Tells};
 ghost use Rattle.ipam_data.specs.Exported.{exported};
 ghost use Rattle.ipam_data.specs.Imports.{import_plan};
@@ -70,6 +70,7 @@ pub(crate) fn import_rows<K: Keeper>(
     ensures stop { IfErr result (IsMakeStop (import_plan register.old.state kind rows)) }
     ensures failed { IsErrOf result stop.Keeper → Rose (K.faults register.old.keeper) (K.faults register.new.keeper) }
     ensures later { K.faults register.old.keeper ≤ K.faults register.new.keeper }
+    ensures still { IsErrOf result stop.Keeper ⊎ (K.faults register.new.keeper ≡ K.faults register.old.keeper) }
 {
     register.told();
     match register.act(CALLER, Call::Import { kind, rows }) {
@@ -86,7 +87,7 @@ pub(crate) fn export_rows<K: Keeper>(
 ) -> Result<ImportRows, AllocError>
     ensures rows { IfOk result (λ rows. rows ≡ exported register.old.state kind) }
     ensures told { K.told register.new.keeper ≡ K.told register.old.keeper }
-    ensures later { K.faults register.old.keeper ≤ K.faults register.new.keeper }
+    ensures still { K.faults register.new.keeper ≡ K.faults register.old.keeper }
 {
     register.told();
     match register.act(CALLER, Call::Export { kind }) {
@@ -100,7 +101,7 @@ pub(crate) fn export_rows<K: Keeper>(
 pub(crate) fn survey_lines<K: Keeper>(register: &mut Register<K>) -> Result<PrefixLines, AllocError>
     ensures lines { IfOk result (λ lines. lines ≡ survey_of register.old.state) }
     ensures told { K.told register.new.keeper ≡ K.told register.old.keeper }
-    ensures later { K.faults register.old.keeper ≤ K.faults register.new.keeper }
+    ensures still { K.faults register.new.keeper ≡ K.faults register.old.keeper }
 {
     register.told();
     match register.act(CALLER, Call::Survey) {
@@ -148,7 +149,7 @@ pub(crate) fn first_free<K: Keeper>(
     ensures ok { IfOk result (IsFirstFree register.old.state id) }
     ensures stop { IfErr result (IsReportStop register.old.state (Free id)) }
     ensures told { K.told register.new.keeper ≡ K.told register.old.keeper }
-    ensures later { K.faults register.old.keeper ≤ K.faults register.new.keeper }
+    ensures still { K.faults register.new.keeper ≡ K.faults register.old.keeper }
 {
     register.told();
     let call = Call::Blocks {

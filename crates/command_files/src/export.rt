@@ -1,6 +1,6 @@
 //! The command `export`.
 
-ghost use Rattle.std.specs.Prelude.{◌≡◌, ◌≤◌, IfOk};
+ghost use Rattle.std.specs.Prelude.{◌≡◌, IfOk};
 ghost use Rattle.csv_import.specs.Exports.{rows_text};
 ghost use Rattle.ipam_data.specs.Exported.{exported};
 ghost use Rattle.command_streams.specs.Streams.{Told, streams, told};
@@ -36,7 +36,7 @@ fn export_text<K: Keeper>(
 ) -> Result<Vec<u8>, AllocError>
     ensures text { IfOk result (λ v. v.items ≡ rows_text kind (exported register.old.state kind)) }
     ensures told { K.told register.new.keeper ≡ K.told register.old.keeper }
-    ensures later { K.faults register.old.keeper ≤ K.faults register.new.keeper }
+    ensures still { K.faults register.new.keeper ≡ K.faults register.old.keeper }
 {
     let rows = export_rows(register, kind)?;
     text_of(alloc, kind, rows.as_slice())

@@ -1,6 +1,6 @@
 //! A file of rows on the input, and what is said where it is refused.
 
-ghost use Rattle.std.specs.Prelude.{◌≡◌, ◌≤◌, IfOk, IfErr, string_bytes};
+ghost use Rattle.std.specs.Prelude.{◌≡◌, ◌≤◌, ◌⊎◌, IfOk, IfErr, IsErrOf, string_bytes};
 ghost use Rattle.command_streams.specs.Streams.{told};
 ghost use Rattle.command_files.specs.Files.{GivesRows, IsStopOf, IsFileStop, IsFileStopSaid, NamesIt, kind_named as kind_of_name, refusal_text};
 
@@ -60,6 +60,7 @@ pub(crate) fn read_file<So: Source>(
     ensures rows { IfOk result (λ v. GivesRows kind (told So.left So.faults input.old) (told So.left So.faults input.new) v) }
     ensures stop { IfErr result (IsFileStop kind (told So.left So.faults input.old) (told So.left So.faults input.new)) }
     ensures later { So.faults input.old ≤ So.faults input.new }
+    ensures kept { IsErrOf result FileStop.Unread ⊎ (So.faults input.new ≡ So.faults input.old) }
 {
     let bytes = match read_whole(alloc, input, MOST_BYTES) {
         Ok(bytes) => bytes,

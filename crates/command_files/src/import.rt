@@ -1,11 +1,11 @@
 //! The command `import`.
 
-ghost use Rattle.std.specs.Prelude.{◌≡◌, ◌≤◌, ◌+◌, ◌++◌, length, IfOk, IfErr};
+ghost use Rattle.std.specs.Prelude.{◌≡◌, ◌≤◌, ◌⊎◌, ◌+◌, ◌++◌, length, IfOk, IfErr};
 ghost use Rattle.arrayvec.specs.ArrayVec.{array_vec_len};
 ghost use Rattle.command_streams.specs.Streams.{Told, streams, told};
 ghost use Rattle.command_store.specs.Outside.{outside, stores};
 ghost use Rattle.command_files.specs.Files.{GivesRows};
-ghost use Rattle.command_files.specs.Making.{HasImported, IsImportStop, IsMakingSaid, IsStopSaid};
+ghost use Rattle.command_files.specs.Making.{HasImported, IsImportStop, IsMakingSaid, IsStopSaid, IsStoreStop};
 ghost use Rattle.command_files.specs.Import.{IsImport, counts_text as counts_of};
 
 use crate::calls::{Counts, MakeStop, import_rows};
@@ -16,7 +16,6 @@ use command_streams::{DONE, MEMORY, REFUSED, STORE, end_with};
 use command_words::Store;
 use ipam_data::imports::ImportRows;
 use ipam_data::kinds::Kind;
-use ipam_data::replies::Refusal;
 use ipam_edge::{Sink, Source};
 use ipam_keeper::keeper::KeeperOpener;
 use itoa::Buffer;
@@ -72,6 +71,7 @@ fn import_into<O: KeeperOpener>(
     ensures ok { IfOk result (HasImported kind store.now rows (stores O.stored O.faults opener.old) (stores O.stored O.faults opener.new)) }
     ensures err { IfErr result (IsImportStop kind store.now rows (stores O.stored O.faults opener.old) (stores O.stored O.faults opener.new)) }
     ensures later { O.faults opener.old ≤ O.faults opener.new }
+    ensures still { IfErr result (λ stop. IsStoreStop stop ⊎ (O.faults opener.new ≡ O.faults opener.old)) }
 {
     match open_store(alloc, store, opener) {
         Ok(register) => {
@@ -90,6 +90,9 @@ fn import_into<O: KeeperOpener>(
     }
 }
 
+/// What is said where the store could not be written. It takes no memory, so that it is not lost.
+const UNWRITTEN: &[u8] = b"keeper: the store could not be written\n";
+
 /// Says why rows were not made, and gives the status of that: 1 for a refusal, 4 where the keeper failed, and 5 for lack of memory, of which
 /// nothing is said.
 fn say_making<Se: Sink>(alloc: Global, stop: &MakeStop, errors: &mut Se) -> u8
@@ -98,7 +101,7 @@ fn say_making<Se: Sink>(alloc: Global, stop: &MakeStop, errors: &mut Se) -> u8
 {
     match stop {
         MakeStop::Refused(refusal) => say_refusal(alloc, refusal, REFUSED, errors),
-        MakeStop::Keeper => say_refusal(alloc, &Refusal::Keeper, STORE, errors),
+        MakeStop::Keeper => end_with(errors, UNWRITTEN, STORE),
         MakeStop::Memory => MEMORY,
     }
 }
@@ -124,7 +127,7 @@ fn run_rows<Si: Sink, Se: Sink, O: KeeperOpener>(
     errors: &mut Se,
     opener: &mut O,
 ) -> u8
-    ensures { (before after : Told) → GivesRows kind before after rows → before.faults ≤ after.faults → IsImport kind store.now
+    ensures { (before after : Told) → GivesRows kind before after rows → after.faults ≡ before.faults → IsImport kind store.now
         (outside (streams before (told Si.written Si.faults output.old) (told Se.written Se.faults errors.old)) (stores O.stored O.faults opener.old))
         (outside (streams after (told Si.written Si.faults output.new) (told Se.written Se.faults errors.new)) (stores O.stored O.faults opener.new)) result }
 {

@@ -55,7 +55,7 @@ fn report_text<K: Keeper>(
     ensures ok { IfOk result (λ v. text_of register.old.state report ≡ Some v.items) }
     ensures stop { IfErr result (IsReportStop register.old.state report) }
     ensures told { K.told register.new.keeper ≡ K.told register.old.keeper }
-    ensures later { K.faults register.old.keeper ≤ K.faults register.new.keeper }
+    ensures still { K.faults register.new.keeper ≡ K.faults register.old.keeper }
 {
     match report {
         Report::Tree => {

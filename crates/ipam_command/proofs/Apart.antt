@@ -1,5 +1,5 @@
 -- Words ask for one command, so a promise on another one is none; and what a command leaves that uses no opener or no listener.
-use Rattle.std.proofs.Common.{◌≡◌, ℕ, ◌+◌, ◌≤◌, length, refl, sym, ap, subst, arith, List}
+use Rattle.std.proofs.Common.{◌≡◌, ℕ, ◌+◌, ◌≤◌, length, refl, sym, ap, subst, arith, inl, List}
 use Rattle.inet_num.specs.Net.{Cidr}
 use Rattle.command_words.specs.declared.asked.KindName.{KindName}
 use Rattle.command_words.specs.declared.asked.Report.{Report as ReportName}
@@ -9,9 +9,11 @@ use Rattle.command_words.specs.declared.asked.Command.{Command}
 use Rattle.command_words.specs.declared.asked.Command.TheVariants.{Free, Session, Serve, Import, Export, Report, Load}
 use Rattle.command_words.specs.Asked.{Asks}
 use Rattle.command_words.proofs.Unique.{words_ask_for_one}
-use Rattle.command_store.specs.Outside.{Stores, Outside}
+use Rattle.command_streams.specs.Streams.{Streams, NeverRises}
+use Rattle.command_store.specs.Outside.{Stores, Outside, NoCountRises}
 use Rattle.command_serve.specs.Serve.{ListenerView, NobodyCame}
 use Rattle.ipam_command.specs.Runs.{Answers}
+use Rattle.ipam_command.specs.Clauses.{IsQuiet}
 
 -- what a command left is what each command left that the words ask for
 pub answers_of : (words : List (List ℕ)) (command one : Command) (old new : Outside) (before after : ListenerView) (status : ℕ) → Asks words command → Asks words one
@@ -95,3 +97,15 @@ same_report words report other_report store other_store P a b h =
     let first : report ≡ other_report = cc in
     let second : store ≡ other_store = cc in
     subst (λ (s : Store). P other_report s) second (subst (λ (r : ReportName). P r store) first h)
+
+-- no count rose where nothing was used
+pub none_rose : (old new : Outside) → new ≡ old → NoCountRises old new
+none_rose old new same = subst (λ (t : Outside). NoCountRises old t) (sym same)
+    (record { streams = record { input = refl; output = refl; errors = refl }; stores = refl })
+
+pub streams_same : (old new : Streams) → new ≡ old → NeverRises old new
+streams_same old new same = subst (λ (t : Streams). NeverRises old t) (sym same) (record { input = refl; output = refl; errors = refl })
+
+-- nor that of a listener which was not used
+pub quiet_beside : (words : List (List ℕ)) (old new : Outside) (before after : ListenerView) → NoCountRises old new → after ≡ before → IsQuiet words old new before after
+quiet_beside words old new before after none same = record { streams = none.streams; stores = inl none.stores; listener = ap (λ (d : ListenerView). d.faults) same }

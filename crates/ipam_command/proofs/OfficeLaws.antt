@@ -17,7 +17,7 @@ use Rattle.command_files.specs.Import.{IsStored, IsImport}
 use Rattle.command_files.specs.Export.{IsExportText, IsPrinting, IsExport}
 use Rattle.command_files.specs.Report.{IsReportText, IsReport}
 use Rattle.ipam_command.specs.Clauses.{HasClauses}
-use Rattle.ipam_command.proofs.Apart.{lanes_kept, count_kept, nobody, same_import, same_export, same_report, answers_of}
+use Rattle.ipam_command.proofs.Apart.{lanes_kept, count_kept, nobody, same_import, same_export, same_report, answers_of, none_rose, quiet_beside}
 
 -- where no opener was used told tables are as they were
 pub tables_stay : (old new : Outside) → new.stores ≡ old.stores → AreSame old.stores.stored new.stores.stored
@@ -40,6 +40,7 @@ import_not_begun kind store old new status five same = record {
     ap (λ (t : Outside). t.streams.errors) same,
   );
   later = none_fell old new same;
+  quiet = λ z. none_rose old new same;
 }
 
 pub export_not_begun : (kind : Kind) (store : Store) (old new : Outside) (status : ℕ) → status ≡ 5 → new ≡ old → IsExport kind store old new status
@@ -58,6 +59,7 @@ export_not_begun kind store old new status five same = record {
     ap (λ (t : Outside). t.streams.output) same,
   );
   later = none_fell old new same;
+  quiet = λ z. none_rose old new same;
 }
 
 pub report_not_begun : (report : ReportName) (store : Store) (old new : Outside) (status : ℕ) → status ≡ 5 → new ≡ old → IsReport report store old new status
@@ -76,6 +78,7 @@ report_not_begun report store old new status five same = record {
     ap (λ (t : Outside). t.streams.output) same,
   );
   later = none_fell old new same;
+  quiet = λ z. none_rose old new same;
 }
 
 -- an import is stored whole, or told tables are as they were
@@ -168,6 +171,7 @@ of_import words old new before after status kind store asks s same_listener = re
   exact = λ within a well. absurd (let e = words_ask_for_one words (Free within) (Import kind store) a asks in cc);
   later = s.later;
   listener_later = count_kept before after same_listener;
+  quiet = λ z. quiet_beside words old new before after (s.quiet z) same_listener;
 }
 
 -- ---- a run of `export`
@@ -214,6 +218,7 @@ of_export words old new before after status kind store asks s same_listener = re
   exact = λ within a well. absurd (let e = words_ask_for_one words (Free within) (Export kind store) a asks in cc);
   later = s.later;
   listener_later = count_kept before after same_listener;
+  quiet = λ z. quiet_beside words old new before after (s.quiet z) same_listener;
 }
 
 -- ---- a run of `report`
@@ -260,4 +265,5 @@ of_report words old new before after status report store asks s same_listener = 
   exact = λ within a well. absurd (let e = words_ask_for_one words (Free within) (Report report store) a asks in cc);
   later = s.later;
   listener_later = count_kept before after same_listener;
+  quiet = λ z. quiet_beside words old new before after (s.quiet z) same_listener;
 }

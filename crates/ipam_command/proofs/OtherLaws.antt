@@ -8,7 +8,7 @@ use Rattle.command_words.specs.declared.asked.Command.TheVariants.{Free, Session
 use Rattle.command_words.specs.Asked.{Asks}
 use Rattle.command_words.proofs.Unique.{words_ask_for_one}
 use Rattle.command_streams.specs.Streams.{Streams, Failed, NeverFalls}
-use Rattle.command_store.specs.Outside.{Stores, Outside, NoCountFalls}
+use Rattle.command_store.specs.Outside.{Stores, Outside, NoCountFalls, NoCountRises}
 use Rattle.command_store.specs.Opening.{NamesFailure}
 use Rattle.command_serve.specs.Serve.{ListenerView}
 use Rattle.command_lists.specs.PrefixList.{IsPrefixList}
@@ -17,7 +17,7 @@ use Rattle.command_zones.specs.Reverse.{IsReverse}
 use Rattle.command_zones.specs.Pairs.{IsReverseRead}
 use Rattle.ipam_command.specs.Runs.{Answers}
 use Rattle.ipam_command.specs.Clauses.{AsksRegister, IsDone, IsNamed, HasClauses}
-use Rattle.ipam_command.proofs.Apart.{unused, lanes_kept, count_kept, nobody, answers_of}
+use Rattle.ipam_command.proofs.Apart.{unused, lanes_kept, count_kept, nobody, answers_of, none_rose, quiet_beside, streams_same}
 use Rattle.ipam_command.proofs.OfficeLaws.{tables_stay, none_fell}
 
 -- the command has no promise of its own beside its record
@@ -47,6 +47,7 @@ record IsOtherRun (words : List (List ℕ)) (command : Command) (old new : Outsi
   same_listener : after ≡ before
   answers : Answers command old new before after status
   later : NoCountFalls old new
+  quiet : status ≡ 5 → NoCountRises old new
 
 -- words that ask for it ask for none that has
 apart : (words : List (List ℕ)) (command other : Command) → IsOther command → Asks words command → Asks words other → IsOther other
@@ -94,6 +95,7 @@ of_other words command old new before after status r = record {
   exact = λ within a well. absurd (apart words command (Free within) r.other r.asks a);
   later = r.later;
   listener_later = count_kept before after r.same_listener;
+  quiet = λ z. quiet_beside words old new before after (r.quiet z) r.same_listener;
 }
 
 -- ---- `prefix-list`
@@ -112,6 +114,7 @@ of_prefix_list words old new before after status asked asks s same_listener = of
   same_listener = same_listener;
   answers = (s, same_listener);
   later = s.later;
+  quiet = s.quiet;
 })
 
 pub list_not_begun : (asked : ListAsked) (old new : Outside) (status : ℕ) → status ≡ 5 → new ≡ old → IsPrefixList asked old new status
@@ -132,6 +135,7 @@ list_not_begun asked old new status five same = record {
   exact = λ told well. inl five;
   keeps = tables_stay old new (ap (λ (t : Outside). t.stores) same);
   later = none_fell old new same;
+  quiet = λ z. none_rose old new same;
 }
 
 -- ---- `prefix-check`
@@ -156,6 +160,7 @@ of_prefix_check words old new before after status asked asks s same_listener = o
   same_listener = same_listener;
   answers = (s, same_listener);
   later = s.later;
+  quiet = s.quiet;
 })
 
 pub check_not_begun : (asked : ListAsked) (old new : Outside) (status : ℕ) → status ≡ 5 → new ≡ old → IsPrefixCheck asked old new status
@@ -169,6 +174,7 @@ check_not_begun asked old new status five same = record {
   exact = λ told well. inl five;
   keeps = tables_stay old new (ap (λ (t : Outside). t.stores) same);
   later = none_fell old new same;
+  quiet = λ z. none_rose old new same;
 }
 
 -- ---- `reverse`
@@ -187,6 +193,7 @@ of_reverse words old new before after status prefix store asks s same_listener =
   same_listener = same_listener;
   answers = (s, same_listener);
   later = s.later;
+  quiet = s.quiet;
 })
 
 pub reverse_not_begun : (prefix : ℕ) (store : Store) (old new : Outside) (status : ℕ) → status ≡ 5 → new ≡ old → IsReverse prefix store old new status
@@ -200,6 +207,7 @@ reverse_not_begun prefix store old new status five same = record {
   input = ap (λ (t : Outside). t.streams.input) same;
   keeps = tables_stay old new (ap (λ (t : Outside). t.stores) same);
   later = none_fell old new same;
+  quiet = λ z. none_rose old new same;
 }
 
 -- ---- `reverse-read`
@@ -231,6 +239,7 @@ of_reverse_read words old new before after status asks s same_stores same_listen
   same_listener = same_listener;
   answers = (s, same_stores, same_listener);
   later = record { streams = s.later; stores = unused old new same_stores };
+  quiet = λ z. record { streams = s.quiet z; stores = ap (λ (t : Stores). t.faults) same_stores };
 })
 
 pub read_not_begun : (old new : Streams) (status : ℕ) → status ≡ 5 → new ≡ old → IsReverseRead old new status
@@ -241,4 +250,5 @@ read_not_begun old new status five same = record {
   fault = λ z. absurd (omega arith);
   memory = λ z. (ap (λ (t : Streams). t.output) same, ap (λ (t : Streams). t.errors) same);
   later = subst (λ (t : Streams). NeverFalls old t) (sym same) (record { input = omega arith; output = omega arith; errors = omega arith });
+  quiet = λ z. streams_same old new same;
 }

@@ -26,7 +26,7 @@ use Rattle.ipam_command.specs.Runs.{Answers, SaysUsage}
 use Rattle.ipam_command.specs.Clauses.{ListenerFailed, IsExact, HasClauses, RunsHaveClauses}
 use Rattle.command_files.specs.Files.{kind_named}
 use Rattle.ipam_command.proofs.Empty.{empty_opened}
-use Rattle.ipam_command.proofs.Apart.{free_apart, serve_not_free, serve_not_session, load_not_free, load_not_session, load_not_serve, same_serving, same_load, same_block, same_store, unused, lanes_kept, count_kept, nobody, answers_of}
+use Rattle.ipam_command.proofs.Apart.{free_apart, serve_not_free, serve_not_session, load_not_free, load_not_session, load_not_serve, same_serving, same_load, same_block, same_store, unused, lanes_kept, count_kept, nobody, answers_of, none_rose, quiet_beside, streams_same}
 use Rattle.ipam_command.proofs.OfficeLaws.{import_not_begun, export_not_begun, report_not_begun, tables_stay, none_fell, of_import, of_export, of_report}
 use Rattle.ipam_command.proofs.OtherLaws.{of_prefix_list, of_prefix_check, of_reverse, of_reverse_read, list_not_begun, check_not_begun, reverse_not_begun, read_not_begun}
 use Rattle.command_session.proofs.Refused.{not_begun}
@@ -108,6 +108,7 @@ of_free words old new before after status within asks f same_stores same_listene
       ]));
   later = record { streams = f.later; stores = unused old new same_stores };
   listener_later = count_kept before after same_listener;
+  quiet = λ z. quiet_beside words old new before after (record { streams = f.quiet z; stores = ap (λ (t : Stores). t.faults) same_stores }) same_listener;
 }
 
 -- ---- a run of `session`
@@ -175,6 +176,11 @@ of_session words old new before after status store asks s same_listener = record
   exact = λ within a well. absurd (free_apart words within store a asks);
   later = s.later;
   listener_later = count_kept before after same_listener;
+  quiet = λ z. record {
+    streams = (s.quiet z).0;
+    stores = elim (s.quiet z).1 [ inl same ↦ inl same | inr failed ↦ inr (store, asks, failed) ];
+    listener = ap (λ (d : ListenerView). d.faults) same_listener;
+  };
 }
 
 -- ---- a run of `serve`
@@ -241,6 +247,7 @@ of_serve words old new before after status serving asks s = record {
   exact = λ within a well. absurd (serve_not_free words serving within asks a);
   later = s.later;
   listener_later = s.listener_later;
+  quiet = λ z. quiet_beside words old new before after (s.quiet z) (s.memory z).1;
 }
 
 -- ---- a run of `load`
@@ -295,6 +302,10 @@ of_load words old new before after status count workers asks l same_input same_e
     stores = unused old new same_stores;
   };
   listener_later = count_kept before after same_listener;
+  quiet = λ z. quiet_beside words old new before after (record {
+    streams = record { input = ap (λ (t : Told). t.faults) same_input; output = ap (λ (t : Told). t.faults) (l.memory z); errors = ap (λ (t : Told). t.faults) same_errors };
+    stores = ap (λ (t : Stores). t.faults) same_stores;
+  }) same_listener;
 }
 
 -- ---- a run whose words ask for no command
@@ -332,6 +343,7 @@ of_none words old new before after status none (u, same_stores, same_listener) =
   exact = λ within a well. absurd (none (Free within) a);
   later = record { streams = u.later; stores = unused old new same_stores };
   listener_later = count_kept before after same_listener;
+  quiet = λ z. absurd (elim u.said [ inl s ↦ (let e = s.0 in omega arith) | inr s ↦ (let e = s.0 in omega arith) ]);
 }
 
 -- ---- where memory ran out before anything was used
@@ -345,6 +357,7 @@ free_not_begun within old new status five same = record {
   memory = λ z. (ap (λ (t : Streams). t.output) same, ap (λ (t : Streams). t.errors) same);
   refuses = λ number fault. always old.input.bytes _ (λ bytes h. inr (inr five));
   later = subst (λ (t : Streams). NeverFalls old t) (sym same) (record { input = omega arith; output = omega arith; errors = omega arith });
+  quiet = λ z. streams_same old new same;
 }
 
 not_begun_of : (command : Command) (old new : Outside) (before after : ListenerView) (status : ℕ) → status ≡ 5 → new ≡ old → after ≡ before
@@ -410,6 +423,7 @@ of_memory words old new before after status five same same_listener =
       later = subst (λ (t : Outside). NoCountFalls old t) (sym same)
           (record { streams = record { input = omega arith; output = omega arith; errors = omega arith }; stores = omega arith });
       listener_later = count_kept before after same_listener;
+      quiet = λ z. quiet_beside words old new before after (none_rose old new same) same_listener;
     }
 
 pub runs_have_clauses : RunsHaveClauses

@@ -1,7 +1,7 @@
 -- What the one relation of a run gives: each promise of the program as a clause of its own.
 use Rattle.std.specs.Prelude.{◌≡◌, ℕ, ◌+◌, ◌≤◌, ◌⊎◌, Bool, List, length, None, IfSome}
 use Rattle.inet_num.specs.Net.{Cidr}
-use Rattle.http_session.specs.declared.session.SessionEnd.TheVariants.{SourceFault}
+use Rattle.http_session.specs.declared.session.SessionEnd.TheVariants.{SourceFault, Memory}
 use Rattle.ipam_data.specs.State.{State}
 use Rattle.rest_ipam.specs.Answered.{opened, answers_plainly}
 use Rattle.kept_session.specs.Answered.{fresh, answers_kept}
@@ -13,13 +13,13 @@ use Rattle.command_words.specs.declared.asked.Store.{Store}
 use Rattle.command_words.specs.declared.asked.Serving.{Serving}
 use Rattle.command_words.specs.declared.asked.ListAsked.{ListAsked}
 use Rattle.command_words.specs.Asked.{Asks, IsNoCommand}
-use Rattle.command_streams.specs.Streams.{Gains, Failed, usage_text}
+use Rattle.command_streams.specs.Streams.{Gains, Failed, NeverRises, usage_text}
 use Rattle.command_free.specs.declared.free.LineFault.{LineFault}
 use Rattle.command_free.specs.Free.{IsRefusedLine}
 use Rattle.command_free.specs.Run.{PrintsFree, NamesLine, FailsToRead, FailsToPrint, FailsToSay}
 use Rattle.command_store.specs.Outside.{Outside, StoreFailed, AnyFailed, AreSame, NoCountFalls}
 use Rattle.command_store.specs.Opening.{IsLoaded, NamesFault, NamesFailure}
-use Rattle.command_session.specs.Session.{Prints, Serves, IsSession}
+use Rattle.command_session.specs.Session.{Prints, Serves, HasFailedCall, IsSession}
 use Rattle.command_serve.specs.Serve.{ListenerView, ListeningFailed, NobodyCame, Counts, IsServe}
 use Rattle.command_load.specs.LoadText.{load_text}
 use Rattle.command_load.specs.Load.{IsLoad}
@@ -142,6 +142,12 @@ IsExact within status bytes =
     ⊎ ((status ≡ 1) × ((number : ℕ) × (fault : LineFault) × IsRefusedLine within bytes number fault))
     ⊎ ((status ≡ 0) × ((number : ℕ) (fault : LineFault) → ¬ IsRefusedLine within bytes number fault))
 
+-- no count of faults rose; but after a `session` that of the opener may have, where a call was answered by a failed keeper
+pub record IsQuiet (words : List (List ℕ)) (old new : Outside) (before after : ListenerView) : Type 0 where
+  pub streams : NeverRises old.streams new.streams
+  pub stores : (new.stores.faults ≡ old.stores.faults) ⊎ ((store : Store) × AsksStore words store × HasFailedCall store old new Memory)
+  pub listener : after.faults ≡ before.faults
+
 -- the clauses of a run
 pub record HasClauses (words : List (List ℕ)) (old new : Outside) (before after : ListenerView) (status : ℕ) : Type 0 where
   -- the status is one of these
@@ -218,6 +224,8 @@ pub record HasClauses (words : List (List ℕ)) (old new : Outside) (before afte
   -- no count of faults falls
   pub later : NoCountFalls old new
   pub listener_later : before.faults ≤ after.faults
+  -- 5: none rose, but as said of `session`
+  pub quiet : status ≡ 5 → IsQuiet words old new before after
 
 -- a run has all of these
 abbrev pub RunsHaveClauses : Type 0
