@@ -6,3 +6,4 @@ pub mod Rows
 pub mod Plans
 pub mod SpelledLaws
 pub mod LeftLaws
+pub mod TakenBack

@@ -3,3 +3,4 @@ pub mod Ready
 pub mod Plan
 pub mod Keys
 pub mod Left
+pub mod Undone

@@ -3,14 +3,17 @@
 ghost use Rattle.std.specs.Prelude.{◌≡◌, ℕ, ◌++◌, ◌∷◌, ◌≤◌, [], List, None, true, not, nat_lt, IfErr, IfOk, OnOk, bytes_eq, count_by, length};
 ghost use Rattle.std.specs.List.{list_any};
 ghost use Rattle.ipam_data.specs.Checks.{first};
-ghost use Rattle.ipam_data.specs.Fields.{told_of_draft};
+ghost use Rattle.ipam_data.specs.declared.kinds.Kind.{Kind as SeenKind};
+ghost use Rattle.ipam_data.specs.Fields.{kind_of_draft, told_of_draft};
 ghost use Rattle.ipam_data.specs.Lawful.{IsLawful};
-ghost use Rattle.import_rows.specs.Imports.{at_row, begun, row_verdicts};
+ghost use Rattle.ipam_data.specs.State.{State};
+ghost use Rattle.import_rows.specs.Imports.{AreOfKind, at_row, begun, row_verdicts};
 ghost use Rattle.plan_import.specs.Left.{IsLeft};
 ghost use Rattle.register_tables.specs.Held.{state_of};
 ghost use Rattle.plan_import.specs.Halts.{IsHaltBy, halt_at};
 ghost use Rattle.plan_import.specs.Plan.{AreMade};
 ghost use Rattle.plan_import.specs.Ready.{IsTaken};
+ghost use Rattle.plan_import.specs.Undone.{IsAhead};
 
 use crate::halt::Halt;
 use crate::keys::leftovers;
@@ -53,6 +56,7 @@ fn take_row(
         → IsTaken (not (nat_lt (count_by (bytes_eq row.now.key) spent) (count_by (bytes_eq row.now.key) records))) row.now (state_of row_tables.old) made.old.items (state_of row_tables.new) made.new.items result }
     ensures left { (keys records spent : List (List ℕ)) → IsLeft left.old keys records spent → OnOk result (IsLeft left.new keys records (spent ++ row.now.key ∷ [])) }
     ensures lawful { OnOk result (IsLawful (state_of row_tables.new)) }
+    ensures ahead { (base : State) (kind : SeenKind) → (row.now.fault ≡ None → kind_of_draft row.now.draft ≡ kind) → IsAhead base kind (state_of row_tables.old) → IsAhead base kind (state_of row_tables.new) }
 {
     if let Some(rule) = row.fault {
         return Err(Halt::Refused(Refusal::Rule(rule)));
@@ -89,7 +93,8 @@ fn stopped_at(n: u32, halt: Halt) -> Halt
     }
 }
 
-/// Makes the records of all rows, one after another, and hands out copies of them.
+/// Makes the records of all rows, one after another, and hands out copies of them. Whatever stops it, what it did is that it made
+/// records of the kind.
 pub(crate) fn make_all(
     row_tables: &mut RowTables,
     kind: Kind,
@@ -97,9 +102,10 @@ pub(crate) fn make_all(
 ) -> Result<Vec<View>, Halt>
     requires lawful { IsLawful (state_of row_tables.old) }
     requires few { length lines.now ≤ 10000 }
+    requires kind { AreOfKind kind lines.now }
     ensures made { IfOk result (λ v. AreMade (state_of row_tables.old) kind lines.now (state_of row_tables.new) v.items) }
     ensures halted { IfErr result (λ halt. IsHaltBy (first (row_verdicts (state_of row_tables.old) kind (begun (state_of row_tables.old)) 1 lines.now)) halt) }
-    ensures lawful { OnOk result (IsLawful (state_of row_tables.new)) }
+    ensures ahead { IsAhead (state_of row_tables.old) kind (state_of row_tables.new) }
 {
     let rows = ready_all(row_tables, lines)?;
     let mut left = leftovers(row_tables, kind, &rows)?;

@@ -12,10 +12,10 @@ overflow_add-id c =
 pub returns-clause-state : goal.returns-clause-state
 returns-clause-state c =
     put_leads (state_of c.args.row_tables.now) (state_of c.put_record.new.row_tables) c.args.draft.now c.in_ok-view.view c.kind_of.result c.next_id-id.result
-    c.in_ok-view.ensures c.kind_of.ensures c.next_id-id.ensures c.in_ok-put_record.ensures
+    c.in_ok-view.ensures c.kind_of.ensures c.next_id-id.ensures c.in_ok-put_record.ensures.ok
 
 pub returns-clause-lawful : goal.returns-clause-lawful
 returns-clause-lawful c =
     made_lawful (state_of c.args.row_tables.now) (state_of c.put_record.new.row_tables) c.args.draft.now c.requires.lawful c.bounds.ensures (sym c.refused.ensures ∙ c.in-None.is)
     (put_leads (state_of c.args.row_tables.now) (state_of c.put_record.new.row_tables) c.args.draft.now c.in_ok-view.view c.kind_of.result c.next_id-id.result
-    c.in_ok-view.ensures c.kind_of.ensures c.next_id-id.ensures c.in_ok-put_record.ensures)
+    c.in_ok-view.ensures c.kind_of.ensures c.next_id-id.ensures c.in_ok-put_record.ensures.ok)
