@@ -7,10 +7,10 @@ use Rattle.ipam_data.specs.declared.replies.Rule.{Rule}
 use Rattle.ipam_data.specs.declared.replies.Refusal.{Refusal}
 use Rattle.ipam_data.specs.declared.replies.View.{View}
 use Rattle.ipam_data.specs.Checks.{first, breaks}
-use Rattle.ipam_data.specs.Fields.{told_of_draft}
+use Rattle.ipam_data.specs.Fields.{kind_of_draft, told_of_draft}
 use Rattle.ipam_data.specs.State.{State}
 use Rattle.import_rows.specs.declared.rows.ImportRow.{ImportRow}
-use Rattle.import_rows.specs.Imports.{create_checks}
+use Rattle.import_rows.specs.Imports.{AreOfKind, create_checks}
 use Rattle.plan_import.specs.declared.leftovers.Leftovers.{Leftovers}
 use Rattle.plan_import.specs.Left.{IsLeft}
 use Rattle.plan_import.specs.declared.ready.Ready.{Ready}
@@ -36,6 +36,10 @@ row_any old lines rows i row e h g =
 pub row_told : (old : State) (lines : List ImportRow) (i : ℕ) (row : Ready) → IsAt old lines i row → row.fault ≡ None → first (told_of_draft row.draft) ≡ None
 row_told old lines i row at f =
     ap (λ (r : Ready). first (told_of_draft r.draft)) at.is ∙ nothing_told old at.line (ap (λ (r : Ready). r.fault) (sym at.is) ∙ f)
+
+-- (over the old text)
+pub row_kind : (old : State) (kind : Kind) (lines : List ImportRow) (i : ℕ) (row : Ready) → AreOfKind kind lines → IsAt old lines i row → row.fault ≡ None → kind_of_draft row.draft ≡ kind
+row_kind old kind lines i row q at f = ?
 
 no_fault : (fault : Option Rule) (rest : List (Option Refusal)) → first (breaks fault ∷ rest) ≡ None → fault ≡ None
 no_fault None rest e = refl

@@ -37,10 +37,10 @@ pub(crate) fn try_rows(
     ensures made { IfOk result (λ made. AreTried (state_of row_tables.old) kind rows.now made) }
     ensures halted { IfErr result (λ halt. IsHaltBy (first (row_verdicts (state_of row_tables.old) kind (begun (state_of row_tables.old)) 1 rows.now)) halt) }
 {
-    let first = row_tables.next(kind);
+    let start = row_tables.next(kind);
     let made = make_all(row_tables, kind, rows);
     let next = row_tables.next(kind);
-    take_back(row_tables, kind, first);
+    take_back(row_tables, kind, start);
     match made {
         Ok(records) => Ok(Made { records, next }),
         Err(halt) => Err(halt),

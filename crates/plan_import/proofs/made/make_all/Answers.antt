@@ -11,7 +11,8 @@ use Rattle.plan_import.specs.declared.ready.Ready.{Ready}
 use Rattle.plan_import.specs.Halts.{IsHaltBy, halt_at}
 use Rattle.plan_import.specs.Ready.{ready_rows, keys_of, record_keys}
 use Rattle.plan_import.proofs.Loops.{HasComeTo, come_none, come_halt}
-use Rattle.plan_import.proofs.Rows.{row_at, row_any, row_told, next}
+use Rattle.plan_import.proofs.Rows.{row_at, row_any, row_told, row_kind, next}
+use Rattle.plan_import.proofs.TakenBack.{ahead_none}
 use Rattle.plan_import.proofs.made.make_all.Goals as goal
 
 pub loop-row-init : goal.loop-row-init
@@ -24,6 +25,7 @@ loop-row-init c =
           subst (λ (views : List View). HasComeTo old c.args.kind lines 0 old views c.in_ok-left.left) (sym c.new-made.ensures.items)
           (come_none old c.args.kind lines c.in_ok-left.left (subst (λ (rows : List Ready). IsLeft c.in_ok-left.left (keys_of rows) (record_keys old c.args.kind) []) are c.in_ok-left.ensures));
       lawful = c.requires.lawful;
+      ahead = ahead_none old c.args.kind;
       number = refl;
     }
 
@@ -55,6 +57,7 @@ loop-row-preserved c =
           (c.in-Ok.ensures.step (keys_of (ready_rows old lines)) (record_keys old c.args.kind) h.spent h.is_left any)
           (c.in-Ok.ensures.left (keys_of (ready_rows old lines)) (record_keys old c.args.kind) h.spent h.is_left);
       lawful = c.in-Ok.ensures.lawful;
+      ahead = c.in-Ok.ensures.ahead old c.args.kind (row_kind old c.args.kind lines i c.row-item.result c.requires.kind (row_at old lines rows i c.row-item.result are low c.row-item.is)) c.loop-row.invariant.ahead;
       number = omega arith;
     }
 
@@ -74,3 +77,19 @@ returns-in-Err-clause-halted c =
     (come_halt old c.args.kind lines i (state_of c.loop-row.row_tables) c.loop-row.made.items c.loop-row.left h c.row-item.result (row_at old lines rows i c.row-item.result are low c.row-item.is)
     c.in-Err.halt (state_of c.take_row.new.row_tables) c.take_row.new.made.items
     (c.in-Err.ensures.step (keys_of (ready_rows old lines)) (record_keys old c.args.kind) h.spent h.is_left any))
+
+pub returns-in-Err-clause-ahead : goal.returns-in-Err-clause-ahead
+returns-in-Err-clause-ahead c =
+    let old : State = state_of c.args.row_tables.now in
+    let lines : List ImportRow = c.args.lines.now in
+    let i : ℕ = c.loop-row.row-index in
+    let rows : List Ready = c.deref-row-items.result.now in
+    let are : rows ≡ ready_rows old lines = c.deref-row-items.ensures.value ∙ c.in_ok-rows.ensures in
+    let low : i < length rows = omega arith in
+    c.in-Err.ensures.ahead old c.args.kind (row_kind old c.args.kind lines i c.row-item.result c.requires.kind (row_at old lines rows i c.row-item.result are low c.row-item.is)) c.loop-row.invariant.ahead
+
+pub returns-in_err-rows-clause-ahead : goal.returns-in_err-rows-clause-ahead
+returns-in_err-rows-clause-ahead c = ahead_none (state_of c.args.row_tables.now) c.args.kind
+
+pub returns-in_err-left-clause-ahead : goal.returns-in_err-left-clause-ahead
+returns-in_err-left-clause-ahead c = ahead_none (state_of c.args.row_tables.now) c.args.kind
