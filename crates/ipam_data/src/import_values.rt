@@ -1,16 +1,17 @@
-//! The rules that a row breaks by itself.
+//! The rules that a row of an import breaks by itself, and whether it is of the import's kind.
 
 ghost use Rattle.std.specs.Prelude.{◌≡◌};
 ghost use Rattle.ipam_data.specs.Addresses.{is_slaac_of_v4};
 ghost use Rattle.ipam_data.specs.Checks.{first};
-ghost use Rattle.import_rows.specs.Imports.{ends_rules, host_rules, value_rules, zero_mask};
+ghost use Rattle.ipam_data.specs.Imports.{ends_rules, host_rules, kind_rule, value_rules, zero_mask};
 
-use crate::rows::ImportRow;
+use crate::address::AddressStatus;
+use crate::host::Host;
+use crate::host_names::is_dns_name;
+use crate::imports::ImportRow;
+use crate::kinds::{Kind, is_one_kind};
+use crate::replies::{FieldName, Refusal, Rule};
 use inet_num::{Family, is_one_family};
-use ipam_data::address::AddressStatus;
-use ipam_data::host::Host;
-use ipam_data::host_names::is_dns_name;
-use ipam_data::replies::Rule;
 
 /// A range has fewer addresses than this number and one more.
 const MOST_OF_RANGE: u128 = 4_294_967_295;
@@ -76,6 +77,16 @@ fn host_fault(host: Host, status: AddressStatus, dns_name: &str) -> Option<Rule>
 }
 
 impl ImportRow {
+    /// The refusal of a row that is not of the import's kind: `Field` with the name of a row. It takes no memory.
+    pub fn kind_fault(&self, kind: Kind) -> Option<Refusal>
+        ensures { result ≡ kind_rule kind self.now }
+    {
+        if is_one_kind(self.kind(), kind) {
+            return None;
+        }
+        Some(Refusal::Field(FieldName::Row))
+    }
+
     /// The first rule that the row breaks by itself, which no record decides: `ZeroMask`, `RangeFamily`, `RangeMask`, `RangeOrder`,
     /// `RangeSize`, `SlaacFamily` or `DnsName`. It takes no memory.
     pub fn value_fault(&self) -> Option<Rule>

@@ -13,8 +13,8 @@ use Rattle.ipam_data.specs.Rows.{vrf_id, rir_id, role_id}
 use Rattle.ipam_data.specs.RowList.{row_at}
 use Rattle.ipam_data.specs.Fields.{start_of, end_of}
 use Rattle.ipam_data.specs.State.{State}
-use Rattle.import_rows.specs.declared.rows.ImportRow.{ImportRow}
-use Rattle.import_rows.specs.declared.rows.ImportRow.TheVariants.{Vrf as VrfRow, Rir as RirRow, Role as RoleRow, Aggregate as AggregateRow, Prefix as PrefixRow, IpRange as RangeRow, IpAddress as AddressRow}
+use Rattle.ipam_data.specs.declared.imports.ImportRow.{ImportRow}
+use Rattle.ipam_data.specs.declared.imports.ImportRow.TheVariants.{Vrf as VrfRow, Rir as RirRow, Role as RoleRow, Aggregate as AggregateRow, Prefix as PrefixRow, IpRange as RangeRow, IpAddress as AddressRow}
 
 -- ---- names
 

@@ -2,26 +2,17 @@
 
 ghost use Rattle.std.specs.Prelude.{◌≡◌};
 ghost use Rattle.std.specs.List.{AllByRecursion};
-ghost use Rattle.ipam_data.specs.Steps.{IsDistinguisherToo};
-ghost use Rattle.import_rows.specs.Imports.{HasRowBounds, kind_of_row};
+ghost use Rattle.ipam_data.specs.Imports.{HasRowBounds, kind_of_row};
 
+use crate::address::{AddressRole, AddressStatus};
+use crate::host::Host;
+use crate::kinds::Kind;
+use crate::prefix::PrefixStatus;
+use crate::range::RangeStatus;
+use crate::text::{Description, Distinguisher, DnsText, Name, Slug, Weight};
+use crate::vrf::distinguisher_bounds;
 use inet_num::Block;
-use ipam_data::address::{AddressRole, AddressStatus};
-use ipam_data::host::Host;
-use ipam_data::kinds::Kind;
-use ipam_data::prefix::PrefixStatus;
-use ipam_data::range::RangeStatus;
-use ipam_data::text::{Description, Distinguisher, DnsText, Name, Slug, Weight};
 use std::marker::Model;
-
-/// A route distinguisher that is there is one.
-fn distinguisher_bounds(rd: &Option<Distinguisher>)
-    ensures { IsDistinguisherToo rd.now }
-{
-    if let Some(rd) = rd {
-        rd.bounds();
-    }
-}
 
 /// How many rows an import may have.
 pub const MOST_ROWS: u32 = 10_000;
@@ -180,7 +171,7 @@ pub struct ImportRows {
 
 impl Model for ImportRows {
     ghost use Rattle.std.specs.Prelude.{List};
-    ghost use Rattle.import_rows.specs.declared.rows.ImportRow.{ImportRow};
+    ghost use Rattle.ipam_data.specs.declared.imports.ImportRow.{ImportRow};
 
     ghost Value = { List ImportRow };
 
@@ -200,6 +191,13 @@ impl ImportRows {
         ensures { result.now ≡ self.now }
     {
         self.items.as_slice()
+    }
+
+    /// The vector again. It takes no memory.
+    pub fn into_vec(self) -> Vec<ImportRow>
+        ensures { result.items ≡ self }
+    {
+        self.items
     }
 
     /// Each row is in its bounds, by its type: a law.

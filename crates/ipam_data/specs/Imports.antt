@@ -1,7 +1,6 @@
 -- Imports: which rows make a record, why a row is refused, and what an import leaves. A row makes a record where, among the rows up
--- to it, more have its fields than records had before the import. Fields are compared as they are stored.
+-- to it, more have its fields than records had before the import. Fields are compared as a record keeps them.
 use Rattle.std.specs.Prelude.{◌≡◌, ℕ, ◌+◌, ◌-◌, ◌==◌, nat_lt, nat_le, Bool, true, false, List, [], ◌∷◌, ◌++◌, Option, Some, None, option_map, map, count_by, length, bytes_eq, if◌then◌else◌}
-use Rattle.std.specs.Cmp.Lexicographic.{pointwise}
 use Rattle.std.specs.List.{AllByRecursion}
 use Rattle.inet_num.specs.Net.{IsBlock}
 use Rattle.ipam_data.specs.declared.kinds.Kind.{Kind}
@@ -12,20 +11,21 @@ use Rattle.ipam_data.specs.declared.rir.Rir.{Rir}
 use Rattle.ipam_data.specs.declared.role.Role.{Role}
 use Rattle.ipam_data.specs.declared.calls.Draft.{Draft}
 use Rattle.ipam_data.specs.declared.calls.Draft.TheVariants.{Vrf as VrfDraft, Rir as RirDraft, Role as RoleDraft, Aggregate as AggregateDraft, Prefix as PrefixDraft, IpRange as RangeDraft, IpAddress as AddressDraft}
-use Rattle.import_rows.specs.declared.rows.ImportRow.{ImportRow}
-use Rattle.import_rows.specs.declared.rows.ImportRow.TheVariants.{Vrf as VrfRow, Rir as RirRow, Role as RoleRow, Aggregate as AggregateRow, Prefix as PrefixRow, IpRange as RangeRow, IpAddress as AddressRow}
+use Rattle.ipam_data.specs.declared.imports.ImportRow.{ImportRow}
+use Rattle.ipam_data.specs.declared.imports.ImportRow.TheVariants.{Vrf as VrfRow, Rir as RirRow, Role as RoleRow, Aggregate as AggregateRow, Prefix as PrefixRow, IpRange as RangeRow, IpAddress as AddressRow}
 use Rattle.ipam_data.specs.declared.replies.Rule.{Rule}
 use Rattle.ipam_data.specs.declared.replies.Rule.TheVariants.{ZeroMask, RangeOrder, RangeSize, SlaacFamily, DnsName, NoSuchName, Ambiguous}
 use Rattle.ipam_data.specs.declared.replies.RowFault.TheVariants as fault
 use Rattle.ipam_data.specs.declared.replies.Which.TheVariants.{Rows}
 use Rattle.ipam_data.specs.declared.replies.Refusal.{Refusal}
-use Rattle.ipam_data.specs.declared.replies.Refusal.TheVariants.{Rule as Breaks, Limit, Row}
+use Rattle.ipam_data.specs.declared.replies.Refusal.TheVariants.{Field, Rule as Breaks, Limit, Row}
+use Rattle.ipam_data.specs.declared.replies.FieldName.TheVariants as member
 use Rattle.ipam_data.specs.declared.replies.Reply.TheVariants.{Imported}
 use Rattle.ipam_data.specs.declared.replies.View.{View}
 use Rattle.ipam_data.specs.Texts.{IsDescription, IsDnsText}
 use Rattle.ipam_data.specs.HostNames.{is_dns_name}
 use Rattle.ipam_data.specs.Hosts.{Masked, IsMasked}
-use Rattle.ipam_data.specs.Rows.{rir_id, role_id}
+use Rattle.ipam_data.specs.Rows.{rir_id, role_id, same_kind}
 use Rattle.ipam_data.specs.RowList.{least}
 use Rattle.ipam_data.specs.Checks.{first, breaks, too_many, no_log}
 use Rattle.ipam_data.specs.State.{State, Plan}
@@ -33,29 +33,27 @@ use Rattle.ipam_data.specs.Plans.{add_row, creation}
 use Rattle.ipam_data.specs.Vrfs.{ids_named}
 use Rattle.ipam_data.specs.Ranges.{range_family, range_mask, most_of_range}
 use Rattle.ipam_data.specs.Addresses.{is_slaac_of_v4}
-use Rattle.stored_tables.specs.Stored.{stored_row, stored_rows, next_of}
-use Rattle.ipam_data.specs.ByKind.{by_view}
-use Rattle.ipam_data.specs.Fields.{drafted, told_of_draft, HasDraftBounds}
-use Rattle.ipam_data.specs.Steps.{next_for}
-use Rattle.import_rows.specs.declared.rows.TheConstants.{MOST_ROWS}
+use Rattle.ipam_data.specs.ByKind.{by_kind, by_view}
+use Rattle.ipam_data.specs.Fields.{drafted, next_for, told_of_draft, recorded, stored_draft, same_draft, HasDraftBounds}
+use Rattle.ipam_data.specs.declared.imports.TheConstants.{MOST_ROWS}
 
 -- how many rows an import may have
 abbrev pub most_rows : ℕ
 most_rows = MOST_ROWS
 
--- ---- the fields of a record, as they are stored
+-- ---- records
 
--- those of the row that a draft makes, which say nothing of its id
-unfoldable pub texts_of : Draft → List (List ℕ)
-texts_of d = (stored_row (drafted 0 d)).fields
+-- the drafts of the records of a kind
+abbrev pub records_of : State → Kind → List Draft
+records_of s kind = by_kind kind (λ T rules. map (λ row. recorded (rules.view row)) (rules.row_list s).rows)
 
--- those of the records of a kind
-abbrev pub records_of : State → Kind → List (List (List ℕ))
-records_of s kind = map (λ row. row.fields) (stored_rows s kind)
+-- how many of these are the draft
+unfoldable pub times : Draft → List Draft → ℕ
+times draft drafts = count_by (same_draft draft) drafts
 
--- how many of these are the same
-unfoldable pub times : List (List ℕ) → List (List (List ℕ)) → ℕ
-times texts others = count_by (pointwise bytes_eq texts) others
+-- the next id of a kind
+abbrev pub next_of : State → Kind → ℕ
+next_of s kind = by_kind kind (λ T rules. (rules.row_list s).next)
 
 -- ---- names
 
@@ -157,19 +155,19 @@ value_rules (AddressRow host vrf status role dns_name description) = host_rules 
 
 -- ---- the import
 
--- how far an import has come: the state with the records that it made, the fields of its rows so far, the last one first, and the
--- records that it made
+-- how far an import has come: the state with the records that it made, its rows so far as drafts that are stored, the last one first,
+-- and the records that it made
 pub record Progress : Type 0 where
   pub state : State
-  pub seen : List (List (List ℕ))
+  pub seen : List Draft
   pub made : List View
 
 abbrev pub begun : State → Progress
 begun s = record { state = s; seen = []; made = [] }
 
 -- the draft makes a record: with it more rows have its fields than records had before the import
-unfoldable pub makes_one : State → Kind → List (List (List ℕ)) → Draft → Bool
-makes_one old kind seen d = nat_lt (times (texts_of d) (records_of old kind)) (times (texts_of d) (texts_of d ∷ seen))
+unfoldable pub makes_one : State → Kind → List Draft → Draft → Bool
+makes_one old kind seen d = nat_lt (times (stored_draft d) (records_of old kind)) (times (stored_draft d) (stored_draft d ∷ seen))
 
 -- the record of a draft, and the state with it
 abbrev pub record_of : State → Draft → View
@@ -180,8 +178,8 @@ with_record s d = by_view (record_of s d) (λ T rules row. add_row rules s row)
 
 -- the import with one more row, which makes a record or does not
 abbrev pub with_draft : Bool → Progress → Draft → Progress
-with_draft true so d = record { state = with_record so.state d; seen = texts_of d ∷ so.seen; made = so.made ++ record_of so.state d ∷ [] }
-with_draft false so d = record { state = so.state; seen = texts_of d ∷ so.seen; made = so.made }
+with_draft true so d = record { state = with_record so.state d; seen = stored_draft d ∷ so.seen; made = so.made ++ record_of so.state d ∷ [] }
+with_draft false so d = record { state = so.state; seen = stored_draft d ∷ so.seen; made = so.made }
 
 abbrev pub after_row : State → Kind → Progress → ImportRow → Progress
 after_row old kind so row = with_draft (makes_one old kind so.seen (draft_of old row)) so (draft_of old row)
@@ -192,6 +190,7 @@ after_rows old kind so (row ∷ rows) = after_rows old kind (after_row old kind 
 
 -- a refusal, as that of the row with this number
 abbrev pub at_row : ℕ → Refusal → Refusal
+at_row n (Field name) = Row n (fault.Field name)
 at_row n (Breaks rule) = Row n (fault.Rule rule)
 at_row n (Limit which most) = Row n (fault.Limit which most)
 at_row n other = other
@@ -201,10 +200,14 @@ abbrev pub create_checks : Bool → State → Draft → List (Option Refusal)
 create_checks true s d = by_view (record_of s d) (λ T rules row. creation rules s (told_of_draft d) row)
 create_checks false s d = []
 
--- why a row is refused: its names, then its values, then what a creation beside the records so far checks
+-- a row of another kind is refused
+abbrev pub kind_rule : Kind → ImportRow → Option Refusal
+kind_rule kind row = if same_kind (kind_of_row row) kind then None else Some (Field member.Row)
+
+-- why a row is refused: its kind, its names, then its values, then what a creation beside the records so far checks
 abbrev pub row_checks : State → Kind → Progress → ImportRow → List (Option Refusal)
 row_checks old kind so row =
-    map breaks (name_rules old row) ++ (map breaks (value_rules row)
+    kind_rule kind row ∷ map breaks (name_rules old row) ++ (map breaks (value_rules row)
     ++ create_checks (makes_one old kind so.seen (draft_of old row)) so.state (draft_of old row))
 
 abbrev pub row_verdict : State → Kind → Progress → ℕ → ImportRow → Option Refusal
