@@ -19,8 +19,8 @@ use Rattle.ipam_data.specs.Updates.{without_row, with_next}
 use Rattle.ipam_data.specs.Lawful.{IsLawful}
 use Rattle.ipam_data.proofs.RowLists.{eq_true, eq_false, with_row_above}
 use Rattle.ipam_data.proofs.Ties.{IsTied, vrfs_tied, rirs_tied, roles_tied, aggregates_tied, prefixes_tied, ranges_tied, addresses_tied}
-use Rattle.stored_tables.specs.Stored.{next_of}
-use Rattle.import_rows.specs.Imports.{with_record}
+use Rattle.ipam_data.specs.Imports.{next_of}
+use Rattle.ipam_data.specs.Imports.{with_record}
 use Rattle.plan_import.specs.Undone.{ids_down, taken_back, IsAhead}
 
 -- ---- one after another
@@ -34,6 +34,16 @@ cut_next s new kind first next made k m h e =
     let id : next - 1 - k ≡ first + m_ = omega arith in
     ap (λ (t : State). fold without_row t (ids_down kind first m_)) (e ∙ ap (λ (n : ℕ). without_row s (kind, n)) id)
     ∙ sym (ap (λ (n : ℕ). fold without_row s (ids_down kind first n)) more)
+
+-- none is left
+pub cut_end : (s now last : State) (kind : Kind) (first next made : ℕ) → next ≡ next_of s kind → made ≡ next - first → last ≡ with_next now (kind, first)
+    → fold without_row now (ids_down kind first (made - made)) ≡ fold without_row s (ids_down kind first made) → last ≡ taken_back s kind first
+cut_end s now last kind first next made n m e h =
+    let none : made - made ≡ 0 = omega arith in
+    let all : made ≡ next_of s kind - first = m ∙ ap (λ (k : ℕ). k - first) n in
+    e
+    ∙ ap (λ (t : State). with_next t (kind, first))
+    (sym (ap (λ (k : ℕ). fold without_row now (ids_down kind first k)) none) ∙ h ∙ ap (λ (k : ℕ). fold without_row s (ids_down kind first k)) all)
 
 -- ---- a next id that was set is set again
 
