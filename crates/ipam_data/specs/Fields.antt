@@ -1,6 +1,6 @@
 -- What is said of rows field by field: the row that a draft makes, the draft of a record and when two drafts are the same, the row that an
 -- edit leaves of an old one, what drafts and edits keep by their types, and the printed names of fields. The definitions name the fields of drafts and edits nowhere else.
-use Rattle.std.specs.Prelude.{◌≡◌, ℕ, ◌==◌, ◌&&◌, Bool, List, [], Option, Some, None, false, bytes_eq, codes}
+use Rattle.std.specs.Prelude.{◌≡◌, ◌↔◌, ℕ, ◌==◌, ◌&&◌, Bool, List, [], Option, Some, None, true, false, bytes_eq, codes}
 use Rattle.std.specs.Bool.{beq}
 use Rattle.std.specs.Option.{option_eq}
 use Rattle.std.specs.Str.{str_to_ascii_lowercase}
@@ -160,6 +160,10 @@ same_draft (AddressDraft host vrf status role dns_name description) (AddressDraf
     same_host host host2 && same_name vrf vrf2 && address_status_number status == address_status_number status2
     && option_eq same_address_role role role2 && bytes_eq dns_name dns_name2 && bytes_eq description description2
 same_draft draft other = false
+
+-- so they are one draft
+abbrev pub SameDraftsAreOne : Type 0
+SameDraftsAreOne = (a b : Draft) → (same_draft a b ≡ true) ↔ (a ≡ b)
 
 -- ---- edits
 

@@ -1,7 +1,6 @@
 -- Imports: which rows make a record, why a row is refused, and what an import leaves. A row makes a record where, among the rows up
 -- to it, more have its fields than records had before the import. Fields are compared as a record keeps them.
-use Rattle.std.specs.Prelude.{◌≡◌, ℕ, ◌+◌, ◌-◌, ◌==◌, nat_lt, nat_le, Bool, true, false, List, [], ◌∷◌, ◌++◌, Option, Some, None, option_map, map, count_by, length, bytes_eq, if◌then◌else◌}
-use Rattle.std.specs.List.{AllByRecursion}
+use Rattle.std.specs.Prelude.{ℕ, ◌+◌, ◌-◌, ◌==◌, nat_lt, nat_le, Bool, true, false, List, [], ◌∷◌, ◌++◌, Option, Some, None, option_map, map, count_by, length, bytes_eq, if◌then◌else◌}
 use Rattle.inet_num.specs.Net.{IsBlock}
 use Rattle.ipam_data.specs.declared.kinds.Kind.{Kind}
 use Rattle.ipam_data.specs.declared.kinds.Kind.TheVariants.{Vrfs, Rirs, Roles, Aggregates, Prefixes, Ranges, Addresses}
@@ -155,8 +154,8 @@ value_rules (AddressRow host vrf status role dns_name description) = host_rules 
 
 -- ---- the import
 
--- how far an import has come: the state with the records that it made, its rows so far as drafts that are stored, the last one first,
--- and the records that it made
+-- how far an import has come: the state with the records that it made, the drafts of its rows so far as records keep them, the last one
+-- first, and the records that it made
 pub record Progress : Type 0 where
   pub state : State
   pub seen : List Draft
@@ -231,10 +230,6 @@ import_plan s kind rows =
       update = record { puts = done.made; cuts = []; next = (kind, next_of done.state kind) ∷ []; spent = items_of rows };
       reply = Imported (length done.made) (length rows - length done.made);
     }
-
--- all rows are of the kind
-abbrev pub AreOfKind : Kind → List ImportRow → Type 0
-AreOfKind kind rows = AllByRecursion (λ row. kind_of_row row ≡ kind) rows
 
 -- what a row keeps by its types
 abbrev pub HasRowBounds : ImportRow → Type 0
