@@ -17,7 +17,7 @@ use Rattle.ipam_data.specs.declared.replies.RowFault.{RowFault}
 use Rattle.ipam_data.specs.declared.replies.RowFault.TheVariants.{Field}
 use Rattle.ipam_data.specs.declared.replies.Refusal.{Refusal}
 use Rattle.ipam_data.specs.declared.replies.Refusal.TheVariants.{Row}
-use Rattle.import_rows.specs.declared.rows.ImportRow.{ImportRow}
+use Rattle.ipam_data.specs.declared.imports.ImportRow.{ImportRow}
 use Rattle.csv_import.specs.Columns.{is_header}
 use Rattle.csv_import.specs.Cells.{IsWeightText, IsWeightCell, IsBlockReading, IsHostReading, block_fault}
 use Rattle.csv_import.specs.Rows.{IsCellsOf, IsRowOf, role_row, aggregate_row, prefix_row, range_row, address_row}

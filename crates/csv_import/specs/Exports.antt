@@ -8,8 +8,8 @@ use Rattle.ipam_data.specs.declared.address.AddressRole.{AddressRole}
 use Rattle.ipam_data.specs.Answers.{field_text}
 use Rattle.ipam_words.specs.Words.{prefix_status_value, range_status_value, address_status_value, address_role_value}
 use Rattle.stored_tables.specs.Stored.{flag_text, optional_text, host_text}
-use Rattle.import_rows.specs.declared.rows.ImportRow.{ImportRow}
-use Rattle.import_rows.specs.declared.rows.ImportRow.TheVariants.{Vrf as VrfRow, Rir as RirRow, Role as RoleRow, Aggregate as AggregateRow, Prefix as PrefixRow, IpRange as RangeRow, IpAddress as AddressRow}
+use Rattle.ipam_data.specs.declared.imports.ImportRow.{ImportRow}
+use Rattle.ipam_data.specs.declared.imports.ImportRow.TheVariants.{Vrf as VrfRow, Rir as RirRow, Role as RoleRow, Aggregate as AggregateRow, Prefix as PrefixRow, IpRange as RangeRow, IpAddress as AddressRow}
 use Rattle.csv_import.specs.Columns.{columns_of}
 
 -- the role of an address, or nothing

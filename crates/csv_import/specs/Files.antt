@@ -3,7 +3,7 @@ use Rattle.std.specs.Prelude.{◌≡◌, ◌⊎◌, ℕ, ◌+◌, ◌<◌, ◌�
 use Rattle.csv.specs.Reading.{AreRecords, default_config, strip_bom}
 use Rattle.csv.specs.declared.parser.State.TheVariants as st
 use Rattle.ipam_data.specs.declared.kinds.Kind.{Kind}
-use Rattle.import_rows.specs.declared.rows.ImportRow.{ImportRow}
+use Rattle.ipam_data.specs.declared.imports.ImportRow.{ImportRow}
 use Rattle.ipam_data.specs.declared.replies.FieldName.TheVariants.{Column as ColumnField}
 use Rattle.ipam_data.specs.declared.replies.Part.TheVariants.{Body}
 use Rattle.ipam_data.specs.declared.replies.RowFault.{RowFault}

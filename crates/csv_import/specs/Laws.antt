@@ -2,7 +2,7 @@
 use Rattle.std.specs.Prelude.{◌≡◌, ℕ, List, Result}
 use Rattle.ipam_data.specs.declared.kinds.Kind.{Kind}
 use Rattle.ipam_data.specs.declared.replies.Refusal.{Refusal}
-use Rattle.import_rows.specs.declared.rows.ImportRow.{ImportRow}
+use Rattle.ipam_data.specs.declared.imports.ImportRow.{ImportRow}
 use Rattle.csv_import.specs.Files.{IsFileOf}
 
 -- the bytes of a file have one answer: their rows, or one refusal; so each comes exactly where the definition gives it

@@ -9,8 +9,8 @@ use Rattle.ipam_data.specs.declared.replies.FieldName.{FieldName}
 use Rattle.ipam_data.specs.declared.replies.FieldName.TheVariants.{Address, Description, DnsName, EndAddress, EnforceUnique, IsPool, IsPrivate, MarkUtilized, Name, Prefix as PrefixField, Rd, Rir as RirField, Role as RoleField, Row as RowField, Slug, StartAddress, Status, Vrf as VrfField, Weight}
 use Rattle.ipam_data.specs.declared.replies.RowFault.{RowFault}
 use Rattle.ipam_data.specs.declared.replies.RowFault.TheVariants.{Field}
-use Rattle.import_rows.specs.declared.rows.ImportRow.{ImportRow}
-use Rattle.import_rows.specs.declared.rows.ImportRow.TheVariants.{Vrf as VrfRow, Rir as RirRow, Role as RoleRow, Aggregate as AggregateRow, Prefix as PrefixRow, IpRange as RangeRow, IpAddress as AddressRow}
+use Rattle.ipam_data.specs.declared.imports.ImportRow.{ImportRow}
+use Rattle.ipam_data.specs.declared.imports.ImportRow.TheVariants.{Vrf as VrfRow, Rir as RirRow, Role as RoleRow, Aggregate as AggregateRow, Prefix as PrefixRow, IpRange as RangeRow, IpAddress as AddressRow}
 use Rattle.csv_import.specs.declared.stops.Stop.{Stop}
 use Rattle.csv_import.specs.declared.stops.Stop.TheVariants.{Fault, Memory}
 use Rattle.csv_import.specs.Cells.{cell, column, within, within_or_none, slugged, of_bytes, flag_of, prefix_status_of, range_status_of, address_status_of, address_role_of, IsWeightCell, IsBlockReading, IsHostReading}

@@ -3,7 +3,7 @@
 ghost use Rattle.std.specs.Prelude.{◌≡◌, IfOk};
 ghost use Rattle.csv.specs.Records.{fields_of};
 ghost use Rattle.ipam_data.specs.declared.kinds.Kind.TheVariants.{Aggregates};
-ghost use Rattle.import_rows.specs.Imports.{kind_of_row};
+ghost use Rattle.ipam_data.specs.Imports.{kind_of_row};
 ghost use Rattle.csv_import.specs.Exports.{fields_of_row};
 ghost use Rattle.csv_import.specs.Rows.{OrMemory, IsCellsOf};
 
@@ -11,7 +11,7 @@ use crate::cells::{description, name};
 use crate::nets::block;
 use crate::stops::Stop;
 use csv::{ByteRecord, StringRecord};
-use import_rows::rows::ImportRow;
+use ipam_data::imports::ImportRow;
 use ipam_data::replies::FieldName;
 use std::alloc::{AllocError, Global};
 

@@ -14,7 +14,7 @@ use crate::rir::rir_fields;
 use crate::role::role_fields;
 use crate::vrf::vrf_fields;
 use csv::{StringRecord, WriterBuilder};
-use import_rows::rows::ImportRow;
+use ipam_data::imports::ImportRow;
 use ipam_data::kinds::Kind;
 use ipam_words::field_name;
 use std::alloc::{AllocError, Global};

@@ -12,7 +12,7 @@ use crate::records::records;
 use crate::rows::read_row;
 use crate::stops::Stop;
 use csv::ByteRecord;
-use import_rows::rows::ImportRow;
+use ipam_data::imports::ImportRow;
 use ipam_data::kinds::Kind;
 use ipam_data::replies::{FieldName, Part, Refusal, RowFault};
 use std::alloc::Global;

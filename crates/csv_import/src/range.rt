@@ -3,7 +3,7 @@
 ghost use Rattle.std.specs.Prelude.{◌≡◌, IfOk};
 ghost use Rattle.csv.specs.Records.{fields_of};
 ghost use Rattle.ipam_data.specs.declared.kinds.Kind.TheVariants.{Ranges};
-ghost use Rattle.import_rows.specs.Imports.{kind_of_row};
+ghost use Rattle.ipam_data.specs.Imports.{kind_of_row};
 ghost use Rattle.csv_import.specs.Exports.{fields_of_row};
 ghost use Rattle.csv_import.specs.Rows.{OrMemory, IsCellsOf};
 
@@ -13,7 +13,7 @@ use crate::fields::{flag_name, host_name, name_text};
 use crate::nets::host;
 use crate::stops::Stop;
 use csv::{ByteRecord, StringRecord};
-use import_rows::rows::ImportRow;
+use ipam_data::imports::ImportRow;
 use ipam_data::replies::FieldName;
 use ipam_words::range_status_value;
 use std::alloc::{AllocError, Global};

@@ -13,7 +13,7 @@ use crate::role::read_role;
 use crate::stops::Stop;
 use crate::vrf::read_vrf;
 use csv::{ByteRecord, StringRecord};
-use import_rows::rows::ImportRow;
+use ipam_data::imports::ImportRow;
 use ipam_data::kinds::Kind;
 use ipam_data::replies::FieldName;
 use std::alloc::Global;

@@ -4,9 +4,9 @@ use Rattle.inet_num.specs.Free.{available_blocks_of}
 use Rattle.block_space.specs.Usable.{addressed}
 use Rattle.ipam_data.specs.declared.kinds.Kind.{Kind}
 use Rattle.ipam_data.specs.declared.kinds.Kind.TheVariants.{Vrfs, Rirs, Roles, Aggregates, Prefixes, Ranges, Addresses}
-use Rattle.ipam_data.specs.declared.calls.Call.TheVariants.{List as ListOf, Get, Create, Change, Delete, Blocks as BlocksOf, PrefixAddrs, RangeAddrs, ClaimBlocks, ClaimPrefixAddrs, ClaimRangeAddrs, Utilization}
+use Rattle.ipam_data.specs.declared.calls.Call.TheVariants.{List as ListOf, Get, Create, Change, Delete, Blocks as BlocksOf, PrefixAddrs, RangeAddrs, ClaimBlocks, ClaimPrefixAddrs, ClaimRangeAddrs, Utilization, Import, Export, Survey}
 use Rattle.ipam_data.specs.declared.replies.Reply.{Reply}
-use Rattle.ipam_data.specs.declared.replies.Reply.TheVariants.{Blocks, Addrs, Percent}
+use Rattle.ipam_data.specs.declared.replies.Reply.TheVariants.{Blocks, Addrs, Percent, Rows, Lines}
 use Rattle.ipam_data.specs.RowList.{row_at}
 use Rattle.ipam_data.specs.State.{State, reading}
 use Rattle.ipam_data.specs.Plans.{KindRules, with_found, with_row_at}
@@ -15,12 +15,16 @@ use Rattle.ipam_data.specs.Aggregates.{aggregate_rules}
 use Rattle.ipam_data.specs.Prefixes.{prefix_rules}
 use Rattle.ipam_data.specs.Ranges.{range_rules}
 use Rattle.ipam_data.specs.Claims.{child_blocks, usable_in, usable_of_range, aggregate_figure, prefix_figure, range_figure, utilization_plan}
+use Rattle.ipam_data.specs.Exported.{exported}
+use Rattle.ipam_data.specs.Survey.{survey_of}
 use Rattle.ipam_data.specs.Lawful.{IsLawful, StepsKeepLawful, CallsCanUpdate}
 use Rattle.ipam_data.proofs.Sound.{reading_keeps}
 use Rattle.ipam_data.proofs.StepLaws.{create_keeps_all, change_keeps_all, delete_keeps_all, get_keeps_all, list_keeps_all}
 use Rattle.ipam_data.proofs.ClaimLaws.{claim_blocks_keeps}
 use Rattle.ipam_data.proofs.AddressClaims.{claim_prefix_addrs_keeps, claim_range_addrs_keeps}
 use Rattle.ipam_data.proofs.ManyCan.{claim_blocks_can, claim_prefix_addrs_can, claim_range_addrs_can}
+use Rattle.ipam_data.proofs.ImportLaws.{import_keeps}
+use Rattle.ipam_data.proofs.ImportCan.{import_can}
 use Rattle.ipam_data.proofs.Can.{nothing_can, create_all, change_all, delete_all, get_all, list_all}
 
 module _ {T : Type 0} (rules : KindRules T) (s : State) (n : ℕ) (reply : T → Reply) where
@@ -70,6 +74,9 @@ steps_keep s (ClaimBlocks n form items) h b = claim_blocks_keeps s n form items 
 steps_keep s (ClaimPrefixAddrs n form items) h b = claim_prefix_addrs_keeps s n form items h b
 steps_keep s (ClaimRangeAddrs n form items) h b = claim_range_addrs_keeps s n form items h b
 steps_keep s (Utilization kind n) h b = utilization_keeps s kind n h
+steps_keep s (Import kind rows) h b = import_keeps s kind rows h b
+steps_keep s (Export kind) h b = reading_keeps s (Rows (exported s kind)) h
+steps_keep s Survey h b = reading_keeps s (Lines (survey_of s)) h
 
 pub calls_can : CallsCanUpdate
 calls_can s (ListOf kind filter limit offset) h b v = list_all s filter limit offset
@@ -84,3 +91,6 @@ calls_can s (ClaimBlocks n form items) h b v = claim_blocks_can s n form items h
 calls_can s (ClaimPrefixAddrs n form items) h b v = claim_prefix_addrs_can s n form items h v
 calls_can s (ClaimRangeAddrs n form items) h b v = claim_range_addrs_can s n form items h v
 calls_can s (Utilization kind n) h b v = utilization_can s kind n
+calls_can s (Import kind rows) h b v = import_can s kind rows h b v
+calls_can s (Export kind) h b v = nothing_can s
+calls_can s Survey h b v = nothing_can s

@@ -3,7 +3,7 @@ use Rattle.std.proofs.Common.{◌≡◌, ℕ, Bool, true, false, List, [], ◌�
 use Rattle.ipam_data.specs.declared.kinds.Kind.{Kind}
 use Rattle.ipam_data.specs.declared.kinds.Kind.TheVariants.{Vrfs, Rirs, Roles, Aggregates, Prefixes, Ranges, Addresses}
 use Rattle.ipam_data.specs.declared.calls.Call.{Call}
-use Rattle.ipam_data.specs.declared.calls.Call.TheVariants.{List as ListOf, Get, Create, Change, Delete, Blocks as BlocksOf, PrefixAddrs, RangeAddrs, ClaimBlocks, ClaimPrefixAddrs, ClaimRangeAddrs, Utilization}
+use Rattle.ipam_data.specs.declared.calls.Call.TheVariants.{List as ListOf, Get, Create, Change, Delete, Blocks as BlocksOf, PrefixAddrs, RangeAddrs, ClaimBlocks, ClaimPrefixAddrs, ClaimRangeAddrs, Utilization, Import, Export, Survey}
 use Rattle.ipam_data.specs.declared.calls.Answered.{Answered}
 use Rattle.ipam_data.specs.declared.calls.Answered.TheVariants.{AsOne, AsList}
 use Rattle.ipam_data.specs.declared.calls.Filter.{Filter}
@@ -15,7 +15,7 @@ use Rattle.ipam_data.specs.declared.replies.View.{View}
 use Rattle.ipam_data.specs.declared.replies.View.TheVariants.{Vrf as VrfView, Rir as RirView, Role as RoleView, Aggregate as AggregateView, Prefix as PrefixView, IpRange as RangeView, IpAddress as AddressView}
 use Rattle.ipam_data.specs.declared.replies.Refusal.{Refusal}
 use Rattle.ipam_data.specs.declared.replies.Reply.{Reply}
-use Rattle.ipam_data.specs.declared.replies.Reply.TheVariants.{Made, MadeMany, Changed, Gone, Imported, One, Page, Blocks, Addrs, Percent, Refused}
+use Rattle.ipam_data.specs.declared.replies.Reply.TheVariants.{Made, MadeMany, Changed, Gone, Imported, One, Page, Blocks, Addrs, Percent, Rows, Lines, Refused}
 use Rattle.ipam_data.specs.RowList.{row_at}
 use Rattle.ipam_data.specs.State.{State, Plan, verdict_of, no_update, reading}
 use Rattle.ipam_data.specs.Plans.{KindRules, with_found, with_row_at, create, replace, change, take_out, delete, get, list, nothing_told}
@@ -32,6 +32,7 @@ use Rattle.ipam_data.specs.Fields.{drafted, told_of_draft, kind_of_edit, edited_
 use Rattle.inet_num.specs.Free.{available_blocks_of}
 use Rattle.block_space.specs.Usable.{addressed}
 use Rattle.ipam_data.specs.Claims.{child_blocks, usable_in, usable_of_range, aggregate_figure, prefix_figure, range_figure, utilization_plan, served, claim, claim_blocks_of, claim_addresses_of}
+use Rattle.ipam_data.specs.Imports.{import_plan}
 use Rattle.ipam_data.specs.Steps.{plan_of, next_for, create_plan, change_of_kind, change_plan, delete_plan, get_plan, list_plan}
 use Rattle.ipam_data.specs.Replays.{is_accepted}
 use Rattle.ipam_data.specs.Lawful.{StepsStay}
@@ -53,6 +54,8 @@ accepted_same s (Page count views) = refl
 accepted_same s (Blocks vrf list) = refl
 accepted_same s (Addrs vrf len list) = refl
 accepted_same s (Percent figure) = refl
+accepted_same s (Rows rows) = refl
+accepted_same s (Lines lines) = refl
 accepted_same s (Refused refusal) = refl
 
 pub quiet_stays : (s : State) (plan : Plan) → IsQuiet plan → is_accepted (outcome s plan).1 ≡ false → (outcome s plan).0 ≡ s
@@ -188,6 +191,9 @@ all_quiet s (ClaimPrefixAddrs n form items) =
 all_quiet s (ClaimRangeAddrs n form items) =
     found_quiet range_rules n (λ row. claim_addresses_of s form items row.vrf row.ends.len row.ends.start.family (usable_of_range s row)) (row_at range_rules.id s.ranges.rows n) (λ row. claim_quiet address_rules s _ _ form _)
 all_quiet s (Utilization kind n) = utilization_quiet s kind n
+all_quiet s (Import kind rows) = accepting_quiet (import_plan s kind rows) refl
+all_quiet s (Export kind) = record { nothing = λ a. refl }
+all_quiet s Survey = record { nothing = λ a. refl }
 
 pub steps_stay : StepsStay
 steps_stay s call a = quiet_stays s (plan_of s call) (all_quiet s call) a

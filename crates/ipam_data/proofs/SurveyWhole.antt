@@ -3,7 +3,8 @@ use Rattle.std.proofs.Common.{◌≢◌, ℕ, ◌+◌, ◌*◌, ◌<◌, ◌≤�
 use Rattle.ipam_data.specs.declared.prefix.Prefix.{Prefix}
 use Rattle.ipam_data.specs.Rows.{prefix_id}
 use Rattle.ipam_data.specs.RowList.{Rises, AllBelow, last_next}
-use Rattle.ipam_data.specs.Survey.{survey_place, surveyed, SurveyIsWhole}
+use Rattle.ipam_data.specs.Survey.{survey_place, surveyed}
+use Rattle.ipam_data.specs.Lawful.{SurveyIsWhole}
 use Rattle.ipam_data.proofs.SurveyInsertion.{AllOther, AreApart, AllAbove, sorted_all, sorted_rises}
 
 -- two numbers that differ in their last digit differ

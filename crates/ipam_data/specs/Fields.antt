@@ -1,8 +1,11 @@
--- What is said of rows field by field: the row that a draft makes, the row that an edit leaves of an old one, what both keep by
--- their types, and the printed names of fields. The definitions name the fields of drafts and edits nowhere else.
-use Rattle.std.specs.Prelude.{◌≡◌, ℕ, List, [], Option, Some, None, false, codes}
+-- What is said of rows field by field: the row that a draft makes, the draft of a record and when two drafts are the same, the row that an
+-- edit leaves of an old one, what drafts and edits keep by their types, and the printed names of fields. The definitions name the fields of drafts and edits nowhere else.
+use Rattle.std.specs.Prelude.{◌≡◌, ◌↔◌, ℕ, ◌==◌, ◌&&◌, Bool, List, [], Option, Some, None, true, false, bytes_eq, codes}
+use Rattle.std.specs.Bool.{beq}
+use Rattle.std.specs.Option.{option_eq}
 use Rattle.std.specs.Str.{str_to_ascii_lowercase}
 use Rattle.inet_num.specs.Net.{Cidr, IsBlock}
+use Rattle.inet_num.specs.Blocks.{same_address, same_block}
 use Rattle.ipam_data.specs.declared.vrf.Vrf.{Vrf}
 use Rattle.ipam_data.specs.declared.rir.Rir.{Rir}
 use Rattle.ipam_data.specs.declared.role.Role.{Role}
@@ -27,6 +30,9 @@ use Rattle.ipam_data.specs.declared.replies.View.{View}
 use Rattle.ipam_data.specs.declared.replies.View.TheVariants.{Vrf as VrfView, Rir as RirView, Role as RoleView, Aggregate as AggregateView, Prefix as PrefixView, IpRange as RangeView, IpAddress as AddressView}
 use Rattle.ipam_data.specs.Texts.{IsName, IsSlug, IsDistinguisher, IsDescription, IsWeight, IsDnsText}
 use Rattle.ipam_data.specs.Hosts.{Masked, IsMasked}
+use Rattle.ipam_data.specs.Rows.{prefix_status_number, range_status_number, address_status_number, address_role_number}
+use Rattle.ipam_data.specs.Tables.{same_name}
+use Rattle.ipam_data.specs.State.{State}
 use Rattle.ipam_data.specs.Plans.{edited}
 use Rattle.ipam_data.specs.ByKind.{by_view}
 use Rattle.ipam_data.specs.Ranges.{range_told, ends_of}
@@ -95,10 +101,69 @@ drafted n (AddressDraft host vrf status role dns_name description) = AddressView
 abbrev pub kind_of_draft : Draft → Kind
 kind_of_draft draft = by_view (drafted 0 draft) (λ T rules row. rules.kind)
 
+-- the next id of that kind
+abbrev pub next_for : State → Draft → ℕ
+next_for s draft = by_view (drafted 0 draft) (λ T rules row. (rules.row_list s).next)
+
 -- what is told of a draft, beside its row
 abbrev pub told_of_draft : Draft → List (Option Rule)
 told_of_draft (RangeDraft start end vrf status role mark_utilized description) = range_told start end
 told_of_draft draft = []
+
+-- ---- drafts of records
+
+-- the ends of a range, each with its mask
+abbrev pub start_of : IpRange → Masked
+start_of row = record { addr = row.ends.start; len = row.ends.len }
+
+abbrev pub end_of : IpRange → Masked
+end_of row = record { addr = row.ends.end; len = row.ends.len }
+
+-- the draft of a record: its fields without its id
+abbrev pub recorded : View → Draft
+recorded (VrfView row) = VrfDraft row.name row.rd row.enforce_unique row.description
+recorded (RirView row) = RirDraft row.name row.slug row.is_private row.description
+recorded (RoleView row) = RoleDraft row.name row.slug row.weight row.description
+recorded (AggregateView row) = AggregateDraft row.block row.rir row.description
+recorded (PrefixView row depth children) = PrefixDraft row.block row.vrf row.status row.role row.is_pool row.mark_utilized row.description
+recorded (RangeView row) = RangeDraft (start_of row) (end_of row) row.vrf row.status row.role row.mark_utilized row.description
+recorded (AddressView row) = AddressDraft row.host row.vrf row.status row.role row.dns_name row.description
+
+-- a draft as its record keeps it
+unfoldable pub stored_draft : Draft → Draft
+stored_draft draft = recorded (drafted 0 draft)
+
+-- the two are one address with one mask
+abbrev pub same_host : Masked → Masked → Bool
+same_host a b = same_address a.addr b.addr && a.len == b.len
+
+abbrev pub same_address_role : AddressRole → AddressRole → Bool
+same_address_role a b = address_role_number a == address_role_number b
+
+-- the two drafts are of one kind and the same in each field
+unfoldable pub same_draft : Draft → Draft → Bool
+same_draft (VrfDraft name rd enforce_unique description) (VrfDraft name2 rd2 enforce_unique2 description2) =
+    bytes_eq name name2 && option_eq bytes_eq rd rd2 && beq enforce_unique enforce_unique2 && bytes_eq description description2
+same_draft (RirDraft name slug is_private description) (RirDraft name2 slug2 is_private2 description2) =
+    bytes_eq name name2 && bytes_eq slug slug2 && beq is_private is_private2 && bytes_eq description description2
+same_draft (RoleDraft name slug weight description) (RoleDraft name2 slug2 weight2 description2) =
+    bytes_eq name name2 && bytes_eq slug slug2 && weight == weight2 && bytes_eq description description2
+same_draft (AggregateDraft block rir description) (AggregateDraft block2 rir2 description2) =
+    same_block block block2 && rir == rir2 && bytes_eq description description2
+same_draft (PrefixDraft block vrf status role is_pool mark_utilized description) (PrefixDraft block2 vrf2 status2 role2 is_pool2 mark_utilized2 description2) =
+    same_block block block2 && same_name vrf vrf2 && prefix_status_number status == prefix_status_number status2 && same_name role role2
+    && beq is_pool is_pool2 && beq mark_utilized mark_utilized2 && bytes_eq description description2
+same_draft (RangeDraft start end vrf status role mark_utilized description) (RangeDraft start2 end2 vrf2 status2 role2 mark_utilized2 description2) =
+    same_host start start2 && same_host end end2 && same_name vrf vrf2 && range_status_number status == range_status_number status2
+    && same_name role role2 && beq mark_utilized mark_utilized2 && bytes_eq description description2
+same_draft (AddressDraft host vrf status role dns_name description) (AddressDraft host2 vrf2 status2 role2 dns_name2 description2) =
+    same_host host host2 && same_name vrf vrf2 && address_status_number status == address_status_number status2
+    && option_eq same_address_role role role2 && bytes_eq dns_name dns_name2 && bytes_eq description description2
+same_draft draft other = false
+
+-- so they are one draft
+abbrev pub SameDraftsAreOne : Type 0
+SameDraftsAreOne = (a b : Draft) → (same_draft a b ≡ true) ↔ (a ≡ b)
 
 -- ---- edits
 
@@ -164,13 +229,6 @@ edited_prefix (PrefixEdit block vrf status role is_pool mark_utilized descriptio
   description = edited description old.description;
 }
 edited_prefix edit old = old
-
--- the ends of a range, each with its mask
-abbrev pub start_of : IpRange → Masked
-start_of row = record { addr = row.ends.start; len = row.ends.len }
-
-abbrev pub end_of : IpRange → Masked
-end_of row = record { addr = row.ends.end; len = row.ends.len }
 
 -- what is told of the ends of a range of which some are changed; one that is not given keeps the row's mask
 abbrev pub told_of_change : Edit → IpRange → List (Option Rule)

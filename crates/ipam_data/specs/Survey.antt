@@ -9,7 +9,6 @@ use Rattle.ipam_data.specs.Tables.{table_of}
 use Rattle.ipam_data.specs.Prefixes.{depth_of}
 use Rattle.ipam_data.specs.Claims.{prefix_figure}
 use Rattle.ipam_data.specs.State.{State}
-use Rattle.ipam_data.specs.Lawful.{IsLawful}
 use Rattle.ipam_data.specs.declared.survey.PrefixLine.{PrefixLine}
 
 -- the global table comes first, and then those of VRFs
@@ -43,10 +42,7 @@ line_of s row = record {
 abbrev pub survey_of : State → List PrefixLine
 survey_of s = map (line_of s) (surveyed s.prefixes.rows)
 
--- in a survey of a lawful state each prefix stands once, and their places rise
+-- each prefix stands once, and their places rise
 pub record IsSurveyed (rows : List Prefix) : Type 0 where
   pub all : IsPermutation rows (surveyed rows)
   pub ordered : Rises survey_place 0 (surveyed rows)
-
-abbrev pub SurveyIsWhole : Type 0
-SurveyIsWhole = (s : State) → IsLawful s → IsSurveyed s.prefixes.rows

@@ -3,7 +3,7 @@ use Rattle.std.specs.Prelude.{ℕ, ◌+◌, ◌<◌, ◌≤◌, List, [], ◌∷
 use Rattle.ipam_data.specs.declared.kinds.Kind.{Kind}
 use Rattle.ipam_data.specs.declared.update.Update.{Update}
 use Rattle.ipam_data.specs.declared.replies.Reply.{Reply}
-use Rattle.ipam_data.specs.declared.replies.Reply.TheVariants.{Made, MadeMany, Changed, Gone, Imported, One, Page, Blocks, Addrs, Percent, Refused}
+use Rattle.ipam_data.specs.declared.replies.Reply.TheVariants.{Made, MadeMany, Changed, Gone, Imported, One, Page, Blocks, Addrs, Percent, Rows, Lines, Refused}
 use Rattle.ipam_data.specs.declared.replies.View.{View}
 use Rattle.ipam_data.specs.declared.replies.View.TheVariants.{Vrf as VrfView, Rir as RirView, Role as RoleView, Aggregate as AggregateView, Prefix as PrefixView, IpRange as RangeView, IpAddress as AddressView}
 use Rattle.ipam_data.specs.RowList.{IsFitting}
@@ -59,6 +59,8 @@ answered s (Page count views) = Page count (map (figured s) views)
 answered s (Blocks vrf list) = Blocks vrf list
 answered s (Addrs vrf len list) = Addrs vrf len list
 answered s (Percent figure) = Percent figure
+answered s (Rows rows) = Rows rows
+answered s (Lines lines) = Lines lines
 answered s (Refused refusal) = Refused refusal
 
 -- the state and the reply that a plan leads to: a refused one leaves the state, and views are those of the new state

@@ -290,6 +290,9 @@ impl Call {
                 items,
             } => items.bounds(),
             Call::Utilization { kind: _, id: _ } => {}
+            Call::Import { kind: _, rows } => rows.bounds(),
+            Call::Export { kind: _ } => {}
+            Call::Survey => {}
         }
     }
 }

@@ -12,9 +12,9 @@ use Rattle.ipam_data.specs.declared.replies.Which.TheVariants.{Rows}
 use Rattle.ipam_data.specs.declared.update.Update.{Update}
 use Rattle.ipam_data.specs.Checks.{first, too_many, no_log}
 use Rattle.ipam_data.specs.State.{State, verdict_of}
-use Rattle.stored_tables.specs.Stored.{next_of}
-use Rattle.import_rows.specs.declared.rows.ImportRow.{ImportRow}
-use Rattle.import_rows.specs.Imports.{most_rows, draft_of, Progress, begun, makes_one, record_of, with_draft, after_row, after_rows, row_verdicts, items_of, import_plan}
+use Rattle.ipam_data.specs.Imports.{next_of}
+use Rattle.ipam_data.specs.declared.imports.ImportRow.{ImportRow}
+use Rattle.ipam_data.specs.Imports.{most_rows, draft_of, Progress, begun, makes_one, record_of, with_draft, after_row, after_rows, row_verdicts, items_of, import_plan}
 use Rattle.register_tables.specs.Held.{Held, state_of, next_in}
 use Rattle.register_tables.specs.Planned.{IsChange}
 use Rattle.register_tables.proofs.Firsts.{head_refuses, head_passes}

@@ -19,8 +19,8 @@ use Rattle.ipam_data.specs.Updates.{without_row, with_next}
 use Rattle.ipam_data.specs.Lawful.{IsLawful}
 use Rattle.ipam_data.proofs.RowLists.{eq_true, eq_false, with_row_above}
 use Rattle.ipam_data.proofs.Ties.{IsTied, vrfs_tied, rirs_tied, roles_tied, aggregates_tied, prefixes_tied, ranges_tied, addresses_tied}
-use Rattle.stored_tables.specs.Stored.{next_of}
-use Rattle.import_rows.specs.Imports.{with_record}
+use Rattle.ipam_data.specs.Imports.{next_of}
+use Rattle.ipam_data.specs.Imports.{with_record}
 use Rattle.plan_import.specs.Undone.{ids_down, taken_back, IsAhead}
 
 -- ---- one after another

@@ -4,9 +4,9 @@ use Rattle.ipam_data.specs.declared.kinds.Kind.{Kind}
 use Rattle.ipam_data.specs.declared.replies.View.{View}
 use Rattle.ipam_data.specs.Checks.{first}
 use Rattle.ipam_data.specs.State.{State}
-use Rattle.stored_tables.specs.Stored.{next_of}
-use Rattle.import_rows.specs.declared.rows.ImportRow.{ImportRow}
-use Rattle.import_rows.specs.Imports.{begun, after_rows, row_verdicts}
+use Rattle.ipam_data.specs.Imports.{next_of}
+use Rattle.ipam_data.specs.declared.imports.ImportRow.{ImportRow}
+use Rattle.ipam_data.specs.Imports.{begun, after_rows, row_verdicts}
 use Rattle.plan_import.specs.declared.tried.Made.{Made}
 
 -- no row is refused, and this is the state that the rows lead to, with the records that they made

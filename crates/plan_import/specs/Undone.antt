@@ -3,7 +3,7 @@ use Rattle.std.specs.Prelude.{◌≡◌, ℕ, zero, suc, ◌+◌, ◌-◌, ◌�
 use Rattle.ipam_data.specs.declared.kinds.Kind.{Kind}
 use Rattle.ipam_data.specs.State.{State}
 use Rattle.ipam_data.specs.Updates.{without_row, with_next}
-use Rattle.stored_tables.specs.Stored.{next_of}
+use Rattle.ipam_data.specs.Imports.{next_of}
 
 -- so many ids of a kind from the first on, the last one first
 abbrev pub ids_down : Kind → ℕ → ℕ → List (Kind × ℕ)

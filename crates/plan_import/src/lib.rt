@@ -5,7 +5,7 @@
 ghost use Rattle.std.specs.Prelude.{◌≡◌, ◌∷◌, ◌≤◌, [], IfOk, length};
 ghost use Rattle.ipam_data.specs.Checks.{no_log};
 ghost use Rattle.ipam_data.specs.Lawful.{IsLawful};
-ghost use Rattle.import_rows.specs.Imports.{AreOfKind, import_plan};
+ghost use Rattle.ipam_data.specs.Imports.{import_plan};
 ghost use Rattle.register_tables.specs.Held.{state_of};
 ghost use Rattle.register_tables.specs.Planned.{IsPlanned};
 ghost use Rattle.plan_import.specs.Plan.{AreTried, items_for};
@@ -25,7 +25,7 @@ mod undo;
 
 use crate::halt::Halt;
 use crate::tried::{Made, try_rows};
-use import_rows::rows::{ImportRow, MOST_ROWS};
+use ipam_data::imports::{ImportRow, MOST_ROWS};
 use ipam_data::kinds::{Kind, MOST_SPENT};
 use ipam_data::replies::{Refusal, Reply, View, Views, Which};
 use ipam_data::update::{Ids, Update};
@@ -107,8 +107,7 @@ pub fn plan_import(
     kind: Kind,
     rows: &[ImportRow],
 ) -> Result<Planned, AllocError>
-    requires lawful { IsLawful (state_of row_tables.old) }
-    requires kind { AreOfKind kind rows.now }
+    requires { IsLawful (state_of row_tables.old) }
     ensures state { state_of row_tables.new ≡ state_of row_tables.old }
     ensures plan { IfOk result (λ p. IsPlanned (import_plan (state_of row_tables.old) kind rows.now) p) }
 {

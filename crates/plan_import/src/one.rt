@@ -6,7 +6,7 @@ ghost use Rattle.ipam_data.specs.Fields.{kind_of_draft, told_of_draft};
 ghost use Rattle.ipam_data.specs.Lawful.{IsLawful};
 ghost use Rattle.ipam_data.specs.Steps.{next_for};
 ghost use Rattle.ipam_data.specs.Updates.{IsFit, with_next, with_view};
-ghost use Rattle.import_rows.specs.Imports.{create_checks, record_of, with_record};
+ghost use Rattle.ipam_data.specs.Imports.{create_checks, record_of, with_record};
 ghost use Rattle.register_tables.specs.Held.{state_of};
 ghost use Rattle.plan_import.specs.Halts.{IsHaltBy};
 

@@ -3,7 +3,7 @@
 ghost use Rattle.std.specs.Prelude.{◌≡◌, ◌≤◌, IfErr, IfOk, length};
 ghost use Rattle.ipam_data.specs.Checks.{first};
 ghost use Rattle.ipam_data.specs.Lawful.{IsLawful};
-ghost use Rattle.import_rows.specs.Imports.{AreOfKind, begun, row_verdicts};
+ghost use Rattle.ipam_data.specs.Imports.{begun, row_verdicts};
 ghost use Rattle.register_tables.specs.Held.{state_of};
 ghost use Rattle.plan_import.specs.Halts.{IsHaltBy};
 ghost use Rattle.plan_import.specs.Plan.{AreTried};
@@ -11,7 +11,7 @@ ghost use Rattle.plan_import.specs.Plan.{AreTried};
 use crate::halt::Halt;
 use crate::made::make_all;
 use crate::undo::take_back;
-use import_rows::rows::ImportRow;
+use ipam_data::imports::ImportRow;
 use ipam_data::kinds::Kind;
 use ipam_data::replies::View;
 use register_tables::RowTables;
@@ -32,7 +32,6 @@ pub(crate) fn try_rows(
 ) -> Result<Made, Halt>
     requires lawful { IsLawful (state_of row_tables.old) }
     requires few { length rows.now ≤ 10000 }
-    requires kind { AreOfKind kind rows.now }
     ensures state { state_of row_tables.new ≡ state_of row_tables.old }
     ensures made { IfOk result (λ made. AreTried (state_of row_tables.old) kind rows.now made) }
     ensures halted { IfErr result (λ halt. IsHaltBy (first (row_verdicts (state_of row_tables.old) kind (begun (state_of row_tables.old)) 1 rows.now)) halt) }

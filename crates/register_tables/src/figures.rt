@@ -69,6 +69,8 @@ impl RowTables {
             Reply::Blocks { vrf, list } => Reply::Blocks { vrf, list },
             Reply::Addrs { vrf, len, list } => Reply::Addrs { vrf, len, list },
             Reply::Percent(figure) => Reply::Percent(figure),
+            Reply::Rows(rows) => Reply::Rows(rows),
+            Reply::Lines(lines) => Reply::Lines(lines),
             Reply::Refused(refusal) => Reply::Refused(refusal),
         }
     }

@@ -46,6 +46,8 @@ fn reply_status(reply: &Reply) -> StatusCode
         Reply::Blocks { .. } => StatusCode::OK,
         Reply::Addrs { .. } => StatusCode::OK,
         Reply::Percent(_) => StatusCode::OK,
+        Reply::Rows(_) => StatusCode::OK,
+        Reply::Lines(_) => StatusCode::OK,
         Reply::Refused(refusal) => status(refusal),
     }
 }
@@ -179,6 +181,9 @@ pub fn page_end(call: &Call) -> u64
         Call::ClaimPrefixAddrs { .. } => 0,
         Call::ClaimRangeAddrs { .. } => 0,
         Call::Utilization { .. } => 0,
+        Call::Import { .. } => 0,
+        Call::Export { .. } => 0,
+        Call::Survey => 0,
     }
 }
 

@@ -29,6 +29,8 @@ use Rattle.ipam_data.specs.declared.replies.View.TheVariants.{Vrf as VrfView, Ri
 use Rattle.ipam_data.specs.RowList.{without, placed}
 use Rattle.ipam_data.specs.State.{State}
 use Rattle.ipam_data.specs.ByKind.{by_kind}
+pub use Rattle.ipam_data.specs.Rows.{kind_number}
+pub use Rattle.ipam_data.specs.Imports.{next_of}
 use Rattle.ipam_data.specs.Updates.{updated, CanUpdate}
 use Rattle.ipam_data.specs.Lawful.{IsLawful}
 
@@ -172,10 +174,6 @@ kinds = Vrfs ∷ Rirs ∷ Roles ∷ Aggregates ∷ Prefixes ∷ Ranges ∷ Addre
 abbrev pub stored_rows : State → Kind → List Row
 stored_rows s kind = by_kind kind (λ T rules. map (λ row. stored_row (rules.view row)) (rules.row_list s).rows)
 
--- the next id of a kind
-abbrev pub next_of : State → Kind → ℕ
-next_of s kind = by_kind kind (λ T rules. (rules.row_list s).next)
-
 -- each kind with its next id
 abbrev pub next_ids : (Kind → ℕ) → List Kind → List (Kind × ℕ)
 next_ids next [] = []
@@ -190,16 +188,6 @@ tables_of s = record {
 }
 
 -- ---- changes of tables
-
--- the place of a kind among the kinds, from 1
-abbrev pub kind_number : Kind → ℕ
-kind_number Vrfs = 1
-kind_number Rirs = 2
-kind_number Roles = 3
-kind_number Aggregates = 4
-kind_number Prefixes = 5
-kind_number Ranges = 6
-kind_number Addresses = 7
 
 -- rows stand by kind and then by id
 abbrev pub place_of : Kind → ℕ → ℕ

@@ -1,4 +1,0 @@
-pub mod ImportLaws
-pub mod ImportAgain
-pub mod ImportCan
-pub mod Examples

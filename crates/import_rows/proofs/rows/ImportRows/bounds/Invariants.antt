@@ -1,7 +1,0 @@
-use Rattle.std.proofs.Common.{take}
-use Rattle.std.specs.List.{AllByRecursion}
-use Rattle.import_rows.specs.Imports.{HasRowBounds}
-use Rattle.import_rows.proofs.rows.ImportRows.bounds.Given as goal
-
-abbrev pub invariant-loop-item : goal.invariant-loop-item
-invariant-loop-item l = AllByRecursion HasRowBounds (take l.item-index l.items)
