@@ -38,7 +38,8 @@ use Rattle.plan_import.specs.Halts.{fault_of}
 use Rattle.plan_import.specs.Keys.{key_of}
 use Rattle.plan_import.specs.Ready.{texts_of, key_of_draft, key_of_row, record_keys}
 use Rattle.plan_import.proofs.Records.{faultless, nothing_told}
-use Rattle.plan_import.proofs.SameKeys.{IsKept, NamesWords, kept_view, recorded_texts, times_keys}
+use Rattle.plan_import.specs.Kept.{IsKept}
+use Rattle.plan_import.proofs.SameKeys.{NamesWords, kept_view, recorded_texts, times_keys}
 
 -- ---- the ids that rows name
 

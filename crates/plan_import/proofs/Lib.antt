@@ -9,3 +9,4 @@ pub mod Rows
 pub mod Plans
 pub mod LeftLaws
 pub mod TakenBack
+pub mod LookedUp

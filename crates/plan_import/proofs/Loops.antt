@@ -21,7 +21,7 @@ use Rattle.plan_import.specs.Halts.{fault_of, IsHaltBy, halt_at}
 use Rattle.plan_import.specs.Ready.{key_of_draft, key_where, ready_of, ready_rows, keys_of, record_keys, ready_checks, IsTaken}
 use Rattle.plan_import.specs.Plan.{AreMade}
 use Rattle.plan_import.proofs.KeyLaws.{count_first}
-use Rattle.plan_import.proofs.SameKeys.{IsKept}
+use Rattle.plan_import.specs.Kept.{IsKept}
 use Rattle.plan_import.proofs.KeptLaws.{row_kept, row_key, makes_keys}
 use Rattle.plan_import.proofs.Records.{faultless, nothing_told}
 use Rattle.plan_import.proofs.Steps.{row_first}

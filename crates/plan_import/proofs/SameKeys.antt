@@ -23,15 +23,10 @@ use Rattle.stored_tables.specs.Reading.{IsBare, IsWord, IsAbsentOr, row_of}
 use Rattle.stored_tables.proofs.ReadBack.{one_row}
 use Rattle.plan_import.specs.Keys.{key_of}
 use Rattle.plan_import.specs.Ready.{texts_of, key_of_draft}
+use Rattle.plan_import.specs.Kept.{IsKept}
 use Rattle.plan_import.proofs.SpelledLaws.{exact}
 
 -- ---- drafts as records keep them
-
--- a draft of this kind as a record keeps it
-pub record IsKept (kind : Kind) (d : Draft) : Type 0 where
-  pub is_of : kind_of_draft d ≡ kind
-  pub bare : IsBare (drafted 1 d)
-  pub same : recorded (drafted 1 d) ≡ d
 
 -- the ids of other kinds that a row names are numbers of a u32
 abbrev pub NamesWords : View → Type 0

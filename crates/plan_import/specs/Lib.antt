@@ -4,3 +4,4 @@ pub mod Plan
 pub mod Keys
 pub mod Left
 pub mod Undone
+pub mod Kept

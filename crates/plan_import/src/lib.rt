@@ -16,6 +16,7 @@ mod halt;
 mod keys;
 pub mod laws;
 mod leftovers;
+mod lookup;
 mod made;
 mod names;
 mod one;

@@ -13,6 +13,9 @@ use Rattle.plan_import.specs.Ready.{ready_rows, keys_of, record_keys}
 use Rattle.plan_import.proofs.Loops.{HasComeTo, come_none, come_halt}
 use Rattle.plan_import.proofs.Rows.{row_at, row_any, row_told, row_kind, next}
 use Rattle.plan_import.proofs.TakenBack.{ahead_none}
+use Rattle.plan_import.proofs.LookedUp.{all_readied}
+use Rattle.plan_import.specs.Kept.{IsReadied}
+use Rattle.std.specs.List.{AllByRecursion}
 use Rattle.plan_import.proofs.made.make_all.Goals as goal
 
 pub loop-row-init : goal.loop-row-init
@@ -28,6 +31,13 @@ loop-row-init c =
       ahead = ahead_none old c.args.kind;
       number = refl;
     }
+
+pub leftovers-requires-clause-ready : goal.leftovers-requires-clause-ready
+leftovers-requires-clause-ready c =
+    let old : State = state_of c.args.row_tables.now in
+    let lines : List ImportRow = c.args.lines.now in
+    let are : c.deref.result.now ≡ ready_rows old c.args.kind lines = c.deref.ensures.value ∙ c.in_ok-rows.ensures in
+    subst (λ (rows : List Ready). AllByRecursion (IsReadied c.args.kind) rows) (sym are) (all_readied old c.requires.lawful c.args.kind lines c.bounds_of.ensures)
 
 pub take_row-requires-clause-told : goal.take_row-requires-clause-told
 take_row-requires-clause-told c = λ f.
