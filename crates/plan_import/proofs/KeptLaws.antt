@@ -13,7 +13,6 @@ use Rattle.ipam_data.specs.declared.kinds.Kind.{Kind}
 use Rattle.ipam_data.specs.declared.kinds.Kind.TheVariants.{Vrfs, Rirs, Roles, Aggregates, Prefixes, Ranges, Addresses}
 use Rattle.ipam_data.specs.declared.prefix.Prefix.{Prefix}
 use Rattle.ipam_data.specs.declared.range.IpRange.{IpRange}
-use Rattle.ipam_data.specs.declared.replies.View.{View}
 use Rattle.ipam_data.specs.declared.replies.View.TheVariants.{Vrf as VrfView, Rir as RirView, Role as RoleView, Aggregate as AggregateView, Prefix as PrefixView, IpRange as RangeView, IpAddress as AddressView}
 use Rattle.ipam_data.specs.Addresses.{address_rules}
 use Rattle.ipam_data.specs.Aggregates.{aggregate_rules}

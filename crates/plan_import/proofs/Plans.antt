@@ -1,7 +1,6 @@
 -- What the rows of an import come to, as its plan has it.
 use Rattle.std.proofs.Common.{◌≡◌, ◌∙◌, ℕ, suc, ◌+◌, ◌-◌, ◌≤◌, ◌<◌, Bool, true, false, List, [], ◌∷◌, ◌++◌, length, Option, Some, None, refl, ap, ap₂, sym, arith, length-append, nat_le, ◌==◌, if◌then◌else◌}
 use Rattle.std.proofs.lemmas.Bool.Decides.{nat_tests}
-use Rattle.std.specs.Prelude.{Result, Ok, Err, IfOk, IfErr}
 use Rattle.ipam_data.specs.declared.kinds.Kind.{Kind}
 use Rattle.ipam_data.specs.declared.kinds.Kind.TheVariants.{Vrfs, Rirs, Roles, Aggregates, Prefixes, Ranges, Addresses}
 use Rattle.ipam_data.specs.declared.replies.Refusal.{Refusal}
@@ -69,10 +68,14 @@ rows_refused s kind rows h =
 
 module _ (s : State) (kind : Kind) (rows : List ImportRow) (few : length rows ≤ 10000) where
   -- of few enough rows the first that is refused decides
-  pub row_refused : (refusal : Refusal) → first (row_verdicts s kind (begun s) 1 rows) ≡ Some refusal → verdict_of (import_plan s kind rows) ≡ Some refusal
+  row_refused : (refusal : Refusal) → first (row_verdicts s kind (begun s) 1 rows) ≡ Some refusal → verdict_of (import_plan s kind rows) ≡ Some refusal
   row_refused refusal e =
       ap (λ (o : Option Refusal). first (o ∷ row_verdicts s kind (begun s) 1 rows ++ no_log s.spent (items_of rows) ∷ [])) (few_rows (length rows) few)
       ∙ head_refuses (row_verdicts s kind (begun s) 1 rows) (no_log s.spent (items_of rows) ∷ []) refusal e
+
+  pub halt_by_row : (halt : Halt) → IsHaltBy (first (row_verdicts s kind (begun s) 1 rows)) halt → IsHaltBy (verdict_of (import_plan s kind rows)) halt
+  halt_by_row (Refused refusal) e = row_refused refusal e
+  halt_by_row Memory e = tt
 
   -- or else the log
   row_passed : first (row_verdicts s kind (begun s) 1 rows) ≡ None → verdict_of (import_plan s kind rows) ≡ no_log s.spent (items_for (length rows))

@@ -1,27 +1,23 @@
 -- Drafts are the same where the texts under which they are stored have one key: what is written of a record is read as that record.
-use Rattle.std.proofs.Common.{◌≡◌, ◌∙◌, ℕ, ◌+◌, ◌≤◌, ◌<◌, Bool, true, false, cond, List, [], ◌∷◌, map, Option, Some, None, find, option_map, refl, ap, ap₂, sym, subst, arith, count_by, IsSome, Contains}
+use Rattle.std.proofs.Common.{◌≡◌, ◌∙◌, ℕ, ◌+◌, Bool, true, false, cond, List, [], ◌∷◌, map, refl, ap, ap₂, sym, subst, arith, count_by}
 use Rattle.std.specs.Prelude.{bytes_eq}
 use Rattle.std.specs.List.{AllByRecursion}
-use Rattle.std.specs.Str.{str_to_ascii_lowercase}
 use Rattle.std.proofs.lemmas.List.Sums.{sum_by-cons}
 use Rattle.std.proofs.lemmas.Slice.Eq.{bytes_eq-Decides}
 use Rattle.ipam_data.specs.declared.kinds.Kind.{Kind}
-use Rattle.ipam_data.specs.declared.kinds.Kind.TheVariants.{Vrfs, Rirs, Roles, Aggregates, Prefixes, Ranges, Addresses}
 use Rattle.ipam_data.specs.declared.calls.Draft.{Draft}
 use Rattle.ipam_data.specs.declared.calls.Draft.TheVariants.{Vrf as VrfDraft, Rir as RirDraft, Role as RoleDraft, Aggregate as AggregateDraft, Prefix as PrefixDraft, IpRange as RangeDraft, IpAddress as AddressDraft}
 use Rattle.ipam_data.specs.declared.replies.View.{View}
 use Rattle.ipam_data.specs.declared.replies.View.TheVariants.{Vrf as VrfView, Rir as RirView, Role as RoleView, Aggregate as AggregateView, Prefix as PrefixView, IpRange as RangeView, IpAddress as AddressView}
 use Rattle.ipam_data.specs.Texts.{IsLowered}
 use Rattle.ipam_data.specs.ByKind.{by_view}
-use Rattle.ipam_data.specs.Fields.{drafted, kind_of_draft, recorded, stored_draft, same_draft}
+use Rattle.ipam_data.specs.Fields.{drafted, kind_of_draft, recorded, same_draft}
 use Rattle.ipam_data.specs.Imports.{times}
 use Rattle.ipam_data.proofs.DraftLaws.{HasRowBounds}
 use Rattle.ipam_data.proofs.SameDrafts.{same_decides}
-use Rattle.stored_tables.specs.declared.tables.Row.{Row}
 use Rattle.stored_tables.specs.Stored.{stored_row, vrf_texts, rir_texts, role_texts, aggregate_texts, prefix_texts, range_texts, address_texts}
 use Rattle.stored_tables.specs.Reading.{IsBare, IsWord, IsAbsentOr, row_of}
 use Rattle.stored_tables.proofs.ReadBack.{one_row}
-use Rattle.plan_import.specs.Keys.{key_of}
 use Rattle.plan_import.specs.Ready.{texts_of, key_of_draft}
 use Rattle.plan_import.specs.Kept.{IsKept}
 use Rattle.plan_import.proofs.SpelledLaws.{exact}

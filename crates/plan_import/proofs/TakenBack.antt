@@ -36,14 +36,14 @@ cut_next s new kind first next made k m h e =
     ∙ sym (ap (λ (n : ℕ). fold without_row s (ids_down kind first n)) more)
 
 -- none is left
-pub cut_end : (s now last : State) (kind : Kind) (first next made : ℕ) → next ≡ next_of s kind → made ≡ next - first → last ≡ with_next now (kind, first)
-    → fold without_row now (ids_down kind first (made - made)) ≡ fold without_row s (ids_down kind first made) → last ≡ taken_back s kind first
-cut_end s now last kind first next made n m e h =
-    let none : made - made ≡ 0 = omega arith in
-    let all : made ≡ next_of s kind - first = m ∙ ap (λ (k : ℕ). k - first) n in
+pub cut_end : (s now last : State) (kind : Kind) (first next made k : ℕ) → made ≤ k → next ≡ next_of s kind → made ≡ next - first → last ≡ with_next now (kind, first)
+    → fold without_row now (ids_down kind first (made - k)) ≡ fold without_row s (ids_down kind first made) → last ≡ taken_back s kind first
+cut_end s now last kind first next made k low n m e h =
+    let none : made - k ≡ 0 = omega arith in
+    let all : made ≡ next_of s kind - first = m ∙ ap (λ (j : ℕ). j - first) n in
     e
     ∙ ap (λ (t : State). with_next t (kind, first))
-    (sym (ap (λ (k : ℕ). fold without_row now (ids_down kind first k)) none) ∙ h ∙ ap (λ (k : ℕ). fold without_row s (ids_down kind first k)) all)
+    (sym (ap (λ (j : ℕ). fold without_row now (ids_down kind first j)) none) ∙ h ∙ ap (λ (j : ℕ). fold without_row s (ids_down kind first j)) all)
 
 -- ---- a next id that was set is set again
 

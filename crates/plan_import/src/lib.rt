@@ -6,8 +6,10 @@ ghost use Rattle.std.specs.Prelude.{◌≡◌, ◌∷◌, ◌≤◌, [], IfOk, l
 ghost use Rattle.ipam_data.specs.Checks.{no_log};
 ghost use Rattle.ipam_data.specs.Lawful.{IsLawful};
 ghost use Rattle.ipam_data.specs.Imports.{import_plan};
+ghost use Rattle.ipam_data.specs.State.{Plan, verdict_of};
 ghost use Rattle.register_tables.specs.Held.{state_of};
 ghost use Rattle.register_tables.specs.Planned.{IsPlanned};
+ghost use Rattle.plan_import.specs.Halts.{IsHaltBy};
 ghost use Rattle.plan_import.specs.Plan.{AreTried, items_for};
 
 mod checks;
@@ -90,7 +92,8 @@ fn finish(
         }
         None => {}
     }
-    let created = made.records.len() as u32;
+    let records = made.records.as_slice();
+    let created = records.len() as u32;
     let update = update_of(row_tables.allocator(), made.records, kind, made.next, items)?;
     Ok(Planned::Change(
         update,
@@ -99,6 +102,16 @@ fn finish(
             present: count - created,
         },
     ))
+}
+
+/// What an import comes to that stops so.
+fn stopped(halt: Halt) -> Result<Planned, AllocError>
+    ensures { (plan : Plan) → IsHaltBy (verdict_of plan) halt → IfOk result (λ p. IsPlanned plan p) }
+{
+    match halt {
+        Halt::Refused(refusal) => Ok(Planned::Refused(refusal)),
+        Halt::Memory => Err(AllocError),
+    }
 }
 
 /// Plans an import of rows of a kind: a record more for each row for which none is left to stand. The state stays: the records are made
@@ -117,7 +130,6 @@ pub fn plan_import(
     }
     match try_rows(row_tables, kind, rows) {
         Ok(made) => finish(row_tables, kind, rows, made),
-        Err(Halt::Refused(refusal)) => Ok(Planned::Refused(refusal)),
-        Err(Halt::Memory) => Err(AllocError),
+        Err(halt) => stopped(halt),
     }
 }

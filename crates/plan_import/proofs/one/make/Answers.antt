@@ -1,12 +1,11 @@
-use Rattle.std.proofs.Common.{◌≡◌, ◌∙◌, ◌+◌, ◌≤◌, ℕ, ap, sym, subst, arith}
+use Rattle.std.proofs.Common.{◌≡◌, ◌∙◌, ℕ, ◌+◌, ◌≤◌, ap, sym, subst, arith}
 use Rattle.ipam_data.specs.declared.replies.View.{View}
-use Rattle.ipam_data.specs.State.{State}
 use Rattle.ipam_data.specs.Fields.{drafted}
 use Rattle.ipam_data.specs.Imports.{record_of}
-use Rattle.ipam_data.specs.Updates.{IsFit}
 use Rattle.ipam_data.specs.Steps.{next_for}
+use Rattle.ipam_data.specs.Updates.{IsFit}
 use Rattle.register_tables.specs.Held.{state_of}
-use Rattle.plan_import.proofs.Records.{next_room, record_fits, put_leads, made_lawful}
+use Rattle.plan_import.proofs.Records.{record_fits, next_room, put_leads, made_lawful}
 use Rattle.plan_import.proofs.one.make.Goals as goal
 
 pub overflow_add-id : goal.overflow_add-id
@@ -16,9 +15,8 @@ overflow_add-id c =
 
 pub put_record-requires : goal.put_record-requires
 put_record-requires c =
-    let s : State = state_of c.args.row_tables.now in
-    let is : c.in_ok-view.view ≡ record_of s c.args.draft.now = c.in_ok-view.ensures ∙ ap (λ (n : ℕ). drafted n c.args.draft.now) c.next_id-id.ensures in
-    subst (λ (v : View). IsFit s v) (sym is) (record_fits s c.args.draft.now c.requires.lawful (sym c.refused.ensures ∙ c.in-None.is))
+    let is : c.in_ok-view.view ≡ record_of (state_of c.args.row_tables.now) c.args.draft.now = c.in_ok-view.ensures ∙ ap (λ (n : ℕ). drafted n c.args.draft.now) c.next_id-id.ensures in
+    subst (λ (view : View). IsFit (state_of c.args.row_tables.now) view) (sym is) (record_fits (state_of c.args.row_tables.now) c.args.draft.now c.requires.lawful (sym c.refused.ensures ∙ c.in-None.is))
 
 pub returns-clause-state : goal.returns-clause-state
 returns-clause-state c =

@@ -1,8 +1,5 @@
-use Rattle.std.proofs.Common.{◌≡◌, ◌∙◌, ◌-◌, ◌+◌, ℕ, List, [], fold, refl, ap, sym, subst, arith}
-use Rattle.ipam_data.specs.State.{State}
-use Rattle.ipam_data.specs.Updates.{without_row, with_next}
+use Rattle.std.proofs.Common.{◌∙◌, sym, arith}
 use Rattle.register_tables.specs.Held.{state_of}
-use Rattle.plan_import.specs.Undone.{ids_down}
 use Rattle.plan_import.proofs.Plans.{next_is}
 use Rattle.plan_import.proofs.TakenBack.{cut_next, cut_end}
 use Rattle.plan_import.proofs.undo.take_back.Goals as goal
@@ -14,10 +11,5 @@ ids-preserved c =
 
 pub returns : goal.returns
 returns c =
-    let made : ℕ = c.saturating_sub-made.result in
-    let done : c.ids.k ≡ made = omega arith in
-    let invariant =
-    subst (λ (k : ℕ). fold without_row (state_of c.ids.row_tables) (ids_down c.args.kind c.args.first (made - k)) ≡ fold without_row (state_of c.args.row_tables.now) (ids_down c.args.kind c.args.first made))
-    done c.ids.invariant in
-    cut_end (state_of c.args.row_tables.now) (state_of c.ids.row_tables) (state_of c.set_next.new.self) c.args.kind c.args.first c.next-next.result made
-    (c.next-next.ensures ∙ sym (next_is c.args.row_tables.now c.args.kind)) c.saturating_sub-made.ensures c.set_next.ensures invariant
+    cut_end (state_of c.args.row_tables.now) (state_of c.ids.row_tables) (state_of c.set_next.new.self) c.args.kind c.args.first c.next-next.result c.saturating_sub-made.result c.ids.k c.ids-test.false
+    (c.next-next.ensures ∙ sym (next_is c.args.row_tables.now c.args.kind)) c.saturating_sub-made.ensures c.set_next.ensures c.ids.invariant
