@@ -1,5 +1,5 @@
 -- Records with the key of a row, found by their ids; and rows that were made ready.
-use Rattle.std.proofs.Common.{◌≡◌, ◌∙◌, ℕ, zero, suc, ◌+◌, ◌-◌, ◌≤◌, ◌<◌, get_or, Bool, true, false, cond, ◌&&◌, List, [], ◌∷◌, ◌++◌, length, map, take, Option, Some, None, refl, ap, sym, subst, arith, count_by, slice_get, inl, inr, Contains}
+use Rattle.std.proofs.Common.{◌≡◌, ◌∙◌, ℕ, zero, suc, ◌+◌, ◌-◌, ◌<◌, get_or, Bool, true, false, cond, ◌&&◌, List, [], ◌∷◌, ◌++◌, length, map, take, Option, Some, None, refl, ap, sym, subst, arith, count_by, slice_get, inl, inr, Contains}
 use Rattle.std.specs.Prelude.{bytes_eq, nat_le}
 use Rattle.std.specs.List.{AllByRecursion, cons_option}
 use Rattle.std.proofs.lemmas.Bool.Decides.{nat_tests}
@@ -8,7 +8,7 @@ use Rattle.std.proofs.lemmas.Slice.Eq.{bytes_eq-Decides}
 use Rattle.inet_num.specs.declared.Family.{Family}
 use Rattle.inet_num.specs.declared.Family.TheVariants.{V4, V6}
 use Rattle.inet_num.specs.Net.{Address, Cidr, block_at, width_of}
-use Rattle.inet_num.specs.Blocks.{same_block, same_family, block_holds}
+use Rattle.inet_num.specs.Blocks.{same_block, block_holds}
 use Rattle.inet_num.proofs.Insides.{same_block-refl}
 use Rattle.ipam_data.specs.declared.address.IpAddress.{IpAddress}
 use Rattle.ipam_data.specs.declared.calls.Draft.{Draft}
@@ -35,7 +35,6 @@ use Rattle.stored_tables.specs.Stored.{stored_row, prefix_texts, address_texts}
 use Rattle.register_plans.specs.Candidates.{AreCandidates, rows_of}
 use Rattle.register_plans.specs.Meets.{prefix_meets, address_meets}
 use Rattle.register_plans.proofs.Found.{all_counted}
-use Rattle.plan_import.specs.Halts.{fault_of}
 use Rattle.plan_import.specs.Keys.{key_of}
 use Rattle.plan_import.specs.declared.ready.Ready.{Ready}
 use Rattle.plan_import.specs.Ready.{texts_of, key_of_draft, key_of_row, key_where, ready_of, ready_rows, keys_of}

@@ -16,7 +16,7 @@ use Rattle.ipam_data.specs.Imports.{times}
 use Rattle.ipam_data.proofs.DraftLaws.{HasRowBounds}
 use Rattle.ipam_data.proofs.SameDrafts.{same_decides}
 use Rattle.stored_tables.specs.Stored.{stored_row, vrf_texts, rir_texts, role_texts, aggregate_texts, prefix_texts, range_texts, address_texts}
-use Rattle.stored_tables.specs.Reading.{IsBare, IsWord, IsAbsentOr, row_of}
+use Rattle.stored_tables.specs.Reading.{IsWord, IsAbsentOr, row_of}
 use Rattle.stored_tables.proofs.ReadBack.{one_row}
 use Rattle.plan_import.specs.Ready.{texts_of, key_of_draft}
 use Rattle.plan_import.specs.Kept.{IsKept}

@@ -1,4 +1,4 @@
-use Rattle.std.proofs.Common.{◌≡◌, ◌∙◌, ◌+◌, ℕ, List, Bool, true, false, cond, map, take, count_by, ap, sym, arith}
+use Rattle.std.proofs.Common.{◌≡◌, ◌∙◌, ℕ, List, Bool, cond, ap, sym, arith}
 use Rattle.std.specs.Prelude.{bytes_eq}
 use Rattle.register_tables.specs.Held.{state_of}
 use Rattle.plan_import.specs.Ready.{key_of_row}

@@ -1,4 +1,4 @@
-use Rattle.std.proofs.Common.{◌∙◌, List, ℕ, [], sym, ap, count_by, map}
+use Rattle.std.proofs.Common.{◌∙◌, List, ℕ, sym, ap, count_by, map}
 use Rattle.std.specs.Prelude.{bytes_eq}
 use Rattle.register_tables.specs.Held.{state_of}
 use Rattle.plan_import.specs.Ready.{key_of_row}

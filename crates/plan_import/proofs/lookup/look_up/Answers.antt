@@ -1,4 +1,4 @@
-use Rattle.std.proofs.Common.{◌≡◌, ◌∙◌, ◌<◌, ◌++◌, ◌∷◌, List, ℕ, [], take, length, map, string_bytes, refl, ap, sym, subst, arith, count_by}
+use Rattle.std.proofs.Common.{◌≡◌, ◌∙◌, ◌<◌, ◌++◌, ◌∷◌, List, ℕ, [], take, length, map, string_bytes, ap, sym, subst, arith, count_by}
 use Rattle.std.specs.Prelude.{bytes_eq}
 use Rattle.register_tables.specs.Held.{state_of}
 use Rattle.plan_import.specs.declared.ready.Ready.{Ready}
