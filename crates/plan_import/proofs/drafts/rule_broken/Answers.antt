@@ -1,7 +1,7 @@
 use Rattle.std.proofs.Common.{sym, ◌∙◌}
 use Rattle.register_tables.specs.Held.{state_of}
 use Rattle.plan_import.proofs.Records.{fault_named, fault_valued}
-use Rattle.plan_import.proofs.drafts.fault.Goals as goal
+use Rattle.plan_import.proofs.drafts.rule_broken.Goals as goal
 
 pub returns-in-Some : goal.returns-in-Some
 returns-in-Some c = sym (fault_named (state_of c.args.row_tables.now) c.args.row.now c.in-Some.rule (sym c.name_fault.ensures ∙ c.in-Some.is))
