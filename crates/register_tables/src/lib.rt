@@ -212,8 +212,8 @@ impl RowTables {
         }
     }
 
-    /// Takes the row of a kind and id out, where there is one.
-    fn cut(&mut self, kind: Kind, id: u32)
+    /// Takes the row of a kind and id out, where there is one. It takes no memory.
+    pub fn cut(&mut self, kind: Kind, id: u32)
         ensures { state_of self.new ≡ without_row (state_of self.old) (kind, id) }
     {
         match kind {
