@@ -35,5 +35,5 @@ returns-in-Ok-clause-change g c =
     subst (λ (s : State). Leads s c.commit.new.self (Some c.in-Ok.change)) same
     (change_leads c.self.inside.books c.commit.new.self c.args.update c.in-Ok.change c.lawful.ensures can c.in-Ok.ensures.ok c.in-Ok.ensures.change)
 
-pub returns-clause-asked : goal.returns-clause-asked
-returns-clause-asked g c = change_asked c.args.self.now.state c.args.call (Change c.args.update c.args.reply) c.args.update c.args.reply refl c.requires
+pub returns-in-Err-clause-asked : goal.returns-in-Err-clause-asked
+returns-in-Err-clause-asked g c = change_asked c.args.self.now.state c.args.call (Change c.args.update c.args.reply) c.args.update c.args.reply refl c.requires
