@@ -66,13 +66,13 @@ said_of_tables (Limit which n) old new message status k m is ends = inl (subst (
 
 silent_else : (old new : Told) (line : List ℕ) (status : ℕ) → status ≡ 5 → EndsWith old new line 1 status ⊎ ((status ≡ 5) × (new ≡ old)) → new ≡ old
 silent_else old new line status five (inl (inl (one, gains))) = absurd (omega (arith, five, one))
-silent_else old new line status five (inl (inr (three, rest))) = absurd (omega (arith, five, three))
+silent_else old new line status five (inl (inr (three, failed, front))) = absurd (omega (arith, five, three))
 silent_else old new line status five (inr (same, silent)) = silent
 
 -- for want of memory nothing is said, of no failure of the store
 pub silent_want : (fault : OpenFault) (old new : Told) (status : ℕ) → status ≡ 5 → IsSaid fault old new status → (fault ≡ Keeper → ⊥) × (new ≡ old)
 silent_want Keeper old new status five (inl (four, gains)) = absurd (omega (arith, five, four))
-silent_want Keeper old new status five (inr (three, rest)) = absurd (omega (arith, five, three))
+silent_want Keeper old new status five (inr (three, failed, front)) = absurd (omega (arith, five, three))
 silent_want Memory old new status five (same, silent) = (λ e. cc e, silent)
 silent_want (BadTables kind n rule) old new status five said = (λ e. cc e, silent_else old new (fault_line (BadTables kind n rule)) status five said)
 silent_want (BadRow kind n) old new status five said = (λ e. cc e, silent_else old new (fault_line (BadRow kind n)) status five said)
