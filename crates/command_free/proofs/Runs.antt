@@ -46,13 +46,14 @@ free_done within old new prints silent later = record {
   memory = λ z. absurd (omega arith);
   refuses = λ number fault. printed_not_refused within old.input new.input old.output new.output number fault _ prints;
   later = later;
+  quiet = λ z. absurd (omega arith);
 }
 
 -- a line was refused, and named as far as that could be
 pub free_refused : (within : Cidr) (number : ℕ) (fault : LineFault) (old new : Streams) (status : ℕ)
-    → IfSome old.input.bytes (λ bytes. IsRefusedLine within bytes number fault) → new.output ≡ old.output
+    → IfSome old.input.bytes (λ bytes. IsRefusedLine within bytes number fault) → new.output ≡ old.output → new.input.faults ≡ old.input.faults
     → IsNamed within number fault old.errors new.errors status → NeverFalls old new → IsFree within old new status
-free_refused within number fault old new status refused same (inl (one, gains)) later = record {
+free_refused within number fault old new status refused same read (inl (one, gains)) later = record {
   statuses = inr (inl one);
   done = λ z. absurd (omega arith);
   refused = λ z. (named_so within number fault old.input.bytes (λ n f. Gains old.errors new.errors (refusal_text_of within n f)) refused gains, same);
@@ -60,8 +61,9 @@ free_refused within number fault old new status refused same (inl (one, gains)) 
   memory = λ z. absurd (omega arith);
   refuses = λ n f. always old.input.bytes _ (λ bytes h. inl one);
   later = later;
+  quiet = λ z. absurd (omega arith);
 }
-free_refused within number fault old new status refused same (inr (inl (three, failed, front))) later = record {
+free_refused within number fault old new status refused same read (inr (inl (three, failed, front))) later = record {
   statuses = inr (inr (inl three));
   done = λ z. absurd (omega arith);
   refused = λ z. absurd (omega arith);
@@ -69,8 +71,9 @@ free_refused within number fault old new status refused same (inr (inl (three, f
   memory = λ z. absurd (omega arith);
   refuses = λ n f. always old.input.bytes _ (λ bytes h. inr (inl three));
   later = later;
+  quiet = λ z. absurd (omega arith);
 }
-free_refused within number fault old new status refused same (inr (inr (five, silent))) later = record {
+free_refused within number fault old new status refused same read (inr (inr (five, silent))) later = record {
   statuses = inr (inr (inr five));
   done = λ z. absurd (omega arith);
   refused = λ z. absurd (omega arith);
@@ -78,4 +81,5 @@ free_refused within number fault old new status refused same (inr (inr (five, si
   memory = λ z. (same, silent);
   refuses = λ n f. always old.input.bytes _ (λ bytes h. inr (inr five));
   later = later;
+  quiet = λ z. record { input = read; output = ap (λ t. t.faults) same; errors = ap (λ t. t.faults) silent };
 }

@@ -1,7 +1,7 @@
 -- What a run of the command `free` promises of each status.
 use Rattle.std.specs.Prelude.{◌≡◌, ℕ, ◌⊎◌, List, [], Some, IfSome, Result, Ok, Err}
 use Rattle.inet_num.specs.Net.{Cidr}
-use Rattle.command_streams.specs.Streams.{Told, Streams, Gains, GainsFront, Failed, NeverFalls}
+use Rattle.command_streams.specs.Streams.{Told, Streams, Gains, GainsFront, Failed, NeverFalls, NeverRises}
 use Rattle.command_free.specs.declared.free.Stop.{Stop}
 use Rattle.command_free.specs.declared.free.Stop.TheVariants as stop
 use Rattle.command_free.specs.declared.free.LineFault.{LineFault}
@@ -60,8 +60,9 @@ pub record IsFree (within : Cidr) (old new : Streams) (status : ℕ) : Type 0 wh
   -- where a line is refused the status is 1, or 3 or 5 for their causes
   pub refuses : (number : ℕ) (fault : LineFault)
       → IfSome old.input.bytes (λ bytes. IsRefusedLine within bytes number fault → (status ≡ 1) ⊎ (status ≡ 3) ⊎ (status ≡ 5))
-  -- no count of faults falls
+  -- no count of faults falls, and none rose where memory ran out
   pub later : NeverFalls old new
+  pub quiet : status ≡ 5 → NeverRises old new
 
 -- what is known where the blocks were written, or why they were not
 abbrev pub IsFreeEnd : Cidr → Told → Told → Told → Told → Result (Unit {0}) Stop → Type 0

@@ -1,6 +1,6 @@
 //! The command `free`: blocks come in, one to a line, and the available blocks of a block beside them go out.
 
-ghost use Rattle.std.specs.Prelude.{◌≡◌, ◌≤◌, IfOk};
+ghost use Rattle.std.specs.Prelude.{◌≡◌, ◌≤◌, ◌⊎◌, IfOk, IsErrOf};
 ghost use Rattle.std.specs.List.{AllByRecursion};
 ghost use Rattle.inet_num.specs.Net.{IsBlock, IsStrictlyInside};
 ghost use Rattle.inet_num.specs.Free.{available_blocks_of};
@@ -106,6 +106,7 @@ fn free<So: Source, Si: Sink>(
     ensures end { IsFreeEnd within.now (told So.left So.faults input.old) (told So.left So.faults input.new)
         (told Si.written Si.faults output.old) (told Si.written Si.faults output.new) result }
     ensures input_later { So.faults input.old ≤ So.faults input.new }
+    ensures input_kept { IsErrOf result Stop.Unread ⊎ (So.faults input.new ≡ So.faults input.old) }
     ensures output_later { Si.faults output.old ≤ Si.faults output.new }
 {
     let children = read_children(alloc, within, input)?;

@@ -1,6 +1,6 @@
 //! The lines of an input as its bytes come.
 
-ghost use Rattle.std.specs.Prelude.{◌≡◌, ◌≢◌, ℕ, ◌+◌, ◌<◌, ◌≤◌, ◌++◌, ◌∷◌, [], List, Ok, Err, length, MatchResult, MatchOption, IfOk, OnOk};
+ghost use Rattle.std.specs.Prelude.{◌≡◌, ◌≢◌, ℕ, ◌+◌, ◌<◌, ◌≤◌, ◌⊎◌, ◌++◌, ◌∷◌, [], List, Ok, Err, length, MatchResult, MatchOption, IfOk, OnOk, IsErrOf};
 ghost use Rattle.std.specs.Option.{option_to_list};
 ghost use Rattle.std.specs.Str.Lines.{strip_carriage_return};
 ghost use Rattle.ipam_edge.specs.Faults.{Rose};
@@ -169,6 +169,7 @@ pub(crate) fn read_children<So: Source>(
 ) -> Result<Vec<Block>, Stop>
     ensures read { IsRead within.now (So.left input.old) (So.left input.new) (So.faults input.old) (So.faults input.new) result }
     ensures later { So.faults input.old ≤ So.faults input.new }
+    ensures kept { IsErrOf result Stop.Unread ⊎ (So.faults input.new ≡ So.faults input.old) }
 {
     let mut piece = [0u8; PIECE];
     let mut lines = Lines::new(alloc);

@@ -48,6 +48,12 @@ pub record NeverFalls (old new : Streams) : Type 0 where
   pub output : old.output.faults ≤ new.output.faults
   pub errors : old.errors.faults ≤ new.errors.faults
 
+-- no count of faults rose
+pub record NeverRises (old new : Streams) : Type 0 where
+  pub input : new.input.faults ≡ old.input.faults
+  pub output : new.output.faults ≡ old.output.faults
+  pub errors : new.errors.faults ≡ old.errors.faults
+
 -- the message was said and the command ends with its status, or the object failed, gained a front of it, and the status is 3
 abbrev pub EndsWith : Told → Told → List ℕ → ℕ → ℕ → Type 0
 EndsWith old new message wanted status =

@@ -31,6 +31,6 @@ rose_before start old new l (inl h) = inl (omega arith)
 rose_before start old new l (inr h) = inr h
 
 -- a cause in a later part
-pub cause_after : (start old new : ℕ) (end : PutEnd) → start ≤ old → HasPutCause old new end → HasPutCause start new end
+pub cause_after : (start old new : ℕ) (end : PutEnd) → old ≡ start → HasPutCause old new end → HasPutCause start new end
 cause_after start old new Whole l h = omega arith
-cause_after start old new SinkFault l h = (omega (arith, h.0), rose_before start old new l h.1)
+cause_after start old new SinkFault l h = (omega (arith, l, h.0), rose_before start old new (omega (arith, l)) h.1)

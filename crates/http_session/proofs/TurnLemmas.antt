@@ -183,41 +183,67 @@ module _ {S L : Type 0} (may : May S) (reads writes : Step L) (left written : L 
   pub line_needed : IsReadAsNeeded (bytes ++ more.got)
   line_needed = still_needed may s t (written from) (written mid) bytes rest n so_far more.got all more.grown needed was
 
-rose_from : (start old new : ℕ) → start ≤ old → Rose old new → Rose start new
-rose_from start old new l (inl h) = inl (omega arith)
-rose_from start old new l (inr h) = inr h
+module _ {L : Type 0} (reads : Step L) (source sink : L → ℕ) (quiet_read : (a b : L) (g : Option (List ℕ)) → reads a g b → sink b ≡ sink a)
+    (from mid waited : L) (rest all : List ℕ) (last : Last) (wait : GrownByReads reads IsUnfinished mid waited rest all last) (source_so_far : source mid ≡ source from) (sink_so_far : sink mid ≡ sink from) where
+  sink_waited : sink waited ≡ sink from
+  sink_waited = kept_by_reads reads sink quiet_read IsUnfinished mid waited rest all last wait ∙ sink_so_far
 
-module _ {L : Type 0} (reads writes : Step L) (source sink : L → ℕ) (quiet_read : (a b : L) (g : Option (List ℕ)) → reads a g b → sink b ≡ sink a) (quiet_write : (a b : L) (g : Option (List ℕ)) → writes a g b → source b ≡ source a)
-    (from mid waited : L) (rest all : List ℕ) (last : Last) (wait : GrownByReads reads IsUnfinished mid waited rest all last) (source_so_far : source from ≤ source mid) (sink_so_far : sink from ≤ sink mid) (source_later : source mid ≤ source waited) where
-  sink_waited : sink waited ≡ sink mid
-  sink_waited = kept_by_reads reads sink quiet_read IsUnfinished mid waited rest all last wait
-
-  -- the session ends behind a wait in which the source did not fail
-  pub cause_waited : (end_ : SessionEnd) → (end_ ≡ SourceFault → Rose (source mid) (source waited)) → (end_ ≡ SinkFault → ⊥) → HasEndCause (source from) (source waited) (sink from) (sink waited) end_
-  cause_waited end_ source_rose no_sink =
+  -- the session ends with a read that failed
+  pub cause_source : source mid ≤ source waited → Rose (source mid) (source waited) → HasEndCause (source from) (source waited) (sink from) (sink waited) SourceFault
+  cause_source later rose =
       record {
-        source_later = omega (arith, source_so_far, source_later);
-        source = λ e. rose_from (source from) (source mid) (source waited) source_so_far (source_rose e);
-        sink_later = omega (arith, sink_so_far, sink_waited);
-        sink = λ e. absurd (no_sink e);
+        source_later = subst (λ n. n ≤ source waited) source_so_far later;
+        source = λ e. subst (λ n. Rose n (source waited)) source_so_far rose;
+        source_kept = inl refl;
+        sink_later = omega (arith, sink_waited);
+        sink = λ e. cc e;
+        sink_kept = inr sink_waited;
       }
 
-  -- no count fell by the time an answer was written
-  pub source_put : (to : L) → ByWrites writes waited to → source from ≤ source to
-  source_put to wrote = let same = kept_by_writes writes source quiet_write waited to wrote in omega (arith, source_so_far, source_later, same)
+-- the source did not fail in the last wait
+module _ {L : Type 0} (reads writes : Step L) (source sink : L → ℕ) (quiet_read : (a b : L) (g : Option (List ℕ)) → reads a g b → sink b ≡ sink a) (quiet_write : (a b : L) (g : Option (List ℕ)) → writes a g b → source b ≡ source a)
+    (from mid waited : L) (rest all : List ℕ) (last : Last) (wait : GrownByReads reads IsUnfinished mid waited rest all last) (source_so_far : source mid ≡ source from) (sink_so_far : sink mid ≡ sink from) (source_same : source waited ≡ source mid) where
+  sink_still : sink waited ≡ sink from
+  sink_still = sink_waited reads source sink quiet_read from mid waited rest all last wait source_so_far sink_so_far
 
-  pub sink_put : (to : L) (put : PutEnd) → HasPutCause (sink waited) (sink to) put → sink from ≤ sink to
-  sink_put to Whole h = omega (arith, sink_so_far, sink_waited, h)
-  sink_put to PutFault h = omega (arith, sink_so_far, sink_waited, h.0)
+  -- the session ends behind a wait
+  pub cause_waited : (end_ : SessionEnd) → (end_ ≡ SourceFault → ⊥) → (end_ ≡ SinkFault → ⊥) → HasEndCause (source from) (source waited) (sink from) (sink waited) end_
+  cause_waited end_ no_source no_sink =
+      record {
+        source_later = omega (arith, source_same, source_so_far);
+        source = λ e. absurd (no_source e);
+        source_kept = inr (source_same ∙ source_so_far);
+        sink_later = omega (arith, sink_still);
+        sink = λ e. absurd (no_sink e);
+        sink_kept = inr sink_still;
+      }
+
+  -- no count rose by the time an answer was written
+  pub source_put : (to : L) → ByWrites writes waited to → source to ≡ source from
+  source_put to wrote = kept_by_writes writes source quiet_write waited to wrote ∙ source_same ∙ source_so_far
+
+  pub sink_put : (to : L) → HasPutCause (sink waited) (sink to) Whole → sink to ≡ sink from
+  sink_put to h = h ∙ sink_still
+
+  sink_after : (to : L) (put : PutEnd) → HasPutCause (sink waited) (sink to) put → sink from ≤ sink to
+  sink_after to Whole h = omega (arith, sink_still, h)
+  sink_after to PutFault h = omega (arith, sink_still, h.0)
+
+  sink_unless : (to : L) (put : PutEnd) (end_ : SessionEnd) → HasPutCause (sink waited) (sink to) put → (put ≡ PutFault → end_ ≡ SinkFault) → (end_ ≡ SinkFault) ⊎ (sink to ≡ sink from)
+  sink_unless to Whole end_ h is_end = inr (sink_put to h)
+  sink_unless to PutFault end_ h is_end = inl (is_end refl)
 
   -- the session ends behind an answer
-  pub cause_put : (to : L) (put : PutEnd) (end_ : SessionEnd) → ByWrites writes waited to → HasPutCause (sink waited) (sink to) put → (end_ ≡ SourceFault → ⊥) → (end_ ≡ SinkFault → put ≡ PutFault) → HasEndCause (source from) (source to) (sink from) (sink to) end_
-  cause_put to put end_ wrote h no_source is_put =
+  pub cause_put : (to : L) (put : PutEnd) (end_ : SessionEnd) → ByWrites writes waited to → HasPutCause (sink waited) (sink to) put → (end_ ≡ SourceFault → ⊥) → (end_ ≡ SinkFault → put ≡ PutFault) → (put ≡ PutFault → end_ ≡ SinkFault)
+      → HasEndCause (source from) (source to) (sink from) (sink to) end_
+  cause_put to put end_ wrote h no_source is_put is_end =
       record {
-        source_later = source_put to wrote;
+        source_later = omega (arith, source_put to wrote);
         source = λ e. absurd (no_source e);
-        sink_later = sink_put to put h;
+        source_kept = inr (source_put to wrote);
+        sink_later = sink_after to put h;
         sink = λ e.
             let fault : HasPutCause (sink waited) (sink to) PutFault = subst (HasPutCause (sink waited) (sink to)) (is_put e) h in
-            rose_from (sink from) (sink waited) (sink to) (omega (arith, sink_so_far, sink_waited)) fault.1;
+            subst (λ n. Rose n (sink to)) sink_still fault.1;
+        sink_kept = sink_unless to put end_ h is_end;
       }

@@ -58,7 +58,7 @@ abbrev pub IsGathered : Option (List ℕ) → Option (List ℕ) → PutEnd → L
 IsGathered start now Whole gathered text = (sent : List ℕ) × Appends start now sent × (text ≡ sent ++ gathered)
 IsGathered start now SinkFault gathered text = AppendsLess start now text
 
--- a fault comes only where the sink's count rose, and the count never falls
+-- a fault comes only where the sink's count rose, and a whole answer leaves the count
 abbrev pub HasPutCause : ℕ → ℕ → PutEnd → Type 0
-HasPutCause old new Whole = old ≤ new
+HasPutCause old new Whole = new ≡ old
 HasPutCause old new SinkFault = (old ≤ new) × Rose old new

@@ -39,10 +39,11 @@ IsShort needed bytes = length bytes < needed
 abbrev pub IsReadWhile : (List ℕ → Type 0) → List ℕ → List ℕ → Type 0
 IsReadWhile P old new = (new ≡ old) ⊎ HasLastPiece P old new
 
--- this error comes only where the count rose, and the count never falls
+-- this error comes only where the count rose, which it does for no other answer, and the count never falls
 pub record HasCauseOf {T E : Type 0} (fault : E) (old new : ℕ) (result : Result T E) : Type 0 where
   pub later : old ≤ new
   pub fault_rose : result ≡ Err fault → Rose old new
+  pub kept : (result ≡ Err fault) ⊎ (new ≡ old)
 
 -- something came, or the end, or nothing
 abbrev pub IsPiece : List ℕ → List ℕ → Option (List ℕ) → Result (Unit {0}) Short → Type 0

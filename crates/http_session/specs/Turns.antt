@@ -1,5 +1,5 @@
 -- When a session reads and when it writes, on a line: a source and a sink in one object.
-use Rattle.std.specs.Prelude.{◌≡◌, ◌≤◌, ◌+◌, ℕ, List, [], ◌∷◌, length, Option}
+use Rattle.std.specs.Prelude.{◌≡◌, ◌⊎◌, ◌≤◌, ◌+◌, ℕ, List, [], ◌∷◌, length, Option}
 use Rattle.std.specs.Io.KnownBytes.{Appends, IsAtEnd}
 use Rattle.ipam_edge.specs.Faults.{Rose}
 use Rattle.ipam_edge.specs.Reading.{GrownByReads, Last, Open, Step}
@@ -55,9 +55,11 @@ pub record IsLineSession {S L : Type 0} (may : May S) (reads writes : Step L) (l
   pub last_is : IsLastRead end_ last
   pub turns : IsInTurns may reads writes written s from to bytes (IsAtEnd (left to)) last
 
--- a session ends with a fault only where the count of the side that failed rose, and no count falls
+-- a session ends with a fault only where the count of the side that failed rose; a count rises with no other end, and none falls
 pub record HasEndCause (source_old source_new sink_old sink_new : ℕ) (end_ : SessionEnd) : Type 0 where
   pub source_later : source_old ≤ source_new
   pub source : end_ ≡ SourceFault → Rose source_old source_new
+  pub source_kept : (end_ ≡ SourceFault) ⊎ (source_new ≡ source_old)
   pub sink_later : sink_old ≤ sink_new
   pub sink : end_ ≡ SinkFault → Rose sink_old sink_new
+  pub sink_kept : (end_ ≡ SinkFault) ⊎ (sink_new ≡ sink_old)

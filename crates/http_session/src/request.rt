@@ -1,5 +1,5 @@
 //! The requests that stand in the bytes of a connection, one at a time.
-ghost use Rattle.std.specs.Prelude.{◌≡◌, ◌<◌, ◌≤◌, ◌+◌, ◌-◌, ◌^◌, ◌++◌, ℕ, List, [], length, take, drop, min, IfOk, OnErr, ◌||◌, nat_le};
+ghost use Rattle.std.specs.Prelude.{◌≡◌, ◌<◌, ◌≤◌, ◌⊎◌, ◌+◌, ◌-◌, ◌^◌, ◌++◌, ℕ, List, [], length, take, drop, min, IfOk, OnErr, ◌||◌, nat_le};
 ghost use Rattle.std.specs.Io.KnownBytes.{IsAtEnd};
 ghost use Rattle.ipam_edge.specs.Faults.{Rose};
 ghost use Rattle.http_session.specs.Requests.{InboxView, IsUnfinished};
@@ -179,6 +179,7 @@ pub fn next_request<S: Source>(alloc: Global, source: &mut S, inbox: &mut Inbox)
         × IsReadUntil S.reads IsUnfinished source.old source.new inbox.old.bytes all (λ last. IsAskedLast result last) }
     ensures later { S.faults source.old ≤ S.faults source.new }
     ensures cause { result ≡ Asked.SourceFault → Rose (S.faults source.old) (S.faults source.new) }
+    ensures kept { (result ≡ Asked.SourceFault) ⊎ (S.faults source.new ≡ S.faults source.old) }
 {
     match ask(alloc, source, &mut inbox.bytes, inbox.number) {
         Ok(request) => {

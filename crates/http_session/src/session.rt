@@ -1,5 +1,5 @@
 //! One connection, from its first byte to its end.
-ghost use Rattle.std.specs.Prelude.{◌≡◌, ◌≤◌, ◌<◌, ℕ, List, [], Option, IfOk, OnErr};
+ghost use Rattle.std.specs.Prelude.{◌≡◌, ◌⊎◌, ◌≤◌, ◌<◌, ℕ, List, [], Option, IfOk, OnErr};
 ghost use Rattle.ipam_edge.specs.Faults.{Rose};
 ghost use Rattle.http_session.specs.Steps.{framed};
 ghost use Rattle.http_session.specs.Talk.{May, is_head};
@@ -115,8 +115,10 @@ fn serve_both<D: Desk, R: Source, W: Sink>(
     ensures session { IsSession D.may R.reads (D.view seat) (D.view result.0) line.old.source.now line.new.source.now (R.left line.old.source.now) (R.left line.new.source.now) (W.written line.old.sink.now) (W.written line.new.sink.now) result.1 }
     ensures source_later { R.faults line.old.source.now ≤ R.faults line.new.source.now }
     ensures source { result.1 ≡ SessionEnd.SourceFault → Rose (R.faults line.old.source.now) (R.faults line.new.source.now) }
+    ensures source_kept { (result.1 ≡ SessionEnd.SourceFault) ⊎ (R.faults line.new.source.now ≡ R.faults line.old.source.now) }
     ensures sink_later { W.faults line.old.sink.now ≤ W.faults line.new.sink.now }
     ensures sink { result.1 ≡ SessionEnd.SinkFault → Rose (W.faults line.old.sink.now) (W.faults line.new.sink.now) }
+    ensures sink_kept { (result.1 ≡ SessionEnd.SinkFault) ⊎ (W.faults line.new.sink.now ≡ W.faults line.old.sink.now) }
 {
     serve_line(alloc, desk, seat, line)
 }
@@ -124,8 +126,8 @@ fn serve_both<D: Desk, R: Source, W: Sink>(
 /// Serves one connection to its end: answers its requests in order, until one closes, or the bytes
 /// are refused, or the input ends. The answer to HEAD is the head alone. `SourceFault` comes where a read failed, with all requests that
 /// lay whole in the bytes read answered; `SinkFault` where a write failed, with a front of the last
-/// answer written; `Memory` where memory ran out. It serves the two as one line, as `serve_line` does, which says which reads came
-/// before which writes.
+/// answer written; `Memory` where memory ran out. The count of either rises with its own fault alone. It serves the two as one line, as
+/// `serve_line` does, which says which reads came before which writes.
 pub fn serve<D: Desk, R: Source, W: Sink>(
     alloc: Global,
     desk: &D,
@@ -136,8 +138,10 @@ pub fn serve<D: Desk, R: Source, W: Sink>(
     ensures session { IsSession D.may R.reads (D.view seat) (D.view result.0) source.old source.new (R.left source.old) (R.left source.new) (W.written sink.old) (W.written sink.new) result.1 }
     ensures source_later { R.faults source.old ≤ R.faults source.new }
     ensures source { result.1 ≡ SessionEnd.SourceFault → Rose (R.faults source.old) (R.faults source.new) }
+    ensures source_kept { (result.1 ≡ SessionEnd.SourceFault) ⊎ (R.faults source.new ≡ R.faults source.old) }
     ensures sink_later { W.faults sink.old ≤ W.faults sink.new }
     ensures sink { result.1 ≡ SessionEnd.SinkFault → Rose (W.faults sink.old) (W.faults sink.new) }
+    ensures sink_kept { (result.1 ≡ SessionEnd.SinkFault) ⊎ (W.faults sink.new ≡ W.faults sink.old) }
 {
     let mut line = Both { source, sink };
     serve_both(alloc, desk, seat, &mut line)

@@ -28,7 +28,7 @@ pub trait Source {
     /// tells them goes on telling them.
     ghost left: { Self → Option (List ℕ) };
 
-    /// How often it has failed so far: a count that never falls.
+    /// How often it has failed so far: a count that never falls, and rises only where a call fails.
     ghost faults: { Self → ℕ };
 
     /// Which reads the object admits: from one state, with the bytes that are given (`None` where it
@@ -51,7 +51,7 @@ pub trait Sink {
     /// goes on telling them.
     ghost written: { Self → Option (List ℕ) };
 
-    /// How often it has failed so far: a count that never falls.
+    /// How often it has failed so far: a count that never falls, and rises only where a call fails.
     ghost faults: { Self → ℕ };
 
     /// Which writes the object admits: from one state, with the bytes that are taken (`None` where it

@@ -1,6 +1,6 @@
 //! An input that is read whole: the bytes of a file that is brought in, up to a limit.
 
-ghost use Rattle.std.specs.Prelude.{◌≡◌, ◌≤◌, IfOk, IsErrOf};
+ghost use Rattle.std.specs.Prelude.{◌≡◌, ◌≤◌, ◌⊎◌, IfOk, IsErrOf};
 ghost use Rattle.ipam_edge.specs.Faults.{Rose};
 ghost use Rattle.ipam_edge.specs.Whole.{IsWhole, IsTooLong};
 ghost use Rattle.ipam_edge.specs.declared.whole.Unread.TheVariants as unread;
@@ -34,11 +34,13 @@ impl From<AllocError> for Unread {
 }
 
 /// Reads an input to its end, and gives its bytes, of which there may be at most `most`. `Err` is `Failed` only where the input's count
-/// of faults rose, `TooLong` only where it has more bytes, of which then at most a piece was read beyond the limit, and else `Memory`.
+/// of faults rose, which it does in no other case, `TooLong` only where it has more bytes, of which then at most a piece was read beyond
+/// the limit, and else `Memory`.
 pub fn read_whole<So: Source>(alloc: Global, input: &mut So, most: usize) -> Result<Vec<u8>, Unread>
     ensures whole { IfOk result (λ v. IsWhole most (So.left input.old) (So.left input.new) v.items) }
     ensures long { IsErrOf result unread.TooLong → IsTooLong most (So.left input.old) }
     ensures failed { IsErrOf result unread.Failed → Rose (So.faults input.old) (So.faults input.new) }
+    ensures kept { IsErrOf result unread.Failed ⊎ (So.faults input.new ≡ So.faults input.old) }
     ensures later { So.faults input.old ≤ So.faults input.new }
 {
     let mut piece = [0u8; PIECE];

@@ -27,7 +27,7 @@ returns-in_err-done-clause-told g c =
     (take done bytes, (drop done bytes, sym (take-append-drop done bytes)), Appends-kept _ _ _ _ c.loop-done.invariant.1 c.in_err-done.ensures.gave)
 
 pub loop-done-init : goal.loop-done-init
-loop-done-init g c = (omega arith, Appends-nil _, omega arith, write_nothing _ _ _ refl)
+loop-done-init g c = (omega arith, Appends-nil _, refl, write_nothing _ _ _ refl)
 
 pub returns-in_err-done-clause-writes : goal.returns-in_err-done-clause-writes
 returns-in_err-done-clause-writes g c = write_then _ _ _ _ c.loop-done.invariant.3 (write_piece _ _ _ _ c.write.ensures.step)

@@ -1,4 +1,5 @@
 use Rattle.std.proofs.Common.{◌≡◌, refl, arith, subst, Err}
+use Rattle.ipam_edge.proofs.FaultLemmas.{unless}
 use Rattle.command_streams.specs.Streams.{told}
 use Rattle.command_free.specs.declared.free.Stop.{Stop}
 use Rattle.command_free.specs.declared.free.Stop.TheVariants.{Line}
@@ -15,5 +16,5 @@ returns-in-Err-Line g c =
     let line : c.in-Err-Line.field-0 ≡ Line c.in-Err-Line.number c.in-Err-Line.fault = c.in-Err-Line.field-0-is in
     let end = subst (λ (s : Stop). IsFreeEnd c.args.within.now (told g.So.Source.left g.So.Source.faults c.args.input.now) (told g.So.Source.left g.So.Source.faults c.free.new.input)
     (told g.Si.Sink.written g.Si.Sink.faults c.args.output.now) (told g.Si.Sink.written g.Si.Sink.faults c.free.new.output) (Err s)) line c.in-Err-Line.ensures.end in
-    free_refused _ c.in-Err-Line.number c.in-Err-Line.fault _ _ _ end.0 end.1 c.name_line.ensures.named
+    free_refused _ c.in-Err-Line.number c.in-Err-Line.fault _ _ _ end.0 end.1 (unless (λ e. cc (e, line)) c.in-Err-Line.ensures.input_kept) c.name_line.ensures.named
     (record { input = c.in-Err-Line.ensures.input_later; output = c.in-Err-Line.ensures.output_later; errors = c.name_line.ensures.later })

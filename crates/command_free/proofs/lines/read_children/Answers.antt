@@ -1,4 +1,4 @@
-use Rattle.std.proofs.Common.{◌≡◌, ℕ, List, [], ◌++◌, take, ap, subst, arith, rules}
+use Rattle.std.proofs.Common.{◌≡◌, ◌∙◌, ℕ, List, [], ◌++◌, take, ap, subst, refl, rules}
 use Rattle.std.proofs.lemmas.List.{append-nil}
 use Rattle.std.specs.Io.KnownBytes.{Consumes, IsAtEnd}
 use Rattle.std.proofs.KnownBytes.{Consumes-trans}
@@ -30,6 +30,4 @@ pieces-preserved g c =
     let left = g.So.Source.left in
     let took = c.in-Ok.ensures.took in
     let all = Consumes-trans (left c.args.input.now) (left c.pieces.input) (left c.read.new.self) read.0 (take c.in-Ok.n c.read.new.into) read.1 took.0 in
-    let later = c.pieces.invariant.later in
-    let now = c.read.ensures.cause.later in
-    record { read = (read.0 ++ take c.in-Ok.n c.read.new.into, all, c.in_default-take_piece.ensures read.0 read.2); later = omega arith }
+    record { read = (read.0 ++ take c.in-Ok.n c.read.new.into, all, c.in_default-take_piece.ensures read.0 read.2); same = c.in-Ok.ensures.cause.kept refl ∙ c.pieces.invariant.same }

@@ -1,5 +1,6 @@
-use Rattle.std.proofs.Common.{rules, arith, sym, ◌∙◌, ap, ◌++◌, take}
+use Rattle.std.proofs.Common.{rules, refl, sym, ◌∙◌, ap, ◌++◌, take}
 use Rattle.inet_num.specs.Net.{Cidr}
+use Rattle.ipam_edge.proofs.FaultLemmas.{cause_behind}
 use Rattle.ipam_edge.proofs.WritingLemmas.{writes_at_err}
 use Rattle.command_free.specs.Free.{line_text_of, lines_text_of}
 use Rattle.command_free.proofs.Passing.{front_behind, passes_line, text_more, text_front}
@@ -15,10 +16,11 @@ pub loop-block-preserved : goal.loop-block-preserved
 loop-block-preserved g c =
     let blocks = c.args.blocks.now in
     let i = c.loop-block.block-index in
-    let before = c.loop-block.invariant.later in
-    let now = c.make_room.ensures.cause.later in
     record {
       passed = passes_line _ _ _ _ _ _ _ _ (line_text_of c.block-item.result) c.loop-block.invariant.passed c.in_ok-make_room.ensures.passed c.push_line.ensures
           (text_more blocks i c.block-item.result c.loop-block-test.true ∙ ap (λ (b : Cidr). lines_text_of (take i blocks) ++ line_text_of b) (sym c.block-item.is));
-      later = omega arith;
+      same = c.in_ok-make_room.ensures.cause.kept refl ∙ c.loop-block.invariant.same;
     }
+
+pub returns-clause-cause : goal.returns-clause-cause
+returns-clause-cause g c = cause_behind _ _ _ c.write_all.result c.loop-block.invariant.same c.write_all.ensures.cause

@@ -32,3 +32,9 @@ returns-clause-sink_later g c = c.serve_line.ensures.cause.sink_later
 
 pub returns-clause-sink : goal.returns-clause-sink
 returns-clause-sink g c = c.serve_line.ensures.cause.sink
+
+pub returns-clause-source_kept : goal.returns-clause-source_kept
+returns-clause-source_kept g c = c.serve_line.ensures.cause.source_kept
+
+pub returns-clause-sink_kept : goal.returns-clause-sink_kept
+returns-clause-sink_kept g c = c.serve_line.ensures.cause.sink_kept

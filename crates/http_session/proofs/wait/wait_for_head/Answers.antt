@@ -1,5 +1,6 @@
-use Rattle.std.proofs.Common.{rules, inl, inr, subst, refl, arith}
+use Rattle.std.proofs.Common.{rules, ◌∙◌, inl, inr, subst, refl}
 use Rattle.ipam_edge.specs.Reading.{Told, Failed}
+use Rattle.ipam_edge.proofs.FaultLemmas.{unless}
 use Rattle.http_session.specs.Requests.{NeverHead, StopsInHead, front}
 use Rattle.http_session.proofs.Growth.{Grown-trans, read_none, read_on}
 use Rattle.http_session.proofs.Heads.{stops_in_head}
@@ -12,7 +13,7 @@ returns-in-Bad-clause-head g c = (inl (subst (λ b. NeverHead (front b)) c.as_sl
 pub loop-head-preserved : goal.loop-head-preserved
 loop-head-preserved g c = (
   Grown-trans _ _ _ _ _ _ c.loop-head.invariant.0 c.read_piece.ensures.grown,
-  omega (arith, c.loop-head.invariant.1, c.read_piece.ensures.cause.later),
+  unless (λ e. cc e) c.in-Ok.ensures.cause.kept ∙ c.loop-head.invariant.1,
   read_on StopsInHead _ _ _ c.loop-head.invariant.0.got c.read_piece.ensures.grown.got c.loop-head.invariant.0.grown c.read_piece.ensures.grown.grown c.read_piece.ensures.most
       (stops_in_head _ _ _ c.as_slice.ensures.value refl (search rules) c.in-More.ensures),
   one_more _ StopsInHead _ _ _ _ _ _ c.loop-head.invariant.3 (stops_in_head _ _ _ c.as_slice.ensures.value refl (search rules) c.in-More.ensures) c.in-Ok.ensures.read,
