@@ -1,5 +1,5 @@
 -- Connections that a request handler served, one after another.
-use Rattle.std.specs.Prelude.{◌≡◌, ℕ, List, [], ◌∷◌, Option, Some, IfSome}
+use Rattle.std.specs.Prelude.{◌≡◌, ◌⊎◌, ℕ, List, [], ◌∷◌, Option, Some, IfSome}
 use Rattle.ipam_edge.specs.Faults.{Rose}
 use Rattle.ipam_listen.specs.Connections.{Connection, Ends}
 use Rattle.http_session.specs.Steps.{Grown}
@@ -17,9 +17,11 @@ pub record IsServed {V : Type 0} (may : May V) (before after : Ends) (s t : V) :
   pub needed : IsReadAsNeeded bytes
   -- what was answered and written
   pub talk : IsEnd may s t before.written after.written bytes after.left how
-  -- a fault of an end comes only where its count rose
+  -- a fault of an end comes only where its count rose, which it does with no other end
   pub source : how ≡ SourceFault → Rose before.source_faults after.source_faults
+  pub source_kept : (how ≡ SourceFault) ⊎ (after.source_faults ≡ before.source_faults)
   pub sink : how ≡ SinkFault → Rose before.sink_faults after.sink_faults
+  pub sink_kept : (how ≡ SinkFault) ⊎ (after.sink_faults ≡ before.sink_faults)
 
 -- a connection was served, and taken back by its lane
 abbrev pub IsServedWhole : {V : Type 0} → May V → Connection → V → V → Type 0

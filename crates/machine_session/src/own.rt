@@ -1,6 +1,6 @@
 //! One connection that has a machine for itself.
 
-ghost use Rattle.std.specs.Prelude.{◌≡◌, ◌≤◌, IfOk, OnErr};
+ghost use Rattle.std.specs.Prelude.{◌≡◌, ◌≤◌, ◌⊎◌, IfOk, OnErr};
 ghost use Rattle.ipam_edge.specs.Faults.{Rose};
 ghost use Rattle.history_lock.specs.Replay.{replay};
 ghost use Rattle.http_session.specs.Steps.{framed};
@@ -123,8 +123,10 @@ pub fn serve_own_by<M: Machine, V: Service<M>, F: Follower<M>, So: Source, Si: S
     ensures state { M.state result.0 ≡ replay M.step (M.opening result.0) (M.log result.0) }
     ensures source_later { So.faults source.old ≤ So.faults source.new }
     ensures source { result.2 ≡ SessionEnd.SourceFault → Rose (So.faults source.old) (So.faults source.new) }
+    ensures source_kept { (result.2 ≡ SessionEnd.SourceFault) ⊎ (So.faults source.new ≡ So.faults source.old) }
     ensures sink_later { Si.faults sink.old ≤ Si.faults sink.new }
     ensures sink { result.2 ≡ SessionEnd.SinkFault → Rose (Si.faults sink.old) (Si.faults sink.new) }
+    ensures sink_kept { (result.2 ≡ SessionEnd.SinkFault) ⊎ (Si.faults sink.new ≡ Si.faults sink.old) }
 {
     let handler: OwnMachine<'_, M, V, F> = OwnMachine {
         table,
@@ -153,8 +155,10 @@ pub fn serve_own<M: Machine, V: Service<M>, F: Follower<M>, So: Source, Si: Sink
     ensures state { M.state result.0 ≡ replay M.step (M.opening result.0) (M.log result.0) }
     ensures source_later { So.faults source.old ≤ So.faults source.new }
     ensures source { result.2 ≡ SessionEnd.SourceFault → Rose (So.faults source.old) (So.faults source.new) }
+    ensures source_kept { (result.2 ≡ SessionEnd.SourceFault) ⊎ (So.faults source.new ≡ So.faults source.old) }
     ensures sink_later { Si.faults sink.old ≤ Si.faults sink.new }
     ensures sink { result.2 ≡ SessionEnd.SinkFault → Rose (Si.faults sink.old) (Si.faults sink.new) }
+    ensures sink_kept { (result.2 ≡ SessionEnd.SinkFault) ⊎ (Si.faults sink.new ≡ Si.faults sink.old) }
 {
     match V::table(alloc) {
         Ok(table) => {

@@ -1,6 +1,6 @@
 //! One connection over a machine that many connections share.
 
-ghost use Rattle.std.specs.Prelude.{◌≡◌, ◌≤◌, IfOk, OnErr};
+ghost use Rattle.std.specs.Prelude.{◌≡◌, ◌≤◌, ◌⊎◌, IfOk, OnErr};
 ghost use Rattle.ipam_edge.specs.Faults.{Rose};
 ghost use Rattle.history_lock.specs.Seats.{SeatView};
 ghost use Rattle.http_session.specs.Steps.{framed};
@@ -185,8 +185,10 @@ pub fn serve_session_by<'a, R: Wait, M: Machine, V: Service<M>, So: Source, Si: 
     ensures session { IsSharedSession (protocol M.step M.answer M.kind V.asks V.tells V.refuses V.misread) So.reads seat result.0 source.old source.new (So.left source.old) (So.left source.new) (Si.written sink.old) (Si.written sink.new) result.1 }
     ensures source_later { So.faults source.old ≤ So.faults source.new }
     ensures source { result.1 ≡ SessionEnd.SourceFault → Rose (So.faults source.old) (So.faults source.new) }
+    ensures source_kept { (result.1 ≡ SessionEnd.SourceFault) ⊎ (So.faults source.new ≡ So.faults source.old) }
     ensures sink_later { Si.faults sink.old ≤ Si.faults sink.new }
     ensures sink { result.1 ≡ SessionEnd.SinkFault → Rose (Si.faults sink.old) (Si.faults sink.new) }
+    ensures sink_kept { (result.1 ≡ SessionEnd.SinkFault) ⊎ (Si.faults sink.new ≡ Si.faults sink.old) }
 {
     let handler: SharedMachine<'_, R, M, V> = SharedMachine {
         table,
@@ -223,8 +225,10 @@ pub fn serve_session<R: Wait, M: Machine, V: Service<M>, So: Source, Si: Sink>(
     ensures session { IsSharedSession (protocol M.step M.answer M.kind V.asks V.tells V.refuses V.misread) So.reads seat result.0 source.old source.new (So.left source.old) (So.left source.new) (Si.written sink.old) (Si.written sink.new) result.1 }
     ensures source_later { So.faults source.old ≤ So.faults source.new }
     ensures source { result.1 ≡ SessionEnd.SourceFault → Rose (So.faults source.old) (So.faults source.new) }
+    ensures source_kept { (result.1 ≡ SessionEnd.SourceFault) ⊎ (So.faults source.new ≡ So.faults source.old) }
     ensures sink_later { Si.faults sink.old ≤ Si.faults sink.new }
     ensures sink { result.1 ≡ SessionEnd.SinkFault → Rose (Si.faults sink.old) (Si.faults sink.new) }
+    ensures sink_kept { (result.1 ≡ SessionEnd.SinkFault) ⊎ (Si.faults sink.new ≡ Si.faults sink.old) }
 {
     match V::table(alloc) {
         Ok(table) => {

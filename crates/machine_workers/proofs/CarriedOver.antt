@@ -30,7 +30,9 @@ module _ {S T : Type 0} (may : May S) (must : May T) (f : S → T) (Ahead Behind
       needed = h.2.needed;
       talk = end_carried may must f Ahead Behind k s t c.before.written h.0.written h.2.bytes h.0.left h.2.how h.2.talk x y;
       source = h.2.source;
+      source_kept = h.2.source_kept;
       sink = h.2.sink;
+      sink_kept = h.2.sink_kept;
     },
   )
 

@@ -14,7 +14,9 @@ returns-clause-served g c =
         needed = s.needed;
         talk = s.ends;
         source = c.serve-seat.ensures.source;
+        source_kept = c.serve-seat.ensures.source_kept;
         sink = c.serve-seat.ensures.sink;
+        sink_kept = c.serve-seat.ensures.sink_kept;
       },
       c.finish.ensures.told,
     )
