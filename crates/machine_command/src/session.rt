@@ -42,8 +42,9 @@ pub fn run_session<M: Machine, V: Service<M>, O: MachineOpener<M>, So: Source, S
 {
     match opener.open(alloc) {
         Ok(machine) => {
-            let (machine, _, end) =
-                serve_own::<M, V, NoFollower, So, Si>(alloc, machine, NoFollower, input, output);
+            let (machine, _, end) = serve_own::<M, V, NoFollower, So, Si>(
+                alloc, machine, NoFollower, input, output,
+            );
             opener.done(machine);
             status_of(end)
         }
