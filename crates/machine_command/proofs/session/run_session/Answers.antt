@@ -35,7 +35,7 @@ returns-in-Ok g c =
       ends = s.session.ends;
       counted = counted;
       certain = λ none.
-          let zero = none_failed _ _ _ counted none in
+          let zero : g.M.Machine.faults c.serve_own-machine.result.0 ≡ 0 = none_failed _ _ _ counted none in
           let start = e.fresh.1 in
           s.certain (zero ∙ sym start) (omega arith);
       holds = subst (λ x. O.holds asked (O.stored c.args.opener.now) (O.stored c.done.new.self) x) own.state
