@@ -22,10 +22,7 @@ impl Follower<Tally> for Board {
 
     fn follow(self, _alloc: Global, machine: &Tally) -> (Board, Result<(), AllocError>) {
         if self.room == 0 {
-            let down = Board {
-                up: false,
-                ..self
-            };
+            let down = Board { up: false, ..self };
             return (down, Err(AllocError));
         }
         let shown = Board {

@@ -68,10 +68,10 @@ pub fn serve_all<R: Threads + Wait + Sync, L: Listener>(
 {
     let mut lanes = lanes;
     let mut hired = hired;
-    let (seat, came) =
-        open_all::<Tally, TallyService, L>(&shared, seat, workers, &mut lanes, &mut hired, listener);
+    let (seat, came) = open_all::<Tally, TallyService, L>(
+        &shared, seat, workers, &mut lanes, &mut hired, listener,
+    );
     serve_workers(rt, alloc, &shared, hired.as_mut_slice(), &OpenGate);
-    let (tally, heard) =
-        close_all::<Tally, TallyService, L>(shared, seat, lanes, hired, listener);
+    let (tally, heard) = close_all::<Tally, TallyService, L>(shared, seat, lanes, hired, listener);
     (tally, came.and(heard))
 }

@@ -116,12 +116,7 @@ impl Service<Tally> for TallyService {
         }
     }
 
-    fn write(
-        alloc: Global,
-        reply: Reply,
-        along: (),
-        place: u64,
-    ) -> Result<Answer, AllocError> {
+    fn write(alloc: Global, reply: Reply, along: (), place: u64) -> Result<Answer, AllocError> {
         let _ = alloc;
         let () = along;
         Ok(told(reply, place))

@@ -11,8 +11,11 @@ use std::test::Fail;
 
 /// A request that adds so much.
 const ADD_TWO: &str = "POST / HTTP/1.1\r\nContent-Length: 1\r\n\r\n\u{2}";
+
 const ADD_UNLUCKY: &str = "POST / HTTP/1.1\r\nContent-Length: 1\r\n\r\n\u{d}";
+
 const ASK: &str = "GET / HTTP/1.1\r\n\r\n";
+
 const NONE: &str = "PUT / HTTP/1.1\r\n\r\n";
 
 /// Both ends of a connection whose client sends these requests.
@@ -31,13 +34,13 @@ fn ends(alloc: Global, requests: &[&str]) -> Result<(BytesSource, BytesSink), Al
 fn a_tally_of_its_own_answers_in_turn(rt: HostRuntime) -> Result<(), Fail> {
     let (mut source, mut sink) = ends(rt.alloc(), &[ADD_TWO, ADD_UNLUCKY, ASK, NONE])?;
     let tally = Tally::new(rt.alloc(), 13);
-    let (tally, NoFollower, end) = serve_own::<Tally, TallyService, NoFollower, BytesSource, BytesSink>(
-        rt.alloc(),
-        tally,
+    let (tally, NoFollower, end) = serve_own::<
+        Tally,
+        TallyService,
         NoFollower,
-        &mut source,
-        &mut sink,
-    );
+        BytesSource,
+        BytesSink,
+    >(rt.alloc(), tally, NoFollower, &mut source, &mut sink);
     assert_eq!(rt; end, SessionEnd::Closed(4));
     assert_eq!(rt; (tally.value(), tally.faults()), (2, 1));
     assert_eq!(rt;
@@ -45,7 +48,8 @@ fn a_tally_of_its_own_answers_in_turn(rt: HostRuntime) -> Result<(), Fail> {
         b"HTTP/1.1 200 OK\r\nContent-Type: text/plain\r\nContent-Length: 1\r\nPlace: 0\r\n\r\n2\
           HTTP/1.1 503 Service Unavailable\r\nContent-Type: text/plain\r\nContent-Length: 0\r\nPlace: 1\r\n\r\n\
           HTTP/1.1 200 OK\r\nContent-Type: text/plain\r\nContent-Length: 1\r\nPlace: 1\r\n\r\n2\
-          HTTP/1.1 400 Bad Request\r\nContent-Type: text/plain\r\nContent-Length: 0\r\n\r\n".as_slice()
+          HTTP/1.1 400 Bad Request\r\nContent-Type: text/plain\r\nContent-Length: 0\r\n\r\n"
+            .as_slice()
     );
     Ok(())
 }
@@ -88,8 +92,16 @@ fn workers_share_one_tally(rt: HostRuntime) -> Result<(), Fail> {
     let hired = Vec::with_capacity(rt.alloc(), 3)?;
     match Shared::new(rt.alloc(), Tally::new(rt.alloc(), 13)) {
         Ok((shared, seat)) => {
-            let (tally, listening) =
-                serve_all(&rt, rt.alloc(), shared, seat, 3, lanes, hired, &mut listener);
+            let (tally, listening) = serve_all(
+                &rt,
+                rt.alloc(),
+                shared,
+                seat,
+                3,
+                lanes,
+                hired,
+                &mut listener,
+            );
             assert_eq!(rt; (tally.value(), tally.log().len()), (12, 6));
             assert!(rt; matches!(listening, Listening::Broken));
             assert_eq!(rt; listener.returned().len(), 2);

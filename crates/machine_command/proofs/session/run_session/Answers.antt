@@ -18,12 +18,13 @@ returns-in-Ok g c =
     let s = c.serve_own-machine.ensures.session in
     let own = c.serve_own-machine.ensures in
     let e = c.in-Ok.ensures in
+    let m = c.serve_own-machine.result.0 in
     let end = c.serve_own-machine.result.2 in
     let asked = O.asked c.args.opener.now in
     let errors = told g.Se.Sink.written g.Se.Sink.faults c.args.errors.now in
     let old = outside (streams (told g.So.Source.left g.So.Source.faults c.args.input.now) (told g.Si.Sink.written g.Si.Sink.faults c.args.output.now) errors) (stores O.stored O.faults c.args.opener.now) in
     let new = outside (streams (told g.So.Source.left g.So.Source.faults c.serve_own-machine.new.source) (told g.Si.Sink.written g.Si.Sink.faults c.serve_own-machine.new.sink) errors) (stores O.stored O.faults c.done.new.self) in
-    let counted : IsRaised (O.faults c.args.opener.now) _ (O.faults c.done.new.self) = subst (λ n. IsRaised n _ (O.faults c.done.new.self)) e.kept c.done.ensures.raised in
+    let counted : IsRaised (O.faults c.args.opener.now) (g.M.Machine.faults m) (O.faults c.done.new.self) = subst (λ n. IsRaised n (g.M.Machine.faults m) (O.faults c.done.new.self)) e.kept c.done.ensures.raised in
     let serves : Serves P U asked old new end = record {
       first = _;
       last = _;
@@ -35,11 +36,11 @@ returns-in-Ok g c =
       ends = s.session.ends;
       counted = counted;
       certain = λ none.
-          let zero : g.M.Machine.faults c.serve_own-machine.result.0 ≡ 0 = none_failed _ _ _ counted none in
+          let zero : g.M.Machine.faults m ≡ 0 = none_failed _ _ _ counted none in
           let start = e.fresh.1 in
           s.certain (zero ∙ sym start) (omega arith);
       holds = subst (λ x. O.holds asked (O.stored c.args.opener.now) (O.stored c.done.new.self) x) own.state
-          (subst (λ q. O.holds q (O.stored c.args.opener.now) (O.stored c.done.new.self) _) e.asked (c.done.ensures.held _ e.lent));
+          (subst (λ q. O.holds q (O.stored c.args.opener.now) (O.stored c.done.new.self) (g.M.Machine.state m)) e.asked (c.done.ensures.held _ e.lent));
       silent = refl;
     } in
     record {
