@@ -1,11 +1,12 @@
 -- What a run of `import` leaves, as the command's record has it, by where it ended.
-use Rattle.std.proofs.Common.{◌≡◌, ℕ, ◌≤◌, ◌⊎◌, List, inl, inr, refl, subst, ◌∙◌, ap, arith}
+use Rattle.std.proofs.Common.{◌≡◌, ℕ, ◌≤◌, ◌⊎◌, List, Err, IsErrOf, inl, inr, refl, subst, ◌∙◌, ap, arith}
 use Rattle.ipam_data.specs.declared.kinds.Kind.{Kind}
 use Rattle.ipam_data.specs.declared.replies.Refusal.{Refusal}
 use Rattle.ipam_data.specs.declared.replies.Refusal.TheVariants.{Keeper as NotWritten}
 use Rattle.stored_tables.specs.declared.opening.OpenFault.{OpenFault}
 use Rattle.stored_tables.specs.declared.opening.OpenFault.TheVariants.{Keeper as NotRead, BadTables, Memory as NoMemory, BadRow, Version, BadNext, Limit}
 use Rattle.ipam_data.specs.declared.imports.ImportRow.{ImportRow}
+use Rattle.ipam_data.specs.declared.imports.ImportRows.{ImportRows}
 use Rattle.command_words.specs.declared.asked.Store.{Store}
 use Rattle.command_streams.specs.Streams.{Told, EndsWith, Gains, GainsFront}
 use Rattle.command_store.specs.Outside.{Outside, Stores, StoreFailed, NoCountFalls, NoCountRises}
@@ -176,7 +177,7 @@ named_want refusal wanted old new status low five (inl (inr e)) = (let three = e
 named_want refusal wanted old new status low five (inr e) = e.1
 
 -- where the input gave no rows, and memory ran out, no count rose
-pub quiet_file_stop : (old new : Outside) (stop : FileStop) (status : ℕ) → (stop ≡ Unread) ⊎ (new.streams.input.faults ≡ old.streams.input.faults)
+pub quiet_file_stop : (old new : Outside) (stop : FileStop) (status : ℕ) → IsErrOf {T = ImportRows} (Err stop) Unread ⊎ (new.streams.input.faults ≡ old.streams.input.faults)
     → IsFileStopSaid stop old.streams.errors new.streams.errors status → new.streams.output.faults ≡ old.streams.output.faults → new.stores.faults ≡ old.stores.faults
     → status ≡ 5 → NoCountRises old new
 quiet_file_stop old new Unread status kept said wrote same five = (let three = said.0 in absurd (omega arith))

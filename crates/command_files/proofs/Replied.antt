@@ -29,8 +29,8 @@ use Rattle.command_files.specs.Report.{most_blocks, report_stop_of, IsFirstFree,
 -- told tables are as they were where the state is
 pub told_same : (old new : State) (told after : Option Tables) → new ≡ old → Tells told old → Tells after new → (IsSome told ↔ IsSome after) → after ≡ told
 told_same old new None None e a b i = refl
-told_same old new None (Some tables) e a b i = absurd (i.1 tt)
-told_same old new (Some tables) None e a b i = absurd (i.0 tt)
+told_same old new None (Some tables) e a b i = (let is = i.1 refl in cc)
+told_same old new (Some tables) None e a b i = (let is = i.0 refl in cc)
 told_same old new (Some tables) (Some later) e a b i = ap Some (b ∙ ap tables_of e ∙ sym a)
 
 -- ---- imports

@@ -9,7 +9,7 @@ ghost use Rattle.ipam_data.specs.Updates.{updated};
 ghost use Rattle.ipam_keeper.specs.Keeping.{Rose};
 ghost use Rattle.command_words.specs.declared.asked.Report.TheVariants.{Free};
 ghost use Rattle.command_files.specs.Making.{stop_of, IsCounted, IsMakeStop};
-ghost use Rattle.command_files.specs.Report.{IsFirstFree, IsReportStop};
+ghost use Rattle.command_files.specs.Report.{report_stop_of, IsFirstFree, IsReportStop};
 ghost use Rattle.command_files.specs.declared.calls.MakeStop.TheVariants as stop;
 
 use ipam_data::calls::Call;

@@ -1,6 +1,6 @@
 -- The JSON of a reply: which value stands for each row, page and refusal, with the members of each object in the byte order of
 -- their names, and its text, which is compact as serde_json writes it.
-use Rattle.std.specs.Prelude.{ℕ, List, [], ◌∷◌, codes, map, Option, Some, None}
+use Rattle.std.specs.Prelude.{ℕ, List, [], ◌∷◌, codes, length, map, Option, Some, None}
 use Rattle.inet_num.specs.Net.{Address, Cidr}
 use Rattle.inet_num.specs.Text.{block_text_of}
 use Rattle.ipam_data.specs.declared.replies.View.{View}
@@ -8,7 +8,7 @@ use Rattle.ipam_data.specs.declared.replies.View.TheVariants.{Vrf as VrfView, Ri
 use Rattle.ipam_data.specs.declared.replies.FieldName.TheVariants.{Address as AddressField, Prefix as PrefixField, Vrf as VrfField}
 use Rattle.ipam_data.specs.declared.replies.Refusal.{Refusal}
 use Rattle.ipam_data.specs.declared.replies.Reply.{Reply}
-use Rattle.ipam_data.specs.declared.replies.Reply.TheVariants.{Made, MadeMany, Changed, Gone, Imported, One, Page, Blocks, Addrs, Percent, Refused}
+use Rattle.ipam_data.specs.declared.replies.Reply.TheVariants.{Made, MadeMany, Changed, Gone, Imported, One, Page, Blocks, Addrs, Percent, Rows, Lines, Refused}
 use Rattle.ipam_data.specs.Answers.{code_of, detail_of}
 use Rattle.serde_json.specs.Data.{Data, string, array, object}
 use Rattle.serde_json.specs.View.{items_of}
@@ -71,6 +71,10 @@ imported_data created present = object (members (
 abbrev pub percent_data : ℕ → Data
 percent_data figure = object (members ((codes "utilization", number_data figure) ∷ []))
 
+-- how many rows or lines there are: what they say is the matter of files and reports
+abbrev pub length_data : List ℕ → ℕ → Data
+length_data name count = object (members ((name, number_data count) ∷ []))
+
 abbrev pub refusal_data : Refusal → Data
 refusal_data refusal = object (members (
     (codes "code", string (code_of refusal))
@@ -88,6 +92,8 @@ reply_data (Page count views) links = Some (page_data count views links)
 reply_data (Blocks vrf list) links = Some (list_data (block_data vrf) list)
 reply_data (Addrs vrf len list) links = Some (list_data (addr_data vrf len) list)
 reply_data (Percent figure) links = Some (percent_data figure)
+reply_data (Rows rows) links = Some (length_data (codes "rows") (length rows))
+reply_data (Lines lines) links = Some (length_data (codes "lines") (length lines))
 reply_data (Refused refusal) links = Some (refusal_data refusal)
 
 -- the text of a value, and none where there is no value

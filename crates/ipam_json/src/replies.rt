@@ -1,7 +1,7 @@
 //! The text of a reply.
 
 ghost use Rattle.std.specs.Prelude.{◌≡◌, ◌++◌, IfOk, OnOk, OnErr};
-ghost use Rattle.ipam_json.specs.Replies.{views_data, page_data, imported_data, percent_data, refusal_data, reply_data, reply_text, refusal_text};
+ghost use Rattle.ipam_json.specs.Replies.{views_data, page_data, imported_data, percent_data, length_data, refusal_data, reply_data, reply_text, refusal_text};
 ghost use Rattle.ipam_json.specs.Written.{Puts, pieces_of, value_pieces};
 ghost use Rattle.ipam_data.specs.Answers.{detail_of};
 
@@ -69,6 +69,16 @@ fn put_percent(writer: &mut Writer, figure: u8) -> Result<(), AllocError>
     writer.end_object()
 }
 
+/// Writes how many there are.
+fn put_length(writer: &mut Writer, name: &str, count: usize) -> Result<(), AllocError>
+    ensures { Puts result writer.old writer.new (pieces_of (length_data name.now count)) }
+{
+    writer.begin_object()?;
+    writer.key(name)?;
+    writer.u64(count as u64)?;
+    writer.end_object()
+}
+
 /// Writes a refusal.
 fn put_refusal(alloc: Global, writer: &mut Writer, refusal: &Refusal) -> Result<(), AllocError>
     ensures { Puts result writer.old writer.new (pieces_of (refusal_data refusal.now)) }
@@ -110,6 +120,8 @@ fn put_reply(
         Reply::One(view) => put_view(alloc, writer, view),
         Reply::Page { count, views } => put_page(alloc, writer, *count, views.as_slice(), links),
         Reply::Percent(figure) => put_percent(writer, *figure),
+        Reply::Rows(rows) => put_length(writer, "rows", rows.as_slice().len()),
+        Reply::Lines(lines) => put_length(writer, "lines", lines.as_slice().len()),
         Reply::Refused(refusal) => put_refusal(alloc, writer, refusal),
         Reply::Blocks { vrf, list } => put_blocks(alloc, writer, *vrf, list.as_slice()),
         Reply::Addrs { vrf, len, list } => put_addrs(alloc, writer, *vrf, *len, list.as_slice()),

@@ -4,12 +4,14 @@ use inet_num::{read_addr, read_block};
 use ipam_data::address::{AddressRole, AddressStatus, IpAddress};
 use ipam_data::aggregate::Aggregate;
 use ipam_data::host::{Ends, Host};
+use ipam_data::imports::ImportRows;
 use ipam_data::kinds::Kind;
 use ipam_data::prefix::{Prefix, PrefixStatus};
 use ipam_data::range::{IpRange, RangeStatus};
 use ipam_data::replies::{FieldName, Part, Refusal, Reply, RowFault, Rule, View, Views, Which};
 use ipam_data::rir::Rir;
 use ipam_data::role::Role;
+use ipam_data::survey::PrefixLines;
 use ipam_data::text::{Description, Distinguisher, DnsText, Name, Slug, Text, Weight};
 use ipam_data::vrf::Vrf;
 use ipam_json::{Links, read_body, read_edit, refusal_bytes, reply_bytes, write_reply};
@@ -374,6 +376,10 @@ fn replies(rt: HostRuntime) -> Result<(), Fail> {
         &Reply::Percent(100),
         "{\"utilization\":100}",
     )?;
+    let rows = Reply::Rows(ImportRows::of(Vec::new(rt.alloc())));
+    is_next(&rt, rt.alloc(), &rows, "{\"rows\":0}")?;
+    let lines = Reply::Lines(PrefixLines::of(Vec::new(rt.alloc())));
+    is_next(&rt, rt.alloc(), &lines, "{\"lines\":0}")?;
     is_next(&rt, rt.alloc(), &Reply::Gone, "")?;
     let none = Reply::MadeMany(Views::of(Vec::new(rt.alloc())));
     is_next(&rt, rt.alloc(), &none, "[]")?;

@@ -1,16 +1,16 @@
 //! The row of an import that a record is, kind by kind.
 
 ghost use Rattle.std.specs.Prelude.{◌≡◌, Contains, IfOk};
+ghost use Rattle.ipam_data.specs.declared.imports.ImportRow.{ImportRow};
+ghost use Rattle.ipam_data.specs.Exported.{vrf_line, rir_line, role_line, aggregate_line, prefix_line, range_line, address_line};
 ghost use Rattle.ipam_data.specs.Lawful.{IsLawful};
 ghost use Rattle.ipam_data.specs.State.{State};
-ghost use Rattle.import_rows.specs.declared.rows.ImportRow.{ImportRow};
 ghost use Rattle.register_tables.specs.Held.{state_of};
-ghost use Rattle.plan_export.specs.Exported.{vrf_line, rir_line, role_line, aggregate_line, prefix_line, range_line, address_line};
 
 use crate::names::{dns_text_of, rir_name_of, role_name_of, vrf_name_of};
-use import_rows::rows::ImportRow;
 use ipam_data::address::IpAddress;
 use ipam_data::aggregate::Aggregate;
+use ipam_data::imports::ImportRow;
 use ipam_data::prefix::Prefix;
 use ipam_data::range::IpRange;
 use ipam_data::rir::Rir;

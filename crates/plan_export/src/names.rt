@@ -3,7 +3,7 @@
 ghost use Rattle.std.specs.Prelude.{◌≡◌, IfOk, IsSome};
 ghost use Rattle.ipam_data.specs.Rows.{rir_id};
 ghost use Rattle.ipam_data.specs.RowList.{row_at};
-ghost use Rattle.plan_export.specs.Exported.{rir_name, role_name, vrf_name};
+ghost use Rattle.ipam_data.specs.Exported.{rir_name, role_name, vrf_name};
 
 use ipam_data::text::{DnsName, DnsText, Name};
 use placed_book::Book;

@@ -46,15 +46,18 @@ abbrev pub Sets : Leftovers → Leftovers → List ℕ → Option ℕ → Type 0
 Sets old new key w = (q : List ℕ) → left_of new q ≡ cond (bytes_eq key q) w (left_of old q)
 
 module _ (old new : Leftovers) (key : List ℕ) where
-  -- one more key
-  pub expected : (keys : List (List ℕ)) → Sets old new key (Some 0) → IsLeft old keys [] [] → IsLeft new (keys ++ key ∷ []) [] []
-  expected keys sets h = λ q. go q (bytes_eq key q) refl
+  -- one more key, with its number of records
+  pub expected : (keys records : List (List ℕ)) (n : ℕ) → n ≡ count_by (bytes_eq key) records → Sets old new key (Some n) → IsLeft old keys records [] → IsLeft new (keys ++ key ∷ []) records []
+  expected keys records n is sets h = λ q. go q (bytes_eq key q) refl
     where
-      go : (q : List ℕ) (t : Bool) → bytes_eq key q ≡ t → left_of new q ≡ left_where (list_any (bytes_eq q) (keys ++ key ∷ [])) 0
+      go : (q : List ℕ) (t : Bool) → bytes_eq key q ≡ t → left_of new q ≡ left_where (list_any (bytes_eq q) (keys ++ key ∷ [])) (count_by (bytes_eq q) records - 0)
       go q true t =
           let same : key ≡ q = (bytes_eq-Decides key q).0 t in
-          sets q ∙ ap (λ b. cond b (Some 0) (left_of old q)) t ∙ sym (ap (λ b. left_where b 0) (subst (λ (k : List ℕ). list_any (bytes_eq q) (keys ++ k ∷ []) ≡ true) (sym same) (any_more q keys)))
-      go q false t = sets q ∙ ap (λ b. cond b (Some 0) (left_of old q)) t ∙ h q ∙ sym (ap (λ b. left_where b 0) (any_same q key keys t))
+          let here : n ≡ count_by (bytes_eq q) records - 0 = (let e : n ≡ count_by (bytes_eq q) records = is ∙ ap (λ (k : List ℕ). count_by (bytes_eq k) records) same in omega arith) in
+          sets q ∙ ap (λ b. cond b (Some n) (left_of old q)) t ∙ ap (λ m. Some m) here
+          ∙ sym (ap (λ b. left_where b (count_by (bytes_eq q) records - 0)) (subst (λ (k : List ℕ). list_any (bytes_eq q) (keys ++ k ∷ []) ≡ true) (sym same) (any_more q keys)))
+      go q false t =
+          sets q ∙ ap (λ b. cond b (Some n) (left_of old q)) t ∙ h q ∙ sym (ap (λ b. left_where b (count_by (bytes_eq q) records - 0)) (any_same q key keys t))
 
   -- one more record of a key that the import has
   pub counted : (keys records : List (List ℕ)) (n : ℕ) → left_of old key ≡ Some n → Sets old new key (Some (n + 1)) → IsLeft old keys records [] → IsLeft new keys (records ++ key ∷ []) []

@@ -1,8 +1,12 @@
 pub mod KeyLaws
 pub mod Records
+pub mod SpelledLaws
+pub mod SameKeys
+pub mod KeptLaws
 pub mod Steps
 pub mod Loops
 pub mod Rows
 pub mod Plans
-pub mod SpelledLaws
 pub mod LeftLaws
+pub mod TakenBack
+pub mod LookedUp

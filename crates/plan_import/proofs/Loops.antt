@@ -1,55 +1,64 @@
 -- How far the rows of an import have come, and what one more row does.
 use Rattle.std.proofs.Common.{◌≡◌, ◌∙◌, ℕ, zero, suc, ◌+◌, ◌<◌, Bool, true, false, not, nat_lt, List, [], ◌∷◌, ◌++◌, length, map, drop, get_or, Option, Some, None, option_map, Ok, Err, refl, ap, sym, arith, count_by}
 use Rattle.std.specs.Prelude.{bytes_eq}
+use Rattle.std.specs.List.{AllByRecursion}
+use Rattle.ipam_data.specs.declared.calls.Draft.{Draft}
 use Rattle.ipam_data.specs.declared.kinds.Kind.{Kind}
 use Rattle.ipam_data.specs.declared.replies.Refusal.{Refusal}
 use Rattle.ipam_data.specs.declared.replies.View.{View}
 use Rattle.ipam_data.specs.Checks.{first}
+use Rattle.ipam_data.specs.Fields.{stored_draft}
+use Rattle.ipam_data.specs.Lawful.{IsLawful}
 use Rattle.ipam_data.specs.State.{State}
-use Rattle.import_rows.specs.declared.rows.ImportRow.{ImportRow}
-use Rattle.import_rows.specs.Imports.{draft_of, texts_of, Progress, begun, makes_one, with_draft, after_row, after_rows, at_row, row_verdict, row_verdicts}
-use Rattle.plan_import.specs.Keys.{key_of}
+use Rattle.ipam_data.specs.declared.imports.ImportRow.{ImportRow}
+use Rattle.ipam_data.specs.Imports.{draft_of, HasRowBounds, Progress, begun, makes_one, with_draft, after_row, after_rows, at_row, row_verdict, row_verdicts}
 use Rattle.plan_import.specs.declared.leftovers.Leftovers.{Leftovers}
 use Rattle.plan_import.specs.Left.{IsLeft}
 use Rattle.plan_import.specs.declared.halt.Halt.{Halt}
 use Rattle.plan_import.specs.declared.halt.Halt.TheVariants.{Refused, Memory}
 use Rattle.plan_import.specs.declared.ready.Ready.{Ready}
 use Rattle.plan_import.specs.Halts.{fault_of, IsHaltBy, halt_at}
-use Rattle.plan_import.specs.Ready.{key_where, ready_of, ready_rows, keys_of, record_keys, ready_checks, IsTaken}
+use Rattle.plan_import.specs.Ready.{key_of_draft, key_where, ready_of, ready_rows, keys_of, record_keys, ready_checks, IsTaken}
 use Rattle.plan_import.specs.Plan.{AreMade}
-use Rattle.plan_import.proofs.KeyLaws.{count_first, makes_keys}
+use Rattle.plan_import.proofs.KeyLaws.{count_first}
+use Rattle.plan_import.specs.Kept.{IsKept}
+use Rattle.plan_import.proofs.KeptLaws.{row_kept, row_key, makes_keys}
+use Rattle.plan_import.proofs.Records.{faultless, nothing_told}
 use Rattle.plan_import.proofs.Steps.{row_first}
 
 -- an import that has come so far
-abbrev pub progress : State → List (List (List ℕ)) → List View → Progress
+abbrev pub progress : State → List Draft → List View → Progress
 progress s seen made = record { state = s; seen = seen; made = made }
 
 -- the rows that are left give from here on what all rows give from the beginning
 pub record HasComeTo (old : State) (kind : Kind) (lines : List ImportRow) (i : ℕ) (now : State) (made : List View) (left : Leftovers) : Type 0 where
-  pub seen : List (List (List ℕ))
+  pub seen : List Draft
+  pub kept : AllByRecursion (IsKept kind) seen
   pub spent : List (List ℕ)
-  pub counts : (q : List ℕ) → count_by (bytes_eq q) spent ≡ count_by (bytes_eq q) (map key_of seen)
-  pub is_left : IsLeft left (keys_of (ready_rows old lines)) (record_keys old kind) spent
+  pub counts : (q : List ℕ) → count_by (bytes_eq q) spent ≡ count_by (bytes_eq q) (map key_of_draft seen)
+  pub is_left : IsLeft left (keys_of (ready_rows old kind lines)) (record_keys old kind) spent
   pub goes : after_rows old kind (begun old) lines ≡ after_rows old kind (progress now seen made) (drop i lines)
   pub verdicts : first (row_verdicts old kind (begun old) 1 lines) ≡ first (row_verdicts old kind (progress now seen made) (i + 1) (drop i lines))
 
 -- before the first row
-pub come_none : (old : State) (kind : Kind) (lines : List ImportRow) (left : Leftovers) → IsLeft left (keys_of (ready_rows old lines)) (record_keys old kind) [] → HasComeTo old kind lines 0 old [] left
-come_none old kind lines left h = record { seen = []; spent = []; counts = λ q. refl; is_left = h; goes = refl; verdicts = refl }
+pub come_none : (old : State) (kind : Kind) (lines : List ImportRow) (left : Leftovers) → IsLeft left (keys_of (ready_rows old kind lines)) (record_keys old kind) [] → HasComeTo old kind lines 0 old [] left
+come_none old kind lines left h = record { seen = []; kept = tt; spent = []; counts = λ q. refl; is_left = h; goes = refl; verdicts = refl }
 
 -- the line at an index, and those that are left
-pub record IsAt (old : State) (lines : List ImportRow) (i : ℕ) (row : Ready) : Type 0 where
+pub record IsAt (old : State) (kind : Kind) (lines : List ImportRow) (i : ℕ) (row : Ready) : Type 0 where
   pub line : ImportRow
-  pub is : row ≡ ready_of old line
+  pub bounds : HasRowBounds line
+  pub is : row ≡ ready_of old kind line
   pub rest : drop i lines ≡ line ∷ drop (i + 1) lines
 
-pub line_at : (old : State) (lines : List ImportRow) (i : ℕ) (d : Ready) → i < length (ready_rows old lines) → IsAt old lines i (get_or (ready_rows old lines) i d)
-line_at old [] i d h = absurd (omega arith)
-line_at old (line ∷ lines) zero d h = record { line = line; is = refl; rest = refl }
-line_at old (line ∷ lines) (suc i) d h =
-    let at = line_at old lines i d (omega arith) in
+pub line_at : (old : State) (kind : Kind) (lines : List ImportRow) (i : ℕ) (d : Ready) → AllByRecursion HasRowBounds lines → i < length (ready_rows old kind lines)
+    → IsAt old kind lines i (get_or (ready_rows old kind lines) i d)
+line_at old kind [] i d b h = absurd (omega arith)
+line_at old kind (line ∷ lines) zero d b h = record { line = line; bounds = b.0; is = refl; rest = refl }
+line_at old kind (line ∷ lines) (suc i) d b h =
+    let at = line_at old kind lines i d b.1 (omega arith) in
     let same : suc i + 1 ≡ suc (i + 1) = omega arith in
-    record { line = at.line; is = at.is; rest = at.rest ∙ ap (λ (k : ℕ). at.line ∷ drop k (line ∷ lines)) (sym same) }
+    record { line = at.line; bounds = at.bounds; is = at.is; rest = at.rest ∙ ap (λ (k : ℕ). at.line ∷ drop k (line ∷ lines)) (sym same) }
 
 past_none : {A : Type 0} (x : Option A) (xs : List (Option A)) → x ≡ None → first (x ∷ xs) ≡ first xs
 past_none None xs e = refl
@@ -59,53 +68,58 @@ some_first : {A : Type 0} (x : Option A) (xs : List (Option A)) (y : A) → x �
 some_first None xs y e = cc
 some_first (Some z) xs y e = e
 
-with_draft-seen : (makes : Bool) (s : State) (seen : List (List (List ℕ))) (made : List View) (row : ImportRow) (old after : State) (more : List View)
+with_draft-seen : (makes : Bool) (s : State) (seen : List Draft) (made : List View) (row : ImportRow) (old after : State) (more : List View)
     → (with_draft makes (progress s [] made) (draft_of old row)).state ≡ after → (with_draft makes (progress s [] made) (draft_of old row)).made ≡ more
-    → with_draft makes (progress s seen made) (draft_of old row) ≡ progress after (texts_of (draft_of old row) ∷ seen) more
+    → with_draft makes (progress s seen made) (draft_of old row) ≡ progress after (stored_draft (draft_of old row) ∷ seen) more
 with_draft-seen true s seen made row old after more e f = rw (← e, ← f) refl
 with_draft-seen false s seen made row old after more e f = rw (← e, ← f) refl
 
 module _ (old : State) (kind : Kind) (lines : List ImportRow) (i : ℕ) (now : State) (made : List View) (left : Leftovers)
-    (h : HasComeTo old kind lines i now made left) (row : Ready) (at : IsAt old lines i row) where
+    (l : IsLawful old) (h : HasComeTo old kind lines i now made left) (row : Ready) (at : IsAt old kind lines i row) where
   -- whether a record is left for the row
   abbrev pub makes : Bool
   makes = not (nat_lt (count_by (bytes_eq row.key) h.spent) (count_by (bytes_eq row.key) (record_keys old kind)))
 
-  -- where the row breaks no rule by itself, that is whether it makes a record
-  makes_same : row.fault ≡ None → makes_one old kind h.seen (draft_of old at.line) ≡ makes
-  makes_same f =
-      makes_keys old kind h.seen (draft_of old at.line) row.key h.spent key (h.counts row.key)
-    where
-      none : fault_of old at.line ≡ None
-      none = ap (λ (r : Ready). r.fault) (sym at.is) ∙ f
+  -- where the row is not refused by itself, a record keeps its draft, under its key
+  none : row.fault ≡ None → fault_of old kind at.line ≡ None
+  none f = ap (λ (r : Ready). r.fault) (sym at.is) ∙ f
 
-      key : row.key ≡ key_of (texts_of (draft_of old at.line))
-      key = ap (λ (r : Ready). r.key) at.is ∙ ap (λ (o : Option _). key_where o (draft_of old at.line)) none
+  kept : row.fault ≡ None → IsKept kind (stored_draft (draft_of old at.line))
+  kept f = row_kept old l kind at.line at.bounds (none f)
+
+  key : row.fault ≡ None → row.key ≡ key_of_draft (stored_draft (draft_of old at.line))
+  key f =
+      ap (λ (r : Ready). r.key) at.is ∙ ap (λ (o : Option Refusal). key_where o (draft_of old at.line)) (none f)
+      ∙ row_key old at.line at.bounds (nothing_told old at.line (faultless old kind at.line (none f)).rule)
+
+  -- and whether a record is left is whether it makes one
+  makes_same : row.fault ≡ None → makes_one old kind h.seen (draft_of old at.line) ≡ makes
+  makes_same f = makes_keys old l kind h.seen (draft_of old at.line) row.key h.spent (kept f) h.kept (key f) (h.counts row.key)
 
   -- the verdict of the row
   verdict : (makes_one old kind h.seen (draft_of old at.line) ≡ makes) → row_verdict old kind (progress now h.seen made) (i + 1) at.line ≡ option_map (at_row (i + 1)) (first (ready_checks makes now row))
   verdict m =
       row_first old kind (progress now h.seen made) (i + 1) at.line
-      ∙ ap (λ (b : Bool). option_map (at_row (i + 1)) (first (ready_checks b now (ready_of old at.line)))) m
+      ∙ ap (λ (b : Bool). option_map (at_row (i + 1)) (first (ready_checks b now (ready_of old kind at.line)))) m
       ∙ ap (λ (r : Ready). option_map (at_row (i + 1)) (first (ready_checks makes now r))) (sym at.is)
 
   -- one more row that is not refused
   pub come_more : (after : State) (more : List View) (new : Leftovers) → row.fault ≡ None → IsTaken makes row now made after more (Ok tt)
-      → IsLeft new (keys_of (ready_rows old lines)) (record_keys old kind) (h.spent ++ row.key ∷ []) → HasComeTo old kind lines (i + 1) after more new
+      → IsLeft new (keys_of (ready_rows old kind lines)) (record_keys old kind) (h.spent ++ row.key ∷ []) → HasComeTo old kind lines (i + 1) after more new
   come_more after more new f t l =
       let m = makes_same f in
-      let texts = texts_of (draft_of old at.line) in
+      let stored : Draft = stored_draft (draft_of old at.line) in
       let draft : row.draft ≡ draft_of old at.line = ap (λ (r : Ready). r.draft) at.is in
-      let key : row.key ≡ key_of texts = ap (λ (r : Ready). r.key) at.is ∙ ap (λ (o : Option _). key_where o (draft_of old at.line)) (ap (λ (r : Ready). r.fault) (sym at.is) ∙ f) in
-      let next : after_row old kind (progress now h.seen made) at.line ≡ progress after (texts ∷ h.seen) more =
+      let next : after_row old kind (progress now h.seen made) at.line ≡ progress after (stored ∷ h.seen) more =
       ap (λ (b : Bool). with_draft b (progress now h.seen made) (draft_of old at.line)) m
       ∙ with_draft-seen makes now h.seen made at.line old after more
       (ap (λ (d : _). (with_draft makes (progress now [] made) d).state) (sym draft) ∙ t.1)
       (ap (λ (d : _). (with_draft makes (progress now [] made) d).made) (sym draft) ∙ t.2) in
       record {
-        seen = texts ∷ h.seen;
+        seen = stored ∷ h.seen;
+        kept = (kept f, h.kept);
         spent = h.spent ++ row.key ∷ [];
-        counts = λ q. count_first q row.key h.spent (map key_of h.seen) (h.counts q) ∙ ap (λ (k : List ℕ). count_by (bytes_eq q) (k ∷ map key_of h.seen)) key;
+        counts = λ q. count_first q row.key h.spent (map key_of_draft h.seen) (h.counts q) ∙ ap (λ (k : List ℕ). count_by (bytes_eq q) (k ∷ map key_of_draft h.seen)) (key f);
         is_left = l;
         goes = h.goes ∙ ap (λ (ls : List ImportRow). after_rows old kind (progress now h.seen made) ls) at.rest ∙ ap (λ (so : Progress). after_rows old kind so (drop (i + 1) lines)) next;
         verdicts = h.verdicts ∙ ap (λ (ls : List ImportRow). first (row_verdicts old kind (progress now h.seen made) (i + 1) ls)) at.rest
@@ -122,10 +136,10 @@ module _ (old : State) (kind : Kind) (lines : List ImportRow) (i : ℕ) (now : S
       ∙ some_first (row_verdict old kind (progress now h.seen made) (i + 1) at.line) (row_verdicts old kind (after_row old kind (progress now h.seen made) at.line) (i + 1 + 1) (drop (i + 1) lines)) (at_row (i + 1) refusal) v
 
   -- by itself, whatever makes a record
-  by_fault : (refusal : Refusal) (fault : Option _) → row.fault ≡ fault → first (ready_checks makes now row) ≡ Some refusal
+  by_fault : (refusal : Refusal) (fault : Option Refusal) → row.fault ≡ fault → first (ready_checks makes now row) ≡ Some refusal
       → first (ready_checks (makes_one old kind h.seen (draft_of old at.line)) now row) ≡ Some refusal
   by_fault refusal None f e = ap (λ (b : Bool). first (ready_checks b now row)) (makes_same f) ∙ e
-  by_fault refusal (Some rule) f e = rw f (rw f at e)
+  by_fault refusal (Some other) f e = rw f (rw f at e)
 
   pub come_halt : (halt : Halt) (after : State) (more : List View) → IsTaken makes row now made after more (Err halt) → IsHaltBy (first (row_verdicts old kind (begun old) 1 lines)) (halt_at (i + 1) halt)
   come_halt (Refused refusal) after more t =

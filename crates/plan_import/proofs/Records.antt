@@ -5,10 +5,11 @@ use Rattle.ipam_data.specs.declared.calls.Draft.TheVariants.{Vrf as VrfDraft, Ri
 use Rattle.ipam_data.specs.declared.kinds.Kind.{Kind}
 use Rattle.ipam_data.specs.declared.replies.Rule.{Rule}
 use Rattle.ipam_data.specs.declared.replies.Refusal.{Refusal}
-use Rattle.ipam_data.specs.declared.replies.Refusal.TheVariants.{Rule as Breaks}
+use Rattle.ipam_data.specs.declared.replies.Refusal.TheVariants.{Field, Rule as Breaks}
+use Rattle.ipam_data.specs.declared.replies.FieldName.TheVariants as member
 use Rattle.ipam_data.specs.declared.replies.View.{View}
 use Rattle.ipam_data.specs.declared.replies.View.TheVariants.{Vrf as VrfView, Rir as RirView, Role as RoleView, Aggregate as AggregateView, Prefix as PrefixView, IpRange as RangeView, IpAddress as AddressView}
-use Rattle.ipam_data.specs.Rows.{HasVrfBounds, HasRirBounds, HasRoleBounds, HasAggregateBounds, HasPrefixBounds, HasRangeBounds, HasAddressBounds}
+use Rattle.ipam_data.specs.Rows.{same_kind, HasVrfBounds, HasRirBounds, HasRoleBounds, HasAggregateBounds, HasPrefixBounds, HasRangeBounds, HasAddressBounds}
 use Rattle.ipam_data.specs.RowList.{AllBelow}
 use Rattle.ipam_data.specs.Checks.{first, breaks}
 use Rattle.ipam_data.specs.State.{State}
@@ -25,7 +26,8 @@ use Rattle.ipam_data.specs.Fields.{drafted, told_of_draft, kind_of_draft, HasDra
 use Rattle.ipam_data.specs.Steps.{next_for}
 use Rattle.ipam_data.specs.Updates.{with_view, with_next, FitsOn, IsFit}
 use Rattle.ipam_data.specs.Lawful.{IsLawful}
-use Rattle.ipam_data.proofs.Verdicts.{none_right, room_from}
+use Rattle.ipam_data.proofs.SameDrafts.{kinds}
+use Rattle.ipam_data.proofs.Verdicts.{none_head, none_rest, none_broken, test_holds, none_right, room_from}
 use Rattle.ipam_data.proofs.Sound.{IsSound}
 use Rattle.ipam_data.proofs.DraftLaws.{drafted_next}
 use Rattle.ipam_data.proofs.VrfLaws.{vrfs_sound}
@@ -35,26 +37,37 @@ use Rattle.ipam_data.proofs.AggregateLaws.{aggregates_sound}
 use Rattle.ipam_data.proofs.PrefixLaws.{prefixes_sound}
 use Rattle.ipam_data.proofs.RangeLaws.{ranges_sound}
 use Rattle.ipam_data.proofs.AddressLaws.{addresses_sound}
-use Rattle.import_rows.specs.declared.rows.ImportRow.{ImportRow}
-use Rattle.import_rows.specs.declared.rows.ImportRow.TheVariants.{Vrf as VrfRow, Rir as RirRow, Role as RoleRow, Aggregate as AggregateRow, Prefix as PrefixRow, IpRange as RangeRow, IpAddress as AddressRow}
-use Rattle.import_rows.specs.Imports.{name_rules, value_rules, draft_of, record_of, with_record, create_checks}
+use Rattle.ipam_data.specs.declared.imports.ImportRow.{ImportRow}
+use Rattle.ipam_data.specs.declared.imports.ImportRow.TheVariants.{Vrf as VrfRow, Rir as RirRow, Role as RoleRow, Aggregate as AggregateRow, Prefix as PrefixRow, IpRange as RangeRow, IpAddress as AddressRow}
+use Rattle.ipam_data.specs.Imports.{kind_of_row, kind_rule, name_rules, value_rules, draft_of, record_of, with_record, create_checks}
 use Rattle.ipam_data.proofs.Verdicts.{none_left}
-use Rattle.import_rows.proofs.ImportLaws.{record_keeps}
+use Rattle.ipam_data.proofs.ImportLaws.{record_keeps}
 use Rattle.register_tables.proofs.Firsts.{head_refuses, head_passes}
 use Rattle.register_plans.specs.Broken.{first_broken}
-use Rattle.plan_import.specs.Halts.{fault_of}
+use Rattle.plan_import.specs.Halts.{rule_of, fault_of}
 
 -- ---- a row that breaks a rule by itself
 
 -- the first rule of the names, or else of the values
-pub fault_named : (s : State) (row : ImportRow) (rule : Rule) → first (name_rules s row) ≡ Some rule → fault_of s row ≡ Some rule
+pub fault_named : (s : State) (row : ImportRow) (rule : Rule) → first (name_rules s row) ≡ Some rule → rule_of s row ≡ Some rule
 fault_named s row rule e = head_refuses (name_rules s row) (value_rules row) rule e
 
-pub fault_valued : (s : State) (row : ImportRow) → first (name_rules s row) ≡ None → fault_of s row ≡ first (value_rules row)
+pub fault_valued : (s : State) (row : ImportRow) → first (name_rules s row) ≡ None → rule_of s row ≡ first (value_rules row)
 fault_valued s row e = head_passes (name_rules s row) (value_rules row) e
 
+-- a row that is not refused by itself is of the kind, and breaks no such rule
+pub record IsFaultless (s : State) (kind : Kind) (row : ImportRow) : Type 0 where
+  pub is_of : kind_of_row row ≡ kind
+  pub rule : rule_of s row ≡ None
+
+pub faultless : (s : State) (kind : Kind) (row : ImportRow) → fault_of s kind row ≡ None → IsFaultless s kind row
+faultless s kind row e = record {
+  is_of = (kinds (kind_of_row row) kind).0 (test_holds (same_kind (kind_of_row row) kind) (Field member.Row) (none_head (kind_rule kind row) (breaks (rule_of s row) ∷ []) e));
+  rule = none_broken (rule_of s row) (none_head (breaks (rule_of s row)) [] (none_rest (kind_rule kind row) (breaks (rule_of s row) ∷ []) e));
+}
+
 -- of the draft of a row that breaks none nothing is told
-pub nothing_told : (s : State) (row : ImportRow) → fault_of s row ≡ None → first (told_of_draft (draft_of s row)) ≡ None
+pub nothing_told : (s : State) (row : ImportRow) → rule_of s row ≡ None → first (told_of_draft (draft_of s row)) ≡ None
 nothing_told s (VrfRow name rd enforce_unique description) e = refl
 nothing_told s (RirRow name slug is_private description) e = refl
 nothing_told s (RoleRow name slug weight description) e = refl

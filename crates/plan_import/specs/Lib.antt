@@ -3,3 +3,5 @@ pub mod Ready
 pub mod Plan
 pub mod Keys
 pub mod Left
+pub mod Undone
+pub mod Kept

@@ -1,40 +1,31 @@
 -- What is known of the rows of an import before any record is made, and what one row then does.
 use Rattle.std.specs.Prelude.{◌≡◌, ℕ, Bool, List, [], ◌∷◌, Option, Some, None, Result, Ok, Err, map}
-use Rattle.ipam_data.specs.declared.kinds.Kind.{Kind}
 use Rattle.ipam_data.specs.declared.calls.Draft.{Draft}
-use Rattle.ipam_data.specs.declared.replies.Rule.{Rule}
+use Rattle.ipam_data.specs.declared.imports.ImportRow.{ImportRow}
+use Rattle.ipam_data.specs.declared.kinds.Kind.{Kind}
 use Rattle.ipam_data.specs.declared.replies.Refusal.{Refusal}
 use Rattle.ipam_data.specs.declared.replies.View.{View}
-use Rattle.ipam_data.specs.Checks.{first, breaks}
-use Rattle.ipam_data.specs.State.{State}
-use Rattle.ipam_data.specs.Plans.{KindRules}
 use Rattle.ipam_data.specs.ByKind.{by_kind}
+use Rattle.ipam_data.specs.Checks.{first}
+use Rattle.ipam_data.specs.Fields.{drafted}
+use Rattle.ipam_data.specs.Imports.{draft_of, with_draft, create_checks}
+use Rattle.ipam_data.specs.Plans.{KindRules}
+use Rattle.ipam_data.specs.State.{State}
 use Rattle.stored_tables.specs.Stored.{stored_row}
-use Rattle.import_rows.specs.declared.rows.ImportRow.{ImportRow}
-use Rattle.import_rows.specs.Imports.{texts_of, draft_of, with_draft, create_checks}
 use Rattle.plan_import.specs.Keys.{key_of}
 use Rattle.plan_import.specs.declared.halt.Halt.{Halt}
 use Rattle.plan_import.specs.declared.ready.Ready.{Ready}
 use Rattle.plan_import.specs.Halts.{fault_of, IsHaltBy}
 
--- ---- before any record is made
-
--- the key of a draft, where its row breaks no such rule; of another row none is asked for
-abbrev pub key_where : Option Rule → Draft → List ℕ
-key_where None draft = key_of (texts_of draft)
-key_where (Some rule) draft = []
-
--- a row made ready: its draft, the rule that it breaks, and its key
-abbrev pub ready_of : State → ImportRow → Ready
-ready_of s row = record { draft = draft_of s row; fault = fault_of s row; key = key_where (fault_of s row) (draft_of s row) }
-
-abbrev pub ready_rows : State → List ImportRow → List Ready
-ready_rows s rows = map (ready_of s) rows
-
 -- ---- keys
 
-abbrev pub keys_of : List Ready → List (List ℕ)
-keys_of rows = map (λ row. row.key) rows
+-- the texts under which the record of a draft is stored, which say nothing of its id
+unfoldable pub texts_of : Draft → List (List ℕ)
+texts_of draft = (stored_row (drafted 0 draft)).fields
+
+-- the key of a draft
+abbrev pub key_of_draft : Draft → List ℕ
+key_of_draft draft = key_of (texts_of draft)
 
 -- the key of a record
 abbrev pub key_of_row : {T : Type 0} → KindRules T → T → List ℕ
@@ -44,11 +35,28 @@ key_of_row rules row = key_of (stored_row (rules.view row)).fields
 abbrev pub record_keys : State → Kind → List (List ℕ)
 record_keys s kind = by_kind kind (λ T rules. map (key_of_row rules) (rules.row_list s).rows)
 
+-- ---- before any record is made
+
+-- the key of a draft, where its row is not refused by itself; of another row none is asked for
+abbrev pub key_where : Option Refusal → Draft → List ℕ
+key_where None draft = key_of_draft draft
+key_where (Some refusal) draft = []
+
+-- a row made ready: its draft, why it is refused by itself, and its key
+abbrev pub ready_of : State → Kind → ImportRow → Ready
+ready_of s kind row = record { draft = draft_of s row; fault = fault_of s kind row; key = key_where (fault_of s kind row) (draft_of s row) }
+
+abbrev pub ready_rows : State → Kind → List ImportRow → List Ready
+ready_rows s kind rows = map (ready_of s kind) rows
+
+abbrev pub keys_of : List Ready → List (List ℕ)
+keys_of rows = map (λ row. row.key) rows
+
 -- ---- one row
 
--- what a row breaks, that was made ready and makes a record or does not
+-- why a row is refused, that was made ready and makes a record or does not
 abbrev pub ready_checks : Bool → State → Ready → List (Option Refusal)
-ready_checks makes s row = breaks row.fault ∷ create_checks makes s row.draft
+ready_checks makes s row = row.fault ∷ create_checks makes s row.draft
 
 -- what one row does to the state and to the records that were made, where it makes a record or does not
 abbrev pub IsTaken : Bool → Ready → State → List View → State → List View → Result (Unit {0}) Halt → Type 0

@@ -5,18 +5,19 @@ ghost use Rattle.ipam_data.specs.declared.kinds.Kind.TheVariants.{Vrfs, Rirs, Ro
 ghost use Rattle.ipam_data.specs.Checks.{first};
 ghost use Rattle.ipam_data.specs.Fields.{drafted, told_of_draft};
 ghost use Rattle.ipam_data.specs.State.{State};
-ghost use Rattle.import_rows.specs.Imports.{draft_of, kind_of_row};
+ghost use Rattle.ipam_data.specs.Imports.{draft_of, kind_of_row};
 ghost use Rattle.register_tables.specs.Held.{state_of};
-ghost use Rattle.plan_import.specs.Halts.{fault_of};
+ghost use Rattle.plan_import.specs.Halts.{fault_of, rule_of};
 
 use crate::names::{name_fault, rir_id_of, role_id_of, vrf_id_of};
-use import_rows::rows::ImportRow;
 use ipam_data::address::IpAddress;
 use ipam_data::aggregate::Aggregate;
 use ipam_data::calls::Draft;
+use ipam_data::imports::ImportRow;
+use ipam_data::kinds::Kind;
 use ipam_data::prefix::Prefix;
 use ipam_data::range::IpRange;
-use ipam_data::replies::{Rule, View};
+use ipam_data::replies::{Refusal, Rule, View};
 use ipam_data::rir::Rir;
 use ipam_data::role::Role;
 use ipam_data::vrf::{Vrf, copy_distinguisher};
@@ -220,11 +221,24 @@ pub(crate) fn view_under(id: u32, draft: &Draft) -> Result<View, AllocError>
 }
 
 /// The first rule that a row breaks by its names or its values.
-pub(crate) fn fault(row_tables: &RowTables, row: &ImportRow) -> Option<Rule>
-    ensures { result ≡ fault_of (state_of row_tables.now) row.now }
+fn rule_broken(row_tables: &RowTables, row: &ImportRow) -> Option<Rule>
+    ensures { result ≡ rule_of (state_of row_tables.now) row.now }
 {
     match name_fault(row_tables, row) {
         Some(rule) => Some(rule),
         None => row.value_fault(),
+    }
+}
+
+/// Why a row is refused by itself, if so: it is of another kind, or breaks a rule by its names or its values.
+pub(crate) fn fault(row_tables: &RowTables, kind: Kind, row: &ImportRow) -> Option<Refusal>
+    ensures { result ≡ fault_of (state_of row_tables.now) kind row.now }
+{
+    match row.kind_fault(kind) {
+        Some(refusal) => Some(refusal),
+        None => match rule_broken(row_tables, row) {
+            Some(rule) => Some(Refusal::Rule(rule)),
+            None => None,
+        },
     }
 }

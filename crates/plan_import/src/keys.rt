@@ -1,13 +1,17 @@
 //! The keys of rows and records, and how many records are left that a row may stand for.
 
 ghost use Rattle.std.specs.Prelude.{◌≡◌, ℕ, ◌<◌, ◌++◌, [], List, IfOk, OnOk, Some, length, map, slice_get, string_bytes};
+ghost use Rattle.std.specs.List.{AllByRecursion};
+ghost use Rattle.ipam_data.specs.Lawful.{IsLawful};
 ghost use Rattle.stored_tables.specs.Stored.{stored_row};
+ghost use Rattle.plan_import.specs.Kept.{IsReadied};
 ghost use Rattle.plan_import.specs.Keys.{key_of};
 ghost use Rattle.plan_import.specs.Left.{IsLeft};
 ghost use Rattle.register_tables.specs.Held.{state_of};
 ghost use Rattle.plan_import.specs.Ready.{keys_of, key_of_row, record_keys};
 
 use crate::leftovers::{Leftovers, put_text};
+use crate::lookup::look_up;
 use crate::ready::Ready;
 use ipam_data::address::IpAddress;
 use ipam_data::aggregate::Aggregate;
@@ -44,7 +48,7 @@ pub(crate) fn key_of_view(alloc: Global, view: &View) -> Result<String, AllocErr
 }
 
 /// The key of a record.
-fn key_of_record<T: Registered>(alloc: Global, row: &T) -> Result<String, AllocError>
+pub(crate) fn key_of_record<T: Registered>(alloc: Global, row: &T) -> Result<String, AllocError>
     ensures { IfOk result (λ k. string_bytes k ≡ key_of_row T.rules row.now) }
 {
     let view = row.copied()?.into_view();
@@ -52,7 +56,7 @@ fn key_of_record<T: Registered>(alloc: Global, row: &T) -> Result<String, AllocE
 }
 
 /// The record at an index that is there.
-fn record_at<T: Registered>(row_tables: &RowTables, index: u32) -> &T
+pub(crate) fn record_at<T: Registered>(row_tables: &RowTables, index: u32) -> &T
     requires { index < length (T.rules.row_list (state_of row_tables.now)).rows }
     ensures { Some result.now ≡ slice_get (T.rules.row_list (state_of row_tables.now)).rows index }
 {
@@ -69,7 +73,7 @@ fn expect_all(alloc: Global, rows: &[Ready]) -> Result<Leftovers, AllocError>
     let mut left = Leftovers::new(alloc);
     for row in rows {
         let key = String::from_str(alloc, row.key.as_str())?;
-        left.expect(key)?;
+        left.expect(key, 0)?;
     }
     Ok(left)
 }
@@ -104,8 +108,8 @@ fn count_all(row_tables: &RowTables, kind: Kind, left: &mut Leftovers) -> Result
     }
 }
 
-/// How many records of the kind are left that each row may stand for: one look for each row and each record.
-pub(crate) fn leftovers(
+/// How many records are left that each row may stand for, of a kind whose records are all counted: one look for each row and each record.
+fn count_records(
     row_tables: &RowTables,
     kind: Kind,
     rows: &[Ready],
@@ -115,4 +119,22 @@ pub(crate) fn leftovers(
     let mut left = expect_all(row_tables.allocator(), rows)?;
     count_all(row_tables, kind, &mut left)?;
     Ok(left)
+}
+
+/// How many records of the kind are left that each row may stand for. Prefixes and addresses, of which there may be hundreds of
+/// thousands, are looked up row by row.
+pub(crate) fn leftovers(
+    row_tables: &RowTables,
+    kind: Kind,
+    rows: &[Ready],
+) -> Result<Leftovers, AllocError>
+    requires lawful { IsLawful (state_of row_tables.now) }
+    requires ready { AllByRecursion (IsReadied kind) rows.now }
+    ensures { IfOk result (λ left. IsLeft left (keys_of rows.now) (record_keys (state_of row_tables.now) kind) []) }
+{
+    match kind {
+        Kind::Prefixes => look_up::<Prefix>(row_tables, rows),
+        Kind::Addresses => look_up::<IpAddress>(row_tables, rows),
+        _ => count_records(row_tables, kind, rows),
+    }
 }

@@ -26,20 +26,21 @@ pub struct Leftovers {
 }
 
 impl Leftovers {
-    /// No keys. It takes no memory.
+    /// No keys, whatever the records. It takes no memory.
     pub fn new(alloc: Global) -> Leftovers
-        ensures { IsLeft result [] [] [] }
+        ensures { (records : List (List ℕ)) → IsLeft result [] records [] }
     {
         Leftovers {
             counts: HashMap::new(alloc),
         }
     }
 
-    /// One more key of the import, before any record is counted.
-    pub fn expect(&mut self, key: String) -> Result<(), AllocError>
-        ensures { (keys : List (List ℕ)) → IsLeft self.old keys [] [] → OnOk result (IsLeft self.new (keys ++ string_bytes key ∷ []) [] []) }
+    /// One more key of the import, with the number of records that have it among those that are counted so far.
+    pub fn expect(&mut self, key: String, count: u32) -> Result<(), AllocError>
+        ensures { (keys records : List (List ℕ)) → count ≡ count_by (bytes_eq (string_bytes key)) records → IsLeft self.old keys records []
+            → OnOk result (IsLeft self.new (keys ++ string_bytes key ∷ []) records []) }
     {
-        self.counts.insert(key, 0)?;
+        self.counts.insert(key, count)?;
         Ok(())
     }
 

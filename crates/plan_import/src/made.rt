@@ -3,21 +3,24 @@
 ghost use Rattle.std.specs.Prelude.{◌≡◌, ℕ, ◌++◌, ◌∷◌, ◌≤◌, [], List, None, true, not, nat_lt, IfErr, IfOk, OnOk, bytes_eq, count_by, length};
 ghost use Rattle.std.specs.List.{list_any};
 ghost use Rattle.ipam_data.specs.Checks.{first};
-ghost use Rattle.ipam_data.specs.Fields.{told_of_draft};
+ghost use Rattle.ipam_data.specs.declared.kinds.Kind.{Kind as SeenKind};
+ghost use Rattle.ipam_data.specs.Fields.{kind_of_draft, told_of_draft};
 ghost use Rattle.ipam_data.specs.Lawful.{IsLawful};
-ghost use Rattle.import_rows.specs.Imports.{at_row, begun, row_verdicts};
+ghost use Rattle.ipam_data.specs.State.{State};
+ghost use Rattle.ipam_data.specs.Imports.{at_row, begun, row_verdicts};
 ghost use Rattle.plan_import.specs.Left.{IsLeft};
 ghost use Rattle.register_tables.specs.Held.{state_of};
 ghost use Rattle.plan_import.specs.Halts.{IsHaltBy, halt_at};
 ghost use Rattle.plan_import.specs.Plan.{AreMade};
 ghost use Rattle.plan_import.specs.Ready.{IsTaken};
+ghost use Rattle.plan_import.specs.Undone.{IsAhead};
 
 use crate::halt::Halt;
 use crate::keys::leftovers;
 use crate::leftovers::Leftovers;
 use crate::one::make;
-use crate::ready::{Ready, ready_all};
-use import_rows::rows::ImportRow;
+use crate::ready::{Ready, bounds_of, ready_all};
+use ipam_data::imports::ImportRow;
 use ipam_data::kinds::Kind;
 use ipam_data::replies::{Refusal, RowFault, View};
 use register_tables::RowTables;
@@ -53,9 +56,10 @@ fn take_row(
         → IsTaken (not (nat_lt (count_by (bytes_eq row.now.key) spent) (count_by (bytes_eq row.now.key) records))) row.now (state_of row_tables.old) made.old.items (state_of row_tables.new) made.new.items result }
     ensures left { (keys records spent : List (List ℕ)) → IsLeft left.old keys records spent → OnOk result (IsLeft left.new keys records (spent ++ row.now.key ∷ [])) }
     ensures lawful { OnOk result (IsLawful (state_of row_tables.new)) }
+    ensures ahead { (base : State) (kind : SeenKind) → (row.now.fault ≡ None → kind_of_draft row.now.draft ≡ kind) → IsAhead base kind (state_of row_tables.old) → IsAhead base kind (state_of row_tables.new) }
 {
-    if let Some(rule) = row.fault {
-        return Err(Halt::Refused(Refusal::Rule(rule)));
+    if let Some(refusal) = row.fault {
+        return Err(Halt::Refused(refusal));
     }
     if stands(left, row) {
         return Ok(());
@@ -73,6 +77,7 @@ fn refused_at(n: u32, refusal: Refusal) -> Refusal
     ensures { result ≡ at_row n refusal }
 {
     match refusal {
+        Refusal::Field(name) => Refusal::Row(n, RowFault::Field(name)),
         Refusal::Rule(rule) => Refusal::Row(n, RowFault::Rule(rule)),
         Refusal::Limit(which, most) => Refusal::Row(n, RowFault::Limit(which, most)),
         other => other,
@@ -89,7 +94,8 @@ fn stopped_at(n: u32, halt: Halt) -> Halt
     }
 }
 
-/// Makes the records of all rows, one after another, and hands out copies of them.
+/// Makes the records of all rows, one after another, and hands out copies of them. Whatever stops it, what it did is that it made
+/// records of the kind.
 pub(crate) fn make_all(
     row_tables: &mut RowTables,
     kind: Kind,
@@ -99,9 +105,11 @@ pub(crate) fn make_all(
     requires few { length lines.now ≤ 10000 }
     ensures made { IfOk result (λ v. AreMade (state_of row_tables.old) kind lines.now (state_of row_tables.new) v.items) }
     ensures halted { IfErr result (λ halt. IsHaltBy (first (row_verdicts (state_of row_tables.old) kind (begun (state_of row_tables.old)) 1 lines.now)) halt) }
-    ensures lawful { OnOk result (IsLawful (state_of row_tables.new)) }
+    ensures ahead { IsAhead (state_of row_tables.old) kind (state_of row_tables.new) }
 {
-    let rows = ready_all(row_tables, lines)?;
+    // A hint to the prover: the rows are within their bounds.
+    bounds_of(lines);
+    let rows = ready_all(row_tables, kind, lines)?;
     let mut left = leftovers(row_tables, kind, &rows)?;
     let mut made = Vec::new(row_tables.allocator());
     let mut n = 0;

@@ -5,10 +5,10 @@ ghost use Rattle.ipam_data.specs.declared.kinds.Kind.TheVariants.{Rirs};
 ghost use Rattle.ipam_data.specs.declared.role.Role.{Role};
 ghost use Rattle.ipam_data.specs.declared.rir.Rir.{Rir};
 ghost use Rattle.ipam_data.specs.Checks.{first};
-ghost use Rattle.import_rows.specs.Imports.{vrf_named, role_named, role_named_too, rir_named, one_of, vrf_rule, named_rule, role_rule, id_or_none, name_rules};
+ghost use Rattle.ipam_data.specs.Imports.{vrf_named, role_named, role_named_too, rir_named, one_of, vrf_rule, named_rule, role_rule, id_or_none, name_rules};
 ghost use Rattle.register_tables.specs.Held.{state_of};
 
-use import_rows::rows::ImportRow;
+use ipam_data::imports::ImportRow;
 use ipam_data::kinds::Kind;
 use ipam_data::replies::Rule;
 use ipam_data::rir::Rir;

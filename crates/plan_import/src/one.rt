@@ -1,12 +1,12 @@
 //! One record, made of a draft.
 
-ghost use Rattle.std.specs.Prelude.{◌≡◌, ◌+◌, None, true, IfOk, IfErr, OnOk};
+ghost use Rattle.std.specs.Prelude.{◌≡◌, ◌+◌, None, true, IfOk, IfErr, OnOk, OnErr};
 ghost use Rattle.ipam_data.specs.Checks.{first};
 ghost use Rattle.ipam_data.specs.Fields.{kind_of_draft, told_of_draft};
 ghost use Rattle.ipam_data.specs.Lawful.{IsLawful};
 ghost use Rattle.ipam_data.specs.Steps.{next_for};
 ghost use Rattle.ipam_data.specs.Updates.{IsFit, with_next, with_view};
-ghost use Rattle.import_rows.specs.Imports.{create_checks, record_of, with_record};
+ghost use Rattle.ipam_data.specs.Imports.{create_checks, record_of, with_record};
 ghost use Rattle.register_tables.specs.Held.{state_of};
 ghost use Rattle.plan_import.specs.Halts.{IsHaltBy};
 
@@ -49,7 +49,7 @@ fn next_id(row_tables: &RowTables, draft: &Draft) -> u32
     }
 }
 
-/// Puts a record, and sets the next id of its kind.
+/// Puts a record, and sets the next id of its kind. `Err` leaves the tables.
 fn put_record(
     row_tables: &mut RowTables,
     view: View,
@@ -57,7 +57,8 @@ fn put_record(
     next: u32,
 ) -> Result<(), AllocError>
     requires { IsFit (state_of row_tables.old) view }
-    ensures { OnOk result (state_of row_tables.new ≡ with_next (with_view (state_of row_tables.old) view) (kind, next)) }
+    ensures ok { OnOk result (state_of row_tables.new ≡ with_next (with_view (state_of row_tables.old) view) (kind, next)) }
+    ensures err { OnErr result (state_of row_tables.new ≡ state_of row_tables.old) }
 {
     row_tables.admit(view)?;
     row_tables.set_next(kind, next);
@@ -73,7 +74,7 @@ fn refused(row_tables: &RowTables, draft: &Draft, view: &View) -> Option<Refusal
     check_view(row_tables, view)
 }
 
-/// Makes the record of a draft, where no check refuses it, and hands out a copy.
+/// Makes the record of a draft, where no check refuses it, and hands out a copy. `Err` leaves the tables.
 pub(crate) fn make(row_tables: &mut RowTables, draft: &Draft) -> Result<View, Halt>
     requires lawful { IsLawful (state_of row_tables.old) }
     requires told { first (told_of_draft draft.now) ≡ None }
@@ -82,6 +83,7 @@ pub(crate) fn make(row_tables: &mut RowTables, draft: &Draft) -> Result<View, Ha
     ensures free { OnOk result (first (create_checks true (state_of row_tables.old) draft.now) ≡ None) }
     ensures lawful { OnOk result (IsLawful (state_of row_tables.new)) }
     ensures err { IfErr result (λ halt. IsHaltBy (first (create_checks true (state_of row_tables.old) draft.now)) halt) }
+    ensures stays { OnErr result (state_of row_tables.new ≡ state_of row_tables.old) }
 {
     draft.bounds();
     let id = next_id(row_tables, draft);
@@ -93,7 +95,7 @@ pub(crate) fn make(row_tables: &mut RowTables, draft: &Draft) -> Result<View, Ha
         }
         None => {}
     }
-    put_record(row_tables, view, kind_of(draft), id + 1)?;
     let copy = view_under(id, draft)?;
+    put_record(row_tables, view, kind_of(draft), id + 1)?;
     Ok(copy)
 }

@@ -1,41 +1,42 @@
 //! The rows of an import made ready, before any record is made.
 
 ghost use Rattle.std.specs.Prelude.{◌≡◌, None, IfOk, string_bytes};
+ghost use Rattle.std.specs.List.{AllByRecursion};
 ghost use Rattle.ipam_data.specs.Checks.{first};
 ghost use Rattle.ipam_data.specs.Fields.{told_of_draft};
-ghost use Rattle.import_rows.specs.Imports.{texts_of};
-ghost use Rattle.plan_import.specs.Keys.{key_of};
+ghost use Rattle.ipam_data.specs.Imports.{HasRowBounds};
 ghost use Rattle.register_tables.specs.Held.{state_of};
-ghost use Rattle.plan_import.specs.Ready.{key_where, ready_of, ready_rows};
+ghost use Rattle.plan_import.specs.Ready.{key_of_draft, key_where, ready_of, ready_rows};
 
 use crate::drafts::{draft, fault, view_under};
 use crate::keys::key_of_view;
-use import_rows::rows::ImportRow;
 use ipam_data::calls::Draft;
-use ipam_data::replies::Rule;
+use ipam_data::imports::ImportRow;
+use ipam_data::kinds::Kind;
+use ipam_data::replies::Refusal;
 use ipam_data::text::Text;
 use register_tables::RowTables;
 use std::alloc::{AllocError, Global};
 
-/// A row made ready: its draft, the rule that it breaks by its names or its values, and, where it breaks none, the key of its texts.
+/// A row made ready: its draft, why it is refused by itself, if so, and, where it is not, the key of its texts.
 #[derive(Drop)]
 pub struct Ready {
     pub(crate) draft: Draft,
-    pub(crate) fault: Option<Rule>,
+    pub(crate) fault: Option<Refusal>,
     pub(crate) key: Text,
 }
 
 /// The key of a draft's texts, which say nothing of its id.
 fn key_of_draft(alloc: Global, draft: &Draft) -> Result<String, AllocError>
     requires { first (told_of_draft draft.now) ≡ None }
-    ensures { IfOk result (λ k. string_bytes k ≡ key_of (texts_of draft.now)) }
+    ensures { IfOk result (λ k. string_bytes k ≡ key_of_draft draft.now) }
 {
     let view = view_under(0, draft)?;
     key_of_view(alloc, &view)
 }
 
-/// The key of a draft, where its row breaks no rule by its names or its values.
-fn key_if(alloc: Global, fault: &Option<Rule>, draft: &Draft) -> Result<String, AllocError>
+/// The key of a draft, where its row is not refused by itself.
+fn key_if(alloc: Global, fault: &Option<Refusal>, draft: &Draft) -> Result<String, AllocError>
     requires { fault.now ≡ None → first (told_of_draft draft.now) ≡ None }
     ensures { IfOk result (λ k. string_bytes k ≡ key_where fault.now draft.now) }
 {
@@ -46,11 +47,11 @@ fn key_if(alloc: Global, fault: &Option<Rule>, draft: &Draft) -> Result<String, 
 }
 
 /// Makes a row ready.
-fn make_ready(row_tables: &RowTables, row: &ImportRow) -> Result<Ready, AllocError>
-    ensures { IfOk result (λ r. r ≡ ready_of (state_of row_tables.now) row.now) }
+fn make_ready(row_tables: &RowTables, kind: Kind, row: &ImportRow) -> Result<Ready, AllocError>
+    ensures { IfOk result (λ r. r ≡ ready_of (state_of row_tables.now) kind row.now) }
 {
     let draft = draft(row_tables, row)?;
-    let fault = fault(row_tables, row);
+    let fault = fault(row_tables, kind, row);
     let key = key_if(row_tables.allocator(), &fault, &draft)?;
     Ok(Ready {
         draft,
@@ -62,13 +63,23 @@ fn make_ready(row_tables: &RowTables, row: &ImportRow) -> Result<Ready, AllocErr
 /// Makes all rows ready.
 pub(crate) fn ready_all(
     row_tables: &RowTables,
+    kind: Kind,
     rows: &[ImportRow],
 ) -> Result<Vec<Ready>, AllocError>
-    ensures { IfOk result (λ v. v.items ≡ ready_rows (state_of row_tables.now) rows.now) }
+    ensures { IfOk result (λ v. v.items ≡ ready_rows (state_of row_tables.now) kind rows.now) }
 {
     let mut all = Vec::new(row_tables.allocator());
     for row in rows {
-        all.push(make_ready(row_tables, row)?)?;
+        all.push(make_ready(row_tables, kind, row)?)?;
     }
     Ok(all)
+}
+
+/// Each row is in its bounds, by its type: a law.
+pub(crate) fn bounds_of(rows: &[ImportRow])
+    ensures { AllByRecursion HasRowBounds rows.now }
+{
+    for row in rows {
+        row.bounds();
+    }
 }

@@ -1,6 +1,5 @@
 -- The figure of a prefix is what the plan of its utilization reads.
-use Rattle.std.proofs.Common.{◌≡◌, ◌≢◌, ℕ, ◌<◌, ◌==◌, Bool, true, false, cond, List, [], ◌∷◌, Option, Some, None, refl, ap, sym, subst, arith, inl, inr, Contains}
-use Rattle.std.proofs.lemmas.Bool.Decides.{nat_tests}
+use Rattle.std.proofs.Common.{◌≡◌, ℕ, false, List, [], ◌∷◌, Option, Some, refl, ap, sym, subst, arith, inl, inr, Contains}
 use Rattle.ipam_data.specs.declared.prefix.Prefix.{Prefix}
 use Rattle.ipam_data.specs.declared.kinds.Kind.TheVariants.{Prefixes}
 use Rattle.ipam_data.specs.declared.replies.Reply.{Reply}

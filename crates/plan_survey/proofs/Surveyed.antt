@@ -1,9 +1,9 @@
 -- Lines in the order of their places are the survey.
-use Rattle.std.proofs.Common.{◌≡◌, ℕ, ◌+◌, ◌*◌, ◌^◌, ◌<◌, ◌≤◌, List, [], ◌∷◌, map, take, get_or, Some, slice_get, refl, ap, sym, subst, ◌∙◌, arith, ◌++◌, Contains, IsPermutation, inl, inr}
-use Rattle.std.specs.List.{All, AllByRecursion}
+use Rattle.std.proofs.Common.{◌≡◌, ℕ, ◌+◌, ◌<◌, List, [], ◌∷◌, map, take, get_or, Some, slice_get, refl, ap, sym, subst, ◌∙◌, arith, ◌++◌, Contains, IsPermutation, inl, inr}
+use Rattle.std.specs.List.{All}
 use Rattle.std.specs.List.Sorted.{IsSortedByKey}
 use Rattle.std.proofs.lemmas.List.{map_more}
-use Rattle.std.proofs.lemmas.List.Elements.{All-map, All-from_recursion, recursion_from_All, Contains-get_or}
+use Rattle.std.proofs.lemmas.List.Elements.{All-map, recursion_from_All, Contains-get_or}
 use Rattle.std.proofs.lemmas.List.Sorted.{IsPermutation-sym, IsPermutation-trans, IsPermutation-map, All-permutation}
 use Rattle.std.proofs.lemmas.Option.{slice_get_within, get_or_from_slice_get}
 use Rattle.inet_num.proofs.Numbers.{width_small, width_fits}
@@ -13,7 +13,7 @@ use Rattle.ipam_data.specs.Rows.{prefix_id}
 use Rattle.ipam_data.specs.State.{State}
 use Rattle.ipam_data.specs.Lawful.{IsLawful, IsPrefix}
 use Rattle.ipam_data.proofs.RowLists.{contains_cases}
-use Rattle.ipam_data.specs.Survey.{survey_place, surveyed, line_of, survey_of}
+use Rattle.ipam_data.specs.Survey.{survey_place, surveyed, survey_of}
 use Rattle.ipam_data.proofs.SurveyWhole.{whole}
 use Rattle.plan_survey.specs.declared.line.Placed.{Placed}
 use Rattle.plan_survey.specs.Digits.{digits_cmp, place_digits, placed_row}

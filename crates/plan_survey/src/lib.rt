@@ -3,9 +3,12 @@
 
 ghost use Rattle.std.specs.Prelude.{◌≡◌, ◌<◌, Some, IfOk, IsPermutation, length, map, slice_get};
 ghost use Rattle.std.specs.List.Sorted.{IsSortedByKey};
+ghost use Rattle.ipam_data.specs.declared.replies.Reply.TheVariants.{Lines};
 ghost use Rattle.ipam_data.specs.Lawful.{IsLawful};
-ghost use Rattle.register_tables.specs.Held.{state_of};
+ghost use Rattle.ipam_data.specs.State.{reading};
 ghost use Rattle.ipam_data.specs.Survey.{survey_of};
+ghost use Rattle.register_tables.specs.Held.{state_of};
+ghost use Rattle.register_tables.specs.Planned.{IsPlanned};
 ghost use Rattle.plan_survey.specs.declared.line.Placed.{Placed as SeenPlaced};
 ghost use Rattle.plan_survey.specs.Digits.{digits_cmp, placed_row};
 
@@ -14,9 +17,10 @@ mod place;
 
 use crate::line::{Placed, placed_line};
 use ipam_data::prefix::Prefix;
-use ipam_data::survey::PrefixLine;
+use ipam_data::replies::Reply;
+use ipam_data::survey::{PrefixLine, PrefixLines};
 use placed_book::Book;
-use register_tables::RowTables;
+use register_tables::{Planned, RowTables};
 use std::alloc::{AllocError, Global};
 
 /// The prefix at an index that is there.
@@ -63,8 +67,8 @@ fn lines_of(alloc: Global, placed: &[Placed]) -> Result<Vec<PrefixLine>, AllocEr
     Ok(lines)
 }
 
-/// The lines of all prefixes, in the order of their places. `Err` means out of memory.
-pub fn survey(row_tables: &RowTables) -> Result<Vec<PrefixLine>, AllocError>
+/// The lines of all prefixes, in the order of their places.
+fn survey(row_tables: &RowTables) -> Result<Vec<PrefixLine>, AllocError>
     requires { IsLawful (state_of row_tables.now) }
     ensures { IfOk result (λ v. v.items ≡ survey_of (state_of row_tables.now)) }
 {
@@ -72,4 +76,13 @@ pub fn survey(row_tables: &RowTables) -> Result<Vec<PrefixLine>, AllocError>
     sort(&mut placed);
     let lines = lines_of(row_tables.allocator(), placed.as_slice())?;
     Ok(lines)
+}
+
+/// Reads the lines of all prefixes, in the order of their places. `Err` means out of memory.
+pub fn plan_survey(row_tables: &RowTables) -> Result<Planned, AllocError>
+    requires { IsLawful (state_of row_tables.now) }
+    ensures { IfOk result (λ p. IsPlanned (reading (Lines (survey_of (state_of row_tables.now)))) p) }
+{
+    let lines = survey(row_tables)?;
+    Ok(Planned::Read(Reply::Lines(PrefixLines::of(lines))))
 }

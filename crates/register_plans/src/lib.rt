@@ -19,4 +19,3 @@ mod vrfs;
 pub use calls::{broken, no_room_for_one};
 pub use dispatch::{broken_by_view, plan_draft, plan_edit, plan_gone, plan_one, plan_page};
 pub use registered::Registered;
-pub use same::is_one_name;

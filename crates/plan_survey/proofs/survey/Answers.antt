@@ -1,7 +1,6 @@
-use Rattle.std.proofs.Common.{◌≡◌, List, map, ap, subst, ◌∙◌, IsPermutation}
+use Rattle.std.proofs.Common.{List, map, ap, subst, ◌∙◌, IsPermutation}
 use Rattle.register_tables.specs.Held.{state_of}
 use Rattle.plan_survey.specs.declared.line.Placed.{Placed}
-use Rattle.plan_survey.specs.Digits.{placed_row}
 use Rattle.plan_survey.proofs.Surveyed.{survey_is}
 use Rattle.plan_survey.proofs.survey.Goals as goal
 

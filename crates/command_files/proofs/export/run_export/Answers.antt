@@ -1,12 +1,12 @@
-use Rattle.std.proofs.Common.{refl, ◌∙◌, arith, rules}
-use Rattle.register_tables.specs.Held.{state_of}
-use Rattle.command_store.proofs.Refused.{back_after, raised_later}
-use Rattle.command_files.proofs.Exports.{of_printed, of_refused, at_memory}
+use Rattle.std.proofs.Common.{refl, ap, ◌∙◌, arith, rules}
+use Rattle.ipam_keeper.proofs.FaultLemmas.{raised_by_none}
+use Rattle.command_store.proofs.Refused.{back_after, quiet_refused, raised_later}
+use Rattle.command_files.proofs.Exports.{of_printed, of_refused, at_memory, not_want}
 use Rattle.command_files.proofs.export.run_export.Goals as goal
 
 pub returns-in-Ok-text : goal.returns-in-Ok-text
 returns-in-Ok-text g c = λ input.
-    of_printed _ _ _ _ _ c.as_slice.result.now (state_of c.in-Ok.row_tables, c.in-Ok.ensures.state, c.as_slice.ensures.value ∙ c.in-Ok-text.ensures) c.end_with.ensures.ends
+    of_printed _ _ _ _ _ (λ five. absurd (not_want _ _ _ _ c.end_with.ensures.ends five)) c.as_slice.result.now (c.in-Ok.register.state, c.in-Ok.ensures.state, c.as_slice.ensures.value ∙ c.in-Ok-text.ensures.text) c.end_with.ensures.ends
     (record { input = refl; errors = refl; stored = back_after _ _ _ _ _ _ _ c.in-Ok.ensures.lent c.in-Ok.ensures.stays (search rules) c.in-Ok.ensures.told c.done.ensures.returned })
     (record {
       streams = record { input = omega arith; output = c.end_with.ensures.later; errors = omega arith };
@@ -15,7 +15,8 @@ returns-in-Ok-text g c = λ input.
 
 pub returns-in-Err-text : goal.returns-in-Err-text
 returns-in-Err-text g c = λ input.
-    at_memory _ _ _ _ _ refl
+    let back = raised_by_none _ _ _ (ap g.O.Kept.Keeper.faults c.into_keeper.ensures ∙ c.export_text-text.ensures.still ∙ c.in-Ok.ensures.fresh) c.done.ensures.raised ∙ c.in-Ok.ensures.still in
+    at_memory _ _ _ _ _ (λ five. record { streams = record { input = refl; output = refl; errors = refl }; stores = back }) refl
     (record { input = refl; errors = refl; stored = back_after _ _ _ _ _ _ _ c.in-Ok.ensures.lent c.in-Ok.ensures.stays (search rules) c.in-Ok.ensures.told c.done.ensures.returned })
     refl
     (record {
@@ -25,6 +26,6 @@ returns-in-Err-text g c = λ input.
 
 pub returns-in-Err : goal.returns-in-Err
 returns-in-Err g c = λ input.
-    of_refused _ _ _ _ _ c.in-Err.fault (record { tables = c.in-Err.ensures.fault; failed = c.in-Err.ensures.cause }) c.say_fault.ensures.said
+    of_refused _ _ _ _ _ (λ five. quiet_refused _ _ c.in-Err.fault c.say_fault.result c.in-Err.ensures.err_still c.say_fault.ensures.said refl refl five) c.in-Err.fault (record { tables = c.in-Err.ensures.fault; failed = c.in-Err.ensures.cause }) c.say_fault.ensures.said
     (record { input = refl; output = refl; stored = c.in-Err.ensures.same })
     (record { streams = record { input = omega arith; output = omega arith; errors = c.say_fault.ensures.later }; stores = c.open_store.ensures.later })

@@ -6,6 +6,7 @@ use Rattle.plan_import.specs.declared.leftovers.Leftovers.{Leftovers}
 use Rattle.plan_import.specs.Left.{IsLeft}
 use Rattle.register_tables.specs.Held.{state_of}
 use Rattle.plan_import.proofs.Steps.{taken_made, taken_halt}
+use Rattle.plan_import.proofs.TakenBack.{ahead_made}
 use Rattle.plan_import.proofs.made.take_row.Goals as goal
 
 -- no record was left, so the row makes one
@@ -28,3 +29,15 @@ returns-clause-step c = λ keys records spent left any.
     (none_left c.args.left.now c.args.row.now.key keys records spent c.stands.result c.if-stands.false c.stands.ensures.found left any)
     c.in_default.is c.in-Ok.ensures.free c.in-Ok.ensures.state
     (c.in_ok-keep.ensures ∙ ap (λ (v : View). c.args.made.now.items ++ v ∷ []) c.in-Ok.ensures.made)
+
+pub returns-clause-ahead : goal.returns-clause-ahead
+returns-clause-ahead c = λ base kind is h.
+    ahead_made base (state_of c.args.row_tables.now) (state_of c.make.new.row_tables) kind c.args.row.now.draft c.make.result (is c.in_default.is) c.requires.lawful c.make.ensures.state c.make.ensures.stays h
+
+pub returns-in_err-keep-clause-ahead : goal.returns-in_err-keep-clause-ahead
+returns-in_err-keep-clause-ahead c = λ base kind is h.
+    ahead_made base (state_of c.args.row_tables.now) (state_of c.make.new.row_tables) kind c.args.row.now.draft c.make.result (is c.in_default.is) c.requires.lawful c.make.ensures.state c.make.ensures.stays h
+
+pub returns-in-Err-clause-ahead : goal.returns-in-Err-clause-ahead
+returns-in-Err-clause-ahead c = λ base kind is h.
+    ahead_made base (state_of c.args.row_tables.now) (state_of c.make.new.row_tables) kind c.args.row.now.draft c.make.result (is c.in_default.is) c.requires.lawful c.make.ensures.state c.make.ensures.stays h

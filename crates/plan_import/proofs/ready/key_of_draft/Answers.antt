@@ -1,7 +1,7 @@
 use Rattle.std.proofs.Common.{◌≡◌, subst, string_bytes, IfOk}
 use Rattle.ipam_data.specs.declared.replies.View.{View}
 use Rattle.stored_tables.specs.Stored.{stored_row}
-use Rattle.import_rows.specs.Imports.{texts_of}
+use Rattle.plan_import.specs.Ready.{texts_of}
 use Rattle.plan_import.specs.Keys.{key_of}
 use Rattle.plan_import.proofs.ready.key_of_draft.Goals as goal
 

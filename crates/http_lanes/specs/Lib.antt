@@ -1,0 +1,2 @@
+pub mod Listened
+pub mod Served

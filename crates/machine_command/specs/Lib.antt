@@ -1,0 +1,3 @@
+pub mod Openers
+pub mod Outside
+pub mod Session

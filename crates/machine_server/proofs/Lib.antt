@@ -1,0 +1,6 @@
+pub mod Dismissed
+pub mod Popped
+pub mod Hired
+pub mod Worked
+pub mod Closed
+pub mod Numbers

@@ -1,0 +1,2 @@
+pub mod Hired
+pub mod History

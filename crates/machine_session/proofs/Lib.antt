@@ -1,0 +1,7 @@
+pub mod Asked
+pub mod Carried
+pub mod Certainly
+pub mod OwnCalls
+pub mod Plainly
+pub mod Starved
+pub mod Talks

@@ -1,0 +1,71 @@
+-- A machine that one caller has for itself: what is seen of it, and what its requests are answered.
+use Rattle.std.specs.Prelude.{◌≡◌, ◌≢◌, ◌+◌, ◌++◌, ◌≤◌, ℕ, List, [], ◌∷◌, Result, Ok, Err, IfOk, length}
+use Rattle.history_lock.specs.Machines.{Reaches}
+use Rattle.history_lock.specs.Replies.{ReplyKind, fault, failures_of}
+use Rattle.http_session.specs.declared.reply.Reply.{Reply as Written}
+use Rattle.http_session.specs.Replies.{answer_of}
+use Rattle.http_session.specs.Requests.{Framed}
+use Rattle.http_session.specs.Talk.{Answer, May}
+use Rattle.machine_session.specs.Protocols.{Protocol}
+use Rattle.machine_session.specs.Alone.{IsReplied, Plain, plain_at}
+
+-- the state before the first accepted change, the accepted changes, and the count of faults
+pub record Owned (S C : Type 0) : Type 0 where
+  pub opening : S
+  pub log : List (ℕ × C)
+  pub faults : ℕ
+
+-- these three as one value
+abbrev pub owned : {S C : Type 0} → S → List (ℕ × C) → ℕ → Owned S C
+owned opening log faults = record { opening = opening; log = log; faults = faults }
+
+-- the plain machine: its state is the replay of the accepted changes
+abbrev pub plain_of_owned : {S C A : Type 0} → (S → C → S × A) → Owned S C → Plain S C
+plain_of_owned step v = plain_at step v.opening v.log
+
+-- one change was accepted, and the state is the plain step's
+pub record IsChanged {S C A : Type 0} (step : S → C → S × A) (old new : Plain S C) : Type 0 where
+  pub entry : ℕ × C
+  pub log : new.log ≡ old.log ++ entry ∷ []
+  pub state : new.state ≡ (step old.state entry.1).0
+
+-- a call was replied to; the caller's number is 0
+pub record IsOwnCall {S C A : Type 0} (step : S → C → S × A) (v w : Owned S C) (call : C) (answer : A) (kind : ReplyKind) : Type 0 where
+  pub opening : w.opening ≡ v.opening
+  pub replied : IsReplied step 0 (plain_of_owned step v) (plain_of_owned step w) call answer kind
+  -- the count of faults never falls, and rises where the reply tells a fault, as far as it goes
+  pub later : v.faults ≤ w.faults
+  pub counted : Reaches (v.faults + failures_of kind) w.faults
+
+-- the answer to what a request asks for: the place of a reply is the number of changes accepted before it
+abbrev pub IsOwnAnswer : {S C A R W E : Type 0} → Protocol S C A R W E → Owned S C → Framed → Result (C × W) E → Answer → Owned S C → Type 0
+IsOwnAnswer {R = R} P v request (Ok asked) answer w =
+    (reply : R) × IsOwnCall P.step v w asked.0 (P.answer reply) (P.kind reply) × (answer ≡ P.tells asked.0 reply asked.1 (length v.log))
+IsOwnAnswer P v request (Err why) answer w = P.refuses request why answer × (w ≡ v)
+
+-- what a request may be answered
+abbrev pub answers_alone : {S C A R W E : Type 0} → Protocol S C A R W E → May (Owned S C)
+answers_alone {C = C} {W = W} {E = E} P =
+    record {
+      answers = λ v request answer w. (asked : Result (C × W) E) × P.asks request asked × IsOwnAnswer P v request asked answer w;
+      refuses = P.misread;
+    }
+
+-- a call was replied to; its answer is this, or is lost as memory ran out
+abbrev pub IsActed : {S C A R W E F : Type 0} → Protocol S C A R W E → Owned S C → C → W → Result Written F → Owned S C → Type 0
+IsActed {R = R} P v call shown result w =
+    (reply : R) × IsOwnCall P.step v w call (P.answer reply) (P.kind reply) × IfOk result (λ answer. answer_of answer ≡ P.tells call reply shown (length v.log))
+
+-- the answer to what a request asks for, of a plain machine that does not fail
+abbrev pub IsCertainAnswer : {S C A R W E : Type 0} → Protocol S C A R W E → Plain S C → Framed → Result (C × W) E → Answer → Plain S C → Type 0
+IsCertainAnswer {R = R} P old request (Ok asked) answer new =
+    (reply : R) × (P.kind reply ≢ fault) × IsReplied P.step 0 old new asked.0 (P.answer reply) (P.kind reply) × (answer ≡ P.tells asked.0 reply asked.1 (length old.log))
+IsCertainAnswer P old request (Err why) answer new = P.refuses request why answer × (new ≡ old)
+
+-- a request is answered as a plain machine would that does not fail: only that memory ran out may be told instead
+abbrev pub answers_certainly : {S C A R W E : Type 0} → Protocol S C A R W E → May (Plain S C)
+answers_certainly {C = C} {W = W} {E = E} P =
+    record {
+      answers = λ old request answer new. (asked : Result (C × W) E) × P.asks request asked × IsCertainAnswer P old request asked answer new;
+      refuses = P.misread;
+    }

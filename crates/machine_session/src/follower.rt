@@ -1,0 +1,41 @@
+//! What is done behind each change that a machine of one's own accepts.
+
+ghost use Rattle.std.specs.Prelude.{◌≡◌};
+ghost use Rattle.history_lock.specs.Replay.{replay};
+ghost use Rattle.machine_session.specs.Alone.{Plain, plain_at};
+ghost use Rattle.machine_session.specs.Owned.{IsChanged};
+
+use history_lock::Machine;
+use std::alloc::{AllocError, Global};
+
+/// What follows a machine: behind each accepted change, and before the change is answered, it does something of its own, such as showing
+/// the change to readers.
+pub trait Follower<M: Machine> {
+    /// What it keeps to while the machine is in this state, after these changes.
+    ghost keeps: { Self → Plain M.State M.Said → Type 0 };
+
+    /// That is a fact, with one proof at most.
+    ghost keeps_is_fact: { (f : Self) → (now : Plain M.State M.Said) → IsProp (keeps f now) };
+
+    /// Follows the change that the machine accepted last. The one error means out of memory: the change stays, and its answer is lost.
+    fn follow(self, alloc: Global, machine: &M) -> (Self, Result<(), AllocError>)
+        requires state { M.state machine.now ≡ replay M.step (M.opening machine.now) (M.log machine.now) }
+        requires kept { (before : Plain M.State M.Said) × keeps self before × IsChanged M.step before (plain_at M.step (M.opening machine.now) (M.log machine.now)) }
+        ensures { keeps result.0 (plain_at M.step (M.opening machine.now) (M.log machine.now)) };
+}
+
+/// Nothing follows the machine.
+#[derive(Clone, Copy, Debug, Drop)]
+pub struct NoFollower;
+
+impl<M: Machine> Follower<M> for NoFollower {
+    ghost use Rattle.std.proofs.Props.{props};
+
+    ghost keeps = { λ f now. Unit {0} };
+
+    ghost keeps_is_fact = { λ f now. Prim.hlevel props };
+
+    fn follow(self, _alloc: Global, _machine: &M) -> (NoFollower, Result<(), AllocError>) {
+        (self, Ok(()))
+    }
+}

@@ -1,0 +1,249 @@
+//! One connection over a machine that many connections share.
+
+ghost use Rattle.std.specs.Prelude.{◌≡◌, ◌≤◌, ◌⊎◌, IfOk, OnErr};
+ghost use Rattle.ipam_edge.specs.Faults.{Rose};
+ghost use Rattle.history_lock.specs.Seats.{SeatView};
+ghost use Rattle.http_session.specs.Steps.{framed};
+ghost use Rattle.http_session.specs.Ends.{IsLeft};
+ghost use Rattle.http_session.specs.Replies.{answer_of};
+ghost use Rattle.machine_session.specs.Protocols.{protocol};
+ghost use Rattle.machine_session.specs.InTurn.{IsAsked, answers_in_turn};
+ghost use Rattle.machine_session.specs.Sessions.{IsSharedSession};
+
+use crate::service::{Service, Wanted, read_by};
+use history_lock::{Machine, Seat, Shared};
+use http_session::{Desk, Fault, HttpRequest, Reply, SessionEnd, serve};
+use ipam_edge::{Sink, Source};
+use std::alloc::{AllocError, Global};
+use std::marker::PhantomData;
+use std::sync::Wait;
+
+/// A seat, with the machine that it belongs to and what its requests are read by.
+pub struct Sitting<'a, R: Wait + 'a, M: Machine + 'a, V: Service<M>> {
+    rt: &'a R,
+    table: Option<&'a V::Table>,
+    shared: &'a Shared<M>,
+    seat: Seat<M>,
+    ghost fits: { seat.lock ≡ shared.now },
+}
+
+impl<'a, R: Wait + 'a, M: Machine + 'a, V: Service<M>> Sitting<'a, R, M, V> {
+    /// A seat that takes requests. Where no table is lent, each request is read by one of its own.
+    pub fn new(
+        rt: &'a R,
+        table: Option<&'a V::Table>,
+        shared: &'a Shared<M>,
+        seat: Seat<M>,
+    ) -> Sitting<'a, R, M, V>
+        requires { seat.lock ≡ shared.now }
+        ensures { result.seat ≡ seat }
+    {
+        Sitting {
+            rt,
+            table,
+            shared,
+            seat,
+        }
+    }
+
+    /// The seat again.
+    pub fn into_seat(self) -> Seat<M>
+        ensures { result ≡ self.entry.seat }
+    {
+        let Sitting {
+            rt: _,
+            table: _,
+            shared: _,
+            seat,
+        } = self;
+        seat
+    }
+}
+
+/// Makes a call through the seat, and writes its answer. The one error means out of memory for the answer, which is then lost.
+fn ask<R: Wait, M: Machine, V: Service<M>>(
+    rt: &R,
+    alloc: Global,
+    shared: &Shared<M>,
+    seat: Seat<M>,
+    call: M::Call,
+    along: V::Along,
+) -> (Seat<M>, Result<Reply, AllocError>)
+    requires lock { seat.lock ≡ shared.now }
+    requires takes { M.takes call }
+    ensures lock { result.0.lock ≡ shared.now }
+    ensures asked { (shown : V.Shown) → V.shows along (M.said call) shown
+        → IsAsked (protocol M.step M.answer M.kind V.asks V.tells V.refuses V.misread) seat (M.said call) shown result.1 result.0 }
+{
+    let (seat, reply, place) = shared.call(rt, seat, call);
+    let answer = V::write(alloc, reply, along, place);
+    (seat, answer)
+}
+
+/// The request handler of a shared machine: each request is answered through the seat.
+pub struct SharedMachine<'a, R: Wait + 'a, M: Machine + 'a, V: Service<M>> {
+    table: Option<&'a V::Table>,
+    of: PhantomData<(R, M)>,
+}
+
+impl<'a, R: Wait + 'a, M: Machine + 'a, V: Service<M>> SharedMachine<'a, R, M, V> {
+    /// The request handler of seats that this table is lent to.
+    pub fn new(table: Option<&'a V::Table>) -> SharedMachine<'a, R, M, V> {
+        SharedMachine {
+            table,
+            of: PhantomData,
+        }
+    }
+
+    /// Lets it go.
+    pub fn close(self) {
+        let SharedMachine { table: _, of: _ } = self;
+    }
+}
+
+impl<'a, R: Wait + 'a, M: Machine + 'a, V: Service<M>> Desk for SharedMachine<'a, R, M, V> {
+    type Seat = Sitting<'a, R, M, V>;
+
+    ghost View = { SeatView M.State M.Said };
+
+    ghost view = { λ s. s.seat };
+
+    ghost may = { answers_in_turn (protocol M.step M.answer M.kind V.asks V.tells V.refuses V.misread) };
+
+    fn answer(
+        &self,
+        alloc: Global,
+        seat: Sitting<'a, R, M, V>,
+        request: &HttpRequest,
+    ) -> (Sitting<'a, R, M, V>, Result<Reply, AllocError>)
+        ensures answer { IfOk result.1 (λ r. (answers_in_turn (protocol M.step M.answer M.kind V.asks V.tells V.refuses V.misread)).answers seat.entry.seat (framed request.now) (answer_of r) result.0.seat) }
+        ensures err { OnErr result.1 (IsLeft (answers_in_turn (protocol M.step M.answer M.kind V.asks V.tells V.refuses V.misread)) seat.entry.seat (framed request.now) result.0.seat) }
+    {
+        let Sitting {
+            rt,
+            table,
+            shared,
+            seat,
+        } = seat;
+        match read_by::<M, V>(alloc, table, request) {
+            Ok(wanted) => match wanted {
+                Wanted::Call(call, along) => {
+                    let (seat, answer) = ask::<R, M, V>(rt, alloc, shared, seat, call, along);
+                    (
+                        Sitting {
+                            rt,
+                            table,
+                            shared,
+                            seat,
+                        },
+                        answer,
+                    )
+                }
+                Wanted::Refused(answer) => (
+                    Sitting {
+                        rt,
+                        table,
+                        shared,
+                        seat,
+                    },
+                    Ok(answer),
+                ),
+            },
+            Err(error) => (
+                Sitting {
+                    rt,
+                    table,
+                    shared,
+                    seat,
+                },
+                Err(error),
+            ),
+        }
+    }
+
+    fn refuse(&self, fault: Fault) -> Reply {
+        V::refuse(fault)
+    }
+}
+
+/// Serves one connection over the shared machine, from its first byte to its end, and notes its changes under the seat's number. The table
+/// is lent; where there is none, each request is read by one of its own.
+///
+/// `Closed` comes with all requests answered; `SourceFault` where a read failed, with all requests that lay whole in the bytes read
+/// answered; `SinkFault` where a write failed, with a shorter front of the last answer written; `Memory` where memory ran out before
+/// a call reached the machine, or for the text of a reply.
+pub fn serve_session_by<'a, R: Wait, M: Machine, V: Service<M>, So: Source, Si: Sink>(
+    rt: &'a R,
+    alloc: Global,
+    table: Option<&'a V::Table>,
+    shared: &'a Shared<M>,
+    seat: Seat<M>,
+    source: &mut So,
+    sink: &mut Si,
+) -> (Seat<M>, SessionEnd)
+    requires { seat.lock ≡ shared.now }
+    ensures session { IsSharedSession (protocol M.step M.answer M.kind V.asks V.tells V.refuses V.misread) So.reads seat result.0 source.old source.new (So.left source.old) (So.left source.new) (Si.written sink.old) (Si.written sink.new) result.1 }
+    ensures source_later { So.faults source.old ≤ So.faults source.new }
+    ensures source { result.1 ≡ SessionEnd.SourceFault → Rose (So.faults source.old) (So.faults source.new) }
+    ensures source_kept { (result.1 ≡ SessionEnd.SourceFault) ⊎ (So.faults source.new ≡ So.faults source.old) }
+    ensures sink_later { Si.faults sink.old ≤ Si.faults sink.new }
+    ensures sink { result.1 ≡ SessionEnd.SinkFault → Rose (Si.faults sink.old) (Si.faults sink.new) }
+    ensures sink_kept { (result.1 ≡ SessionEnd.SinkFault) ⊎ (Si.faults sink.new ≡ Si.faults sink.old) }
+{
+    let handler: SharedMachine<'_, R, M, V> = SharedMachine {
+        table,
+        of: PhantomData,
+    };
+    let sitting: Sitting<'_, R, M, V> = Sitting {
+        rt,
+        table,
+        shared,
+        seat,
+    };
+    let (sitting, end) = serve(alloc, &handler, sitting, source, sink);
+    let SharedMachine { table: _, of: _ } = handler;
+    let Sitting {
+        rt: _,
+        table: _,
+        shared: _,
+        seat,
+    } = sitting;
+    (seat, end)
+}
+
+/// The same with a table of its own, which is made before the first read: where memory runs out for it, the session ends
+/// as `Memory` with nothing read.
+pub fn serve_session<R: Wait, M: Machine, V: Service<M>, So: Source, Si: Sink>(
+    rt: &R,
+    alloc: Global,
+    shared: &Shared<M>,
+    seat: Seat<M>,
+    source: &mut So,
+    sink: &mut Si,
+) -> (Seat<M>, SessionEnd)
+    requires { seat.lock ≡ shared.now }
+    ensures session { IsSharedSession (protocol M.step M.answer M.kind V.asks V.tells V.refuses V.misread) So.reads seat result.0 source.old source.new (So.left source.old) (So.left source.new) (Si.written sink.old) (Si.written sink.new) result.1 }
+    ensures source_later { So.faults source.old ≤ So.faults source.new }
+    ensures source { result.1 ≡ SessionEnd.SourceFault → Rose (So.faults source.old) (So.faults source.new) }
+    ensures source_kept { (result.1 ≡ SessionEnd.SourceFault) ⊎ (So.faults source.new ≡ So.faults source.old) }
+    ensures sink_later { Si.faults sink.old ≤ Si.faults sink.new }
+    ensures sink { result.1 ≡ SessionEnd.SinkFault → Rose (Si.faults sink.old) (Si.faults sink.new) }
+    ensures sink_kept { (result.1 ≡ SessionEnd.SinkFault) ⊎ (Si.faults sink.new ≡ Si.faults sink.old) }
+{
+    match V::table(alloc) {
+        Ok(table) => {
+            let served = serve_session_by::<R, M, V, So, Si>(
+                rt,
+                alloc,
+                Some(&table),
+                shared,
+                seat,
+                source,
+                sink,
+            );
+            V::close(table);
+            served
+        }
+        Err(_) => (seat, SessionEnd::Memory),
+    }
+}
