@@ -1,3 +1,4 @@
+use Rattle.std.proofs.Common.{◌≡◌, Err, ap}
 use Rattle.command_lists.proofs.Vrfs.{refused_answer}
 use Rattle.command_lists.proofs.table.answer.Goals as goal
 
