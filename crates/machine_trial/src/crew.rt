@@ -27,7 +27,7 @@ pub fn serve_workers<R: Threads + Wait + Sync, A: Lane + Send, G: Gate + Sync>(
     workers: &mut [Worker<Tally, A>],
     gate: &G,
 )
-    requires { All (λ w. IsReady A.told shared.now w.seat w.lane) workers.old }
+    requires ready { All (λ w. IsReady A.told shared.now w.seat w.lane) workers.old }
     ensures worked { AllHaveWorked tally_protocol A.told A.accepts A.faults (λ w. w.seat) (λ w. w.lane) workers.old workers.new }
     ensures all { length workers.new ≡ length workers.old }
 {

@@ -8,8 +8,8 @@ use Rattle.machine_server.proofs.Worked.{crew_ready, crew_worked}
 use Rattle.machine_trial.specs.Tallies.{tally_protocol}
 use Rattle.machine_trial.proofs.crew.serve_all.Goals as goal
 
-pub serve_workers-requires : goal.serve_workers-requires
-serve_workers-requires g c κs within =
+pub serve_workers-requires-clause-ready : goal.serve_workers-requires-clause-ready
+serve_workers-requires-clause-ready g c κs within =
     subst (All (λ w. IsReady g.L.Door.Lane.told c.args.shared w.seat w.lane)) (sym c.as_mut_slice.ensures.value)
     (crew_ready tally_protocol g.L.Door.Lane.told _ _ c.args.shared (λ w. w.seat) (λ w. w.lane) _ c.open_all-seat.ensures.crew)
 
