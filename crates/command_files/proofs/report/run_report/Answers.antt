@@ -27,7 +27,7 @@ returns-in-Err-text g c = λ input.
 
 pub returns-in-Err : goal.returns-in-Err
 returns-in-Err g c = λ input.
-        of_printing _ _ _ _ _ (λ five. quiet_refused _ _ c.in-Err.fault c.say_fault.result c.in-Err.ensures.err_still c.say_fault.ensures.said refl refl five)
+    of_printing _ _ _ _ _ (λ five. quiet_refused _ _ c.in-Err.fault c.say_fault.result c.in-Err.ensures.err_still c.say_fault.ensures.said refl refl five)
     (of_refused _ _ _ _ _ (λ five. quiet_refused _ _ c.in-Err.fault c.say_fault.result c.in-Err.ensures.err_still c.say_fault.ensures.said refl refl five) c.in-Err.fault (record { tables = c.in-Err.ensures.fault; failed = c.in-Err.ensures.cause }) c.say_fault.ensures.said
     (record { input = refl; output = refl; stored = c.in-Err.ensures.same })
     (record { streams = record { input = omega arith; output = omega arith; errors = c.say_fault.ensures.later }; stores = c.open_store.ensures.later }))
