@@ -26,10 +26,12 @@ seat standing tells faults = record { standing = standing; tells = tells; faults
 module _ {E : Type 0} (answer : Result Reply E) (old new : Standing) (before after : Bool) (few more : ℕ) (request : Framed) (same : after ≡ before) (calm : IsCalm old.failed new.failed few more) where
   -- where memory ran out, the answer is lost, and the keeper goes on so
   pub lost_telling : OnErr answer ((a : Answer) × answers_kept.answers old request a new) → OnErr answer (IsLeft answers_telling (seat old before few) request (seat new after more))
-  lost_telling lost = elim answer [ Ok a ↦ tt | Err e ↦ inr (lost.0, (lost.1, same, calm)) ]
+  lost_telling lost = elim answer as (λ (k : Result Reply E). OnErr k ((a : Answer) × answers_kept.answers old request a new) → OnErr k (IsLeft answers_telling (seat old before few) request (seat new after more)))
+      [ Ok a ↦ λ l. tt | Err e ↦ λ l. inr (l.0, (l.1, same, calm)) ] lost
 
   pub answer_telling : IfOk answer (λ a. answers_kept.answers old request (answer_of a) new) → IfOk answer (λ a. answers_telling.answers (seat old before few) request (answer_of a) (seat new after more))
-  answer_telling is = elim answer [ Ok a ↦ (is, same, calm) | Err e ↦ tt ]
+  answer_telling is = elim answer as (λ (k : Result Reply E). IfOk k (λ a. answers_kept.answers old request (answer_of a) new) → IfOk k (λ a. answers_telling.answers (seat old before few) request (answer_of a) (seat new after more)))
+      [ Ok a ↦ λ i. (i, same, calm) | Err e ↦ λ i. tt ] is
 
 -- the keeper tells its tables or not as it did, and its count stays as long as no call was answered by a failed keeper
 record IsAsBefore (first now : Attended) : Type 0 where
