@@ -173,9 +173,9 @@ of_place serving old new before after status all output left none failed three s
 }
 
 -- nothing was used, where the tables were refused
-unused : (serving : Serving) (old new : Outside) (before after : ListenerView) (why : Unserved) → Whatever serving old new before after status
+unused : (serving : Serving) (old new : Outside) (before after : ListenerView) (status : ℕ) (why : Unserved) → Whatever serving old new before after status
     → new.streams.output ≡ old.streams.output → IsLeft serving.store old new why → IsRefusal why → IsUnused old new
-unused serving old new before after why all output left refusal =
+unused serving old new before after status why all output left refusal =
     record { input = all.unread; output = output; stored = left_same serving.store old new why refusal left }
 
 of_why : (serving : Serving) (old new : Outside) (before after : ListenerView) (status : ℕ) (why : Unserved) → Whatever serving old new before after status
@@ -184,24 +184,24 @@ of_why : (serving : Serving) (old new : Outside) (before after : ListenerView) (
     → IsListened (AllCame serving before after × NoneFailed before after) (ListeningFailed before after) (after ≡ before) (Err why)
     → IsUnservedSaid why old.streams.errors new.streams.errors status → IsServe serving old new before after status
 of_why serving old new before after status (Opening Keeper) all output left none of heard said =
-    of_keeper serving old new before after status all (of.1 refl) (unused serving old new before after (Opening Keeper) all output left (λ same. absurd (cc))) heard said
+    of_keeper serving old new before after status all (of.1 refl) (unused serving old new before after status (Opening Keeper) all output left (λ same. absurd (cc))) heard said
 of_why serving old new before after status (Opening Memory) all output left none of heard said =
     of_memory serving old new before after status (Opening Memory) all output left heard said.0 said.1
 of_why serving old new before after status (Opening (BadTables kind n rule)) all output left none of heard said =
     of_tables serving old new before after status (BadTables kind n rule) all output left heard (record { of_tables = tt; refused = of.0 tt })
-    (unused serving old new before after (Opening (BadTables kind n rule)) all output left (λ same. absurd (cc))) said
+    (unused serving old new before after status (Opening (BadTables kind n rule)) all output left (λ same. absurd (cc))) said
 of_why serving old new before after status (Opening (BadRow kind n)) all output left none of heard said =
     of_tables serving old new before after status (BadRow kind n) all output left heard (record { of_tables = tt; refused = of.0 tt })
-    (unused serving old new before after (Opening (BadRow kind n)) all output left (λ same. absurd (cc))) said
+    (unused serving old new before after status (Opening (BadRow kind n)) all output left (λ same. absurd (cc))) said
 of_why serving old new before after status (Opening (Version n)) all output left none of heard said =
     of_tables serving old new before after status (Version n) all output left heard (record { of_tables = tt; refused = of.0 tt })
-    (unused serving old new before after (Opening (Version n)) all output left (λ same. absurd (cc))) said
+    (unused serving old new before after status (Opening (Version n)) all output left (λ same. absurd (cc))) said
 of_why serving old new before after status (Opening (BadNext kind)) all output left none of heard said =
     of_tables serving old new before after status (BadNext kind) all output left heard (record { of_tables = tt; refused = of.0 tt })
-    (unused serving old new before after (Opening (BadNext kind)) all output left (λ same. absurd (cc))) said
+    (unused serving old new before after status (Opening (BadNext kind)) all output left (λ same. absurd (cc))) said
 of_why serving old new before after status (Opening (Limit which n)) all output left none of heard said =
     of_tables serving old new before after status (Limit which n) all output left heard (record { of_tables = tt; refused = of.0 tt })
-    (unused serving old new before after (Opening (Limit which n)) all output left (λ same. absurd (cc))) said
+    (unused serving old new before after status (Opening (Limit which n)) all output left (λ same. absurd (cc))) said
 of_why serving old new before after status Place all output left none of heard said =
     of_place serving old new before after status all output left none heard said.0 said.1
 
