@@ -5,7 +5,7 @@ use Rattle.history_lock.specs.Replies.{ReplyKind, accepted}
 use Rattle.history_lock.specs.Seats.{IsCall, IsSameSeat}
 use Rattle.ipam_data.specs.declared.calls.Call.{Call}
 use Rattle.ipam_data.specs.declared.replies.Reply.{Reply}
-use Rattle.ipam_data.specs.declared.replies.Reply.TheVariants.{Made, MadeMany, Changed, Gone, Imported, One, Page, Blocks, Addrs, Percent, Refused}
+use Rattle.ipam_data.specs.declared.replies.Reply.TheVariants.{Made, MadeMany, Changed, Gone, Imported, One, Page, Blocks, Addrs, Percent, Rows, Lines, Refused}
 use Rattle.ipam_data.specs.Steps.{plain_step}
 use Rattle.register_core.specs.Machines.{kind_of}
 use Rattle.command_load.specs.Claims.{claim_of_one}
@@ -25,6 +25,8 @@ made_kind (Page count views) is = absurd (cc is)
 made_kind (Blocks vrf list) is = absurd (cc is)
 made_kind (Addrs vrf len list) is = absurd (cc is)
 made_kind (Percent figure) is = absurd (cc is)
+made_kind (Rows rows) is = absurd (cc is)
+made_kind (Lines lines) is = absurd (cc is)
 made_kind (Refused refusal) is = absurd (cc is)
 
 -- so was a reply with an address
@@ -39,6 +41,8 @@ address_kind (Page count views) value is = absurd (cc is)
 address_kind (Blocks vrf list) value is = absurd (cc is)
 address_kind (Addrs vrf len list) value is = absurd (cc is)
 address_kind (Percent figure) value is = absurd (cc is)
+address_kind (Rows rows) value is = absurd (cc is)
+address_kind (Lines lines) value is = absurd (cc is)
 address_kind (Refused refusal) value is = absurd (cc is)
 
 -- the first accepted call of a seat beside which no other is live is all that it has seen

@@ -7,7 +7,7 @@ use Rattle.history_lock.specs.Replay.{replay}
 use Rattle.history_lock.specs.Seats.{IsCall}
 use Rattle.ipam_data.specs.declared.calls.Call.{Call}
 use Rattle.ipam_data.specs.declared.replies.Reply.{Reply}
-use Rattle.ipam_data.specs.declared.replies.Reply.TheVariants.{Made, MadeMany, Changed, Gone, Imported, One, Page, Blocks, Addrs, Percent, Refused}
+use Rattle.ipam_data.specs.declared.replies.Reply.TheVariants.{Made, MadeMany, Changed, Gone, Imported, One, Page, Blocks, Addrs, Percent, Rows, Lines, Refused}
 use Rattle.ipam_data.specs.Steps.{plain_step}
 use Rattle.register_core.specs.Machines.{kind_of}
 use Rattle.command_load.specs.Claims.{figure_call}
@@ -30,6 +30,8 @@ percent_is (One view) p is = absurd (cc is)
 percent_is (Page count views) p is = absurd (cc is)
 percent_is (Blocks vrf list) p is = absurd (cc is)
 percent_is (Addrs vrf len list) p is = absurd (cc is)
+percent_is (Rows rows) p is = absurd (cc is)
+percent_is (Lines lines) p is = absurd (cc is)
 percent_is (Refused refusal) p is = absurd (cc is)
 
 asked : (v w : Caller) (place p : ℕ) → IsCall plain_step v w figure_call (Percent p) plain place → v.weight ≡ 65536

@@ -1,7 +1,7 @@
 -- What is read of the replies.
 use Rattle.std.specs.Prelude.{ℕ, Bool, true, false, Option, Some, None}
 use Rattle.ipam_data.specs.declared.replies.Reply.{Reply}
-use Rattle.ipam_data.specs.declared.replies.Reply.TheVariants.{Made, MadeMany, Changed, Gone, Imported, One, Page, Blocks, Addrs, Percent, Refused}
+use Rattle.ipam_data.specs.declared.replies.Reply.TheVariants.{Made, MadeMany, Changed, Gone, Imported, One, Page, Blocks, Addrs, Percent, Rows, Lines, Refused}
 use Rattle.ipam_data.specs.declared.replies.View.{View}
 use Rattle.ipam_data.specs.declared.replies.View.TheVariants.{Vrf as VrfView, Rir as RirView, Role as RoleView, Aggregate as AggregateView, Prefix as PrefixView, IpRange as RangeView, IpAddress as AddressView}
 
@@ -27,6 +27,8 @@ address_in (Page count views) = None
 address_in (Blocks vrf list) = None
 address_in (Addrs vrf len list) = None
 address_in (Percent figure) = None
+address_in (Rows rows) = None
+address_in (Lines lines) = None
 address_in (Refused refusal) = None
 
 -- whether a row was made
@@ -41,6 +43,8 @@ is_made_in (Page count views) = false
 is_made_in (Blocks vrf list) = false
 is_made_in (Addrs vrf len list) = false
 is_made_in (Percent figure) = false
+is_made_in (Rows rows) = false
+is_made_in (Lines lines) = false
 is_made_in (Refused refusal) = false
 
 -- the percentage that was answered
@@ -55,4 +59,6 @@ percent_in (One view) = None
 percent_in (Page count views) = None
 percent_in (Blocks vrf list) = None
 percent_in (Addrs vrf len list) = None
+percent_in (Rows rows) = None
+percent_in (Lines lines) = None
 percent_in (Refused refusal) = None
