@@ -94,7 +94,7 @@ import_whole kind store old new status s = elim s.statuses [
         | inl h ↦ inl (h.left.stored, (λ z. omega arith))
         | inr more ↦ elim more [ inl h ↦ inr (h.done, inr (e, h.failed)) | inr h ↦ inl (h.left.stored, (λ z. omega arith)) ]
       ]
-      | inr c ↦ elim c [ inl e ↦ inl ((s.store_fault e).left.stored, (λ z. omega arith)) | inr e ↦ inl ((s.memory e).0.stored, (λ z. omega arith)) ]
+      | inr c ↦ elim c [ inl e ↦ inl (elim (s.store_fault e) [ inl h ↦ h.left.stored | inr h ↦ h.left.stored ], (λ z. omega arith)) | inr e ↦ inl ((s.memory e).0.stored, (λ z. omega arith)) ]
     ]
   ]
 ]
@@ -164,7 +164,7 @@ of_import words old new before after status kind store asks s same_listener = re
       | inl e ↦ inr (inl e)
       | inr b ↦ elim b [
         | inl e ↦ absurd (well (inl (elim (s.fault e) [ inl h ↦ inl h.failed | inr more ↦ elim more [ inl h ↦ inr (inl h.failed) | inr h ↦ inr (inr h.failed) ] ])))
-        | inr c ↦ elim c [ inl e ↦ absurd (well (inr (s.store_fault e).failed)) | inr e ↦ inr (inr e) ]
+        | inr c ↦ elim c [ inl e ↦ absurd (well (inr (elim (s.store_fault e) [ inl h ↦ h.failed | inr h ↦ h.unwritten.failed ]))) | inr e ↦ inr (inr e) ]
       ]
     ]
   ];
