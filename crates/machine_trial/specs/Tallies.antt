@@ -40,11 +40,11 @@ placed_answer status place text =
 abbrev pub reply_answer : Reply → ℕ → Answer
 reply_answer (Added sum) place = placed_answer 200 place (decimal sum)
 reply_answer (Value sum) place = placed_answer 200 place (decimal sum)
-reply_answer Fault place = placed_answer 503 place []
-reply_answer NoMemory place = placed_answer 500 place []
+reply_answer Fault place = placed_answer 503 place (codes "failed")
+reply_answer NoMemory place = placed_answer 500 place (codes "no memory")
 
 abbrev pub refused_answer : Answer
-refused_answer = answer_with 400 None []
+refused_answer = answer_with 400 None (codes "no call")
 
 abbrev pub misread_answer : Answer
 misread_answer = answer_with 400 None (codes "bad request")

@@ -68,8 +68,8 @@ fn told(reply: Reply, place: u64) -> Answer
     match reply {
         Reply::Added(sum) => answer_with(StatusCode::OK, field, room.format(sum).as_bytes()),
         Reply::Value(sum) => answer_with(StatusCode::OK, field, room.format(sum).as_bytes()),
-        Reply::Fault => answer_with(StatusCode::SERVICE_UNAVAILABLE, field, b""),
-        Reply::NoMemory => answer_with(StatusCode::INTERNAL_SERVER_ERROR, field, b""),
+        Reply::Fault => answer_with(StatusCode::SERVICE_UNAVAILABLE, field, b"failed"),
+        Reply::NoMemory => answer_with(StatusCode::INTERNAL_SERVER_ERROR, field, b"no memory"),
     }
 }
 
@@ -112,7 +112,7 @@ impl Service<Tally> for TallyService {
         let () = *table;
         match call_of(&request.method, &request.body) {
             Some(call) => Ok(Wanted::Call(call, ())),
-            None => Ok(Wanted::Refused(answer_with(StatusCode::BAD_REQUEST, None, b""))),
+            None => Ok(Wanted::Refused(answer_with(StatusCode::BAD_REQUEST, None, b"no call"))),
         }
     }
 

@@ -1,3 +1,6 @@
+ghost use Rattle.std.specs.Prelude.{◌≡◌, [], IfOk};
+ghost use Rattle.ipam_listen.specs.ListLanes.{lane_told};
+
 use crate::{Board, TallyService, serve_all};
 use history_lock::Shared;
 use http_lanes::Listening;
@@ -46,9 +49,9 @@ fn a_tally_of_its_own_answers_in_turn(rt: HostRuntime) -> Result<(), Fail> {
     assert_eq!(rt;
         sink.into_bytes().as_slice(),
         b"HTTP/1.1 200 OK\r\nContent-Type: text/plain\r\nContent-Length: 1\r\nPlace: 0\r\n\r\n2\
-          HTTP/1.1 503 Service Unavailable\r\nContent-Type: text/plain\r\nContent-Length: 0\r\nPlace: 1\r\n\r\n\
+          HTTP/1.1 503 Service Unavailable\r\nContent-Type: text/plain\r\nContent-Length: 6\r\nPlace: 1\r\n\r\nfailed\
           HTTP/1.1 200 OK\r\nContent-Type: text/plain\r\nContent-Length: 1\r\nPlace: 1\r\n\r\n2\
-          HTTP/1.1 400 Bad Request\r\nContent-Type: text/plain\r\nContent-Length: 0\r\n\r\n"
+          HTTP/1.1 400 Bad Request\r\nContent-Type: text/plain\r\nContent-Length: 7\r\n\r\nno call"
             .as_slice()
     );
     Ok(())
@@ -76,16 +79,27 @@ fn an_answer_is_lost_where_what_follows_has_no_room(rt: HostRuntime) -> Result<(
     Ok(())
 }
 
+/// A lane with two connections, whose clients add three times and ask once.
+fn lane_of(alloc: Global) -> Result<ListLane, AllocError>
+    ensures { IfOk result (λ l. lane_told l ≡ []) }
+{
+    let mut pairs = Vec::new(alloc);
+    pairs.push(ends(alloc, &[ADD_TWO, ADD_TWO])?)?;
+    pairs.push(ends(alloc, &[ADD_TWO, ASK])?)?;
+    ListLane::new(alloc, pairs, Vec::new(alloc))
+}
+
+/// A listener with two such lanes.
+fn listener_of(alloc: Global) -> Result<ListListener, AllocError> {
+    let mut lanes = Vec::new(alloc);
+    lanes.push(lane_of(alloc)?)?;
+    lanes.push(lane_of(alloc)?)?;
+    ListListener::new(alloc, lanes)
+}
+
 #[test]
 fn workers_share_one_tally(rt: HostRuntime) -> Result<(), Fail> {
-    let mut waiting = Vec::new(rt.alloc());
-    for _ in 0..2 {
-        let mut pairs = Vec::new(rt.alloc());
-        pairs.push(ends(rt.alloc(), &[ADD_TWO, ADD_TWO])?)?;
-        pairs.push(ends(rt.alloc(), &[ADD_TWO, ASK])?)?;
-        waiting.push(ListLane::new(rt.alloc(), pairs, Vec::new(rt.alloc()))?)?;
-    }
-    let mut listener = ListListener::new(rt.alloc(), waiting)?;
+    let mut listener = listener_of(rt.alloc())?;
     let bound = listener.bind(Vec::new(rt.alloc()), 3);
     assert!(rt; bound.is_ok());
     let lanes = Vec::with_capacity(rt.alloc(), 3)?;
