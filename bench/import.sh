@@ -82,6 +82,25 @@ for kind in prefixes ip-addresses; do
     printf '%-14s %10s %12s %12s %14s %14s\n' "$kind" "$memory" "$empty" "$full" "$again" "$peer"
 done
 
+# the same five times, each less an import of no VRFs into the same file: what the rows alone take, beside how many records
+median() { sort -n | sed -n 3p; }
+echo 'name,rd,enforce_unique,description' > "$at/vrfs.csv"
+for round in 1 2 3 4 5; do
+    for file in empty full; do
+        rm -f "$at/one.db"*
+        if [ "$file" = full ]; then cp "$at/full.db" "$at/one.db"; fi
+        opened=$(timed_import "import vrfs --db $at/one.db" "$at/vrfs.csv" 'created 0 present 0')
+        rm -f "$at/one.db"*
+        if [ "$file" = full ]; then cp "$at/full.db" "$at/one.db"; fi
+        rows prefixes 300000 10000 > "$at/new.csv"
+        all=$(timed_import "import prefixes --db $at/one.db" "$at/new.csv" 'created 10000 present 0')
+        echo "$all" >> "$at/$file.all"
+        seconds "$opened" "$all" >> "$at/$file.rows"; echo >> "$at/$file.rows"
+    done
+    timed_sqlite "$at/new.csv" >> "$at/peer.all"; echo >> "$at/peer.all"
+done
+echo "medians of five: into an empty file $(median < "$at/empty.all") s, sqlite3 .import $(median < "$at/peer.all") s; less the opening: empty $(median < "$at/empty.rows") s, full $(median < "$at/full.rows") s"
+
 # what opening the full register takes by itself, and what is exported is what was imported
 from=$(date +%s.%N)
 "$program" import vrfs --db "$at/full.db" < <(echo name) > /dev/null
