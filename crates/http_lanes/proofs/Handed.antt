@@ -1,6 +1,6 @@
 -- What a lane tells from one connection to the next, and what was served.
 use Rattle.std.specs.Prelude.{option_map}
-use Rattle.std.proofs.Common.{◌≡◌, ℕ, List, [], ◌∷◌, ◌++◌, Option, Some, None, IfSome, refl, ap, ◌∙◌, subst}
+use Rattle.std.proofs.Common.{◌≡◌, List, [], ◌∷◌, ◌++◌, Option, Some, None, IfSome, refl, ap, ◌∙◌, subst}
 use Rattle.ipam_listen.specs.Connections.{Connection, Ends, finished, handed_out, last_finished}
 use Rattle.ipam_listen.proofs.Told.{last_finished_push, with_one_out}
 use Rattle.http_session.specs.Talk.{May}

@@ -1,5 +1,5 @@
 -- What a machine failed is in its opener's count.
-use Rattle.std.proofs.Common.{◌≡◌, ◌⊎◌, ℕ, zero, suc, ◌+◌, ◌<◌, ◌≤◌, refl, inl, inr, arith}
+use Rattle.std.proofs.Common.{◌≡◌, ◌⊎◌, ℕ, zero, suc, ◌≤◌, refl, inl, inr, arith}
 use Rattle.std.proofs.lemmas.Bool.Decides.{leb_tells}
 use Rattle.ipam_edge.specs.Faults.{Rose}
 use Rattle.http_session.specs.declared.session.SessionEnd.{SessionEnd}

@@ -1,8 +1,8 @@
 -- The one history of a machine that was closed.
-use Rattle.std.proofs.Common.{◌≡◌, ◌<◌, ℕ, zero, suc, List, [], ◌∷◌, All, Contains, map, length, get_or, refl, sym, ap, ◌∙◌, subst, arith, Option, ⊎_elim, ◌⊎◌, inl, inr}
+use Rattle.std.proofs.Common.{◌≡◌, ◌<◌, ℕ, zero, suc, List, [], ◌∷◌, All, Contains, map, length, get_or, refl, sym, ap, ◌∙◌, subst, arith, ⊎_elim, ◌⊎◌}
 use Rattle.std.proofs.lemmas.List.Elements.{Contains-get_or}
 use Rattle.history_lock.specs.Replay.{own_entries, replay}
-use Rattle.ipam_listen.specs.Connections.{Connection, Returned}
+use Rattle.ipam_listen.specs.Connections.{Returned}
 use Rattle.history_lock.proofs.Entries.{number_has_entries}
 use Rattle.history_lock.specs.Seats.{SeatView}
 use Rattle.machine_session.specs.Protocols.{Protocol}

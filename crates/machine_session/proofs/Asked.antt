@@ -1,10 +1,9 @@
 -- What a call through the seat is to the request that asked for it.
-use Rattle.std.proofs.Common.{◌≡◌, ℕ, List, IfOk, OnErr, Result, Ok, Err, refl, inl, inr}
+use Rattle.std.proofs.Common.{IfOk, OnErr, Result, Ok, Err, refl, inr}
 use Rattle.history_lock.specs.Seats.{SeatView}
 use Rattle.http_session.specs.declared.reply.Reply.{Reply as Written}
 use Rattle.http_session.specs.Replies.{answer_of}
 use Rattle.http_session.specs.Requests.{Framed}
-use Rattle.http_session.specs.Talk.{May}
 use Rattle.http_session.specs.Ends.{IsLeft}
 use Rattle.machine_session.specs.Protocols.{Protocol}
 use Rattle.machine_session.specs.InTurn.{IsAsked, answers_in_turn}

@@ -1,5 +1,5 @@
 -- What is said of answers in one view of a seat is said in another, which stands for it.
-use Rattle.std.proofs.Common.{◌≡◌, ℕ, List, [], ◌∷◌, ◌++◌, Option, inl, inr, ap, sym, subst, refl}
+use Rattle.std.proofs.Common.{ℕ, List, [], ◌∷◌, Option, inl, inr, ap, sym, subst}
 use Rattle.http_session.specs.Requests.{Framed, Item, Asks, Refuses}
 use Rattle.http_session.specs.Talk.{Answer, Answered, May, Run}
 use Rattle.http_session.specs.Ends.{IsEnd, IsTalk}

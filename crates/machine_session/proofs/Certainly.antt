@@ -1,5 +1,5 @@
 -- A session of a machine of its own, seen as one of the plain machine.
-use Rattle.std.proofs.Common.{◌≡◌, ◌≢◌, ◌+◌, ◌<◌, ◌≤◌, ℕ, List, [], Option, Result, Ok, Err, refl, sym, ap, ◌∙◌, inl, inr, arith}
+use Rattle.std.proofs.Common.{◌≡◌, ◌≢◌, ◌+◌, ◌<◌, ◌≤◌, ℕ, List, [], Option, Result, Ok, Err, refl, ap, ◌∙◌, inl, inr, arith}
 use Rattle.ipam_edge.specs.Reading.{Open, Step}
 use Rattle.history_lock.specs.Machines.{Reaches, last_count}
 use Rattle.history_lock.specs.Replies.{ReplyKind, fault, failures_of}

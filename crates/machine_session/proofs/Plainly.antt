@@ -1,5 +1,5 @@
 -- A seat beside which no other is live gets the answers of the plain machine, one after another.
-use Rattle.std.proofs.Common.{◌≡◌, ◌≤◌, ℕ, zero, suc, List, [], ◌∷◌, ◌++◌, length, Option, Result, Ok, Err, refl, sym, ap, ◌∙◌, subst, arith}
+use Rattle.std.proofs.Common.{◌≡◌, ℕ, List, [], ◌∷◌, ◌++◌, length, Option, Result, Ok, Err, refl, sym, ap, ◌∙◌, subst}
 use Rattle.std.specs.Prelude.{take}
 use mathlib.Core.List.{IsPrefix}
 use Rattle.history_lock.specs.Replies.{ReplyKind, accepted, fault, memory, plain, grown, AnswersAs}
@@ -11,7 +11,7 @@ use Rattle.http_session.specs.Ends.{IsEnd}
 use Rattle.http_session.specs.declared.session.SessionEnd.{SessionEnd}
 use Rattle.machine_session.specs.Protocols.{Protocol}
 use Rattle.machine_session.specs.InTurn.{IsAnswerNow, answers_in_turn}
-use Rattle.machine_session.specs.Alone.{IsPlainAnswer, IsReplied, Plain, answers_plainly, plain_of, state_after}
+use Rattle.machine_session.specs.Alone.{IsPlainAnswer, IsReplied, answers_plainly, plain_of, state_after}
 use Rattle.machine_session.proofs.Carried.{IsCarried, end_carried}
 
 take_prefix : {A : Type 0} (xs ys : List A) → IsPrefix xs ys → take (length xs) ys ≡ xs

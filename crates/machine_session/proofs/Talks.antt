@@ -4,8 +4,7 @@ use Rattle.std.specs.Prelude.{take}
 use mathlib.Core.List.{IsPrefix}
 use Rattle.history_lock.specs.Replies.{ReplyKind, accepted, fault, memory, plain, grown, rise_of}
 use Rattle.history_lock.specs.Replay.{own_entries}
-use Rattle.history_lock.specs.Places.{IsLegalAt}
-use Rattle.history_lock.specs.Seats.{SeatView, IsCall, IsSameSeat}
+use Rattle.history_lock.specs.Seats.{SeatView, IsCall}
 use Rattle.history_lock.proofs.Places.{IsLegalAt-longer}
 use Rattle.http_session.specs.Requests.{Framed}
 use Rattle.http_session.specs.Talk.{Answer}

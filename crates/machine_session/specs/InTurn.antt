@@ -1,5 +1,5 @@
 -- One request at a time: what it does to the seat that answers it.
-use Rattle.std.specs.Prelude.{◌≡◌, ℕ, List, Result, Ok, Err, IfOk}
+use Rattle.std.specs.Prelude.{◌≡◌, ℕ, Result, Ok, Err, IfOk}
 use Rattle.history_lock.specs.Seats.{SeatView, IsCall}
 use Rattle.http_session.specs.declared.reply.Reply.{Reply as Written}
 use Rattle.http_session.specs.Replies.{answer_of}

@@ -1,7 +1,6 @@
 -- A tally over HTTP: what a request asks for, and what is answered.
 use Rattle.std.specs.Prelude.{◌≡◌, ℕ, List, [], ◌∷◌, Option, Some, None, Result, Ok, Err, codes, decimal, if◌then◌else◌, option_map}
 use Rattle.std.specs.Str.{bytes_eq}
-use Rattle.http_session.specs.Answers.{NamedNumber}
 use Rattle.http_session.specs.Replies.{field_of}
 use Rattle.http_session.specs.Talk.{Answer}
 use Rattle.http_session.specs.declared.reply.NumberField.{NumberField}

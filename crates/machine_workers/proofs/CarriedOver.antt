@@ -1,5 +1,5 @@
 -- What is said of the connections of a lane in one view of a seat is said in another, which stands for it.
-use Rattle.std.proofs.Common.{◌≡◌, ℕ, List, [], ◌∷◌, Option, sym, ap, subst}
+use Rattle.std.proofs.Common.{ℕ, List, [], ◌∷◌, Option, sym, ap, subst}
 use mathlib.Core.List.{IsPrefix}
 use Rattle.ipam_listen.specs.Connections.{Connection}
 use Rattle.history_lock.specs.Seats.{SeatView}

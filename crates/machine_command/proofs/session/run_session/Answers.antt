@@ -1,4 +1,4 @@
-use Rattle.std.proofs.Common.{◌≡◌, ◌≤◌, refl, sym, ◌∙◌, inl, inr, subst, arith}
+use Rattle.std.proofs.Common.{◌≡◌, refl, sym, ◌∙◌, inl, inr, subst, arith}
 use Rattle.std.proofs.Math.Logic.{⊎_map}
 use Rattle.ipam_edge.proofs.FaultLemmas.{unless}
 use Rattle.http_session.specs.declared.session.SessionEnd.TheVariants.{Memory}

@@ -1,6 +1,5 @@
-use Rattle.std.proofs.Common.{rules, ◌≡◌, ◌+◌, ◌≤◌, All, length, ap, sym, subst, ◌∙◌, arith}
-use Rattle.history_lock.specs.Replay.{own_entries, replay}
-use Rattle.lock_trial.specs.Adds.{add_step}
+use Rattle.std.proofs.Common.{rules, All, ap, sym, subst}
+use Rattle.history_lock.specs.Replay.{own_entries}
 use Rattle.machine_workers.specs.Workers.{IsReady}
 use Rattle.machine_server.specs.Hired.{AreFresh, AreHired}
 use Rattle.machine_server.proofs.Popped.{over}

@@ -1,4 +1,4 @@
-use Rattle.std.proofs.Common.{rules, Err, refl}
+use Rattle.std.proofs.Common.{Err, refl}
 use Rattle.http_session.specs.Steps.{framed}
 use Rattle.machine_session.specs.Protocols.{protocol}
 use Rattle.machine_session.proofs.Asked.{lost_in_turn, told_in_turn}
