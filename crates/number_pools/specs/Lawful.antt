@@ -1,17 +1,18 @@
 -- Lawful pools. How many rows there may be is no part of it: calls that would make too many are refused.
 use Rattle.std.specs.Prelude.{◌≡◌, ℕ, ◌≤◌, List, Some}
 use Rattle.ipam_data.specs.Checks.{most_spent}
-use Rattle.ipam_data.specs.RowList.{RowList, row_at, AllAre, AllBelow, IsApart, Rises}
+use Rattle.ipam_data.specs.RowList.{RowList, row_at, AllAre, AllBelow, IsApart, Rises, last_next}
 use Rattle.number_pools.specs.declared.rows.NumberRange.{NumberRange}
 use Rattle.number_pools.specs.declared.rows.Member.{Member}
 use Rattle.number_pools.specs.Rows.{Pools, member_id, most_of, range_id}
 use Rattle.number_pools.specs.Free.{pool_at}
 
--- ids are from 1, in order and below the next one, which is at least 1 also where there are no rows
+-- ids are from 1, in order and below the next one, which is at least 1 also where there are no rows, and at most the last one
 pub record AreNumbered {T : Type 0} (id : T → ℕ) (row_list : RowList T) : Type 0 where
   pub ordered : Rises id 0 row_list.rows
   pub below : AllBelow id row_list.next row_list.rows
   pub next_low : 1 ≤ row_list.next
+  pub next_fits : row_list.next ≤ last_next
 
 -- two ranges of one kind and one name
 abbrev pub HaveOneName : NumberRange → NumberRange → Type 0

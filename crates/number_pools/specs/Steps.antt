@@ -134,8 +134,8 @@ abbrev pub without_range : Pools → ℕ → Pools
 without_range s id = record { ranges = cleared_of range_id s.ranges id; members = s.members; spent = s.spent + 1 }
 
 -- a claim spends one item of the log for each of its own
-abbrev pub with_members : Pools → List Member → Pools
-with_members s made = record { ranges = s.ranges; members = fold (appended member_id) s.members made; spent = s.spent + length made }
+abbrev pub with_claim : Pools → NumberRange → List (List ℕ) → Pools
+with_claim s range names = record { ranges = s.ranges; members = fold (appended member_id) s.members (claimed s range names); spent = s.spent + length names }
 
 abbrev pub without_member : Pools → ℕ → Pools
 without_member s id = record { ranges = s.ranges; members = cleared_of member_id s.members id; spent = s.spent + 1 }
@@ -171,8 +171,7 @@ available_step s id limit (Some range) = (s, Numbers (take limit (free_numbers s
 abbrev pub claim_step : Pools → ℕ → List (List ℕ) → Option NumberRange → Pools × PoolReply
 claim_step s id names None = (s, Refused (Absent id))
 claim_step s id names (Some range) =
-    let made = claimed s range names in
-    unless (first_of (claim_checks s range (length names))) s (with_members s made) (Claimed made)
+    unless (first_of (claim_checks s range (length names))) s (with_claim s range names) (Claimed (claimed s range names))
 
 -- the plain step. Whether a claim came as a list is told to whoever writes its answer, and changes nothing.
 abbrev pub pool_step : Pools → PoolCall → Pools × PoolReply

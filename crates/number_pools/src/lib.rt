@@ -4,6 +4,7 @@
 
 mod calls;
 mod claim;
+pub mod laws;
 mod rows;
 
 pub use calls::{
