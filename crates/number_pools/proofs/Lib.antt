@@ -1,0 +1,7 @@
+pub mod Bounds
+pub mod Examples
+pub mod Frees
+pub mod Given
+pub mod Kept
+pub mod Lists
+pub mod StepLaws

@@ -1,0 +1,154 @@
+//! What pools are asked, and what they answer.
+
+use crate::rows::{Member, NumberRange, PoolKind};
+use std::marker::Model;
+use stored_tables::tables::{Text, Texts};
+
+/// How many ranges there may be, of both kinds together.
+pub const MOST_RANGES: u32 = 1000;
+
+/// How many members there may be, of both kinds together.
+pub const MOST_MEMBERS: u32 = 100_000;
+
+/// How many items a claim may have.
+pub const MOST_CLAIMED: u32 = 1000;
+
+/// A list of what a reply carries. A contract sees its items.
+#[derive(Debug, Drop)]
+pub struct Listed<T> {
+    items: Vec<T>,
+}
+
+impl<T> Model for Listed<T> {
+    ghost use Rattle.std.specs.Prelude.{List};
+
+    ghost Value = { List T };
+
+    ghost view = { λ l. l.items.items };
+}
+
+impl<T> Listed<T> {
+    ghost use Rattle.std.specs.Prelude.{◌≡◌};
+
+    /// The list of these. It takes no memory.
+    pub fn of(items: Vec<T>) -> Listed<T>
+        ensures { result ≡ items.items }
+    {
+        Listed { items }
+    }
+
+    /// The list as a slice, to be read.
+    pub fn as_slice(&self) -> &[T]
+        ensures { result.now ≡ self.now }
+    {
+        self.items.as_slice()
+    }
+
+    /// The vector again. It takes no memory.
+    pub fn into_vec(self) -> Vec<T>
+        ensures { result.items ≡ self }
+    {
+        self.items
+    }
+}
+
+/// What is counted, and limited.
+#[derive(Clone, Copy, Debug)]
+pub enum Quantity {
+    /// The items of a claim.
+    Claims,
+    /// The ranges of both kinds.
+    Ranges,
+    /// The members of all ranges.
+    Members,
+    /// The ids of rows, up to the greatest that a row may have.
+    Ids,
+    /// The items of the log.
+    Log,
+}
+
+/// Why a call is refused, in the order of the checks.
+#[derive(Clone, Copy, Debug)]
+pub enum PoolRefusal {
+    /// No range or member of the kind has this id.
+    Absent(u32),
+    /// A range of the kind has the name: this one.
+    NameTaken(u32),
+    /// The first and the last number are not in order, or not from 1 to the greatest of the kind.
+    Bounds,
+    /// The range has members, of which this one has the least id.
+    InUse(u32),
+    /// Only so many numbers are free, and the claim has more items.
+    NoSpace(u32),
+    /// There would be more of the quantity than this. A claim with too many items is refused before its numbers are looked for, all other
+    /// limits come last.
+    Limit(Quantity, u32),
+    /// The keeper failed.
+    Keeper,
+    /// Out of memory.
+    Memory,
+}
+
+/// What pools are asked.
+#[derive(Debug, Drop)]
+pub enum PoolCall {
+    /// Makes a range of a kind.
+    AddRange {
+        kind: PoolKind,
+        name: Text,
+        first: u32,
+        last: u32,
+    },
+    /// Takes a range of a kind away, which has no members.
+    CutRange {
+        kind: PoolKind,
+        id: u32,
+    },
+    /// Lists the ranges of a kind.
+    Ranges {
+        kind: PoolKind,
+    },
+    /// Lists the members of a range.
+    Members {
+        kind: PoolKind,
+        id: u32,
+    },
+    /// Takes a member of a range of a kind away.
+    CutMember {
+        kind: PoolKind,
+        id: u32,
+    },
+    /// Lists the least free numbers of a range, up to a limit.
+    Available {
+        kind: PoolKind,
+        id: u32,
+        limit: u32,
+    },
+    /// Gives out the least free number of a range for each name, all or none. Whether the names came as a list changes nothing but how
+    /// the reply is written.
+    Claim {
+        kind: PoolKind,
+        id: u32,
+        list: bool,
+        names: Texts,
+    },
+}
+
+/// What pools answer. The first three are the accepted changes.
+#[derive(Debug, Drop)]
+pub enum PoolReply {
+    /// The range that was made.
+    Made(NumberRange),
+    /// The range or the member is gone.
+    Gone,
+    /// The members that were made, in the order of the names.
+    Claimed(Listed<Member>),
+    /// The ranges of the kind, in the order of their ids.
+    Ranges(Listed<NumberRange>),
+    /// The members of the range, in the order of their ids.
+    Members(Listed<Member>),
+    /// Free numbers, in order.
+    Numbers(Listed<u32>),
+    /// The call is refused, and nothing is changed.
+    Refused(PoolRefusal),
+}

@@ -1,0 +1,13 @@
+//! Laws of the definitions: each function is empty, and its contract is the law.
+
+ghost use Rattle.number_pools.specs.Laws.{EmptyIsLawful, StepsKeepLawful};
+
+/// Pools without rows are lawful.
+pub fn empty_is_lawful()
+    ensures { EmptyIsLawful }
+{}
+
+/// Each call leaves lawful pools.
+pub fn steps_keep_lawful()
+    ensures { StepsKeepLawful }
+{}

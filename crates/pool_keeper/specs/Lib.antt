@@ -1,0 +1,4 @@
+pub mod Keeping
+pub mod Memory
+pub mod Opener
+pub mod Stored

@@ -1,0 +1,67 @@
+//! Rows in a list, as a keeper in memory has them.
+
+ghost use Rattle.std.specs.Prelude.{◌≡◌, ◌+◌, ◌==◌, ◌≤◌, ◌++◌, vec_len, vec_capacity};
+ghost use Rattle.std.specs.List.{position};
+ghost use Rattle.number_pools.specs.Rows.{member_id, range_id};
+ghost use Rattle.pool_keeper.specs.Stored.{without_first};
+
+use number_pools::{Member, NumberRange};
+
+/// The index of the first range of the id.
+fn range_place(rows: &[NumberRange], id: u32) -> Option<usize>
+    ensures { result ≡ position (λ row. range_id row == id) rows.now }
+{
+    rows.iter().position(|row| row.id == id)
+}
+
+/// The index of the first member of the id.
+fn member_place(rows: &[Member], id: u32) -> Option<usize>
+    ensures { result ≡ position (λ row. member_id row == id) rows.now }
+{
+    rows.iter().position(|row| row.id == id)
+}
+
+/// Takes the first range of the id out, if there is an id and such a range. It takes no memory, and leaves all room.
+pub(crate) fn cut_range(rows: &mut Vec<NumberRange>, id: Option<u32>)
+    ensures rows { rows.new.items ≡ without_first range_id id rows.old.items }
+    ensures len { vec_len rows.new ≤ vec_len rows.old }
+    ensures capacity { vec_capacity rows.new ≡ vec_capacity rows.old }
+{
+    let Some(id) = id else {
+        return;
+    };
+    match range_place(rows.as_slice(), id) {
+        Some(at) => {
+            rows.remove(at);
+        }
+        None => {}
+    }
+}
+
+/// Takes the first member of the id out, if there is an id and such a member. It takes no memory, and leaves all room.
+pub(crate) fn cut_member(rows: &mut Vec<Member>, id: Option<u32>)
+    ensures rows { rows.new.items ≡ without_first member_id id rows.old.items }
+    ensures len { vec_len rows.new ≤ vec_len rows.old }
+    ensures capacity { vec_capacity rows.new ≡ vec_capacity rows.old }
+{
+    let Some(id) = id else {
+        return;
+    };
+    match member_place(rows.as_slice(), id) {
+        Some(at) => {
+            rows.remove(at);
+        }
+        None => {}
+    }
+}
+
+/// Puts rows, for which there is room, behind all others.
+pub(crate) fn push_all<T: Drop>(rows: &mut Vec<T>, news: Vec<T>)
+    requires { vec_len rows.old + vec_len news ≤ vec_capacity rows.old }
+    ensures { rows.new.items ≡ rows.old.items ++ news.items }
+{
+    let mut rest = news.into_iter();
+    while let Some(row) = rest.next() {
+        rows.push_reserved(row);
+    }
+}
