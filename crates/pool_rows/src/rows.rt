@@ -2,6 +2,7 @@
 
 ghost use Rattle.std.specs.Prelude.{◌≡◌, ◌≢◌, ℕ, ◌+◌, ◌<◌, ◌≤◌, ◌^◌, [], length, Contains, OnOk, OnErr, option_copied};
 ghost use Rattle.inet_num.specs.declared.Family.TheVariants.{V6};
+ghost use Rattle.block_space.specs.Usable.{AreSingles};
 ghost use Rattle.ipam_data.specs.Checks.{most_spent};
 ghost use Rattle.ipam_data.specs.RowList.{last_next, row_at};
 ghost use Rattle.number_pools.specs.declared.rows.Member.{Member as OneMember};
@@ -94,6 +95,7 @@ impl PoolRows {
     /// The tree of the numbers of all members.
     pub fn taken(&self) -> &Tree
         ensures keys { AreKeys self.now.pools.ranges.rows self.now.pools.members.rows result.now.blocks }
+        ensures singles { AreSingles result.now.blocks }
         ensures family { result.now.family ≡ V6 }
     {
         &self.taken
