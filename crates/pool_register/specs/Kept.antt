@@ -1,0 +1,40 @@
+-- What pools over a keeper keep, and how their list of accepted changes grows.
+use Rattle.std.specs.Prelude.{◌≡◌, ℕ, Bool, List, [], ◌∷◌, ◌++◌, fold, Option, is_some}
+use Rattle.history_lock.specs.Replies.{ReplyKind, grown}
+use Rattle.number_pools.specs.declared.calls.PoolCall.{PoolCall}
+use Rattle.number_pools.specs.declared.calls.PoolReply.{PoolReply}
+use Rattle.number_pools.specs.Machines.{kind_of}
+use Rattle.number_pools.specs.Rows.{Pools}
+use Rattle.number_pools.specs.Steps.{pool_step}
+use Rattle.pool_keeper.specs.declared.tables.PoolTables.{PoolTables}
+use Rattle.pool_keeper.specs.Stored.{Tells}
+
+-- the pools as they were opened, as they are, the accepted changes from the first, each with its caller, and the keeper
+pub record Kept (K : Type 0) : Type 0 where
+  pub opening : Pools
+  pub state : Pools
+  pub log : List (ℕ × PoolCall)
+  pub keeper : K
+
+-- the pools behind calls, one after another
+abbrev pub replay : Pools → List (ℕ × PoolCall) → Pools
+replay s log = fold (λ p entry. (pool_step p entry.1).0) s log
+
+-- the accepted changes after a reply
+abbrev pub logged : List (ℕ × PoolCall) → ℕ × PoolCall → PoolReply → List (ℕ × PoolCall)
+logged log entry reply = grown (kind_of reply) entry log
+
+-- the pools are what the accepted changes lead to, and told tables are theirs
+pub record IsWhole (opening state : Pools) (log : List (ℕ × PoolCall)) (told : Option PoolTables) : Type 0 where
+  pub replayed : state ≡ replay opening log
+  pub tells : Tells told state
+
+-- ---- as a lock sees them
+
+-- the pools, and whether their keeper tells its tables: a keeper that does goes on doing so
+pub record Seen : Type 0 where
+  pub pools : Pools
+  pub tells : Bool
+
+abbrev pub seen_step : Seen → PoolCall → Seen × PoolReply
+seen_step s call = (record { pools = (pool_step s.pools call).0; tells = s.tells }, (pool_step s.pools call).1)
