@@ -1,0 +1,195 @@
+//! The rows of pools in memory.
+
+ghost use Rattle.std.specs.Prelude.{◌≡◌, ◌≢◌, ℕ, ◌+◌, ◌<◌, ◌≤◌, ◌^◌, [], length, Contains, OnOk, OnErr, option_copied};
+ghost use Rattle.inet_num.specs.declared.Family.TheVariants.{V6};
+ghost use Rattle.block_space.specs.Usable.{AreSingles};
+ghost use Rattle.ipam_data.specs.Checks.{most_spent};
+ghost use Rattle.ipam_data.specs.RowList.{last_next, row_at};
+ghost use Rattle.number_pools.specs.declared.rows.Member.{Member as OneMember};
+ghost use Rattle.number_pools.specs.Rows.{empty_pools, member_id, range_id};
+ghost use Rattle.number_pools.specs.Free.{pool_at};
+ghost use Rattle.number_pools.specs.Keys.{AreKeys, key_block};
+ghost use Rattle.number_pools.specs.Lawful.{IsLawful};
+ghost use Rattle.number_pools.specs.Steps.{with_range, without_member, without_range};
+ghost use Rattle.pool_rows.specs.Held.{with_member};
+
+use crate::keys::{key_at, pool_of_range};
+use block_space::Space;
+use inet_num::Family;
+use number_pools::{Member, NumberRange};
+use placed_book::{Book, RowBook};
+use radix_tree::Tree;
+use std::alloc::{AllocError, Global};
+use std::marker::Model;
+
+/// Ranges and members with the next ids, how many items of the log are spent, and the numbers of all members in one tree.
+///
+/// A contract sees the pools, and how many more ranges and members can be put without taking memory. The tree has just the numbers of the
+/// members.
+#[derive(Drop)]
+pub struct PoolRows {
+    ranges: RowBook<NumberRange>,
+    members: RowBook<Member>,
+    taken: Tree,
+    next_range: u32,
+    next_member: u32,
+    spent: u32,
+}
+
+impl Model for PoolRows {
+    ghost use Rattle.std.specs.Prelude.{◌≡◌};
+    ghost use Rattle.inet_num.specs.declared.Family.TheVariants.{V6};
+    ghost use Rattle.number_pools.specs.Keys.{AreKeys};
+    ghost use Rattle.pool_rows.specs.Held.{Held};
+
+    ghost Value = { Held };
+
+    ghost view = { λ r. record { pools = record { ranges = record { rows = r.ranges.rows; next = r.next_range }; members = record { rows = r.members.rows; next = r.next_member }; spent = r.spent }; range_room = r.ranges.spare; member_room = r.members.spare; key_room = r.taken.spare } };
+
+    ghost invariant = { λ r. AreKeys r.ranges.rows r.members.rows r.taken.blocks × (r.taken.family ≡ V6) };
+}
+
+impl PoolRows {
+    /// Pools without rows and without room. It takes no memory.
+    pub fn new(alloc: Global) -> PoolRows
+        ensures { result.pools ≡ empty_pools }
+    {
+        PoolRows {
+            ranges: RowBook::new(alloc),
+            members: RowBook::new(alloc),
+            taken: Tree::new(alloc, Family::V6),
+            next_range: 1,
+            next_member: 1,
+            spent: 0,
+        }
+    }
+
+    /// The ranges, in the order of their ids.
+    pub fn ranges(&self) -> &[NumberRange]
+        ensures { result.now ≡ self.now.pools.ranges.rows }
+    {
+        self.ranges.rows()
+    }
+
+    /// The members, in the order of their ids.
+    pub fn members(&self) -> &[Member]
+        ensures { result.now ≡ self.now.pools.members.rows }
+    {
+        self.members.rows()
+    }
+
+    /// The range of an id, of either kind.
+    pub fn range(&self, id: u32) -> Option<&NumberRange>
+        ensures { option_copied result ≡ row_at range_id self.now.pools.ranges.rows id }
+    {
+        self.ranges.get(id)
+    }
+
+    /// The member of an id, of a range of either kind.
+    pub fn member(&self, id: u32) -> Option<&Member>
+        ensures { option_copied result ≡ row_at member_id self.now.pools.members.rows id }
+    {
+        self.members.get(id)
+    }
+
+    /// The tree of the numbers of all members.
+    pub fn taken(&self) -> &Tree
+        ensures keys { AreKeys self.now.pools.ranges.rows self.now.pools.members.rows result.now.blocks }
+        ensures singles { AreSingles result.now.blocks }
+        ensures family { result.now.family ≡ V6 }
+    {
+        &self.taken
+    }
+
+    /// The pool of the range of this id; without one, that id.
+    fn pool(&self, id: u32) -> u32
+        ensures { (m : OneMember) → m.range ≡ id → result ≡ pool_at self.now.pools.ranges.rows m }
+    {
+        match self.ranges.get(id) {
+            Some(range) => pool_of_range(range),
+            None => id,
+        }
+    }
+
+    /// Makes room for one range more. `Err` means out of memory.
+    pub fn reserve_range(&mut self) -> Result<(), AllocError>
+        requires { length self.old.pools.ranges.rows + 1 < 2 ^ 30 }
+        ensures pools { self.new.pools ≡ self.old.pools }
+        ensures ok { OnOk result (1 ≤ self.new.range_room) }
+    {
+        self.ranges.reserve(1)
+    }
+
+    /// Makes room for so many members more. `Err` means out of memory.
+    pub fn reserve_members(&mut self, n: u32) -> Result<(), AllocError>
+        requires { length self.old.pools.members.rows + n < 2 ^ 30 }
+        ensures pools { self.new.pools ≡ self.old.pools }
+        ensures ok { OnOk result (n ≤ self.new.member_room) }
+        ensures key_ok { OnOk result (n ≤ self.new.key_room) }
+    {
+        self.members.reserve(n)?;
+        self.taken.reserve(n)
+    }
+
+    /// Puts a range, whose id is the next one, behind all others. It takes no memory.
+    pub fn put_range(&mut self, range: NumberRange)
+        requires lawful { IsLawful self.old.pools }
+        requires room { 1 ≤ self.old.range_room }
+        requires id { range.id ≡ self.old.pools.ranges.next }
+        requires ids { self.old.pools.ranges.next + 1 ≤ last_next }
+        requires log { self.old.pools.spent + 1 ≤ most_spent }
+        ensures { self.new.pools ≡ with_range self.old.pools range }
+    {
+        self.ranges.put(range);
+        self.next_range += 1;
+        self.spent += 1;
+    }
+
+    /// Takes the range of an id out, of which there are no members. It takes no memory, and leaves all room.
+    pub fn cut_range(&mut self, id: u32)
+        requires unused { (m : OneMember) → Contains self.old.pools.members.rows m → m.range ≢ id }
+        requires log { self.old.pools.spent + 1 ≤ most_spent }
+        ensures { self.new.pools ≡ without_range self.old.pools id }
+    {
+        self.ranges.cut(id);
+        self.spent += 1;
+    }
+
+    /// Puts a member, whose id is the next one, behind all others. It takes no memory.
+    pub fn put_member(&mut self, member: Member)
+        requires lawful { IsLawful self.old.pools }
+        requires room { 1 ≤ self.old.member_room }
+        requires key_room { 1 ≤ self.old.key_room }
+        requires id { member.id ≡ self.old.pools.members.next }
+        requires ids { self.old.pools.members.next + 1 ≤ last_next }
+        requires log { self.old.pools.spent + 1 ≤ most_spent }
+        ensures pools { self.new.pools ≡ with_member self.old.pools member }
+        ensures room { self.old.member_room ≤ self.new.member_room + 1 }
+        ensures key_room { self.old.key_room ≤ self.new.key_room + 1 }
+    {
+        let _len = self.members.len();
+        let key = key_at(self.pool(member.range), member.number);
+        self.taken.insert(key);
+        self.members.put(member);
+        self.next_member += 1;
+        self.spent += 1;
+    }
+
+    /// Takes the member of an id out, if there is one. It takes no memory, and leaves all room.
+    pub fn cut_member(&mut self, id: u32)
+        requires log { self.old.pools.spent + 1 ≤ most_spent }
+        ensures { self.new.pools ≡ without_member self.old.pools id }
+    {
+        let _rows = self.members.rows();
+        let key = match self.members.get(id) {
+            Some(member) => key_at(self.pool(member.range), member.number),
+            None => {
+                self.spent += 1;
+                return;
+            }
+        };
+        self.taken.remove(key);
+        self.members.cut(id);
+        self.spent += 1;
+    }
+}
