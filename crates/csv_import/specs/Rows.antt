@@ -77,7 +77,7 @@ range_row start end header fields =
     then (read RoleField (within_or_none 100) header fields) λ role.
     then (read MarkUtilized (flag_of false) header fields) λ mark_utilized.
     then (read Description (within 0 200) header fields) λ description.
-    Ok (RangeRow start end vrf status role mark_utilized description)
+    Ok (RangeRow start end vrf status role mark_utilized mark_populated description)
 
 abbrev pub address_row : Result Masked RowFault → List (List ℕ) → List (List ℕ) → Result ImportRow RowFault
 address_row host header fields =

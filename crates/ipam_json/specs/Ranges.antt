@@ -26,7 +26,7 @@ range_draft start end d =
     then (read_member RoleField id_of d) λ role.
     then (read_member MarkUtilized (flag_of false) d) λ mark_utilized.
     then (read_member Description description_of d) λ description.
-    Ok (RangeDraft start end vrf status role mark_utilized description)
+    Ok (RangeDraft start end vrf status role mark_utilized mark_populated description)
 
 -- that of an edit, in the same order: what is absent stays
 abbrev pub range_edit : Result (Option Masked) Refusal → Result (Option Masked) Refusal → Data → Result Edit Refusal
@@ -38,7 +38,7 @@ range_edit start end d =
     then (read_given RoleField id_of d) λ role.
     then (read_given MarkUtilized (flag_of false) d) λ mark_utilized.
     then (read_given Description description_of d) λ description.
-    Ok (RangeEdit start end vrf status role mark_utilized description)
+    Ok (RangeEdit start end vrf status role mark_utilized mark_populated description)
 
 abbrev pub range_members : IpRange → List Named
 range_members row =

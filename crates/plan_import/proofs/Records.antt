@@ -73,11 +73,11 @@ nothing_told s (RirRow name slug is_private description) e = refl
 nothing_told s (RoleRow name slug weight description) e = refl
 nothing_told s (AggregateRow block rir description) e = refl
 nothing_told s (PrefixRow block vrf status role is_pool mark_utilized description) e = refl
-nothing_told s (RangeRow start end vrf status role mark_utilized description) e =
-    let row = RangeRow start end vrf status role mark_utilized description in
+nothing_told s (RangeRow start end vrf status role mark_utilized mark_populated description) e =
+    let row = RangeRow start end vrf status role mark_utilized mark_populated description in
     none_range (range_told start end) (value_rules row) refl (none_right (name_rules s row) (value_rules row) e)
   where
-    none_range : (told all : List (Option Rule)) → all ≡ value_rules (RangeRow start end vrf status role mark_utilized description) → first all ≡ None → first (range_told start end) ≡ None
+    none_range : (told all : List (Option Rule)) → all ≡ value_rules (RangeRow start end vrf status role mark_utilized mark_populated description) → first all ≡ None → first (range_told start end) ≡ None
     none_range told all same f = none_left (range_told start end) _ (ap first (sym same) ∙ f)
 nothing_told s (AddressRow host vrf status role dns_name description) e = refl
 
@@ -131,7 +131,7 @@ record_put s (RirDraft name slug is_private description) = refl
 record_put s (RoleDraft name slug weight description) = refl
 record_put s (AggregateDraft block rir description) = refl
 record_put s (PrefixDraft block vrf status role is_pool mark_utilized description) = refl
-record_put s (RangeDraft start end vrf status role mark_utilized description) = refl
+record_put s (RangeDraft start end vrf status role mark_utilized mark_populated description) = refl
 record_put s (AddressDraft host vrf status role dns_name description) = refl
 
 -- ---- the checks of a record
