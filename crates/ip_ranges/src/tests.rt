@@ -7,7 +7,7 @@ ghost use Rattle.ipam_data.specs.RowList.{AllBelow};
 ghost use Rattle.ipam_data.specs.Rows.{range_id};
 ghost use Rattle.ipam_data.specs.Lawful.{IsRange};
 
-use crate::{RangeBook, Which};
+use crate::{RangeBook, SpanKind};
 use inet_num::{Addr, Family};
 use ipam_data::host::Ends;
 use ipam_data::kinds::Table;
@@ -43,6 +43,7 @@ fn range(
         status: RangeStatus::Active,
         role: None,
         mark_utilized,
+        mark_populated: false,
         description,
     };
     row.bounds();
