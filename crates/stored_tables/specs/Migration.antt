@@ -1,5 +1,5 @@
 -- Tables of version 1, in which ranges had no mark: those for which a state stood, and what becomes of them.
-use Rattle.std.specs.Prelude.{◌≡◌, ℕ, ◌==◌, ◌∷◌, ◌++◌, Bool, not, true, false, List, [], Option, Some, None, option_map, map, find, length, take, drop, count_by, if◌then◌else◌}
+use Rattle.std.specs.Prelude.{◌≡◌, ℕ, ◌==◌, ◌∷◌, ◌++◌, Bool, not, true, false, List, [], Option, Some, None, option_map, map, find, length, take, drop, count_by, codes, if◌then◌else◌}
 use Rattle.std.specs.List.{flat_map}
 use Rattle.ipam_data.specs.declared.range.IpRange.{IpRange}
 use Rattle.ipam_data.specs.declared.kinds.Kind.{Kind}
@@ -13,13 +13,18 @@ use Rattle.stored_tables.specs.declared.tables.Row.{Row}
 use Rattle.stored_tables.specs.declared.tables.Tables.{Tables}
 use Rattle.stored_tables.specs.declared.migration.MigrateFault.{MigrateFault}
 use Rattle.stored_tables.specs.declared.migration.MigrateFault.TheVariants.{Version, BadRow, Memory}
-use Rattle.stored_tables.specs.Stored.{flag_text, reference_text, host_text, range_status_text, stored_row, kinds, next_ids, next_of, tables_of, stored_version}
+use Rattle.stored_tables.specs.Stored.{flag_text, reference_text, host_text, range_status_text, stored_columns, stored_row, kinds, next_ids, next_of, tables_of, stored_version}
 
 -- ---- tables of version 1
 
 -- the version of files before ranges had a mark
 abbrev pub first_version : ℕ
 first_version = 1
+
+-- the columns that ranges had then, and those of the other kinds
+abbrev pub first_columns : Kind → List (List ℕ)
+first_columns Ranges = codes "start_address" ∷ codes "end_address" ∷ codes "vrf" ∷ codes "status" ∷ codes "role" ∷ codes "mark_utilized" ∷ codes "description" ∷ []
+first_columns kind = stored_columns kind
 
 -- start_address, end_address, vrf, status, role, mark_utilized, description
 unfoldable pub first_range_texts : IpRange → List (List ℕ)

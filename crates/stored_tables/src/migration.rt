@@ -2,17 +2,47 @@
 
 ghost use Rattle.std.specs.Prelude.{◌≡◌, ◌≤◌, ◌∷◌, ◌++◌, [], None, false, IfOk, IfErr, OnOk, option_copied, find, take, drop, map, length};
 ghost use Rattle.stored_tables.specs.Stored.{flag_text};
-ghost use Rattle.stored_tables.specs.Migration.{migrated_fields, migrated_row, migrated, has_wrong_count, is_misshapen, unmigrated, IsUnmigrated, is_range, range_count};
+ghost use Rattle.stored_tables.specs.Migration.{first_columns, migrated_fields, migrated_row, migrated, has_wrong_count, is_misshapen, unmigrated, IsUnmigrated, is_range, range_count};
 ghost use Rattle.stored_tables.specs.declared.migration.MigrateFault.TheVariants.{Memory};
 ghost use Rattle.ipam_data.specs.declared.kinds.Kind.TheVariants as Kind;
 
 use crate::tables::{Row, Rows, Tables, Text, Texts, VERSION};
-use crate::writing::flag_words;
+use crate::writing::{column_names, flag_words};
 use ipam_data::kinds::Kind;
 use std::alloc::{AllocError, Global};
 
-/// The version of files before ranges had a mark.
-const FIRST_VERSION: u32 = 1;
+/// The version of tables in which ranges had no mark.
+pub const FIRST_VERSION: u32 = 1;
+
+/// The columns of ranges past the id in version 1, in the order of their texts.
+fn first_range_columns() -> &'static [&'static str]
+    ensures { map (λ c. c.now) result.now ≡ first_columns Kind.Ranges }
+{
+    &[
+        "start_address",
+        "end_address",
+        "vrf",
+        "status",
+        "role",
+        "mark_utilized",
+        "description",
+    ]
+}
+
+/// The columns of the stored rows of a kind past the id in version 1.
+pub fn first_column_names(kind: Kind) -> &'static [&'static str]
+    ensures { map (λ c. c.now) result.now ≡ first_columns kind }
+{
+    match kind {
+        Kind::Ranges => first_range_columns(),
+        Kind::Vrfs
+        | Kind::Rirs
+        | Kind::Roles
+        | Kind::Aggregates
+        | Kind::Prefixes
+        | Kind::Addresses => column_names(kind),
+    }
+}
 
 /// Why tables are not migrated.
 #[derive(Clone, Copy, Debug)]
