@@ -5,7 +5,7 @@ use Rattle.block_space.specs.Usable.{usable_of, is_usable, is_omitted}
 use Rattle.ipam_data.specs.declared.prefix.Prefix.{Prefix}
 use Rattle.ipam_data.specs.declared.range.IpRange.{IpRange}
 use Rattle.ipam_data.specs.Claims.{is_hosted, is_beside, has_number, is_withheld}
-use Rattle.ipam_data.specs.Marks.{once_withheld, with_mark, marked, MarksKeepPrefixes, NoMarksKeepRanges}
+use Rattle.ipam_data.specs.Marks.{once_withheld, with_mark, MarksKeepPrefixes, NoMarksKeepRanges}
 
 withheld_same : (ranges : List IpRange) (row : Prefix) (a : ℕ) → is_withheld (map (with_mark true) ranges) row a ≡ once_withheld ranges row a
 withheld_same [] row a = refl
