@@ -102,11 +102,11 @@ fn imports_are_calls(rt: HostRuntime) -> Result<(), Fail> {
     let mut number = 0;
     for line in IMPORTS.lines() {
         number += 1;
-        let (said, tables) = behind(rt.alloc(), number)?.expect(rt, "a register");
+        let (said, tables) = behind(rt.alloc(), number)?.expect(&rt, "a register");
         let rows = tables.rows.as_slice().len();
         let greatest = next_prefix(&tables) - 1;
         let told = format!(in rt.alloc(); "{said} {greatest}")?;
-        let wanted = line.split_once(';').expect(rt, "an answer").1;
+        let wanted = line.split_once(';').expect(&rt, "an answer").1;
         assert!(rt; told.as_str() == wanted, "{line}: {told}");
         assert!(rt; rows == 3, "{line}: {rows} rows");
     }
