@@ -42,8 +42,8 @@ all_migrated m old new same (k ∷ ks) = map-append m (old k) (flat_map old ks) 
 -- ---- no row is refused
 
 none_in : {T : Type 0} (test : Row → Bool) (f : T → Row) → ((x : T) → test (f x) ≡ false) → (xs : List T) → find test (map f xs) ≡ None
-none_in test f no [] = refl
-none_in test f no (x ∷ xs) = ap (λ (t : Bool). cond t (Some (f x)) (find test (map f xs))) (no x) ∙ none_in test f no xs
+none_in test f clear [] = refl
+none_in test f clear (x ∷ xs) = ap (λ (t : Bool). cond t (Some (f x)) (find test (map f xs))) (clear x) ∙ none_in test f clear xs
 
 none_both : (test : Row → Bool) (xs ys : List Row) → find test xs ≡ None → find test ys ≡ None → find test (xs ++ ys) ≡ None
 none_both test [] ys e f = f
