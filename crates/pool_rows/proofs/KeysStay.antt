@@ -17,7 +17,7 @@ use Rattle.number_pools.specs.declared.rows.Member.{Member}
 use Rattle.number_pools.specs.Rows.{Pools, member_id, range_id}
 use Rattle.number_pools.specs.Free.{pool_found}
 use Rattle.number_pools.specs.Keys.{AreKeys, key_block, key_of}
-use Rattle.number_pools.specs.Lawful.{IsLawful}
+use Rattle.number_pools.specs.Lawful.{IsLawfulPools}
 use Rattle.number_pools.proofs.Kept.{keys_fewer, keys_more}
 use Rattle.number_pools.proofs.Lists.{row_at_beside, row_at_else}
 
@@ -32,7 +32,7 @@ keys_beside old new members held same keys =
     subst (λ (bs : List Cidr). IsPermutation bs held)
     (sym (map_same (key_block new) (key_block old) members (λ m c. ap (λ (o : Option NumberRange). record { family = V6; first = key_of (pool_found o m.range) m.number; len = 128 }) (same m c)))) keys
 
-pub keys_with_range : (s : Pools) (row : NumberRange) (held : List Cidr) → IsLawful s → row.id ≡ s.ranges.next → AreKeys s.ranges.rows s.members.rows held
+pub keys_with_range : (s : Pools) (row : NumberRange) (held : List Cidr) → IsLawfulPools s → row.id ≡ s.ranges.next → AreKeys s.ranges.rows s.members.rows held
     → AreKeys (with_row range_id s.ranges.rows row) s.members.rows held
 keys_with_range s row held h id keys =
     keys_beside s.ranges.rows (with_row range_id s.ranges.rows row) s.members.rows held

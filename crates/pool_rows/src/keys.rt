@@ -12,7 +12,7 @@ use number_pools::{NumberRange, PoolKind};
 const POOL_SIZE: u128 = 4_294_967_296;
 
 /// The pool that a range gives out of.
-pub(crate) fn pool_of_range(range: &NumberRange) -> u32
+pub fn pool_of_range(range: &NumberRange) -> u32
     ensures { result ≡ pool_of range.now }
 {
     match range.kind {
@@ -22,7 +22,7 @@ pub(crate) fn pool_of_range(range: &NumberRange) -> u32
 }
 
 /// The block of one address for a number of a pool.
-pub(crate) fn key_at(pool: u32, number: u32) -> Block
+pub fn key_at(pool: u32, number: u32) -> Block
     ensures { result ≡ record { family = V6; first = key_of pool number; len = 128 } }
 {
     let Some(addr) = Addr::of(

@@ -3,6 +3,8 @@
 #![tactic(auto)]
 
 mod keys;
+mod opening;
 mod rows;
 
+pub use keys::{key_at, pool_of_range};
 pub use rows::PoolRows;

@@ -1,19 +1,20 @@
 //! The rows of pools in memory.
 
-ghost use Rattle.std.specs.Prelude.{◌≡◌, ◌≢◌, ℕ, ◌+◌, ◌<◌, ◌≤◌, ◌^◌, [], length, Contains, OnOk, OnErr, option_copied};
+ghost use Rattle.std.specs.Prelude.{◌≡◌, ◌≢◌, ℕ, ◌+◌, ◌<◌, ◌≤◌, ◌^◌, [], length, Contains, IfOk, OnOk, OnErr, option_copied};
 ghost use Rattle.inet_num.specs.declared.Family.TheVariants.{V6};
 ghost use Rattle.block_space.specs.Usable.{AreSingles};
 ghost use Rattle.ipam_data.specs.Checks.{most_spent};
-ghost use Rattle.ipam_data.specs.RowList.{last_next, row_at};
+ghost use Rattle.ipam_data.specs.RowList.{AllBelow, Rises, last_next, row_at, with_row};
 ghost use Rattle.number_pools.specs.declared.rows.Member.{Member as OneMember};
 ghost use Rattle.number_pools.specs.Rows.{empty_pools, member_id, range_id};
 ghost use Rattle.number_pools.specs.Free.{pool_at};
 ghost use Rattle.number_pools.specs.Keys.{AreKeys, key_block};
-ghost use Rattle.number_pools.specs.Lawful.{IsLawful};
+ghost use Rattle.number_pools.specs.Lawful.{AreNumbered, IsLawfulPools};
 ghost use Rattle.number_pools.specs.Steps.{with_range, without_member, without_range};
 ghost use Rattle.pool_rows.specs.Held.{with_member};
 
 use crate::keys::{key_at, pool_of_range};
+use crate::opening::{TOO_MANY, book_of};
 use block_space::Space;
 use inet_num::Family;
 use number_pools::{Member, NumberRange};
@@ -64,6 +65,68 @@ impl PoolRows {
         }
     }
 
+    /// The rows of these ranges and members, whose ids rise, with these next ids, and no item of the log spent. `Err` means out of memory,
+    /// also where there are 2^30 ranges or members.
+    pub fn of(
+        alloc: Global,
+        ranges: Vec<NumberRange>,
+        members: Vec<Member>,
+        next_range: u32,
+        next_member: u32,
+    ) -> Result<PoolRows, AllocError>
+        requires ranges { Rises range_id 0 ranges.items }
+        requires members { Rises member_id 0 members.items }
+        ensures { IfOk result (λ r. r.pools ≡ record { ranges = record { rows = ranges.items; next = next_range }; members = record { rows = members.items; next = next_member }; spent = 0 }) }
+    {
+        match book_of(alloc, ranges) {
+            Ok(ranges) => {
+                let rows = PoolRows {
+                    ranges,
+                    members: RowBook::new(alloc),
+                    taken: Tree::new(alloc, Family::V6),
+                    next_range,
+                    next_member,
+                    spent: 0,
+                };
+                filled(rows, members)
+            }
+            Err(AllocError) => {
+                drop(members);
+                Err(AllocError)
+            }
+        }
+    }
+
+    /// Puts a member behind all others, whose ids are lower. The next id and the log stay. It takes no memory.
+    fn admit(&mut self, member: Member)
+        requires below { AllBelow member_id member.id self.old.pools.members.rows }
+        requires id { 1 ≤ member.id }
+        requires room { 1 ≤ self.old.member_room }
+        requires key_room { 1 ≤ self.old.key_room }
+        ensures pools { self.new.pools ≡ record { ranges = self.old.pools.ranges; members = record { rows = with_row member_id self.old.pools.members.rows member; next = self.old.pools.members.next }; spent = self.old.pools.spent } }
+        ensures room { self.old.member_room ≤ self.new.member_room + 1 }
+        ensures key_room { self.old.key_room ≤ self.new.key_room + 1 }
+    {
+        let _len = self.members.len();
+        let key = key_at(self.pool(member.range), member.number);
+        self.taken.insert(key);
+        self.members.put(member);
+    }
+
+    /// Puts members whose ids rise, where there are none. It takes no memory.
+    fn admit_all(&mut self, members: Vec<Member>)
+        requires rises { Rises member_id 0 members.items }
+        requires empty { self.old.pools.members.rows ≡ [] }
+        requires room { length members.items ≤ self.old.member_room }
+        requires key_room { length members.items ≤ self.old.key_room }
+        ensures { self.new.pools ≡ record { ranges = self.old.pools.ranges; members = record { rows = members.items; next = self.old.pools.members.next }; spent = self.old.pools.spent } }
+    {
+        let mut rest = members.into_iter();
+        'row: while let Some(member) = rest.next() {
+            self.admit(member);
+        }
+    }
+
     /// The ranges, in the order of their ids.
     pub fn ranges(&self) -> &[NumberRange]
         ensures { result.now ≡ self.now.pools.ranges.rows }
@@ -90,6 +153,27 @@ impl PoolRows {
         ensures { option_copied result ≡ row_at member_id self.now.pools.members.rows id }
     {
         self.members.get(id)
+    }
+
+    /// The id of the range that is made next.
+    pub fn next_range(&self) -> u32
+        ensures { result ≡ self.now.pools.ranges.next }
+    {
+        self.next_range
+    }
+
+    /// The id of the member that is made next.
+    pub fn next_member(&self) -> u32
+        ensures { result ≡ self.now.pools.members.next }
+    {
+        self.next_member
+    }
+
+    /// How many items of the log are spent.
+    pub fn spent(&self) -> u32
+        ensures { result ≡ self.now.pools.spent }
+    {
+        self.spent
     }
 
     /// The tree of the numbers of all members.
@@ -133,7 +217,7 @@ impl PoolRows {
 
     /// Puts a range, whose id is the next one, behind all others. It takes no memory.
     pub fn put_range(&mut self, range: NumberRange)
-        requires lawful { IsLawful self.old.pools }
+        requires lawful { IsLawfulPools self.old.pools }
         requires room { 1 ≤ self.old.range_room }
         requires id { range.id ≡ self.old.pools.ranges.next }
         requires ids { self.old.pools.ranges.next + 1 ≤ last_next }
@@ -157,7 +241,7 @@ impl PoolRows {
 
     /// Puts a member, whose id is the next one, behind all others. It takes no memory.
     pub fn put_member(&mut self, member: Member)
-        requires lawful { IsLawful self.old.pools }
+        requires numbered { AreNumbered member_id self.old.pools.members }
         requires room { 1 ≤ self.old.member_room }
         requires key_room { 1 ≤ self.old.key_room }
         requires id { member.id ≡ self.old.pools.members.next }
@@ -191,5 +275,30 @@ impl PoolRows {
         self.taken.remove(key);
         self.members.cut(id);
         self.spent += 1;
+    }
+}
+
+/// The rows with these members, whose ids rise, where there are none. `Err` means out of memory, also for 2^30 members and more.
+fn filled(rows: PoolRows, members: Vec<Member>) -> Result<PoolRows, AllocError>
+    requires rises { Rises member_id 0 members.items }
+    requires empty { rows.pools.members.rows ≡ [] }
+    ensures { IfOk result (λ r. r.pools ≡ record { ranges = rows.pools.ranges; members = record { rows = members.items; next = rows.pools.members.next }; spent = rows.pools.spent }) }
+{
+    let mut rows = rows;
+    if members.len() >= TOO_MANY {
+        drop(members);
+        drop(rows);
+        return Err(AllocError);
+    }
+    match rows.reserve_members(members.len() as u32) {
+        Ok(()) => {
+            rows.admit_all(members);
+            Ok(rows)
+        }
+        Err(AllocError) => {
+            drop(members);
+            drop(rows);
+            Err(AllocError)
+        }
     }
 }

@@ -5,7 +5,7 @@ use Rattle.ipam_data.specs.RowList.{AllBelow}
 use Rattle.number_pools.specs.declared.rows.Member.{Member}
 use Rattle.number_pools.specs.Free.{pool_at}
 use Rattle.number_pools.specs.Keys.{AreKeys, key_block, key_of}
-use Rattle.number_pools.specs.Lawful.{IsLawful}
+use Rattle.number_pools.specs.Lawful.{AreNumbered}
 use Rattle.number_pools.specs.Rows.{Pools, member_id}
 use Rattle.pool_rows.specs.Held.{Held}
 use Rattle.pool_rows.proofs.KeysStay.{keys_length, keys_with_member}
@@ -21,10 +21,10 @@ pub invariant_of-self : goal.invariant_of-self
 invariant_of-self c =
     let now = c.self.inside in
     let pools = ap (λ (h : Held). h.pools) c.self.view_is in
-    let s : Pools = record { ranges = record { rows = now.ranges.rows; next = now.next_range }; members = record { rows = now.members.rows; next = now.next_member }; spent = now.spent } in
-    let lawful : IsLawful s = subst IsLawful (sym pools) c.requires.lawful in
+    let numbered : AreNumbered member_id (record { rows = now.members.rows; next = now.next_member }) =
+    subst (AreNumbered member_id) (sym (ap (λ (p : Pools). p.members) pools)) c.requires.numbered in
     let id : c.args.member.id ≡ now.next_member = c.requires.id ∙ sym (ap (λ (p : Pools). p.members.next) pools) in
-    let below = subst (λ (n : ℕ). AllBelow member_id n now.members.rows) (sym id) lawful.members.below in
+    let below = subst (λ (n : ℕ). AllBelow member_id n now.members.rows) (sym id) numbered.below in
     let key : c.key_at-key.result ≡ key_block now.ranges.rows c.args.member =
     c.key_at-key.ensures ∙ ap (λ (pool : ℕ). let b : Cidr = record { family = V6; first = key_of pool c.args.member.number; len = 128 } in b) (c.pool.ensures c.args.member refl ∙ sym (ap (λ (p : Pools). pool_at p.ranges.rows c.args.member) pools)) in
     let put = subst (λ (b : Cidr). IsPermutation (b ∷ now.taken.blocks) c.insert.new.self.blocks) key c.insert.ensures.put in

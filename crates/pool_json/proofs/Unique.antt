@@ -1,0 +1,32 @@
+-- A body asks for one thing, and its names have the bounds of names.
+use Rattle.std.proofs.Common.{◌≡◌, ◌↔◌, ℕ, List, Some, Bool, true, false, IsTrue, inl, inr, sym, ◌∙◌, ap, refl}
+use Rattle.ipam_data.specs.Texts.{IsName}
+use Rattle.serde_json.specs.Data.{Data}
+use Rattle.ipam_json.specs.Bodies.{IsObjectText}
+use Rattle.ipam_json.specs.Members.{is_plain}
+use Rattle.ipam_json.proofs.Claimed.{one_answer}
+use Rattle.ipam_json.proofs.Unique.{bounds_are_those}
+use Rattle.pool_json.specs.Bodies.{claim_item, range_draft}
+use Rattle.pool_json.specs.Laws.{ClaimIsOne, RangeBodyIsOne}
+
+same_data : (body : List ℕ) (d e : Data) → IsObjectText body d → IsObjectText body e → d ≡ e
+same_data body d e h k = let same : Some d ≡ Some e = sym h.value ∙ k.value in cc
+
+pub range_body_is_one : RangeBodyIsOne
+range_body_is_one body a b (inl h) (inl k) = sym h.2 ∙ ap range_draft (same_data body h.0 k.0 h.1 k.1) ∙ k.2
+range_body_is_one body a b (inl h) (inr k) = absurd (k.0 h.0 h.1)
+range_body_is_one body a b (inr h) (inl k) = absurd (h.0 k.0 k.1)
+range_body_is_one body a b (inr h) (inr k) = h.1 ∙ sym k.1
+
+pub claim_is_one : ClaimIsOne
+claim_is_one kind body a b h k = one_answer (claim_item kind) body a b h k
+
+one_test : (a b : Bool) → (IsTrue a → IsTrue b) → (IsTrue b → IsTrue a) → a ≡ b
+one_test true true h k = refl
+one_test false false h k = refl
+one_test true false h k = let e : false ≡ true = h refl in cc
+one_test false true h k = let e : false ≡ true = k refl in cc
+
+-- the test of a name is that of its bounds
+pub name_test : (text : List ℕ) (b : Bool) → IsTrue b ↔ IsName text → b ≡ is_plain 1 100 text
+name_test text b h = one_test b (is_plain 1 100 text) (λ x. (bounds_are_those 1 100 text).1 (h.0 x)) (λ y. h.1 ((bounds_are_those 1 100 text).0 y))

@@ -1,0 +1,5 @@
+pub mod Bodies
+pub mod Words
+pub mod Rows
+pub mod Replies
+pub mod Laws

@@ -1,0 +1,18 @@
+//! Laws of the definitions: each function is empty, and its contract is the law.
+
+ghost use Rattle.pool_json.specs.Laws.{ClaimIsOne, RangeBodyIsOne, RowsAreInOrder};
+
+/// The body of a range asks for one thing.
+pub fn range_body_is_one()
+    ensures { RangeBodyIsOne }
+{}
+
+/// The body of a claim asks for one thing.
+pub fn claim_is_one()
+    ensures { ClaimIsOne }
+{}
+
+/// The members of a row stand in the byte order of their names.
+pub fn rows_are_in_order()
+    ensures { RowsAreInOrder }
+{}

@@ -1,0 +1,18 @@
+//! The JSON of number pools: what the body of a request asks for, and the text of a reply.
+#![tactic(auto)]
+
+mod bodies;
+mod claims;
+mod details;
+mod laws;
+mod members;
+mod replies;
+mod rows;
+#[cfg(test)]
+mod tests;
+
+pub use bodies::{RangeDraft, RequestRefusal, read_range};
+pub use claims::read_claim;
+pub use details::{code, detail, quantity_name};
+pub use laws::{claim_is_one, range_body_is_one, rows_are_in_order};
+pub use replies::{Shape, reply_bytes, request_refusal_bytes};

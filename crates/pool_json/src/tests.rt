@@ -1,0 +1,279 @@
+//! Bodies and replies byte for byte, a case to a line.
+
+use crate::{RequestRefusal, Shape, read_claim, read_range, reply_bytes, request_refusal_bytes};
+use ipam_data::calls::Answered;
+use ipam_data::replies::Refusal;
+use number_pools::{Listed, Member, NumberRange, PoolKind, PoolRefusal, PoolReply, Quantity};
+use std::alloc::{AllocError, Global};
+use std::test::Fail;
+use stored_tables::tables::Text;
+
+/// What bodies of ranges ask for: a line `= TEXT`, and below it the bodies that are told this.
+const RANGES: &[u8] = b"= lab 64512 64521
+{\"name\":\"lab\",\"start\":64512,\"end\":64521}
+ { \"end\" : 64521 , \"x\" : [1.5, {}] , \"start\":64512, \"name\":\"l\\u0061b\" } 
+{\"name\":5,\"name\":\"lab\",\"start\":0,\"start\":64512,\"end\":64521}
+= x 0 4294967295
+{\"name\":\"x\",\"start\":0,\"end\":4294967295}
+= {\"code\":\"bad_json\",\"detail\":\"the body is not the JSON that is asked for\"}
+
+null
+[{\"name\":\"lab\",\"start\":1,\"end\":2}]
+{\"name\":\"lab\",\"start\":1,\"end\":2
+{\"name\":\"lab\",\"start\":1,\"end\":2} x
+{\"name\":\"\xff\",\"start\":1,\"end\":2}
+= {\"code\":\"field\",\"detail\":\"name is missing or malformed\"}
+{}
+{\"start\":-1,\"end\":-1}
+{\"name\":null,\"start\":1,\"end\":2}
+{\"name\":\"\",\"start\":1,\"end\":2}
+{\"name\":\"a\\u007f\",\"start\":1,\"end\":2}
+{\"name\":\"aaaaaaaaaaaaaaaaaaaaaaaaaaaaaaaaaaaaaaaaaaaaaaaaaaaaaaaaaaaaaaaaaaaaaaaaaaaaaaaaaaaaaaaaaaaaaaaaaaaaa\",\"start\":1,\"end\":2}
+= {\"code\":\"field\",\"detail\":\"start is missing or malformed\"}
+{\"name\":\"lab\"}
+{\"name\":\"lab\",\"start\":-1,\"end\":-1}
+{\"name\":\"lab\",\"start\":1.0,\"end\":2}
+{\"name\":\"lab\",\"start\":\"1\",\"end\":2}
+{\"name\":\"lab\",\"start\":null,\"end\":2}
+{\"name\":\"lab\",\"start\":4294967296,\"end\":2}
+= {\"code\":\"field\",\"detail\":\"end is missing or malformed\"}
+{\"name\":\"lab\",\"start\":1}
+{\"name\":\"lab\",\"start\":1,\"end\":4294967296}
+{\"name\":\"lab\",\"start\":1,\"end\":1e1}
+{\"name\":\"lab\",\"start\":1,\"end\":true}";
+
+/// What bodies of claims ask for, each behind the letter of its kind: the names with a colon behind each, of a list behind a `+`.
+const CLAIMS: &[u8] = b"= :
+a{}
+a{\"name\":5}
+= +::
+a[{},{\"name\":\"x\"}]
+= red:
+v{\"name\":\"red\"}
+= +red:
+v[{\"name\":\"red\"}]
+= +red:blue:
+v[{\"name\":\"red\"},{\"name\":\"blue\",\"vid\":7}]
+= {\"code\":\"bad_json\",\"detail\":\"the body is not the JSON that is asked for\"}
+a
+a5
+anull
+a[5]
+a[{},5]
+a[[{}]]
+v{\"name\":\"red\"
+v[{\"name\":\"red\"},5]
+v[{},5]
+= {\"code\":\"field\",\"detail\":\"body is missing or malformed\"}
+a[]
+v[ ]
+= {\"code\":\"field\",\"detail\":\"name is missing or malformed\"}
+v{}
+v{\"name\":5}
+v{\"name\":\"\"}
+v[{\"name\":\"red\"},{}]";
+
+/// What a refusal is told by.
+fn refused(alloc: Global, refusal: RequestRefusal) -> Result<Vec<u8>, AllocError> {
+    request_refusal_bytes(alloc, &refusal)
+}
+
+/// What the body of a range is told by.
+fn range_told(alloc: Global, body: &[u8]) -> Result<Vec<u8>, AllocError> {
+    match read_range(alloc, body) {
+        Ok(range) => {
+            let name = range.name.as_str();
+            let first = range.first;
+            let last = range.last;
+            let text = format!(in alloc; "{name} {first} {last}")?;
+            Vec::from_slice(alloc, text.as_bytes())
+        }
+        Err(refusal) => refused(alloc, refusal),
+    }
+}
+
+/// What the body of a claim is told by.
+fn claim_told(alloc: Global, kind: PoolKind, body: &[u8]) -> Result<Vec<u8>, AllocError> {
+    match read_claim(alloc, kind, body) {
+        Ok((answered, names)) => {
+            let mut text = Vec::new(alloc);
+            match answered {
+                Answered::AsOne => {}
+                Answered::AsList => text.push(b'+')?,
+            }
+            for name in names.as_slice() {
+                text.extend_from_slice(name.as_str().as_bytes())?;
+                text.push(b':')?;
+            }
+            Ok(text)
+        }
+        Err(refusal) => refused(alloc, RequestRefusal::Common(refusal)),
+    }
+}
+
+/// What a body behind the letter of its kind is told by.
+fn letter_told(alloc: Global, line: &[u8]) -> Result<Vec<u8>, AllocError> {
+    match line {
+        [b'a', body @ ..] => claim_told(alloc, PoolKind::Asn, body),
+        [b'v', body @ ..] => claim_told(alloc, PoolKind::Vlan, body),
+        _ => Ok(Vec::new(alloc)),
+    }
+}
+
+#[test]
+fn bodies_of_ranges(rt: HostRuntime) -> Result<(), Fail> {
+    let mut want: &[u8] = b"";
+    for line in RANGES.split(|b| *b == b'\n') {
+        match line {
+            [b'=', b' ', text @ ..] => want = text,
+            body => {
+                let told = range_told(rt.alloc(), body)?;
+                assert_eq!(rt; told.as_slice(), want);
+            }
+        }
+    }
+    Ok(())
+}
+
+#[test]
+fn bodies_of_claims(rt: HostRuntime) -> Result<(), Fail> {
+    let mut want: &[u8] = b"";
+    for line in CLAIMS.split(|b| *b == b'\n') {
+        match line {
+            [b'=', b' ', text @ ..] => want = text,
+            line => {
+                let told = letter_told(rt.alloc(), line)?;
+                assert_eq!(rt; told.as_slice(), want);
+            }
+        }
+    }
+    Ok(())
+}
+
+/// A text.
+fn text(alloc: Global, text: &str) -> Result<Text, AllocError> {
+    Ok(Text::of(String::from_str(alloc, text)?))
+}
+
+/// A range, or a group.
+fn range(alloc: Global) -> Result<NumberRange, AllocError> {
+    Ok(NumberRange {
+        id: 1,
+        kind: PoolKind::Asn,
+        name: text(alloc, "lab")?,
+        first: 64512,
+        last: 64514,
+    })
+}
+
+/// A member of it.
+fn member(alloc: Global, number: u32) -> Result<Member, AllocError> {
+    Ok(Member {
+        id: 7,
+        range: 1,
+        number,
+        name: text(alloc, "a\"b")?,
+    })
+}
+
+/// Two members of it.
+fn members(alloc: Global) -> Result<Listed<Member>, AllocError> {
+    let mut list = Vec::new(alloc);
+    list.push(member(alloc, 64512)?)?;
+    list.push(member(alloc, 64513)?)?;
+    Ok(Listed::of(list))
+}
+
+/// The reply of a line of texts.
+fn reply(alloc: Global, number: u32) -> Result<PoolReply, AllocError> {
+    let mut ranges = Vec::new(alloc);
+    ranges.push(range(alloc)?)?;
+    let mut numbers = Vec::new(alloc);
+    numbers.push(64513)?;
+    numbers.push(64514)?;
+    let mut one = Vec::new(alloc);
+    one.push(member(alloc, 64512)?)?;
+    Ok(match number {
+        0 => PoolReply::Made(range(alloc)?),
+        1 => PoolReply::Gone,
+        2 => PoolReply::Claimed(Listed::of(one)),
+        3 => PoolReply::Claimed(members(alloc)?),
+        4 => PoolReply::Ranges(Listed::of(ranges)),
+        5 => PoolReply::Members(members(alloc)?),
+        6 => PoolReply::Numbers(Listed::of(numbers)),
+        7 => PoolReply::Numbers(Listed::of(Vec::new(alloc))),
+        8 => PoolReply::Refused(PoolRefusal::Absent(3)),
+        9 => PoolReply::Refused(PoolRefusal::NameTaken(1)),
+        10 => PoolReply::Refused(PoolRefusal::Bounds),
+        11 => PoolReply::Refused(PoolRefusal::InUse(2)),
+        12 => PoolReply::Refused(PoolRefusal::Limit(Quantity::Claims, 1000)),
+        13 => PoolReply::Refused(PoolRefusal::NoSpace(2)),
+        14 => PoolReply::Refused(PoolRefusal::Limit(Quantity::Ranges, 1000)),
+        15 => PoolReply::Refused(PoolRefusal::Limit(Quantity::Members, 100000)),
+        16 => PoolReply::Refused(PoolRefusal::Limit(Quantity::Ids, 4294967294)),
+        17 => PoolReply::Refused(PoolRefusal::Limit(Quantity::Log, 1000000)),
+        18 => PoolReply::Refused(PoolRefusal::Keeper),
+        _ => PoolReply::Refused(PoolRefusal::Memory),
+    })
+}
+
+/// The texts of the replies above, for ASNs and, behind a bar where they differ, for VLANs.
+const REPLIES: &str = "{\"end\":64514,\"id\":1,\"name\":\"lab\",\"start\":64512}
+
+{\"asn\":64512,\"id\":7,\"range\":1}|{\"group\":1,\"id\":7,\"name\":\"a\\\"b\",\"vid\":64512}
+{\"asn\":64512,\"id\":7,\"range\":1}|{\"group\":1,\"id\":7,\"name\":\"a\\\"b\",\"vid\":64512}
+[{\"end\":64514,\"id\":1,\"name\":\"lab\",\"start\":64512}]
+[{\"asn\":64512,\"id\":7,\"range\":1},{\"asn\":64513,\"id\":7,\"range\":1}]|[{\"group\":1,\"id\":7,\"name\":\"a\\\"b\",\"vid\":64512},{\"group\":1,\"id\":7,\"name\":\"a\\\"b\",\"vid\":64513}]
+[64513,64514]
+[]
+{\"code\":\"not_found\",\"detail\":\"3 is not there\"}
+{\"code\":\"name_taken\",\"detail\":\"the name is that of 1\"}
+{\"code\":\"bounds\",\"detail\":\"first and last do not fit\"}
+{\"code\":\"in_use\",\"detail\":\"named by member 2\"}
+{\"code\":\"limit\",\"detail\":\"claims would exceed 1000\"}
+{\"code\":\"no_space\",\"detail\":\"no space for claim 2\"}
+{\"code\":\"limit\",\"detail\":\"ranges would exceed 1000\"}
+{\"code\":\"limit\",\"detail\":\"members would exceed 100000\"}
+{\"code\":\"limit\",\"detail\":\"ids would exceed 4294967294\"}
+{\"code\":\"limit\",\"detail\":\"log would exceed 1000000\"}
+{\"code\":\"keeper\",\"detail\":\"the store could not be written\"}
+{\"code\":\"memory\",\"detail\":\"no memory\"}";
+
+#[test]
+fn replies(rt: HostRuntime) -> Result<(), Fail> {
+    let mut number = 0;
+    for line in REPLIES.split('\n') {
+        let (asn, vlan) = line.split_once('|').unwrap_or((line, line));
+        let reply = reply(rt.alloc(), number)?;
+        let of_asn = Shape {
+            kind: PoolKind::Asn,
+            list: false,
+        };
+        let told = reply_bytes(rt.alloc(), of_asn, &reply)?;
+        assert_eq!(rt; told.as_slice(), asn.as_bytes());
+        let of_vlan = Shape {
+            kind: PoolKind::Vlan,
+            list: false,
+        };
+        let told = reply_bytes(rt.alloc(), of_vlan, &reply)?;
+        assert_eq!(rt; told.as_slice(), vlan.as_bytes());
+        number = number.saturating_add(1);
+    }
+    Ok(())
+}
+
+#[test]
+fn a_claim_by_a_list_is_answered_by_a_list(rt: HostRuntime) -> Result<(), Fail> {
+    let mut one = Vec::new(rt.alloc());
+    one.push(member(rt.alloc(), 4094)?)?;
+    let shape = Shape {
+        kind: PoolKind::Vlan,
+        list: true,
+    };
+    let told = reply_bytes(rt.alloc(), shape, &PoolReply::Claimed(Listed::of(one)))?;
+    assert_eq!(rt;
+        told.as_slice(),
+        b"[{\"group\":1,\"id\":7,\"name\":\"a\\\"b\",\"vid\":4094}]".as_slice()
+    );
+    Ok(())
+}

@@ -1,0 +1,9 @@
+//! Stored pools that are opened: what is wrong with their tables, if anything, or the rows for which they stand.
+#![tactic(auto)]
+
+mod faults;
+mod passes;
+mod rules;
+
+pub use faults::{PoolFault, opened};
+pub use rules::{has_name, in_bounds, same_kind};

@@ -1,0 +1,6 @@
+pub mod Changes
+pub mod Keeping
+pub mod MachineFits
+pub mod Loads
+pub mod Plans
+pub mod Putting

@@ -1,0 +1,24 @@
+-- What was loaded is what the keeper tells.
+use Rattle.std.proofs.Common.{◌≡◌, Option, Some, None, Result, Ok, Err, ap, sym, ◌∙◌, subst}
+use Rattle.number_pools.specs.Rows.{Pools}
+use Rattle.pool_keeper.specs.declared.tables.PoolTables.{PoolTables}
+use Rattle.pool_keeper.specs.Keeping.{IsTold}
+use Rattle.pool_keeper.specs.Stored.{Tells, tables_of}
+use Rattle.pool_opening.specs.declared.faults.PoolFault.{PoolFault}
+use Rattle.pool_opening.specs.Faults.{IsRefused, fault_of, loaded}
+use Rattle.pool_register.specs.Opened.{IsOpened, IsUnopened}
+
+pub opened_is : (told : Option PoolTables) (tables : PoolTables) (s : Pools) → IsTold told tables → fault_of tables ≡ None → s ≡ loaded tables → IsOpened told s
+opened_is None tables s t f e = tt
+opened_is (Some known) tables s t f e = (ap fault_of t ∙ f, e ∙ ap loaded (sym t))
+
+pub tells_loaded : (told new : Option PoolTables) (tables : PoolTables) (s : Pools) → IsTold told tables → new ≡ told → s ≡ loaded tables → Tells new s
+tells_loaded told new tables s t n e = subst (λ (o : Option PoolTables). Tells o s) (sym n) (go told t)
+  where
+    go : (o : Option PoolTables) → IsTold o tables → Tells o s
+    go None h = tt
+    go (Some known) h = h ∙ sym (ap tables_of e)
+
+pub unopened_is : (told : Option PoolTables) (tables : PoolTables) (fault : PoolFault) → IsTold told tables → IsRefused tables fault → IsUnopened told fault
+unopened_is None tables fault t r = tt
+unopened_is (Some known) tables fault t r = subst (λ (x : PoolTables). IsRefused x fault) (sym t) r

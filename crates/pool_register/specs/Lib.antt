@@ -1,0 +1,4 @@
+pub mod Kept
+pub mod Opened
+pub mod Planned
+pub mod Stops

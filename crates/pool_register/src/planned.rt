@@ -1,0 +1,30 @@
+//! What a call comes to.
+
+ghost use Rattle.std.specs.Prelude.{◌≡◌};
+ghost use Rattle.pool_register.specs.Planned.{reply_of};
+
+use number_pools::{Listed, Member, NumberRange, PoolRefusal, PoolReply};
+
+/// A change of pools.
+#[derive(Debug, Drop)]
+pub enum Update {
+    /// This range is made.
+    AddRange(NumberRange),
+    /// The range of this id goes.
+    CutRange(u32),
+    /// The member of this id goes.
+    CutMember(u32),
+    /// These members are made.
+    Claim(Listed<Member>),
+}
+
+/// What a call comes to: a refusal, a reply that changes nothing, or a change, which is made where a keeper stores it.
+#[derive(Debug, Drop)]
+pub enum Planned {
+    /// A check refuses.
+    Refused(PoolRefusal),
+    /// Nothing is changed.
+    Read(PoolReply),
+    /// The pools are changed.
+    Change(Update),
+}

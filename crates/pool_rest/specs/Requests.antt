@@ -1,0 +1,132 @@
+-- What a request asks of number pools: the route comes first, then the method, then the body.
+use Rattle.std.specs.Prelude.{◌≡◌, ℕ, Bool, true, false, List, Option, Some, None, Result, Ok, Err}
+use Rattle.ipam_data.specs.declared.calls.Answered.{Answered}
+use Rattle.ipam_data.specs.declared.calls.Answered.TheVariants.{AsOne, AsList}
+use Rattle.ipam_data.specs.declared.replies.Refusal.{Refusal}
+use Rattle.ipam_data.specs.declared.replies.Refusal.TheVariants.{NoRoute, Method as NoMethod}
+use Rattle.number_pools.specs.declared.rows.PoolKind.{PoolKind}
+use Rattle.number_pools.specs.declared.calls.PoolCall.{PoolCall}
+use Rattle.number_pools.specs.declared.calls.PoolCall.TheVariants as call
+use Rattle.pool_json.specs.declared.bodies.RangeDraft.{RangeDraft}
+use Rattle.pool_json.specs.declared.bodies.RequestRefusal.{RequestRefusal}
+use Rattle.pool_json.specs.declared.bodies.RequestRefusal.TheVariants.{Common}
+use Rattle.pool_json.specs.declared.replies.Shape.{Shape}
+use Rattle.pool_json.specs.Bodies.{IsClaim, IsRangeBody}
+use Rattle.rest_query.specs.declared.asked.Available.TheVariants.{Addrs}
+use Rattle.rest_query.specs.Lists.{IsLimitAsked}
+use Rattle.rest_query.specs.Query.{path_in, query_in}
+use Rattle.pool_rest.specs.declared.route.Route.{Route}
+use Rattle.pool_rest.specs.declared.route.Route.TheVariants.{Many, Single, Within}
+use Rattle.pool_rest.specs.declared.route.Base.{Base}
+use Rattle.pool_rest.specs.declared.route.Base.TheVariants.{Ranges, Members}
+use Rattle.pool_rest.specs.declared.route.RangePart.{RangePart}
+use Rattle.pool_rest.specs.declared.route.RangePart.TheVariants.{Free, Given}
+use Rattle.pool_rest.specs.declared.route.Method.{Method}
+use Rattle.pool_rest.specs.declared.route.Method.TheVariants.{Get, Post, Delete}
+use Rattle.pool_rest.specs.Routes.{HasRoute, method_named}
+
+-- what a request asks for: a call and how its reply is written, or why it is refused before the pools
+abbrev pub Asked : Type 0
+Asked = Result (PoolCall × Shape) RequestRefusal
+
+-- how the reply to a call is written: for its kind, and as a list where the call is a claim that came as one
+abbrev pub shape_of : PoolCall → Shape
+shape_of (call.AddRange kind name first last) = record { kind = kind; list = false }
+shape_of (call.CutRange kind id) = record { kind = kind; list = false }
+shape_of (call.Ranges kind) = record { kind = kind; list = false }
+shape_of (call.Members kind id) = record { kind = kind; list = false }
+shape_of (call.CutMember kind id) = record { kind = kind; list = false }
+shape_of (call.Available kind id limit) = record { kind = kind; list = false }
+shape_of (call.Claim kind id list names) = record { kind = kind; list = list }
+
+abbrev pub asks : PoolCall → Asked
+asks c = Ok (c, shape_of c)
+
+abbrev pub no_method : Asked
+no_method = Err (Common NoMethod)
+
+-- one more range, where the body gives one
+abbrev pub asks_range : PoolKind → Result RangeDraft RequestRefusal → Asked
+asks_range kind (Ok draft) = asks (call.AddRange kind draft.name draft.first draft.last)
+asks_range kind (Err refusal) = Err refusal
+
+abbrev pub IsRangeAsked : PoolKind → List ℕ → Asked → Type 0
+IsRangeAsked kind body asked = (draft : Result RangeDraft RequestRefusal) × IsRangeBody body draft × (asked ≡ asks_range kind draft)
+
+-- what a method asks of the ranges of a kind, with this body
+abbrev pub IsRangesAsked : PoolKind → Option Method → List ℕ → Asked → Type 0
+IsRangesAsked kind (Some Get) body asked = asked ≡ asks (call.Ranges kind)
+IsRangesAsked kind (Some Post) body asked = IsRangeAsked kind body asked
+IsRangesAsked kind (Some Delete) body asked = asked ≡ no_method
+IsRangesAsked kind None body asked = asked ≡ no_method
+
+-- a range or a member is cut
+abbrev pub cut_call : Base → ℕ → PoolCall
+cut_call (Ranges kind) id = call.CutRange kind id
+cut_call (Members kind) id = call.CutMember kind id
+
+-- what a method asks of a range or a member
+abbrev pub one_asked : Base → ℕ → Option Method → Asked
+one_asked base id (Some Get) = no_method
+one_asked base id (Some Post) = no_method
+one_asked base id (Some Delete) = asks (cut_call base id)
+one_asked base id None = no_method
+
+-- the free numbers, where the query gives how many
+abbrev pub asks_free : PoolKind → ℕ → Result ℕ Refusal → Asked
+asks_free kind id (Ok limit) = asks (call.Available kind id limit)
+asks_free kind id (Err refusal) = Err (Common refusal)
+
+-- where it gives none, the limit is that of a list of available addresses
+abbrev pub IsFreeListed : PoolKind → ℕ → List ℕ → Asked → Type 0
+IsFreeListed kind id query asked = (limit : Result ℕ Refusal) × IsLimitAsked Addrs query limit × (asked ≡ asks_free kind id limit)
+
+-- whether a claim came as a list
+abbrev pub is_list : Answered → Bool
+is_list AsOne = false
+is_list AsList = true
+
+-- a claim, where the body gives its names
+abbrev pub asks_claim : PoolKind → ℕ → Result (Answered × List (List ℕ)) Refusal → Asked
+asks_claim kind id (Ok claim) = asks (call.Claim kind id (is_list claim.0) claim.1)
+asks_claim kind id (Err refusal) = Err (Common refusal)
+
+abbrev pub IsClaimAsked : PoolKind → ℕ → List ℕ → Asked → Type 0
+IsClaimAsked kind id body asked =
+    (claim : Result (Answered × List (List ℕ)) Refusal) × IsClaim kind body claim × (asked ≡ asks_claim kind id claim)
+
+-- what a method asks of the free numbers of a range, with this query and this body
+abbrev pub IsFreeAsked : PoolKind → ℕ → Option Method → List ℕ → List ℕ → Asked → Type 0
+IsFreeAsked kind id (Some Get) query body asked = IsFreeListed kind id query asked
+IsFreeAsked kind id (Some Post) query body asked = IsClaimAsked kind id body asked
+IsFreeAsked kind id (Some Delete) query body asked = asked ≡ no_method
+IsFreeAsked kind id None query body asked = asked ≡ no_method
+
+-- what a method asks of the members of a range
+abbrev pub given_asked : PoolKind → ℕ → Option Method → Asked
+given_asked kind id (Some Get) = asks (call.Members kind id)
+given_asked kind id (Some Post) = no_method
+given_asked kind id (Some Delete) = no_method
+given_asked kind id None = no_method
+
+-- what a method asks of a part of a range
+abbrev pub IsPartAsked : RangePart → PoolKind → ℕ → Option Method → List ℕ → List ℕ → Asked → Type 0
+IsPartAsked Free kind id method query body asked = IsFreeAsked kind id method query body asked
+IsPartAsked Given kind id method query body asked = asked ≡ given_asked kind id method
+
+-- what a method asks of a route, with this query and this body
+abbrev pub IsAskedOf : Route → Option Method → List ℕ → List ℕ → Asked → Type 0
+IsAskedOf (Many kind) method query body asked = IsRangesAsked kind method body asked
+IsAskedOf (Single base id) method query body asked = asked ≡ one_asked base id method
+IsAskedOf (Within part kind id) method query body asked = IsPartAsked part kind id method query body asked
+
+-- a path without a route is refused whatever the method, the query and the body
+abbrev pub IsAskedAt : Option Route → List ℕ → List ℕ → List ℕ → Asked → Type 0
+IsAskedAt None method query body asked = asked ≡ Err (Common NoRoute)
+IsAskedAt (Some route) method query body asked = IsAskedOf route (method_named method) query body asked
+
+-- what a request of this method, target and body asks for: the target is cut at its first question mark (RFC 3986 3.4)
+pub record IsRequest (method target body : List ℕ) (asked : Asked) : Type 0 where
+  pub route : Option Route
+  pub found : HasRoute (path_in target) route
+  pub is : IsAskedAt route method (query_in target) body asked

@@ -1,0 +1,198 @@
+//! Calls of pools over a keeper in memory.
+
+use number_pools::{Member, NumberRange, PoolCall, PoolKind, PoolReply};
+use pool_keeper::memory::MemoryPools;
+use pool_keeper::tables::empty_tables;
+use pool_register::{Pools, begin};
+use std::alloc::{AllocError, Global};
+use std::test::Fail;
+use stored_tables::tables::{Text, Texts};
+
+/// A call a line, and behind the equals sign what is answered. The keeper's calls of the numbers 1 and 5 fail.
+const CALLS: &str = "\
+add asn office 64512 64514=made 1
+claim asn 1 2=Keeper
+claim asn 1 2=64512 64513
+add asn site 64513 64515=made 2
+free asn 2 50=64514 64515
+free asn 2 1=64514
+claim asn 2 3=NoSpace(2)
+add vlan office 1 4094=made 3
+claim vlan 3 1=Keeper
+claim vlan 3 1=1
+claim vlan 3 20=2 3 4 5 6 7 8 9 10 11 12 13 14 15 16 17 18 19 20 21
+add vlan home 1 4=made 4
+claim vlan 4 2=1 2
+members vlan 4=1 2
+members asn 1=64512 64513
+members asn 3=Absent(3)
+ranges asn=1 2
+ranges vlan=3 4
+add asn office 1 2=NameTaken(1)
+add asn lab 0 5=Bounds
+add asn lab 6 5=Bounds
+add vlan lab 1 4095=Bounds
+cut asn 1=InUse(1)
+cut vlan 1=Absent(1)
+cut_member vlan 1=Absent(1)
+cut_member asn 1=gone
+claim asn 2 3=NoSpace(2)
+claim asn 1 1=64512
+claim asn 1 1001=Limit(Claims, 1000)
+claim asn 9 1001=Absent(9)
+free vlan 9 5=Absent(9)
+cut_member vlan 25=gone
+cut_member vlan 24=gone
+cut vlan 4=gone
+ranges vlan=3
+";
+
+fn number(word: Option<&str>) -> u32 {
+    word.unwrap_or("").parse::<u32>().unwrap_or(0)
+}
+
+fn kind_named(word: Option<&str>) -> PoolKind {
+    if word.unwrap_or("") == "asn" {
+        PoolKind::Asn
+    } else {
+        PoolKind::Vlan
+    }
+}
+
+/// So many empty names.
+fn names(alloc: Global, n: u32) -> Result<Texts, AllocError> {
+    let mut items = Vec::new(alloc);
+    for _ in 0..n {
+        items.push(Text::of(String::new(alloc)))?;
+    }
+    Ok(Texts::of(items))
+}
+
+/// The call of a line.
+fn call_of(alloc: Global, line: &str) -> Result<PoolCall, AllocError> {
+    let mut words = line.split(' ');
+    let verb = words.next().unwrap_or("");
+    let kind = kind_named(words.next());
+    if verb == "add" {
+        let name = Text::of(String::from_str(alloc, words.next().unwrap_or(""))?);
+        let first = number(words.next());
+        let last = number(words.next());
+        return Ok(PoolCall::AddRange {
+            kind,
+            name,
+            first,
+            last,
+        });
+    }
+    let id = number(words.next());
+    if verb == "cut" {
+        return Ok(PoolCall::CutRange { kind, id });
+    }
+    if verb == "cut_member" {
+        return Ok(PoolCall::CutMember { kind, id });
+    }
+    if verb == "ranges" {
+        return Ok(PoolCall::Ranges { kind });
+    }
+    if verb == "members" {
+        return Ok(PoolCall::Members { kind, id });
+    }
+    let n = number(words.next());
+    if verb == "free" {
+        return Ok(PoolCall::Available { kind, id, limit: n });
+    }
+    Ok(PoolCall::Claim {
+        kind,
+        id,
+        list: true,
+        names: names(alloc, n)?,
+    })
+}
+
+fn numbers_of(alloc: Global, members: &[Member]) -> Result<String, AllocError> {
+    let mut out = String::new(alloc);
+    for member in members {
+        if !out.is_empty() {
+            out.push(' ')?;
+        }
+        out.push_str(format!(in alloc; "{}", member.number)?.as_str())?;
+    }
+    Ok(out)
+}
+
+fn ids_of(alloc: Global, ranges: &[NumberRange]) -> Result<String, AllocError> {
+    let mut out = String::new(alloc);
+    for range in ranges {
+        if !out.is_empty() {
+            out.push(' ')?;
+        }
+        out.push_str(format!(in alloc; "{}", range.id)?.as_str())?;
+    }
+    Ok(out)
+}
+
+fn listed(alloc: Global, numbers: &[u32]) -> Result<String, AllocError> {
+    let mut out = String::new(alloc);
+    for number in numbers {
+        if !out.is_empty() {
+            out.push(' ')?;
+        }
+        out.push_str(format!(in alloc; "{}", number)?.as_str())?;
+    }
+    Ok(out)
+}
+
+/// A reply in short.
+fn said(alloc: Global, reply: &PoolReply) -> Result<String, AllocError> {
+    match reply {
+        PoolReply::Made(range) => Ok(format!(in alloc; "made {}", range.id)?),
+        PoolReply::Gone => Ok(String::from_str(alloc, "gone")?),
+        PoolReply::Claimed(made) => numbers_of(alloc, made.as_slice()),
+        PoolReply::Ranges(rows) => ids_of(alloc, rows.as_slice()),
+        PoolReply::Members(rows) => numbers_of(alloc, rows.as_slice()),
+        PoolReply::Numbers(free) => listed(alloc, free.as_slice()),
+        PoolReply::Refused(why) => Ok(format!(in alloc; "{why:?}")?),
+    }
+}
+
+/// A reply in short. The reply is used up.
+fn told(alloc: Global, reply: PoolReply) -> Result<String, AllocError> {
+    let text = said(alloc, &reply);
+    drop(reply);
+    text
+}
+
+/// What is answered to the call of a line, behind the line.
+fn answered(
+    alloc: Global,
+    pools: &mut Pools<MemoryPools>,
+    line: &str,
+) -> Result<String, AllocError> {
+    let call = line.split('=').next().unwrap_or("");
+    let asked = call_of(alloc, call)?;
+    let text = told(alloc, pools.act(7, asked))?;
+    Ok(format!(in alloc; "{call}={text}\n")?)
+}
+
+/// What is answered to all calls, a line each.
+fn conversation(alloc: Global, pools: &mut Pools<MemoryPools>) -> Result<String, AllocError> {
+    let mut out = String::new(alloc);
+    for line in CALLS.lines() {
+        out.push_str(answered(alloc, pools, line)?.as_str())?;
+    }
+    Ok(out)
+}
+
+#[test]
+fn calls_are_answered(rt: HostRuntime) -> Result<(), Fail> {
+    let alloc = rt.alloc();
+    let mut fails = Vec::new(alloc);
+    fails.push(1)?;
+    fails.push(5)?;
+    let mut pools = begin(alloc, MemoryPools::new(empty_tables(alloc), fails));
+    let answers = conversation(alloc, &mut pools);
+    drop(pools);
+    let out = answers?;
+    assert!(rt; out.as_str() == CALLS, "{out}");
+    Ok(())
+}
