@@ -1,5 +1,5 @@
 //! How long a client may take, so that none holds a worker for ever.
-ghost use Rattle.std.specs.Prelude.{◌≡◌, ◌<◌, ◌+◌, ◌-◌, ◌↔◌, IfSome, IsSome};
+ghost use Rattle.std.specs.Prelude.{◌≡◌, ◌<◌, ◌≤◌, ◌+◌, ◌-◌, ◌*◌, ◌^◌, ◌↔◌, IfSome, IsSome};
 ghost use Rattle.std.specs.Duration.{as_nanos};
 ghost use Rattle.ipam_listen.specs.Patience.{allowed_nanos};
 
@@ -20,4 +20,12 @@ pub(crate) fn patience_left(base: Duration, bytes: u64, taken: Duration) -> Opti
         return None;
     }
     Some(left)
+}
+
+/// The seconds of a time-out that is longer than this wait, by a second at most. They seldom change from one request to the next.
+pub(crate) fn seconds_past(left: Duration) -> u64
+    ensures most { result * 10 ^ 9 ≤ as_nanos left + 10 ^ 9 }
+    ensures least { result < 2 ^ 64 - 1 → as_nanos left < result * 10 ^ 9 }
+{
+    left.as_secs().saturating_add(1)
 }

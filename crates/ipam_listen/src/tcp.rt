@@ -9,7 +9,7 @@ ghost use Rattle.ipam_listen.specs.Tcp.{returned_door};
 use crate::lane::Lane;
 use crate::listener::Listener;
 use crate::mark::AnswerMark;
-use crate::patience::patience_left;
+use crate::patience::{patience_left, seconds_past};
 use ipam_edge::{Failed, Sink, Source, StdSink};
 use std::alloc::Global;
 use std::io::Read;
@@ -42,6 +42,8 @@ pub struct TcpIn<'a, R, S> {
     before: u64,
     /// How many bytes came in all.
     bytes: u64,
+    /// For how many seconds a read waits at most, once that is set.
+    timeout: Option<u64>,
     faults: u64,
 }
 
@@ -56,7 +58,22 @@ impl<'a, R: Clock, S: Read + OpenStream> TcpIn<'a, R, S> {
         }
     }
 
-    /// Reads, and waits for as long as the client has left.
+    /// Sets how long reads wait at most, unless just that is set.
+    fn set_timeout(&mut self, seconds: u64) -> io::Result<()>
+        ensures { self.new ≡ record self.old { timeout = self.new.timeout } }
+    {
+        if let Some(set) = self.timeout {
+            if set == seconds {
+                return Ok(());
+            }
+        }
+        let wait = Duration::from_secs(seconds);
+        self.stream.set_read_timeout(Some(wait))?;
+        self.timeout = Some(seconds);
+        Ok(())
+    }
+
+    /// Reads, and waits for as long as the client has left, or for a second more at most.
     fn read_in_time(&mut self, into: &mut [u8]) -> io::Result<usize>
         ensures most { IfOk result (λ n. n ≤ length into.new) }
         ensures took { ReadConsumes (S.remaining self.old.stream) (S.remaining self.new.stream) result into.new }
@@ -67,7 +84,7 @@ impl<'a, R: Clock, S: Read + OpenStream> TcpIn<'a, R, S> {
         let Some(left) = patience_left(self.base, bytes, taken) else {
             return Err(io::Error::from(io::ErrorKind::TimedOut));
         };
-        self.stream.set_read_timeout(Some(left))?;
+        self.set_timeout(seconds_past(left))?;
         self.stream.read(into)
     }
 }
@@ -193,6 +210,7 @@ impl<'a, R: Clock> TcpDoor<'a, R> {
             since: Duration::ZERO,
             before: 0,
             bytes: 0,
+            timeout: None,
             faults: 0,
         };
         Ok((source, sink))
