@@ -29,7 +29,7 @@ cat > "$bench/src/main.rt" <<'E'
 //! Calls one machine from many threads: threads, calls of each, pauses of an act, pauses between two calls, and `timed` where each call's wait is taken.
 //! It prints the nanoseconds of the run and of the longest wait.
 #![tactic(auto)]
-ghost use Rattle.std.specs.Prelude.{◌≡◌, ◌^◌, ◌<◌, [], All, IfSome, length, ℕ, List};
+ghost use Rattle.std.specs.Prelude.{◌≡◌, ◌^◌, ◌<◌, [], All, IfSome, length, false, ℕ, List};
 ghost use Rattle.history_lock.specs.Replies.{plain};
 ghost use Rattle.lock_bench.specs.Ready.{IsReady};
 
@@ -63,6 +63,8 @@ impl Machine for Busy {
     ghost answer = { λ r. r };
 
     ghost kind = { λ r. plain };
+
+    ghost fallible = { λ r. false };
 
     ghost takes = { λ c. Unit {0} };
 

@@ -1,6 +1,6 @@
 #!/usr/bin/env bash
 # docs/openapi.json beside the built program (./ipamd builds it; IPAMD=PROGRAM takes another one). It ends with status 1 at the first difference.
-#   the document   is what `bench/openapi.py --write` writes; it is valid by openapi-spec-validator, in a virtual environment, where a package index can be
+#   the document   is what `bench/openapi.py --write` writes; it is valid by openapi-spec-validator, where this machine has it or a package index can be
 #                  reached; and by bench/openapi_3.1_schema.json and the schema of JSON Schema 2020-12, always
 #   conversations  random requests: each answer has the status, fields and body that the document says of this operation, and is a refusal by its bytes alone
 #                  exactly where the document says so, with the code and the member that it says
@@ -13,7 +13,10 @@ export IPAMD=${IPAMD:-$top/crates/ipamd/out/ipamd} PYTHONDONTWRITEBYTECODE=1
 folder=$(mktemp -d)
 trap 'rm -rf "$folder"' EXIT
 python=
-if python3 -m venv "$folder" 2> /dev/null && "$folder/bin/pip" install -q --retries 0 --timeout 10 openapi-spec-validator==0.7.1 2> /dev/null; then
+if python3 -c 'import openapi_spec_validator' 2> /dev/null; then
+    python3 -m openapi_spec_validator "$top/docs/openapi.json"
+    python=python3
+elif python3 -m venv "$folder" 2> /dev/null && "$folder/bin/pip" install -q --retries 0 --timeout 10 openapi-spec-validator==0.7.1 2> /dev/null; then
     "$folder/bin/python" -m openapi_spec_validator "$top/docs/openapi.json"
     python=$folder/bin/python
 else

@@ -11,12 +11,40 @@ s/Rattle\.indexed_book\.proofs\.(resettle|IndexedBookBook)\b/Rattle.placed_book.
 s/Rattle\.indexed_book\./Rattle.placed_book./g
 s/\b(row_book|indexed_book)::/placed_book::/g
 
-# row_counts is in plan_import
-s/Rattle\.row_counts\.specs\.declared\./Rattle.plan_import.specs.declared.leftovers./g
-s/Rattle\.row_counts\.proofs\.KeyLaws\b/Rattle.plan_import.proofs.SpelledLaws/g
-s/Rattle\.row_counts\.proofs\.(Leftovers|put_text)\b/Rattle.plan_import.proofs.leftovers.\1/g
-s/Rattle\.row_counts\./Rattle.plan_import./g
-s/\brow_counts::/plan_import::/g
+# plan_import and plan_export are in register_plans, plan_survey is in register_claims
+s/Rattle\.plan_(import|export)\.specs\.declared\./Rattle.register_plans.specs.declared.\1s./g
+s/Rattle\.plan_import\.specs\.(Halts|Plan)\b/Rattle.register_plans.specs.Import\1/g
+s/Rattle\.plan_import\.specs\.Kept\b/Rattle.register_plans.specs.KeptDrafts/g
+s/Rattle\.plan_import\.specs\.Keys\b/Rattle.register_plans.specs.TextKeys/g
+s/Rattle\.plan_import\.specs\.Left\b/Rattle.register_plans.specs.RecordsLeft/g
+s/Rattle\.plan_import\.specs\.Ready\b/Rattle.register_plans.specs.ReadyRows/g
+s/Rattle\.plan_import\.specs\.Undone\b/Rattle.register_plans.specs.UndoneRecords/g
+s/Rattle\.plan_import\.proofs\.(Loops|Plans|Records|Rows|Steps)\b/Rattle.register_plans.proofs.Import\1/g
+s/Rattle\.plan_import\.proofs\.KeptLaws\b/Rattle.register_plans.proofs.KeptDraftLaws/g
+s/Rattle\.plan_import\.proofs\.KeyLaws\b/Rattle.register_plans.proofs.CountedKeys/g
+s/Rattle\.plan_import\.proofs\.LeftLaws\b/Rattle.register_plans.proofs.RecordsLeftLaws/g
+s/Rattle\.plan_import\.proofs\.SpelledLaws\b/Rattle.register_plans.proofs.SpelledKeys/g
+s/Rattle\.plan_import\.proofs\.(LookedUp|SameKeys|TakenBack)\b/Rattle.register_plans.proofs.\1/g
+s/Rattle\.plan_export\.proofs\.Rows\b/Rattle.register_plans.proofs.ExportRows/g
+s/Rattle\.plan_(import|export)\.proofs\./Rattle.register_plans.proofs.\1s./g
+s/Rattle\.plan_survey\.specs\.declared\./Rattle.register_claims.specs.declared.surveys./g
+s/Rattle\.plan_survey\.specs\.Digits\b/Rattle.register_claims.specs.PlaceDigits/g
+s/Rattle\.plan_survey\.proofs\.Figures\b/Rattle.register_claims.proofs.SurveyFigures/g
+s/Rattle\.plan_survey\.proofs\.Numbers\b/Rattle.register_claims.proofs.PlaceNumbers/g
+s/Rattle\.plan_survey\.proofs\.(OneOrder|Surveyed)\b/Rattle.register_claims.proofs.\1/g
+s/Rattle\.plan_survey\.proofs\./Rattle.register_claims.proofs.surveys./g
+s/\bplan_import::plan_import\b/register_plans::plan_import/g
+s/\bplan_export::plan_rows\b/register_plans::plan_rows/g
+s/\bplan_survey::plan_survey\b/register_claims::plan_survey/g
+
+# row_counts is in register_plans
+s/Rattle\.row_counts\.specs\.declared\./Rattle.register_plans.specs.declared.imports.leftovers./g
+s/Rattle\.row_counts\.proofs\.KeyLaws\b/Rattle.register_plans.proofs.SpelledKeys/g
+s/Rattle\.row_counts\.proofs\.(Leftovers|put_text)\b/Rattle.register_plans.proofs.imports.leftovers.\1/g
+s/Rattle\.row_counts\.specs\.Keys\b/Rattle.register_plans.specs.TextKeys/g
+s/Rattle\.row_counts\.specs\.Left\b/Rattle.register_plans.specs.RecordsLeft/g
+s/Rattle\.row_counts\.proofs\.LeftLaws\b/Rattle.register_plans.proofs.RecordsLeftLaws/g
+s/\brow_counts::/crate::imports::leftovers::/g
 
 # load_text, load_claims and register_load are command_load
 s/Rattle\.load_text\.specs\.Load\b/Rattle.command_load.specs.LoadText/g

@@ -11,6 +11,7 @@ use Rattle.history_lock.specs.Places.{IsLegalAt}
 use Rattle.history_lock.proofs.Places.{IsLegalAt-longer}
 use Rattle.ipam_data.specs.declared.calls.Call.{Call}
 use Rattle.ipam_data.specs.State.{State, empty_state}
+use Rattle.ipam_data.specs.Replays.{is_accepted}
 use Rattle.ipam_data.specs.Steps.{plain_step}
 use Rattle.ipam_data.proofs.RowLists.{contains_cases}
 use Rattle.command_load.specs.LoadText.{load_first}
@@ -25,7 +26,7 @@ use Rattle.command_load.proofs.Histories.{place_says, next_place, places_stay}
 longer : (unique : Bool) (h g : List (ℕ × Call)) (number : ℕ) (notes : List (ℕ × ℕ)) → IsPrefix h g → AllByRecursion (IsGot unique h number) notes → AllByRecursion (IsGot unique g number) notes
 longer unique h g number [] p all = tt
 longer unique h g number (n ∷ ns) p all = (
-  record { reply = all.0.reply; tells = all.0.tells; legal = IsLegalAt-longer plain_step (empty_state unique) h g number claim_of_one all.0.reply accepted n.1 p all.0.legal },
+  record { reply = all.0.reply; tells = all.0.tells; legal = IsLegalAt-longer plain_step is_accepted (empty_state unique) h g number claim_of_one all.0.reply accepted n.1 p all.0.legal },
   longer unique h g number ns p all.1,
 )
 
@@ -54,7 +55,7 @@ one_noted unique most v w claimed least greatest value place reply noted c tells
           ∙ sym (map-append (λ (n : ℕ × ℕ). n.1) noted.notes ((value, place) ∷ []));
       got = subst (λ (n : ℕ). AllByRecursion (IsGot unique w.seen n) (noted.notes ++ (value, place) ∷ [])) (sym same)
           (all-push (IsGot unique w.seen v.number) noted.notes (value, place) (longer unique v.seen w.seen v.number noted.notes c.seen_only_grows noted.got)
-          (record { reply = reply; tells = tells; legal = subst (λ (s : State). IsLegalAt plain_step s w.seen v.number claim_of_one reply accepted place) noted.opening c.reply_is_legal }));
+          (record { reply = reply; tells = tells; legal = subst (λ (s : State). IsLegalAt plain_step is_accepted s w.seen v.number claim_of_one reply accepted place) noted.opening c.reply_is_legal }));
       count = (
           let a = noted.count in
           let b : length (own_entries w.number w.seen) ≡ length (own_entries v.number v.seen) + 1 =

@@ -13,6 +13,7 @@ use Rattle.ipam_data.specs.declared.replies.Reply.TheVariants.{Made}
 use Rattle.ipam_data.specs.declared.replies.View.TheVariants.{IpAddress as AddressView}
 use Rattle.ipam_data.specs.Rows.{most_addresses}
 use Rattle.ipam_data.specs.State.{State, empty_state}
+use Rattle.ipam_data.specs.Replays.{is_accepted}
 use Rattle.ipam_data.specs.Steps.{plain_step}
 use Rattle.command_load.specs.Claims.{creation_of, claim_of_one, claimed_state, address_row}
 
@@ -42,7 +43,7 @@ HistoryLeadsToState = (unique : Bool) (len : ℕ) (history : List (ℕ × Call))
 -- whoever claimed: an accepted claim that stands at place n of such a history, behind the creation, got address n
 abbrev pub PlaceSaysAddress : Type 0
 PlaceSaysAddress = (unique : Bool) (len : ℕ) (history : List (ℕ × Call)) (who : ℕ) (reply : Reply) (place : ℕ) → IsLoadHistory len history → HasRoomFor len (length history)
-    → 1 ≤ place → IsLegalAt plain_step (empty_state unique) history who claim_of_one reply accepted place
+    → 1 ≤ place → IsLegalAt plain_step is_accepted (empty_state unique) history who claim_of_one reply accepted place
     → reply ≡ Made (AddressView (address_row len place))
 
 -- ---- whose entry stands where
@@ -63,7 +64,7 @@ SharesAddUp = (numbers : List ℕ) (history : List (ℕ × Call)) → AreShared 
 
 -- an accepted call has the next place of its caller
 abbrev pub CallHasNextPlace : Type 0
-CallHasNextPlace = (v w : SeatView State Call) (call : Call) (reply : Reply) (place : ℕ) → IsCall plain_step v w call reply accepted place
+CallHasNextPlace = (v w : SeatView State Call) (call : Call) (reply : Reply) (place : ℕ) → IsCall plain_step is_accepted v w call reply accepted place
     → own_places v.number 0 w.seen ≡ own_places v.number 0 v.seen ++ place ∷ []
 
 -- where no entry of a caller came, its places stay

@@ -9,6 +9,7 @@ use Rattle.history_lock.specs.Seats.{SeatView, IsCall}
 use Rattle.ipam_data.specs.declared.calls.Call.{Call}
 use Rattle.ipam_data.specs.declared.replies.Reply.{Reply}
 use Rattle.ipam_data.specs.State.{State, empty_state}
+use Rattle.ipam_data.specs.Replays.{is_accepted}
 use Rattle.ipam_data.specs.Steps.{plain_step}
 use Rattle.command_load.specs.LoadText.{load_address}
 use Rattle.command_load.specs.Claims.{claim_of_one, creation_of}
@@ -20,7 +21,7 @@ use Rattle.command_load.specs.Tallies.{IsTallyOf}
 pub record IsGot (unique : Bool) (history : List (ℕ × Call)) (number : ℕ) (note : ℕ × ℕ) : Type 0 where
   pub reply : Reply
   pub tells : address_in reply ≡ Some note.0
-  pub legal : IsLegalAt plain_step (empty_state unique) history number claim_of_one reply accepted note.1
+  pub legal : IsLegalAt plain_step is_accepted (empty_state unique) history number claim_of_one reply accepted note.1
 
 -- the least and the greatest noted number; of no notes these are `most` and 0
 abbrev pub least_among : ℕ → List (ℕ × ℕ) → ℕ
@@ -45,7 +46,7 @@ pub record IsNoted (unique : Bool) (most : ℕ) (v : SeatView State Call) (claim
 -- one more accepted claim is noted
 abbrev pub ClaimIsNoted : Type 0
 ClaimIsNoted = (unique : Bool) (most : ℕ) (v w : SeatView State Call) (claimed least greatest value place : ℕ) (reply : Reply) → IsNoted unique most v claimed least greatest
-    → IsCall plain_step v w claim_of_one reply accepted place → address_in reply ≡ Some value → value ≤ most → IsNoted unique most w (claimed + 1) (min least value) (max greatest value)
+    → IsCall plain_step is_accepted v w claim_of_one reply accepted place → address_in reply ≡ Some value → value ≤ most → IsNoted unique most w (claimed + 1) (min least value) (max greatest value)
 
 -- in the history that all share, the notes are the caller's tally
 abbrev pub NotesAreTally : Type 0

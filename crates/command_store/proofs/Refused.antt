@@ -4,6 +4,7 @@ use Rattle.std.proofs.lemmas.Slice.Eq.{bytes_eq-Decides}
 use Rattle.stored_tables.specs.declared.tables.Tables.{Tables}
 use Rattle.stored_tables.specs.declared.opening.OpenFault.{OpenFault}
 use Rattle.stored_tables.specs.declared.opening.OpenFault.TheVariants.{Keeper, BadTables, Memory, BadRow, Version, BadNext, Limit}
+use Rattle.stored_tables.specs.Opening.{IsOfTables}
 use Rattle.ipam_keeper.specs.Keeping.{Rose, IsRaised, started, tables_at, IsReturned, AreGiven}
 use Rattle.ipam_edge.proofs.FaultLemmas.{unless}
 use Rattle.command_streams.specs.Streams.{Told, EndsWith}
@@ -52,6 +53,16 @@ pub back_after : (db : Option (List ℕ)) (lent : Option (Option (List ℕ))) (t
 back_after db lent told last old mid new out stays same is returned =
     let here = subst (λ (l : Option (Option (List ℕ))). IsReturned l last mid new) out returned in
     back_again db last old new (same ∙ is) (subst (λ (s : Option (List (List ℕ × Tables))). IsReturned (Some db) last s new) stays here)
+
+-- a fault that is neither the store's nor of memory is one of the tables
+pub of_tables : (fault : OpenFault) → ¬ (fault ≡ Keeper) → ¬ (fault ≡ Memory) → IsOfTables fault
+of_tables Keeper k m = k refl
+of_tables Memory k m = m refl
+of_tables (BadTables kind n rule) k m = tt
+of_tables (BadRow kind n) k m = tt
+of_tables (Version n) k m = tt
+of_tables (BadNext kind) k m = tt
+of_tables (Limit which n) k m = tt
 
 -- a fault of tables was said
 pub said_of_tables : (fault : OpenFault) (old new : Told) (message : List ℕ) (status : ℕ) → ¬ (fault ≡ Keeper) → ¬ (fault ≡ Memory) → message ≡ fault_line fault

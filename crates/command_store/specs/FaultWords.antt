@@ -1,13 +1,13 @@
 -- What is said where an opening is refused.
 use Rattle.std.specs.Prelude.{◌≡◌, ℕ, ◌⊎◌, List, [], ◌∷◌, ◌++◌, codes}
-use Rattle.ipam_words.specs.Lines.{breach_text, unreadable_text, version_text, next_id_text, excess_text, unread_text}
+use Rattle.ipam_words.specs.Lines.{breach_text, unreadable_text, version_text, next_id_text, excess_text}
 use Rattle.stored_tables.specs.declared.opening.OpenFault.{OpenFault}
 use Rattle.stored_tables.specs.declared.opening.OpenFault.TheVariants.{Keeper, BadTables, Memory, BadRow, Version, BadNext, Limit}
 use Rattle.command_streams.specs.Streams.{Told, EndsWith}
 
 -- the fault of an opening in words; out of memory has none
 abbrev pub fault_words : OpenFault → List ℕ
-fault_words Keeper = unread_text
+fault_words Keeper = codes "the store could not be read"
 fault_words (BadTables kind n rule) = breach_text kind n rule
 fault_words Memory = []
 fault_words (BadRow kind n) = unreadable_text kind n

@@ -1,21 +1,19 @@
 //! What is said where an opening is refused.
 
 ghost use Rattle.std.specs.Prelude.{◌≡◌, IfOk, string_bytes};
+ghost use Rattle.stored_tables.specs.Opening.{IsOfTables};
 ghost use Rattle.command_store.specs.FaultWords.{fault_words, fault_line as line_of};
 
-use ipam_words::{
-    breach_words, excess_words, next_id_words, store_unread, unreadable_words, version_words,
-};
+use ipam_words::{breach_words, excess_words, next_id_words, unreadable_words, version_words};
 use std::alloc::{AllocError, Global};
 use stored_tables::opening::OpenFault;
 
-/// The fault of an opening in words.
+/// A fault of the tables in words. The other two have none here: a store that failed has a line of its own, and of memory nothing is said.
 fn words(alloc: Global, fault: &OpenFault) -> Result<String, AllocError>
-    ensures { IfOk result (λ s. string_bytes s ≡ fault_words fault.now) }
+    ensures { IsOfTables fault.now → IfOk result (λ s. string_bytes s ≡ fault_words fault.now) }
 {
     match fault {
-        OpenFault::Keeper => String::from_str(alloc, store_unread()),
-        OpenFault::Memory => Ok(String::new(alloc)),
+        OpenFault::Keeper | OpenFault::Memory => Ok(String::new(alloc)),
         OpenFault::BadTables(kind, id, rule) => breach_words(alloc, *kind, *id, rule),
         OpenFault::BadRow(kind, id) => unreadable_words(alloc, *kind, *id),
         OpenFault::Version(version) => version_words(alloc, *version),
@@ -24,9 +22,9 @@ fn words(alloc: Global, fault: &OpenFault) -> Result<String, AllocError>
     }
 }
 
-/// The line that says why an opening was refused.
+/// The line that says which fault of the tables refused an opening.
 pub(crate) fn fault_line(alloc: Global, fault: &OpenFault) -> Result<String, AllocError>
-    ensures { IfOk result (λ s. string_bytes s ≡ line_of fault.now) }
+    ensures { IsOfTables fault.now → IfOk result (λ s. string_bytes s ≡ line_of fault.now) }
 {
     let words = words(alloc, fault)?;
     format!(in alloc; "store: {words}\n")

@@ -18,7 +18,7 @@ use std::alloc::{AllocError, Global};
 use stored_tables::opening::OpenFault;
 use stored_tables::tables::Text;
 
-/// What is said where the store fails.
+/// What is said where the store fails: a fixed text, so that it takes no memory.
 const UNREAD: &[u8] = b"store: the store could not be read\n";
 
 /// The path that was given, if any. `Err` means out of memory.

@@ -484,15 +484,15 @@ module _ {M S C A : Type 0} (W : Meaning M S C A) where
   before memory e xs = take-length xs
   before plain e xs = take-length xs
 
-  pub called : (z : TableId) (v : View S C) (t : ℕ) (x y : M) (call : C) (answer : A) (kind : ReplyKind) (n : ℕ) → IsTaken W v x → v.live ≡ true → IsAct W x y v.number call answer kind → n ≡ length (W.log x)
-      → IsCall W.step (seat_view_of z v) (seat_view_of z (rested (told kind call (leading W t x v)))) call answer kind n
-  called z v t x y call answer kind n k live a is = let e : ℕ × C = (v.number, call) in let long = length-grown kind e (W.log x) in let back : take n (grown kind e (W.log x)) ≡ W.log x = ap (λ m. take m (grown kind e (W.log x))) is ∙ before kind e (W.log x) in record {
+  pub called : (fallible : A → Bool) (z : TableId) (v : View S C) (t : ℕ) (x y : M) (call : C) (answer : A) (kind : ReplyKind) (n : ℕ) → IsTaken W v x → v.live ≡ true → IsAct W fallible x y v.number call answer kind → n ≡ length (W.log x)
+      → IsCall W.step fallible (seat_view_of z v) (seat_view_of z (rested (told kind call (leading W t x v)))) call answer kind n
+  called fallible z v t x y call answer kind n k live a is = let e : ℕ × C = (v.number, call) in let long = length-grown kind e (W.log x) in let back : take n (grown kind e (W.log x)) ≡ W.log x = ap (λ m. take m (grown kind e (W.log x))) is ∙ before kind e (W.log x) in record {
     seat_stays = (refl, refl, refl, refl, refl, refl, refl);
     seen_only_grows = grows kind e v.seen (W.log x) k.more;
     place_is_after_seen = (let p = prefix_length v.seen (W.log x) k.more in omega arith);
     reply_is_legal = record {
       within = omega arith;
-      right = subst (λ s. AnswersAs kind answer (W.step s call).1) (k.state ∙ ap (replay W.step v.opening.value) (sym back)) a.answer_is_right;
+      right = subst (λ s. AnswersAs fallible kind answer (W.step s call).1) (k.state ∙ ap (replay W.step v.opening.value) (sym back)) a.answer_is_right;
       entry = λ acc. ap (slice_get (grown kind e (W.log x))) is ∙ entered kind e (W.log x) acc;
     };
     seen_ends_at_place = ap (grown kind e) (sym back);

@@ -1,5 +1,5 @@
 -- What is known of a seat between two calls, and what each call of the lock does to it.
-use Rattle.std.specs.Prelude.{◌≡◌, ◌⊎◌, ℕ, ◌+◌, ◌-◌, ◌≤◌, List, [], ◌∷◌, ◌++◌, length, take, true, Contains, Option}
+use Rattle.std.specs.Prelude.{◌≡◌, ◌⊎◌, ℕ, ◌+◌, ◌-◌, ◌≤◌, Bool, List, [], ◌∷◌, ◌++◌, length, take, true, Contains, Option}
 use mathlib.Core.List.{IsPrefix}
 use Rattle.atomic_table.specs.Seated.{TableId}
 use Rattle.atomic_table.specs.declared.shared.Seat.{Seat}
@@ -53,7 +53,7 @@ abbrev pub IsSameSeat : {S C : Type 0} → SeatView S C → SeatView S C → Typ
 IsSameSeat v w = (w.lock ≡ v.lock) × (w.number ≡ v.number) × (w.spare ≡ v.spare) × (w.weight ≡ v.weight) × (w.opening ≡ v.opening) × (w.base ≡ v.base) × (w.ended ≡ v.ended)
 
 -- one call: the seat was v and is w
-pub record IsCall {S C A : Type 0} (step : S → C → S × A) (v w : SeatView S C) (call : C) (answer : A) (kind : ReplyKind) (place : ℕ) : Type 0 where
+pub record IsCall {S C A : Type 0} (step : S → C → S × A) (fallible : A → Bool) (v w : SeatView S C) (call : C) (answer : A) (kind : ReplyKind) (place : ℕ) : Type 0 where
   -- nothing else of the seat changes
   pub seat_stays : IsSameSeat v w
   -- what the seat had seen begins what it has seen now
@@ -61,7 +61,7 @@ pub record IsCall {S C A : Type 0} (step : S → C → S × A) (v w : SeatView S
   -- the place is behind all that the seat had seen
   pub place_is_after_seen : length v.seen ≤ place
   -- the reply has this place in what the seat has seen now
-  pub reply_is_legal : IsLegalAt step v.opening w.seen v.number call answer kind place
+  pub reply_is_legal : IsLegalAt step fallible v.opening w.seen v.number call answer kind place
   -- what it has seen now are the entries before the place, and its own entry where the change was accepted
   pub seen_ends_at_place : w.seen ≡ grown kind (v.number, call) (take place w.seen)
   -- its own entries are the old ones, and this call where the change was accepted

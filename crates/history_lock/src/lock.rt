@@ -99,7 +99,7 @@ impl<M: Machine> Shared<M> {
     pub fn call<R: Wait>(&self, rt: &R, seat: Seat<M>, call: M::Call) -> (Seat<M>, M::Reply, u64)
         requires lock { seat.lock ≡ self.now }
         requires call { M.takes call }
-        ensures { IsCall M.step seat result.0 (M.said call) (M.answer result.1) (M.kind result.1) result.2 }
+        ensures { IsCall M.step M.fallible seat result.0 (M.said call) (M.answer result.1) (M.kind result.1) result.2 }
     {
         let Seat {
             who,

@@ -1,5 +1,5 @@
 //! What a lock shares out.
-ghost use Rattle.std.specs.Prelude.{◌≡◌, ◌+◌, ◌^◌, ◌<◌, ◌≤◌, ℕ, List, length};
+ghost use Rattle.std.specs.Prelude.{◌≡◌, ◌+◌, ◌^◌, ◌<◌, ◌≤◌, ℕ, Bool, List, length};
 ghost use Rattle.history_lock.specs.Replies.{ReplyKind};
 ghost use Rattle.history_lock.specs.Replay.{replay};
 ghost use Rattle.history_lock.specs.Machines.{Meaning, meaning, IsAct};
@@ -32,6 +32,9 @@ pub trait Machine {
     /// Whether a reply is an accepted change, a fault, out of memory, or none of these.
     ghost kind: { Self.Reply → ReplyKind };
 
+    /// The plain answers in whose place a fault may be told.
+    ghost fallible: { Self.Answer → Bool };
+
     /// The calls that the machine takes.
     ghost takes: { Self.Call → Type 0 };
 
@@ -55,10 +58,10 @@ pub trait Machine {
 
     /// Answers a call of the caller with the number `who`.
     ///
-    /// The reply is the plain step's, and the call joins the accepted changes where it is an accepted change; or the reply is a fault, or out of memory, and state and accepted changes stay. A fault is told only where the count of faults rose in this call, or stands at the last value of a u64.
+    /// The reply is the plain step's, and the call joins the accepted changes where it is an accepted change; or the reply is a fault, or out of memory, and state and accepted changes stay. A fault is told only in place of a fallible answer, and only where the count of faults rose in this call, or stands at the last value of a u64; and the count rises only where a fault is told.
     fn act(&mut self, who: u32, call: Self::Call) -> Self::Reply
         requires { takes call }
-        ensures { IsAct (meaning opening state log faults step) self.old self.new who (said call) (answer result) (kind result) };
+        ensures { IsAct (meaning opening state log faults step) fallible self.old self.new who (said call) (answer result) (kind result) };
 
     /// The number of accepted changes. The machine's state is the replay of these.
     fn entries(&self) -> u64

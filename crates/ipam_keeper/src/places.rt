@@ -7,7 +7,6 @@ ghost use Rattle.placed_book.specs.RowBook.{place, IsAt};
 
 use ipam_data::kinds::Kind;
 use stored_tables::tables::Row;
-use stored_tables::writing::number_of_kind;
 
 /// What stands in a list by a number from 1.
 pub(crate) trait HasPlace {
@@ -23,7 +22,7 @@ pub(crate) fn place_among(kind: Kind, id: u32) -> u64
     ensures is { result ≡ place_of kind id }
     ensures low { 1 ≤ place_of kind id }
 {
-    number_of_kind(kind) * 4294967296 + id as u64
+    kind.number() as u64 * 4294967296 + id as u64
 }
 
 impl HasPlace for Row {
@@ -38,7 +37,7 @@ impl HasPlace for (Kind, u32) {
     ghost number = { next_place };
 
     fn place(&self) -> u64 {
-        number_of_kind(self.0)
+        self.0.number() as u64
     }
 }
 

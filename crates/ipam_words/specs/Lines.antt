@@ -70,7 +70,3 @@ next_id_text kind = kind_text kind ++ codes ": bad next id"
 -- more stored rows than a limit
 abbrev pub excess_text : Which → ℕ → List ℕ
 excess_text which n = which_text which ++ codes " exceed " ++ decimal n
-
--- a store that failed to give its tables
-abbrev pub unread_text : List ℕ
-unread_text = codes "the store could not be read"

@@ -16,7 +16,6 @@ pub use choices::{
 pub use codes::{code, fault_code, rule_code, status};
 pub use details::{detail, fault_detail, fixed_detail, rule_detail};
 pub use lines::{
-    breach_words, excess_words, next_id_words, refusal_line, store_unread, unreadable_words,
-    version_words,
+    breach_words, excess_words, next_id_words, refusal_line, unreadable_words, version_words,
 };
 pub use names::{field_name, kind_name, which_name};

@@ -78,10 +78,3 @@ pub fn excess_words(alloc: Global, which: Which, most: u64) -> Result<String, Al
     let which = which_name(which);
     format!(in alloc; "{which} exceed {most}")
 }
-
-/// A store that failed to give its tables, in words.
-pub fn store_unread() -> &'static str
-    ensures { result.now ≡ spec.unread_text }
-{
-    "the store could not be read"
-}

@@ -34,9 +34,9 @@ accepted-push number notes call reply place =
 
 -- what was legal in a history is legal in a longer one
 pub legal_longer : (h g : List (ℕ × Call)) (number : ℕ) (notes : List Note) → IsPrefix h g → All (IsLegalNote h number) notes → All (IsLegalNote g number) notes
-legal_longer h g number notes p all = λ k d lt. let x = get_or notes k d in IsLegalAt-longer add_step 0 h g number x.call x.reply (kind_of x.reply) x.place p (all k d lt)
+legal_longer h g number notes p all = λ k d lt. let x = get_or notes k d in IsLegalAt-longer add_step is_accepted 0 h g number x.call x.reply (kind_of x.reply) x.place p (all k d lt)
 
-pub asked : (z : TableId) (number : ℕ) (notes : List Note) (v w : SeatView ℕ Call) (call : Call) (reply : Reply) (place : ℕ) → IsAt z number notes v → IsCall add_step v w call reply (kind_of reply) place
+pub asked : (z : TableId) (number : ℕ) (notes : List Note) (v w : SeatView ℕ Call) (call : Call) (reply : Reply) (place : ℕ) → IsAt z number notes v → IsCall add_step is_accepted v w call reply (kind_of reply) place
     → IsAt z number (notes ++ record { call = call; reply = reply; place = place } ∷ []) w
 asked z number notes v w call reply place a c = record {
   lock = c.seat_stays.0 ∙ a.lock;
@@ -48,7 +48,7 @@ asked z number notes v w call reply place a c = record {
       ∙ (ap (grown (kind_of reply) (number, call)) a.entries ∙ sym (accepted-push number notes call reply place))));
   faults = c.faults_rise ∙ (ap (λ n. n + failures_of (kind_of reply)) a.faults ∙ sym (sum_by_push (λ (n : Note). failures_of (kind_of n.reply)) notes record { call = call; reply = reply; place = place }));
   legal = All-push (IsLegalNote w.seen number) notes record { call = call; reply = reply; place = place } (legal_longer v.seen w.seen number notes c.seen_only_grows a.legal)
-      (subst (λ (s : ℕ × ℕ). IsLegalAt add_step s.0 w.seen s.1 call reply (kind_of reply) place) (λ i. (a.opening i, a.number i)) c.reply_is_legal);
+      (subst (λ (s : ℕ × ℕ). IsLegalAt add_step is_accepted s.0 w.seen s.1 call reply (kind_of reply) place) (λ i. (a.opening i, a.number i)) c.reply_is_legal);
 }
 
 -- what a worker's notes say of a history they say of a longer one

@@ -1,5 +1,5 @@
 -- A marker, which keeps the last number that it was given: how it is seen, its plain step, and what its replies are to the lock.
-use Rattle.std.specs.Prelude.{◌≡◌, ◌^◌, ◌<◌, ℕ, List, length}
+use Rattle.std.specs.Prelude.{◌≡◌, ◌^◌, ◌<◌, ℕ, Bool, true, false, List, length}
 use Rattle.history_lock.specs.Replies.{ReplyKind, accepted, fault, memory}
 use Rattle.history_lock.specs.Replay.{replay}
 use Rattle.lock_trial.specs.declared.marker.Marking.{Marking}
@@ -23,6 +23,12 @@ abbrev pub marking_kind_of : Marking → ReplyKind
 marking_kind_of Marked = accepted
 marking_kind_of Failed = fault
 marking_kind_of NoMemory = memory
+
+-- the reply tells that the mark was made
+abbrev pub is_marked : Marking → Bool
+is_marked Marked = true
+is_marked Failed = false
+is_marked NoMemory = false
 
 -- the last mark is the replay of all
 pub record IsMarked (last : ℕ) (marks : List (ℕ × ℕ)) : Type 0 where

@@ -25,7 +25,7 @@ faults_of notes = sum_by (λ note. failures_of (kind_of note.reply)) notes
 
 -- the noted reply is legal at the noted place of this history of a tally that began at 0
 abbrev pub IsLegalNote : List (ℕ × Call) → ℕ → Note → Type 0
-IsLegalNote history number note = IsLegalAt add_step 0 history number note.call note.reply (kind_of note.reply) note.place
+IsLegalNote history number note = IsLegalAt add_step is_accepted 0 history number note.call note.reply (kind_of note.reply) note.place
 
 -- a worker's seat of the lock z between two calls, with its notes so far
 pub record IsAt (z : TableId) (who : ℕ) (notes : List Note) (s : SeatView ℕ Call) : Type 0 where

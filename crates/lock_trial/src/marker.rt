@@ -2,7 +2,7 @@
 ghost use Rattle.std.specs.Prelude.{◌≡◌, ◌⊎◌, ◌^◌, ◌<◌, ◌≤◌, [], length, ℕ, List, true, false};
 ghost use Rattle.history_lock.specs.Machines.{last_count};
 ghost use Rattle.history_lock.specs.Replay.{replay};
-ghost use Rattle.lock_trial.specs.Marks.{MarkerView, IsMarked, mark_step, marking_kind_of};
+ghost use Rattle.lock_trial.specs.Marks.{MarkerView, IsMarked, mark_step, marking_kind_of, is_marked};
 
 use history_lock::Machine;
 use std::alloc::Global;
@@ -16,7 +16,8 @@ pub trait Keeper {
     /// Whether the mark was kept.
     fn keep(&mut self, mark: u64) -> bool
         ensures never_falls { faults self.old ≤ faults self.new }
-        ensures counted { result ≡ false → (faults self.old < faults self.new) ⊎ (last_count ≤ faults self.new) };
+        ensures counted { result ≡ false → (faults self.old < faults self.new) ⊎ (last_count ≤ faults self.new) }
+        ensures stays { (result ≡ false) ⊎ (faults self.new ≡ faults self.old) };
 }
 
 /// A keeper that fails in one call of one's choice.
@@ -129,6 +130,8 @@ impl<K: Keeper> Machine for Marker<K> {
     ghost answer = { λ r. r };
 
     ghost kind = { marking_kind_of };
+
+    ghost fallible = { is_marked };
 
     ghost takes = { λ c. Unit {0} };
 

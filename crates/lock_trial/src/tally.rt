@@ -1,7 +1,7 @@
 //! A machine that adds, and fails at a number of one's choice.
 ghost use Rattle.std.specs.Prelude.{◌≡◌, ◌^◌, ◌<◌, [], length, ℕ, List};
 ghost use Rattle.history_lock.specs.Replay.{replay};
-ghost use Rattle.lock_trial.specs.Adds.{add_step, kind_of};
+ghost use Rattle.lock_trial.specs.Adds.{add_step, kind_of, is_accepted};
 
 use crate::calls::{Call, Reply};
 use history_lock::Machine;
@@ -69,6 +69,8 @@ impl Machine for Tally {
     ghost answer = { λ r. r };
 
     ghost kind = { kind_of };
+
+    ghost fallible = { is_accepted };
 
     ghost takes = { λ c. Unit {0} };
 

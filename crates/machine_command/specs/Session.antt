@@ -1,12 +1,13 @@
 -- What a run of the command `session` promises: one connection over the input and the output, with a machine of its own.
-use Rattle.std.specs.Prelude.{◌≡◌, ◌≤◌, ◌⊎◌, ℕ, List, []}
+use Rattle.std.specs.Prelude.{◌≡◌, ◌≤◌, ◌⊎◌, ◌+◌, ℕ, List, []}
+use Rattle.history_lock.specs.Machines.{Reaches}
 use Rattle.history_lock.specs.Replay.{replay}
 use Rattle.http_session.specs.Steps.{Grown}
 use Rattle.http_session.specs.Ends.{IsEnd, IsReadAsNeeded}
 use Rattle.http_session.specs.declared.session.SessionEnd.{SessionEnd}
 use Rattle.http_session.specs.declared.session.SessionEnd.TheVariants.{Closed, SourceFault, SinkFault, Memory}
 use Rattle.machine_session.specs.Protocols.{Protocol}
-use Rattle.machine_session.specs.Owned.{Owned, answers_alone, answers_certainly, plain_of_owned}
+use Rattle.machine_session.specs.Owned.{Owned, answers_certainly, answers_counted, counted, plain_of_owned}
 use Rattle.command_streams.specs.Streams.{Failed, NeverRises}
 use Rattle.machine_command.specs.Outside.{IsRaised, NoCountFalls, Outside, StoreFailed}
 use Rattle.machine_command.specs.Openers.{OpenerMeaning}
@@ -21,10 +22,15 @@ pub record Serves {S C A B W E Q T F : Type 0} (P : Protocol S C A B W E) (U : O
   pub bytes : List ℕ
   pub grown : Grown old.streams.input.bytes new.streams.input.bytes [] bytes
   pub needed : IsReadAsNeeded bytes
+  -- how many calls were answered by a fault
+  pub told : ℕ
   -- the answers are the plain machine's, one after another, but where it failed, which raised its count, or memory ran out in it ..
-  pub ends : IsEnd (answers_alone P) first last old.streams.output.bytes new.streams.output.bytes bytes new.streams.input.bytes end
+  pub ends : IsEnd (answers_counted P) (counted first 0) (counted last told) old.streams.output.bytes new.streams.output.bytes bytes new.streams.input.bytes end
   -- .. the opener's count rose by the machine's, as far as it goes ..
   pub counted : IsRaised old.stores.faults last.faults new.stores.faults
+  -- .. which is by the faults told at least, and by nothing else ..
+  pub bounded : Reaches (old.stores.faults + told) new.stores.faults
+  pub still : told ≡ 0 → new.stores.faults ≡ old.stores.faults
   -- .. and where it did not rise they are all the plain machine's, out of memory aside
   pub certain : (¬ StoreFailed old new)
       → IsEnd (answers_certainly P) (plain_of_owned P.step first) (plain_of_owned P.step last) old.streams.output.bytes new.streams.output.bytes bytes new.streams.input.bytes end
@@ -60,15 +66,15 @@ abbrev pub IsRun : {S C A B W E Q T F : Type 0} → Protocol S C A B W E → Ope
 IsRun P U asked old new status =
     ((end : SessionEnd) × Serves P U asked old new end × HasCause old new end × (status ≡ end_status end)) ⊎ IsRefused U asked old new status
 
--- the machine failed
+-- a call was answered by a fault
 pub record HasFailedCall {S C A B W E Q T F : Type 0} (P : Protocol S C A B W E) (U : OpenerMeaning Q T S F) (asked : Q) (old new : Outside T) (end : SessionEnd) : Type 0 where
   pub serves : Serves P U asked old new end
-  pub failed : 1 ≤ serves.last.faults
+  pub failed : 1 ≤ serves.told
 
 -- a run of `session`
 pub record IsSession {S C A B W E Q T F : Type 0} (P : Protocol S C A B W E) (U : OpenerMeaning Q T S F) (asked : Q) (old new : Outside T) (status : ℕ) : Type 0 where
   pub run : IsRun P U asked old new status
   -- no count of faults falls
   pub later : NoCountFalls old new
-  -- 5: the count of no stream rose, and the opener's only where the machine failed
+  -- 5: the count of no stream rose, and the opener's only where a call was answered by a fault
   pub quiet : status ≡ 5 → NeverRises old.streams new.streams × ((new.stores.faults ≡ old.stores.faults) ⊎ HasFailedCall P U asked old new Memory)

@@ -25,7 +25,7 @@ pub(crate) fn hire<M: Machine, V: Service<M>, A: Lane>(
     requires room { vec_len lanes.old ≤ vec_capacity hired.old }
     ensures seat { (result.lock ≡ shared.now) × (result.weight + vec_len hired.new ≡ 65536) }
     ensures first { (result.opening ≡ seat.opening) × (result.base ≡ seat.base) × (result.ended ≡ []) × (result.seen ≡ []) × (result.faults ≡ 0) }
-    ensures hired { All (λ w. IsHired (protocol M.step M.answer M.kind V.asks V.tells V.refuses V.misread) A.told seat.opening seat.base shared.now w.seat w.lane) hired.new.items }
+    ensures hired { All (λ w. IsHired (protocol M.step M.answer M.kind M.fallible V.asks V.tells V.refuses V.misread) A.told seat.opening seat.base shared.now w.seat w.lane) hired.new.items }
     ensures fresh { All (λ w. IsFresh A.told w.seat w.lane) hired.new.items }
     ensures numbers { AreNumberedDown (λ w. w.seat) top_number hired.new.items }
     ensures all { vec_len hired.new ≡ vec_len lanes.old }
@@ -53,13 +53,13 @@ pub(crate) fn dismiss<M: Machine, V: Service<M>, A: Lane>(
 ) -> Seat<M>
     requires seat { (seat.lock ≡ shared.now) × (seat.weight + vec_len hired ≡ 65536) }
     requires first { (seat.ended ≡ []) × (own_entries seat.number seat.seen ≡ []) × (seat.faults ≡ 0) }
-    requires hired { All (λ w. IsHired (protocol M.step M.answer M.kind V.asks V.tells V.refuses V.misread) A.told seat.opening seat.base shared.now w.seat w.lane) hired.items }
+    requires hired { All (λ w. IsHired (protocol M.step M.answer M.kind M.fallible V.asks V.tells V.refuses V.misread) A.told seat.opening seat.base shared.now w.seat w.lane) hired.items }
     requires numbers { AreNumberedDown (λ w. w.seat) top_number hired.items }
     requires none_yet { lanes.old.items ≡ [] }
     requires room { vec_len hired ≤ vec_capacity lanes.old }
     ensures seat { (result.lock ≡ shared.now) × (result.weight ≡ 65536) × (result.opening ≡ seat.opening) × (result.base ≡ seat.base) }
     ensures no_calls { own_entries result.number result.seen ≡ [] }
-    ensures dismissed { HasDismissed (protocol M.step M.answer M.kind V.asks V.tells V.refuses V.misread) A.told A.accepts (All (λ w. A.accepts w.lane ≡ 0) hired.items) (top_number + 1 - vec_len hired) seat.opening result lanes.new.items }
+    ensures dismissed { HasDismissed (protocol M.step M.answer M.kind M.fallible V.asks V.tells V.refuses V.misread) A.told A.accepts (All (λ w. A.accepts w.lane ≡ 0) hired.items) (top_number + 1 - vec_len hired) seat.opening result lanes.new.items }
     ensures all { vec_len lanes.new ≡ vec_len hired }
 {
     let mut seat = seat;

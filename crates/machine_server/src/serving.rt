@@ -32,7 +32,7 @@ pub fn open_all<M: Machine, V: Service<M>, L: Listener>(
     requires room { (workers ≤ vec_capacity lanes.old) × (workers ≤ vec_capacity hired.old) }
     ensures seat { (result.0.lock ≡ shared.now) × (result.0.weight + vec_len hired.new ≡ 65536) }
     ensures first { (result.0.opening ≡ seat.opening) × (result.0.base ≡ seat.base) × (result.0.ended ≡ []) × (result.0.seen ≡ []) × (result.0.faults ≡ 0) }
-    ensures crew { AreFresh (protocol M.step M.answer M.kind V.asks V.tells V.refuses V.misread) L.Door.told result.0.opening result.0.base shared.now (λ w. w.seat) (λ w. w.lane) hired.new.items }
+    ensures crew { AreFresh (protocol M.step M.answer M.kind M.fallible V.asks V.tells V.refuses V.misread) L.Door.told result.0.opening result.0.base shared.now (λ w. w.seat) (λ w. w.lane) hired.new.items }
     ensures none_left { lanes.new.items ≡ [] }
     ensures room { vec_len hired.new ≤ vec_capacity lanes.new }
     ensures lanes { L.lanes listener.new ≡ L.lanes listener.old + vec_len hired.new }
@@ -57,11 +57,11 @@ pub fn close_all<M: Machine, V: Service<M>, L: Listener>(
 ) -> (M, Listening)
     requires seat { (seat.lock ≡ shared) × (seat.weight + vec_len hired ≡ 65536) }
     requires first { (seat.ended ≡ []) × (own_entries seat.number seat.seen ≡ []) × (seat.faults ≡ 0) }
-    requires crew { AreHired (protocol M.step M.answer M.kind V.asks V.tells V.refuses V.misread) L.Door.told seat.opening seat.base shared (λ w. w.seat) (λ w. w.lane) hired.items }
+    requires crew { AreHired (protocol M.step M.answer M.kind M.fallible V.asks V.tells V.refuses V.misread) L.Door.told seat.opening seat.base shared (λ w. w.seat) (λ w. w.lane) hired.items }
     requires none_yet { lanes.items ≡ [] }
     requires room { vec_len hired ≤ vec_capacity lanes }
     requires out { length (L.returned listener.old) + vec_len hired ≤ L.lanes listener.old }
-    ensures history { IsServedBy (protocol M.step M.answer M.kind V.asks V.tells V.refuses V.misread) seat.opening seat.base (M.faults result.0) (L.returned listener.old) (L.returned listener.new) (All (λ w. L.Door.accepts w.lane ≡ 0) hired.items) (M.log result.0) }
+    ensures history { IsServedBy (protocol M.step M.answer M.kind M.fallible V.asks V.tells V.refuses V.misread) seat.opening seat.base (M.faults result.0) (L.returned listener.old) (L.returned listener.new) (All (λ w. L.Door.accepts w.lane ≡ 0) hired.items) (M.log result.0) }
     ensures opening { M.opening result.0 ≡ seat.opening }
     ensures state { M.state result.0 ≡ replay M.step seat.opening (M.log result.0) }
     ensures whole { result.1 ≡ Listening.Whole → L.faults listener.new ≡ L.faults listener.old }

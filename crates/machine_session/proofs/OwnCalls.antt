@@ -1,5 +1,5 @@
 -- One call of a machine of one's own: what it leaves, and what it is to the request that asked for it.
-use Rattle.std.proofs.Common.{◌≡◌, ◌≢◌, ◌+◌, ◌<◌, ◌≤◌, ◌⊎◌, ℕ, List, [], ◌∷◌, ◌++◌, length, length-append, IfOk, OnErr, Result, Ok, Err, refl, sym, ap, ◌∙◌, subst, inl, inr, arith}
+use Rattle.std.proofs.Common.{◌≡◌, ◌≢◌, ◌+◌, ◌<◌, ◌≤◌, ◌⊎◌, ℕ, Bool, List, [], ◌∷◌, ◌++◌, length, length-append, IfOk, OnErr, Result, Ok, Err, refl, sym, ap, ◌∙◌, subst, inl, inr, arith}
 use Rattle.history_lock.specs.Machines.{IsAct, Reaches, last_count, meaning}
 use Rattle.history_lock.specs.Replies.{ReplyKind, accepted, fault, memory, plain, AnswersAs, failures_of, grown}
 use Rattle.history_lock.specs.Replay.{replay}
@@ -32,30 +32,31 @@ changes fault e h g is other = absurd (other (ap length is))
 changes memory e h g is other = absurd (other (ap length is))
 changes plain e h g is other = absurd (other (ap length is))
 
-module _ {M S C A : Type 0} (opening state : M → S) (log : M → List (ℕ × C)) (faults : M → ℕ) (step : S → C → S × A) where
-  pub own_call : (m w : M) (call : C) (answer : A) (kind : ReplyKind) → state m ≡ replay step (opening m) (log m) → IsAct (meaning opening state log faults step) m w 0 call answer kind
-      → IsOwnCall step (owned (opening m) (log m) (faults m)) (owned (opening w) (log w) (faults w)) call answer kind
+module _ {M S C A : Type 0} (opening state : M → S) (log : M → List (ℕ × C)) (faults : M → ℕ) (step : S → C → S × A) (fallible : A → Bool) where
+  pub own_call : (m w : M) (call : C) (answer : A) (kind : ReplyKind) → state m ≡ replay step (opening m) (log m) → IsAct (meaning opening state log faults step) fallible m w 0 call answer kind
+      → IsOwnCall step fallible (owned (opening m) (log m) (faults m)) (owned (opening w) (log w) (faults w)) call answer kind
   own_call m w call answer kind is a =
       record {
         opening = a.opening_stays;
         replied = record {
-          right = subst (λ (s : S). AnswersAs kind answer (step s call).1) is a.answer_is_right;
+          right = subst (λ (s : S). AnswersAs fallible kind answer (step s call).1) is a.answer_is_right;
           state = ap (λ (o : S). replay step o (log w)) a.opening_stays ∙ (ap (replay step (opening m)) a.log_grows ∙ grown_replay step kind (opening m) (log m) 0 call);
           log = a.log_grows;
         };
         later = a.faults_never_fall;
         counted = reaches kind (faults m) (faults w) a.faults_never_fall a.fault_is_counted;
+        still = a.faults_stay;
       }
 
   -- where no change was accepted, what is kept of the machine is kept of it still
-  pub still_kept : (Keeps : Plain S C → Type 0) (m w : M) (call : C) (answer : A) (kind : ReplyKind) → IsAct (meaning opening state log faults step) m w 0 call answer kind
+  pub still_kept : (Keeps : Plain S C → Type 0) (m w : M) (call : C) (answer : A) (kind : ReplyKind) → IsAct (meaning opening state log faults step) fallible m w 0 call answer kind
       → length (log w) ≡ length (log m) → Keeps (plain_at step (opening m) (log m)) → Keeps (plain_at step (opening w) (log w))
   still_kept Keeps m w call answer kind a same kept =
       let is : log w ≡ log m = stays kind (0, call) (log m) (log w) a.log_grows same in
       subst Keeps (λ i. plain_at step (sym a.opening_stays i) (sym is i)) kept
 
   -- where one was, the machine is a step further
-  pub changed : (m w : M) (call : C) (answer : A) (kind : ReplyKind) → IsAct (meaning opening state log faults step) m w 0 call answer kind
+  pub changed : (m w : M) (call : C) (answer : A) (kind : ReplyKind) → IsAct (meaning opening state log faults step) fallible m w 0 call answer kind
       → length (log w) ≢ length (log m) → IsChanged step (plain_at step (opening m) (log m)) (plain_at step (opening w) (log w))
   changed m w call answer kind a other =
       let is = changes kind (0, call) (log m) (log w) a.log_grows other in
@@ -66,7 +67,7 @@ module _ {M S C A : Type 0} (opening state : M → S) (log : M → List (ℕ × 
       }
 
 module _ {S C A R W E F : Type 0} (P : Protocol S C A R W E) where
-  pub acted : (v w : Owned S C) (call : C) (shown : W) (reply : R) (place : ℕ) (result : Result Written F) → IsOwnCall P.step v w call (P.answer reply) (P.kind reply) → place ≡ length v.log
+  pub acted : (v w : Owned S C) (call : C) (shown : W) (reply : R) (place : ℕ) (result : Result Written F) → IsOwnCall P.step P.fallible v w call (P.answer reply) (P.kind reply) → place ≡ length v.log
       → IfOk result (λ a. answer_of a ≡ P.tells call reply shown place) → IsActed P v call shown result w
   acted v w call shown reply place (Ok a) k is told = (reply, k, told ∙ ap (P.tells call reply shown) is)
   acted v w call shown reply place (Err e) k is told = (reply, k, tt)

@@ -1,5 +1,5 @@
 -- A seat beside which no other is live gets the answers of the plain machine, one after another.
-use Rattle.std.proofs.Common.{◌≡◌, ℕ, List, [], ◌∷◌, ◌++◌, length, Option, Result, Ok, Err, refl, sym, ap, ◌∙◌, subst}
+use Rattle.std.proofs.Common.{◌≡◌, ℕ, Bool, List, [], ◌∷◌, ◌++◌, length, Option, Result, Ok, Err, refl, sym, ap, ◌∙◌, subst}
 use Rattle.std.specs.Prelude.{take}
 use mathlib.Core.List.{IsPrefix}
 use Rattle.history_lock.specs.Replies.{ReplyKind, accepted, fault, memory, plain, grown, AnswersAs}
@@ -31,19 +31,20 @@ module _ {S C A : Type 0} (step : S → C → S × A) where
   grown_replay memory s h n call = refl
   grown_replay plain s h n call = refl
 
+module _ {S C A : Type 0} (step : S → C → S × A) (fallible : A → Bool) where
   -- what the one caller had seen are all entries before its call
-  seen_before : (v w : SeatView S C) (call : C) (answer : A) (kind : ReplyKind) (place : ℕ) → IsCall step v w call answer kind place → v.weight ≡ 65536
+  seen_before : (v w : SeatView S C) (call : C) (answer : A) (kind : ReplyKind) (place : ℕ) → IsCall step fallible v w call answer kind place → v.weight ≡ 65536
       → take place w.seen ≡ v.seen
   seen_before v w call answer kind place c whole = ap (λ (n : ℕ). take n w.seen) (c.alone_misses_nothing whole) ∙ take_prefix v.seen w.seen c.seen_only_grows
 
-  pub replied : (v w : SeatView S C) (call : C) (answer : A) (kind : ReplyKind) (place : ℕ) → IsCall step v w call answer kind place → v.weight ≡ 65536
-      → IsReplied step v.number (plain_of step v) (plain_of step w) call answer kind
+  pub replied : (v w : SeatView S C) (call : C) (answer : A) (kind : ReplyKind) (place : ℕ) → IsCall step fallible v w call answer kind place → v.weight ≡ 65536
+      → IsReplied step fallible v.number (plain_of step v) (plain_of step w) call answer kind
   replied v w call answer kind place c whole =
       let all = seen_before v w call answer kind place c whole in
       let log : w.seen ≡ grown kind (v.number, call) v.seen = c.seen_ends_at_place ∙ ap (grown kind (v.number, call)) all in
       record {
-        right = subst (λ (h : List (ℕ × C)). AnswersAs kind answer (step (replay step v.opening h) call).1) all c.reply_is_legal.right;
-        state = ap (λ (o : S). replay step o w.seen) c.seat_stays.4 ∙ (ap (replay step v.opening) log ∙ grown_replay kind v.opening v.seen v.number call);
+        right = subst (λ (h : List (ℕ × C)). AnswersAs fallible kind answer (step (replay step v.opening h) call).1) all c.reply_is_legal.right;
+        state = ap (λ (o : S). replay step o w.seen) c.seat_stays.4 ∙ (ap (replay step v.opening) log ∙ grown_replay step kind v.opening v.seen v.number call);
         log = log;
       }
 
@@ -52,7 +53,7 @@ module _ {S C A R W E : Type 0} (P : Protocol S C A R W E) where
       → IsPlainAnswer P n (plain_of P.step v) request asked a (plain_of P.step w)
   plain_answer n v request (Ok asked) a w alone k = (
     k.0,
-    subst (λ (m : ℕ). IsReplied P.step m (plain_of P.step v) (plain_of P.step w) asked.0 (P.answer k.0) (P.kind k.0)) alone.1 (replied P.step v w asked.0 (P.answer k.0) (P.kind k.0) k.1 k.2 alone.0),
+    subst (λ (m : ℕ). IsReplied P.step P.fallible m (plain_of P.step v) (plain_of P.step w) asked.0 (P.answer k.0) (P.kind k.0)) alone.1 (replied P.step P.fallible v w asked.0 (P.answer k.0) (P.kind k.0) k.1 k.2 alone.0),
     k.3 ∙ ap (P.tells asked.0 k.0 asked.1) (k.2.alone_misses_nothing alone.0),
   )
   plain_answer n v request (Err why) a w alone k = (k.0, ap (plain_of P.step) k.1)

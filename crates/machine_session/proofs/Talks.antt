@@ -1,5 +1,5 @@
 -- Calls of a seat, one after another, are a talk in what the seat has seen then, and in each longer history.
-use Rattle.std.proofs.Common.{◌≡◌, ◌+◌, ◌≤◌, ℕ, zero, suc, List, [], ◌∷◌, ◌++◌, length, length-append, Option, Result, Ok, Err, refl, sym, ap, ◌∙◌, subst, arith}
+use Rattle.std.proofs.Common.{◌≡◌, ◌+◌, ◌≤◌, ℕ, Bool, zero, suc, List, [], ◌∷◌, ◌++◌, length, length-append, Option, Result, Ok, Err, refl, sym, ap, ◌∙◌, subst, arith}
 use Rattle.std.specs.Prelude.{take}
 use mathlib.Core.List.{IsPrefix}
 use Rattle.history_lock.specs.Replies.{ReplyKind, accepted, fault, memory, plain, grown, rise_of}
@@ -45,17 +45,17 @@ later_trans u v w a b =
       seen = prefix_trans u.seen v.seen w.seen a.seen b.seen;
     }
 
-module _ {S C A : Type 0} (step : S → C → S × A) where
+module _ {S C A : Type 0} (step : S → C → S × A) (fallible : A → Bool) where
   -- where a seat stands that answered one call
-  seen_length : (v w : SeatView S C) (call : C) (answer : A) (kind : ReplyKind) (place : ℕ) → IsCall step v w call answer kind place
+  seen_length : (v w : SeatView S C) (call : C) (answer : A) (kind : ReplyKind) (place : ℕ) → IsCall step fallible v w call answer kind place
       → length w.seen ≡ place + rise_of kind
   seen_length v w call answer kind place c =
       ap length c.seen_ends_at_place ∙ (grown_length kind (v.number, call) (take place w.seen)
       ∙ ap (λ (n : ℕ). n + rise_of kind) (take_length place w.seen c.reply_is_legal.within))
 
   -- a call of the lock is one that was told in what the seat has seen then
-  pub told_now : (v w : SeatView S C) (call : C) (answer : A) (kind : ReplyKind) (place : ℕ) → IsCall step v w call answer kind place
-      → IsTold step v.opening w.seen v.number (standing_of v) (standing_of w) call answer kind place
+  pub told_now : (v w : SeatView S C) (call : C) (answer : A) (kind : ReplyKind) (place : ℕ) → IsCall step fallible v w call answer kind place
+      → IsTold step fallible v.opening w.seen v.number (standing_of v) (standing_of w) call answer kind place
   told_now v w call answer kind place c =
       record {
         legal = c.reply_is_legal;
@@ -67,23 +67,23 @@ module _ {S C A : Type 0} (step : S → C → S × A) where
 
   -- and in each longer history
   pub told_longer : (o : S) (h g : List (ℕ × C)) (n : ℕ) (s t : Standing C) (call : C) (answer : A) (kind : ReplyKind) (place : ℕ) → IsPrefix h g
-      → IsTold step o h n s t call answer kind place → IsTold step o g n s t call answer kind place
+      → IsTold step fallible o h n s t call answer kind place → IsTold step fallible o g n s t call answer kind place
   told_longer o h g n s t call answer kind place p k =
       record {
-        legal = IsLegalAt-longer step o h g n call answer kind place p k.legal;
+        legal = IsLegalAt-longer step fallible o h g n call answer kind place p k.legal;
         in_order = k.in_order;
         place_after = k.place_after;
         made = k.made;
         faults = k.faults;
       }
 
-  pub call_later : (v w : SeatView S C) (call : C) (answer : A) (kind : ReplyKind) (place : ℕ) → IsCall step v w call answer kind place → IsLater v w
+  pub call_later : (v w : SeatView S C) (call : C) (answer : A) (kind : ReplyKind) (place : ℕ) → IsCall step fallible v w call answer kind place → IsLater v w
   call_later v w call answer kind place c = record { same = c.seat_stays; seen = c.seen_only_grows }
 
 module _ {S C A R W E : Type 0} (P : Protocol S C A R W E) where
   answer_longer : (o : S) (h g : List (ℕ × C)) (n : ℕ) (s : Standing C) (request : Framed) (asked : Result (C × W) E) (a : Answer) (t : Standing C) → IsPrefix h g
       → IsAnswerIn P o h n s request asked a t → IsAnswerIn P o g n s request asked a t
-  answer_longer o h g n s request (Ok asked) a t p k = (k.0, k.1, told_longer P.step o h g n s t asked.0 (P.answer k.0) (P.kind k.0) k.1 p k.2, k.3)
+  answer_longer o h g n s request (Ok asked) a t p k = (k.0, k.1, told_longer P.step P.fallible o h g n s t asked.0 (P.answer k.0) (P.kind k.0) k.1 p k.2, k.3)
   answer_longer o h g n s request (Err why) a t p k = k
 
   -- a talk in a history is one in each longer history
@@ -102,19 +102,19 @@ module _ {S C A R W E : Type 0} (P : Protocol S C A R W E) where
       end_carried (answers_in P o h n) (answers_in P o g n) (λ s. s) (λ s. Unit {0}) (λ s. Unit {0}) (longer o h g n p) s t old new bytes left how e tt tt
 
   answer_later : (v : SeatView S C) (request : Framed) (asked : Result (C × W) E) (a : Answer) (w : SeatView S C) → IsAnswerNow P v request asked a w → IsLater v w
-  answer_later v request (Ok asked) a w k = call_later P.step v w asked.0 (P.answer k.0) (P.kind k.0) k.1 k.2
+  answer_later v request (Ok asked) a w k = call_later P.step P.fallible v w asked.0 (P.answer k.0) (P.kind k.0) k.1 k.2
   answer_later v request (Err why) a w k = subst (λ (x : SeatView S C). IsLater v x) (sym k.1) (later_refl v)
 
   -- answers of a seat that ends as w
   told_in : (w s : SeatView S C) (request : Framed) (asked : Result (C × W) E) (a : Answer) (t : SeatView S C) → IsLater t w → IsAnswerNow P s request asked a t
       → IsAnswerIn P w.opening w.seen w.number (standing_of s) request asked a (standing_of t)
   told_in w s request (Ok asked) a t later k =
-      let l = later_trans s t w (call_later P.step s t asked.0 (P.answer k.0) (P.kind k.0) k.1 k.2) later in
-      let here : IsTold P.step s.opening w.seen s.number (standing_of s) (standing_of t) asked.0 (P.answer k.0) (P.kind k.0) k.1 =
-      told_longer P.step s.opening t.seen w.seen s.number (standing_of s) (standing_of t) asked.0 (P.answer k.0) (P.kind k.0) k.1 later.seen (told_now P.step s t asked.0 (P.answer k.0) (P.kind k.0) k.1 k.2) in (
+      let l = later_trans s t w (call_later P.step P.fallible s t asked.0 (P.answer k.0) (P.kind k.0) k.1 k.2) later in
+      let here : IsTold P.step P.fallible s.opening w.seen s.number (standing_of s) (standing_of t) asked.0 (P.answer k.0) (P.kind k.0) k.1 =
+      told_longer P.step P.fallible s.opening t.seen w.seen s.number (standing_of s) (standing_of t) asked.0 (P.answer k.0) (P.kind k.0) k.1 later.seen (told_now P.step P.fallible s t asked.0 (P.answer k.0) (P.kind k.0) k.1 k.2) in (
         k.0,
         k.1,
-        subst (λ (x : S × ℕ). IsTold P.step x.0 w.seen x.1 (standing_of s) (standing_of t) asked.0 (P.answer k.0) (P.kind k.0) k.1) (λ i. (sym l.same.4 i, sym l.same.1 i)) here,
+        subst (λ (x : S × ℕ). IsTold P.step P.fallible x.0 w.seen x.1 (standing_of s) (standing_of t) asked.0 (P.answer k.0) (P.kind k.0) k.1) (λ i. (sym l.same.4 i, sym l.same.1 i)) here,
         k.3,
       )
   told_in w s request (Err why) a t later k = (k.0, ap standing_of k.1)

@@ -1,5 +1,5 @@
 -- The answers of the plain machine, one after another, which a caller gets that has the machine for itself.
-use Rattle.std.specs.Prelude.{◌≡◌, ℕ, List, Result, Ok, Err, length}
+use Rattle.std.specs.Prelude.{◌≡◌, ℕ, Bool, List, Result, Ok, Err, length}
 use Rattle.history_lock.specs.Replies.{ReplyKind, accepted, fault, memory, plain, AnswersAs, grown}
 use Rattle.history_lock.specs.Replay.{replay}
 use Rattle.history_lock.specs.Seats.{SeatView}
@@ -19,16 +19,17 @@ state_after fault old new = old
 state_after memory old new = old
 state_after plain old new = old
 
--- the reply to a call of the caller with this number is the plain step's, or tells a fault or want of memory; and what is kept then
-pub record IsReplied {S C A : Type 0} (step : S → C → S × A) (number : ℕ) (old new : Plain S C) (call : C) (answer : A) (kind : ReplyKind) : Type 0 where
-  pub right : AnswersAs kind answer (step old.state call).1
+-- the reply to a call of the caller with this number is the plain step's, or tells a fault where that one is fallible, or want of memory;
+-- and what is kept then
+pub record IsReplied {S C A : Type 0} (step : S → C → S × A) (fallible : A → Bool) (number : ℕ) (old new : Plain S C) (call : C) (answer : A) (kind : ReplyKind) : Type 0 where
+  pub right : AnswersAs fallible kind answer (step old.state call).1
   pub state : new.state ≡ state_after kind old.state (step old.state call).0
   pub log : new.log ≡ grown kind (number, call) old.log
 
 -- the answer to what a request asks for; the place of a reply is the number of changes accepted before it
 abbrev pub IsPlainAnswer : {S C A R W E : Type 0} → Protocol S C A R W E → ℕ → Plain S C → Framed → Result (C × W) E → Answer → Plain S C → Type 0
 IsPlainAnswer {R = R} P number old request (Ok asked) answer new =
-    (reply : R) × IsReplied P.step number old new asked.0 (P.answer reply) (P.kind reply) × (answer ≡ P.tells asked.0 reply asked.1 (length old.log))
+    (reply : R) × IsReplied P.step P.fallible number old new asked.0 (P.answer reply) (P.kind reply) × (answer ≡ P.tells asked.0 reply asked.1 (length old.log))
 IsPlainAnswer P number old request (Err why) answer new = P.refuses request why answer × (new ≡ old)
 
 -- a request is answered as the plain machine would

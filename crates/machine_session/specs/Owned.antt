@@ -1,5 +1,5 @@
 -- A machine that one caller has for itself: what is seen of it, and what its requests are answered.
-use Rattle.std.specs.Prelude.{◌≡◌, ◌≢◌, ◌+◌, ◌++◌, ◌≤◌, ℕ, List, [], ◌∷◌, Result, Ok, Err, IfOk, length}
+use Rattle.std.specs.Prelude.{◌≡◌, ◌≢◌, ◌⊎◌, ◌+◌, ◌++◌, ◌≤◌, ℕ, Bool, List, [], ◌∷◌, Result, Ok, Err, IfOk, length}
 use Rattle.history_lock.specs.Machines.{Reaches}
 use Rattle.history_lock.specs.Replies.{ReplyKind, fault, failures_of}
 use Rattle.http_session.specs.declared.reply.Reply.{Reply as Written}
@@ -30,17 +30,18 @@ pub record IsChanged {S C A : Type 0} (step : S → C → S × A) (old new : Pla
   pub state : new.state ≡ (step old.state entry.1).0
 
 -- a call was replied to; the caller's number is 0
-pub record IsOwnCall {S C A : Type 0} (step : S → C → S × A) (v w : Owned S C) (call : C) (answer : A) (kind : ReplyKind) : Type 0 where
+pub record IsOwnCall {S C A : Type 0} (step : S → C → S × A) (fallible : A → Bool) (v w : Owned S C) (call : C) (answer : A) (kind : ReplyKind) : Type 0 where
   pub opening : w.opening ≡ v.opening
-  pub replied : IsReplied step 0 (plain_of_owned step v) (plain_of_owned step w) call answer kind
-  -- the count of faults never falls, and rises where the reply tells a fault, as far as it goes
+  pub replied : IsReplied step fallible 0 (plain_of_owned step v) (plain_of_owned step w) call answer kind
+  -- the count of faults never falls, and rises where the reply tells a fault, as far as it goes, and with no other reply
   pub later : v.faults ≤ w.faults
   pub counted : Reaches (v.faults + failures_of kind) w.faults
+  pub still : (kind ≡ fault) ⊎ (w.faults ≡ v.faults)
 
 -- the answer to what a request asks for: the place of a reply is the number of changes accepted before it
 abbrev pub IsOwnAnswer : {S C A R W E : Type 0} → Protocol S C A R W E → Owned S C → Framed → Result (C × W) E → Answer → Owned S C → Type 0
 IsOwnAnswer {R = R} P v request (Ok asked) answer w =
-    (reply : R) × IsOwnCall P.step v w asked.0 (P.answer reply) (P.kind reply) × (answer ≡ P.tells asked.0 reply asked.1 (length v.log))
+    (reply : R) × IsOwnCall P.step P.fallible v w asked.0 (P.answer reply) (P.kind reply) × (answer ≡ P.tells asked.0 reply asked.1 (length v.log))
 IsOwnAnswer P v request (Err why) answer w = P.refuses request why answer × (w ≡ v)
 
 -- what a request may be answered
@@ -51,15 +52,38 @@ answers_alone {C = C} {W = W} {E = E} P =
       refuses = P.misread;
     }
 
+-- the machine, and how many calls were answered by a fault so far
+pub record Counted (S C : Type 0) : Type 0 where
+  pub now : Owned S C
+  pub told : ℕ
+
+abbrev pub counted : {S C : Type 0} → Owned S C → ℕ → Counted S C
+counted now told = record { now = now; told = told }
+
+-- the answer to what a request asks for, and the count of those that tell a fault
+abbrev pub IsCountedAnswer : {S C A R W E : Type 0} → Protocol S C A R W E → Counted S C → Framed → Result (C × W) E → Answer → Counted S C → Type 0
+IsCountedAnswer {R = R} P old request (Ok asked) answer new =
+    (reply : R) × IsOwnCall P.step P.fallible old.now new.now asked.0 (P.answer reply) (P.kind reply) × (answer ≡ P.tells asked.0 reply asked.1 (length old.now.log))
+    × (new.told ≡ old.told + failures_of (P.kind reply))
+IsCountedAnswer P old request (Err why) answer new = P.refuses request why answer × (new ≡ old)
+
+-- what a request may be answered, and how many answers tell a fault
+abbrev pub answers_counted : {S C A R W E : Type 0} → Protocol S C A R W E → May (Counted S C)
+answers_counted {C = C} {W = W} {E = E} P =
+    record {
+      answers = λ old request answer new. (asked : Result (C × W) E) × P.asks request asked × IsCountedAnswer P old request asked answer new;
+      refuses = P.misread;
+    }
+
 -- a call was replied to; its answer is this, or is lost as memory ran out
 abbrev pub IsActed : {S C A R W E F : Type 0} → Protocol S C A R W E → Owned S C → C → W → Result Written F → Owned S C → Type 0
 IsActed {R = R} P v call shown result w =
-    (reply : R) × IsOwnCall P.step v w call (P.answer reply) (P.kind reply) × IfOk result (λ answer. answer_of answer ≡ P.tells call reply shown (length v.log))
+    (reply : R) × IsOwnCall P.step P.fallible v w call (P.answer reply) (P.kind reply) × IfOk result (λ answer. answer_of answer ≡ P.tells call reply shown (length v.log))
 
 -- the answer to what a request asks for, of a plain machine that does not fail
 abbrev pub IsCertainAnswer : {S C A R W E : Type 0} → Protocol S C A R W E → Plain S C → Framed → Result (C × W) E → Answer → Plain S C → Type 0
 IsCertainAnswer {R = R} P old request (Ok asked) answer new =
-    (reply : R) × (P.kind reply ≢ fault) × IsReplied P.step 0 old new asked.0 (P.answer reply) (P.kind reply) × (answer ≡ P.tells asked.0 reply asked.1 (length old.log))
+    (reply : R) × (P.kind reply ≢ fault) × IsReplied P.step P.fallible 0 old new asked.0 (P.answer reply) (P.kind reply) × (answer ≡ P.tells asked.0 reply asked.1 (length old.log))
 IsCertainAnswer P old request (Err why) answer new = P.refuses request why answer × (new ≡ old)
 
 -- a request is answered as a plain machine would that does not fail: only that memory ran out may be told instead

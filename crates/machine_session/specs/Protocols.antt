@@ -1,5 +1,5 @@
 -- What a machine and its service are to contracts, as one value: which requests ask for which calls, and which answers tell which replies.
-use Rattle.std.specs.Prelude.{ℕ, Result}
+use Rattle.std.specs.Prelude.{ℕ, Bool, Result}
 use Rattle.history_lock.specs.Replies.{ReplyKind}
 use Rattle.http_session.specs.Requests.{Framed}
 use Rattle.http_session.specs.Talk.{Answer}
@@ -8,10 +8,12 @@ use Rattle.http_session.specs.declared.request.Fault.{Fault}
 -- S is a state of the machine, C a call, A an answer of the plain step, R a reply, W what an answer shows beside the reply and its place,
 -- E why a request is refused without the machine
 pub record Protocol (S C A R W E : Type 0) : Type 1 where
-  -- of the machine: its plain step, a reply as the plain step gives it, and which kind each reply has
+  -- of the machine: its plain step, a reply as the plain step gives it, which kind each reply has, and in place of which plain answers a
+  -- fault may be told
   pub step : S → C → S × A
   pub answer : R → A
   pub kind : R → ReplyKind
+  pub fallible : A → Bool
   -- of the service: what a request asks for, ..
   pub asks : Framed → Result (C × W) E → Type 0
   -- .. the answer that tells a reply to a call, which has a place in the history, ..
@@ -21,7 +23,7 @@ pub record Protocol (S C A R W E : Type 0) : Type 1 where
   pub misread : Fault → Answer → Type 0
 
 -- these members as one value
-abbrev pub protocol : {S C A R W E : Type 0} → (S → C → S × A) → (R → A) → (R → ReplyKind) → (Framed → Result (C × W) E → Type 0) → (C → R → W → ℕ → Answer)
-    → (Framed → E → Answer → Type 0) → (Fault → Answer → Type 0) → Protocol S C A R W E
-protocol step answer kind asks tells refuses misread =
-    record { step = step; answer = answer; kind = kind; asks = asks; tells = tells; refuses = refuses; misread = misread }
+abbrev pub protocol : {S C A R W E : Type 0} → (S → C → S × A) → (R → A) → (R → ReplyKind) → (A → Bool) → (Framed → Result (C × W) E → Type 0)
+    → (C → R → W → ℕ → Answer) → (Framed → E → Answer → Type 0) → (Fault → Answer → Type 0) → Protocol S C A R W E
+protocol step answer kind fallible asks tells refuses misread =
+    record { step = step; answer = answer; kind = kind; fallible = fallible; asks = asks; tells = tells; refuses = refuses; misread = misread }

@@ -1,7 +1,7 @@
 -- One connection that was served, over a shared machine or over a machine of its own.
-use Rattle.std.specs.Prelude.{◌≡◌, ◌<◌, ◌≤◌, ℕ, List, [], Option}
+use Rattle.std.specs.Prelude.{◌≡◌, ◌+◌, ◌≤◌, ℕ, List, [], Option}
 use Rattle.ipam_edge.specs.Reading.{GrownByReads, Last, Step}
-use Rattle.history_lock.specs.Machines.{last_count}
+use Rattle.history_lock.specs.Machines.{Reaches}
 use Rattle.history_lock.specs.Seats.{SeatView}
 use Rattle.http_session.specs.Steps.{Grown}
 use Rattle.http_session.specs.Ends.{HasNoNext, IsEnd, IsLastRead, IsReadAsNeeded, IsSession}
@@ -9,7 +9,7 @@ use Rattle.http_session.specs.declared.session.SessionEnd.{SessionEnd}
 use Rattle.machine_session.specs.Protocols.{Protocol}
 use Rattle.machine_session.specs.Told.{IsLater, answers_in, standing_of}
 use Rattle.machine_session.specs.Alone.{answers_plainly, plain_of}
-use Rattle.machine_session.specs.Owned.{Owned, answers_alone, answers_certainly, plain_of_owned}
+use Rattle.machine_session.specs.Owned.{Owned, answers_certainly, answers_counted, counted, plain_of_owned}
 
 -- the seat was v and is w; the source was `from` and is `to`, had these bytes left and has those, and the sink had and has these written
 pub record IsSharedSession {S C A B W E R : Type 0} (P : Protocol S C A B W E) (step : Step R) (v w : SeatView S C) (from to : R) (left_old left_new written_old written_new : Option (List ℕ)) (how : SessionEnd) : Type 0 where
@@ -30,10 +30,16 @@ pub record IsSharedSession {S C A B W E R : Type 0} (P : Protocol S C A B W E) (
 
 -- one connection over a machine of its own, which was v and is w
 pub record IsOwnSession {S C A B W E R : Type 0} (P : Protocol S C A B W E) (step : Step R) (v w : Owned S C) (from to : R) (left_old left_new written_old written_new : Option (List ℕ)) (how : SessionEnd) : Type 0 where
+  -- how many calls were answered by a fault
+  pub told : ℕ
   -- what was read and answered, with the machine's accepted changes and its count of faults after each answer
-  pub session : IsSession (answers_alone P) step v w from to left_old left_new written_old written_new how
+  pub session : IsSession (answers_counted P) step (counted v 0) (counted w told) from to left_old left_new written_old written_new how
   pub opening : w.opening ≡ v.opening
+  -- the machine's count never falls, rises by so many at least, as far as it goes, ..
   pub later : v.faults ≤ w.faults
-  -- where that count did not rise, no answer tells a fault, unless the count is at its last value
-  pub certain : w.faults ≡ v.faults → w.faults < last_count
+  pub bounded : Reaches (v.faults + told) w.faults
+  -- .. and only where a call was answered by a fault
+  pub still : told ≡ 0 → w.faults ≡ v.faults
+  -- where none was, the answers are those of a plain machine that does not fail
+  pub certain : told ≡ 0
       → IsEnd (answers_certainly P) (plain_of_owned P.step v) (plain_of_owned P.step w) written_old written_new session.bytes left_new how

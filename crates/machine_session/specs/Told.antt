@@ -1,5 +1,5 @@
 -- A talk: what a caller of a shared machine is told in answer to its requests, one after another, read against one history.
-use Rattle.std.specs.Prelude.{◌≡◌, ◌+◌, ◌≤◌, ℕ, List, [], length, Result, Ok, Err}
+use Rattle.std.specs.Prelude.{◌≡◌, ◌+◌, ◌≤◌, ℕ, Bool, List, [], length, Result, Ok, Err}
 use mathlib.Core.List.{IsPrefix}
 use Rattle.history_lock.specs.Replies.{ReplyKind, grown, rise_of, failures_of}
 use Rattle.history_lock.specs.Replay.{own_entries}
@@ -27,10 +27,10 @@ abbrev pub standing_of : {S C : Type 0} → SeatView S C → Standing C
 standing_of v = record { place = length v.seen; made = own_entries v.number v.seen; faults = v.faults }
 
 -- one call that was answered, in a history from this opening state, of the caller with this number
-pub record IsTold {S C A : Type 0} (step : S → C → S × A) (opening : S) (history : List (ℕ × C)) (number : ℕ) (before after : Standing C) (call : C) (answer : A) (kind : ReplyKind) (place : ℕ) : Type 0 where
+pub record IsTold {S C A : Type 0} (step : S → C → S × A) (fallible : A → Bool) (opening : S) (history : List (ℕ × C)) (number : ℕ) (before after : Standing C) (call : C) (answer : A) (kind : ReplyKind) (place : ℕ) : Type 0 where
   -- the reply is the plain machine's after the entries before its place, and an accepted change is the entry there; or it tells a
-  -- fault or want of memory
-  pub legal : IsLegalAt step opening history number call answer kind place
+  -- fault where that reply is fallible, or want of memory
+  pub legal : IsLegalAt step fallible opening history number call answer kind place
   -- places never fall ..
   pub in_order : before.place ≤ place
   -- .. and that of the next answer is behind an accepted change
@@ -44,7 +44,7 @@ pub record IsTold {S C A : Type 0} (step : S → C → S × A) (opening : S) (hi
 abbrev pub IsAnswerIn : {S C A R W E : Type 0} → Protocol S C A R W E → S → List (ℕ × C) → ℕ → Standing C → Framed → Result (C × W) E → Answer → Standing C → Type 0
 -- a call's answer is the text of its reply, with the reply's place
 IsAnswerIn {R = R} P opening history number before request (Ok asked) answer after =
-    (reply : R) × (place : ℕ) × IsTold P.step opening history number before after asked.0 (P.answer reply) (P.kind reply) place × (answer ≡ P.tells asked.0 reply asked.1 place)
+    (reply : R) × (place : ℕ) × IsTold P.step P.fallible opening history number before after asked.0 (P.answer reply) (P.kind reply) place × (answer ≡ P.tells asked.0 reply asked.1 place)
 -- what the bytes decide is refused without the machine
 IsAnswerIn P opening history number before request (Err why) answer after = P.refuses request why answer × (after ≡ before)
 

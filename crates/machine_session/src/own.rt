@@ -42,7 +42,7 @@ fn act<M: Machine, V: Service<M>, F: Follower<M>>(
     requires kept { F.keeps follower (plain_at M.step (M.opening machine.old) (M.log machine.old)) }
     ensures kept { F.keeps result.0 (plain_at M.step (M.opening machine.new) (M.log machine.new)) }
     ensures acted { (shown : V.Shown) → V.shows along (M.said call) shown
-        → IsActed (protocol M.step M.answer M.kind V.asks V.tells V.refuses V.misread) (owned (M.opening machine.old) (M.log machine.old) (M.faults machine.old)) (M.said call) shown result.1
+        → IsActed (protocol M.step M.answer M.kind M.fallible V.asks V.tells V.refuses V.misread) (owned (M.opening machine.old) (M.log machine.old) (M.faults machine.old)) (M.said call) shown result.1
         (owned (M.opening machine.new) (M.log machine.new) (M.faults machine.new)) }
 {
     let place = machine.entries();
@@ -71,7 +71,7 @@ impl<'a, M: Machine, V: Service<M>, F: Follower<M>> Desk for OwnMachine<'a, M, V
 
     ghost view = { λ s. owned (M.opening s.machine) (M.log s.machine) (M.faults s.machine) };
 
-    ghost may = { answers_alone (protocol M.step M.answer M.kind V.asks V.tells V.refuses V.misread) };
+    ghost may = { answers_alone (protocol M.step M.answer M.kind M.fallible V.asks V.tells V.refuses V.misread) };
 
     fn answer(
         &self,
@@ -118,7 +118,7 @@ pub fn serve_own_by<M: Machine, V: Service<M>, F: Follower<M>, So: Source, Si: S
     sink: &mut Si,
 ) -> (M, F, SessionEnd)
     requires { F.keeps follower (plain_at M.step (M.opening machine) (M.log machine)) }
-    ensures session { IsOwnSession (protocol M.step M.answer M.kind V.asks V.tells V.refuses V.misread) So.reads (owned (M.opening machine) (M.log machine) (M.faults machine)) (owned (M.opening result.0) (M.log result.0) (M.faults result.0)) source.old source.new (So.left source.old) (So.left source.new) (Si.written sink.old) (Si.written sink.new) result.2 }
+    ensures session { IsOwnSession (protocol M.step M.answer M.kind M.fallible V.asks V.tells V.refuses V.misread) So.reads (owned (M.opening machine) (M.log machine) (M.faults machine)) (owned (M.opening result.0) (M.log result.0) (M.faults result.0)) source.old source.new (So.left source.old) (So.left source.new) (Si.written sink.old) (Si.written sink.new) result.2 }
     ensures kept { F.keeps result.1 (plain_at M.step (M.opening result.0) (M.log result.0)) }
     ensures state { M.state result.0 ≡ replay M.step (M.opening result.0) (M.log result.0) }
     ensures source_later { So.faults source.old ≤ So.faults source.new }
@@ -150,7 +150,7 @@ pub fn serve_own<M: Machine, V: Service<M>, F: Follower<M>, So: Source, Si: Sink
     sink: &mut Si,
 ) -> (M, F, SessionEnd)
     requires { F.keeps follower (plain_at M.step (M.opening machine) (M.log machine)) }
-    ensures session { IsOwnSession (protocol M.step M.answer M.kind V.asks V.tells V.refuses V.misread) So.reads (owned (M.opening machine) (M.log machine) (M.faults machine)) (owned (M.opening result.0) (M.log result.0) (M.faults result.0)) source.old source.new (So.left source.old) (So.left source.new) (Si.written sink.old) (Si.written sink.new) result.2 }
+    ensures session { IsOwnSession (protocol M.step M.answer M.kind M.fallible V.asks V.tells V.refuses V.misread) So.reads (owned (M.opening machine) (M.log machine) (M.faults machine)) (owned (M.opening result.0) (M.log result.0) (M.faults result.0)) source.old source.new (So.left source.old) (So.left source.new) (Si.written sink.old) (Si.written sink.new) result.2 }
     ensures kept { F.keeps result.1 (plain_at M.step (M.opening result.0) (M.log result.0)) }
     ensures state { M.state result.0 ≡ replay M.step (M.opening result.0) (M.log result.0) }
     ensures source_later { So.faults source.old ≤ So.faults source.new }

@@ -73,7 +73,7 @@ fn ask<R: Wait, M: Machine, V: Service<M>>(
     requires takes { M.takes call }
     ensures lock { result.0.lock ≡ shared.now }
     ensures asked { (shown : V.Shown) → V.shows along (M.said call) shown
-        → IsAsked (protocol M.step M.answer M.kind V.asks V.tells V.refuses V.misread) seat (M.said call) shown result.1 result.0 }
+        → IsAsked (protocol M.step M.answer M.kind M.fallible V.asks V.tells V.refuses V.misread) seat (M.said call) shown result.1 result.0 }
 {
     let (seat, reply, place) = shared.call(rt, seat, call);
     let answer = V::write(alloc, reply, along, place);
@@ -108,7 +108,7 @@ impl<'a, R: Wait + 'a, M: Machine + 'a, V: Service<M>> Desk for SharedMachine<'a
 
     ghost view = { λ s. s.seat };
 
-    ghost may = { answers_in_turn (protocol M.step M.answer M.kind V.asks V.tells V.refuses V.misread) };
+    ghost may = { answers_in_turn (protocol M.step M.answer M.kind M.fallible V.asks V.tells V.refuses V.misread) };
 
     fn answer(
         &self,
@@ -116,8 +116,8 @@ impl<'a, R: Wait + 'a, M: Machine + 'a, V: Service<M>> Desk for SharedMachine<'a
         seat: Sitting<'a, R, M, V>,
         request: &HttpRequest,
     ) -> (Sitting<'a, R, M, V>, Result<Reply, AllocError>)
-        ensures answer { IfOk result.1 (λ r. (answers_in_turn (protocol M.step M.answer M.kind V.asks V.tells V.refuses V.misread)).answers seat.entry.seat (framed request.now) (answer_of r) result.0.seat) }
-        ensures err { OnErr result.1 (IsLeft (answers_in_turn (protocol M.step M.answer M.kind V.asks V.tells V.refuses V.misread)) seat.entry.seat (framed request.now) result.0.seat) }
+        ensures answer { IfOk result.1 (λ r. (answers_in_turn (protocol M.step M.answer M.kind M.fallible V.asks V.tells V.refuses V.misread)).answers seat.entry.seat (framed request.now) (answer_of r) result.0.seat) }
+        ensures err { OnErr result.1 (IsLeft (answers_in_turn (protocol M.step M.answer M.kind M.fallible V.asks V.tells V.refuses V.misread)) seat.entry.seat (framed request.now) result.0.seat) }
     {
         let Sitting {
             rt,
@@ -182,7 +182,7 @@ pub fn serve_session_by<'a, R: Wait, M: Machine, V: Service<M>, So: Source, Si: 
     sink: &mut Si,
 ) -> (Seat<M>, SessionEnd)
     requires { seat.lock ≡ shared.now }
-    ensures session { IsSharedSession (protocol M.step M.answer M.kind V.asks V.tells V.refuses V.misread) So.reads seat result.0 source.old source.new (So.left source.old) (So.left source.new) (Si.written sink.old) (Si.written sink.new) result.1 }
+    ensures session { IsSharedSession (protocol M.step M.answer M.kind M.fallible V.asks V.tells V.refuses V.misread) So.reads seat result.0 source.old source.new (So.left source.old) (So.left source.new) (Si.written sink.old) (Si.written sink.new) result.1 }
     ensures source_later { So.faults source.old ≤ So.faults source.new }
     ensures source { result.1 ≡ SessionEnd.SourceFault → Rose (So.faults source.old) (So.faults source.new) }
     ensures source_kept { (result.1 ≡ SessionEnd.SourceFault) ⊎ (So.faults source.new ≡ So.faults source.old) }
@@ -222,7 +222,7 @@ pub fn serve_session<R: Wait, M: Machine, V: Service<M>, So: Source, Si: Sink>(
     sink: &mut Si,
 ) -> (Seat<M>, SessionEnd)
     requires { seat.lock ≡ shared.now }
-    ensures session { IsSharedSession (protocol M.step M.answer M.kind V.asks V.tells V.refuses V.misread) So.reads seat result.0 source.old source.new (So.left source.old) (So.left source.new) (Si.written sink.old) (Si.written sink.new) result.1 }
+    ensures session { IsSharedSession (protocol M.step M.answer M.kind M.fallible V.asks V.tells V.refuses V.misread) So.reads seat result.0 source.old source.new (So.left source.old) (So.left source.new) (Si.written sink.old) (Si.written sink.new) result.1 }
     ensures source_later { So.faults source.old ≤ So.faults source.new }
     ensures source { result.1 ≡ SessionEnd.SourceFault → Rose (So.faults source.old) (So.faults source.new) }
     ensures source_kept { (result.1 ≡ SessionEnd.SourceFault) ⊎ (So.faults source.new ≡ So.faults source.old) }

@@ -4,7 +4,7 @@ use Rattle.std.specs.Str.{bytes_eq}
 use Rattle.http_session.specs.Replies.{field_of}
 use Rattle.http_session.specs.Talk.{Answer}
 use Rattle.http_session.specs.declared.reply.NumberField.{NumberField}
-use Rattle.lock_trial.specs.Adds.{add_step, kind_of}
+use Rattle.lock_trial.specs.Adds.{add_step, is_accepted, kind_of}
 use Rattle.lock_trial.specs.declared.calls.Call.{Call}
 use Rattle.lock_trial.specs.declared.calls.Call.TheVariants.{Add, Read}
 use Rattle.lock_trial.specs.declared.calls.Reply.{Reply}
@@ -55,6 +55,7 @@ tally_protocol =
       step = add_step;
       answer = λ r. r;
       kind = kind_of;
+      fallible = is_accepted;
       asks = λ request asked. asked ≡ asked_by request.method request.body;
       tells = λ call reply shown place. reply_answer reply place;
       refuses = λ request why answer. answer ≡ refused_answer;

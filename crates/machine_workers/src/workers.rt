@@ -30,7 +30,7 @@ fn serve_seat<R: Wait, M: Machine, V: Service<M>, A: Lane, G: Gate>(
 ) -> Seat<M>
     requires lock { seat.lock ≡ shared.now }
     requires fresh { IfSome (A.told lane.old) (λ connections. connections ≡ []) }
-    ensures served { HasServedSeat (protocol M.step M.answer M.kind V.asks V.tells V.refuses V.misread) seat result (A.told lane.new) }
+    ensures served { HasServedSeat (protocol M.step M.answer M.kind M.fallible V.asks V.tells V.refuses V.misread) seat result (A.told lane.new) }
     ensures none_left { A.accepts lane.new ≡ 0 }
     ensures later { A.faults lane.old ≤ A.faults lane.new }
 {
@@ -62,7 +62,7 @@ pub fn work<R: Wait, M: Machine, V: Service<M>, A: Lane, G: Gate>(
     gate: &G,
 )
     requires { IsReady A.told shared.now worker.old.seat worker.old.lane }
-    ensures { HasWorked (protocol M.step M.answer M.kind V.asks V.tells V.refuses V.misread) A.told A.accepts A.faults worker.old.seat worker.old.lane worker.new.seat worker.new.lane }
+    ensures { HasWorked (protocol M.step M.answer M.kind M.fallible V.asks V.tells V.refuses V.misread) A.told A.accepts A.faults worker.old.seat worker.old.lane worker.new.seat worker.new.lane }
 {
     let Some(seat) = worker.seat.take() else {
         unreachable!()

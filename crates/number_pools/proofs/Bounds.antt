@@ -6,7 +6,7 @@ use Rattle.number_pools.specs.declared.rows.PoolKind.TheVariants.{Asn, Vlan}
 use Rattle.number_pools.specs.declared.rows.NumberRange.{NumberRange}
 use Rattle.number_pools.specs.declared.rows.Member.{Member}
 use Rattle.number_pools.specs.Rows.{Pools, most_of, range_id}
-use Rattle.number_pools.specs.Lawful.{IsInBounds, IsInRange, IsLawful}
+use Rattle.number_pools.specs.Lawful.{IsInBounds, IsInRange, IsLawfulPools}
 use Rattle.number_pools.specs.Keys.{pool_size}
 use Rattle.number_pools.proofs.Frees.{AreNumbers}
 
@@ -40,5 +40,5 @@ all_small ranges [] bounds within = tt
 all_small ranges (m ∷ ms) bounds within =
     (small ranges bounds m (within m (contains_head m ms)), all_small ranges ms bounds (λ x c. within x (contains_rest m x ms c)))
 
-pub lawful_numbers : (s : Pools) → IsLawful s → AreNumbers s.members.rows
+pub lawful_numbers : (s : Pools) → IsLawfulPools s → AreNumbers s.members.rows
 lawful_numbers s l = all_small s.ranges.rows s.members.rows l.bounds l.within

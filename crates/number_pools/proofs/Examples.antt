@@ -8,15 +8,15 @@ use Rattle.number_pools.specs.declared.calls.PoolReply.{PoolReply}
 use Rattle.number_pools.specs.declared.calls.PoolReply.TheVariants.{Made, Claimed, Members, Numbers, Refused}
 use Rattle.number_pools.specs.declared.calls.PoolRefusal.TheVariants.{Absent, NameTaken, Bounds, InUse, NoSpace}
 use Rattle.number_pools.specs.Rows.{Pools, empty_pools}
-use Rattle.number_pools.specs.Steps.{pool_step}
+use Rattle.number_pools.specs.Steps.{plain_pool_step}
 
 -- the state after calls, one after another
 abbrev after : Pools → List PoolCall → Pools
 after s [] = s
-after s (c ∷ cs) = after (pool_step s c).0 cs
+after s (c ∷ cs) = after (plain_pool_step s c).0 cs
 
 abbrev answer : List PoolCall → PoolCall → PoolReply
-answer calls c = (pool_step (after empty_pools calls) c).1
+answer calls c = (plain_pool_step (after empty_pools calls) c).1
 
 -- a range of three numbers, of which two are claimed
 abbrev two_claimed : List PoolCall

@@ -21,11 +21,11 @@ use Rattle.number_pools.specs.declared.calls.PoolReply.{PoolReply}
 use Rattle.number_pools.specs.declared.calls.PoolReply.TheVariants.{Made, Gone, Claimed}
 use Rattle.number_pools.specs.Rows.{Pools, member_id, most_of, range_id}
 use Rattle.number_pools.specs.Free.{free_numbers, pool_at, pool_found}
-use Rattle.number_pools.specs.Lawful.{HaveOneName, HoldOneNumber, IsInBounds, IsInRange, IsLawful}
+use Rattle.number_pools.specs.Lawful.{HaveOneName, HoldOneNumber, IsInBounds, IsInRange, IsLawfulPools}
 use Rattle.number_pools.specs.Laws.{EmptyIsLawful, StepsKeepLawful}
 use Rattle.number_pools.proofs.Lists.{numbered-appended, numbered-cleared, row_at_else, row_at_beside}
 use Rattle.number_pools.proofs.Given.{AreMembers, AreFree, all_given, free_from, some_free}
-use Rattle.number_pools.specs.Steps.{Check, add_checks, claim_checks, claimed, cut_member_checks, cut_range_checks, cut_range_step, cut_member_step, members_step, available_step, claim_step, has_name, in_bounds, is_in_use, is_name_taken, is_of_range, is_out_of_bounds, is_short, made_range, member_at, no_ids, no_log, pool_step, range_at, of_kind, same_kind, too_many, unless, with_claim, with_range, without_member, without_range}
+use Rattle.number_pools.specs.Steps.{Check, add_checks, claim_checks, claimed, cut_member_checks, cut_range_checks, cut_range_step, cut_member_step, members_step, available_step, claim_step, has_name, in_bounds, is_in_use, is_name_taken, is_of_range, is_out_of_bounds, is_short, made_range, member_at, no_ids, no_log, plain_pool_step, range_at, of_kind, same_kind, too_many, unless, with_claim, with_range, without_member, without_range}
 
 -- ---- what it says that no check refuses
 
@@ -84,11 +84,11 @@ module _ (old new : List NumberRange) (members : List Member) (same : (m : Membe
 -- ---- the changes
 
 -- the range of a member is there, so its id is below the next one
-below_next : (s : Pools) (m : Member) → IsLawful s → Contains s.members.rows m → m.range < s.ranges.next
+below_next : (s : Pools) (m : Member) → IsLawfulPools s → Contains s.members.rows m → m.range < s.ranges.next
 below_next s m h c = let r = h.within m c in id_below range_id s.ranges.next m.range s.ranges.rows h.ranges.below (rw r.1 refl)
 
-range_added : (s : Pools) (row : NumberRange) → IsLawful s → row.id ≡ s.ranges.next → s.ranges.next + 1 ≤ last_next → s.spent + 1 ≤ most_spent → IsInBounds row
-    → ((x : NumberRange) → Contains s.ranges.rows x → has_name row.kind row.name x ≡ false) → IsLawful (with_range s row)
+range_added : (s : Pools) (row : NumberRange) → IsLawfulPools s → row.id ≡ s.ranges.next → s.ranges.next + 1 ≤ last_next → s.spent + 1 ≤ most_spent → IsInBounds row
+    → ((x : NumberRange) → Contains s.ranges.rows x → has_name row.kind row.name x ≡ false) → IsLawfulPools (with_range s row)
 range_added s row h id ids log bounds unnamed =
     let same : (m : Member) → Contains s.members.rows m → row_at range_id (with_row range_id s.ranges.rows row) m.range ≡ row_at range_id s.ranges.rows m.range =
     λ m c. row_at_else range_id s.ranges.rows row m.range (λ q. let b = below_next s m h c in absurd (omega arith)) in
@@ -102,7 +102,7 @@ range_added s row h id ids log bounds unnamed =
       spent = log;
     }
 
-range_cut : (s : Pools) (id : ℕ) → IsLawful s → s.spent + 1 ≤ most_spent → ((m : Member) → Contains s.members.rows m → m.range ≢ id) → IsLawful (without_range s id)
+range_cut : (s : Pools) (id : ℕ) → IsLawfulPools s → s.spent + 1 ≤ most_spent → ((m : Member) → Contains s.members.rows m → m.range ≢ id) → IsLawfulPools (without_range s id)
 range_cut s id h log unused =
     let same : (m : Member) → Contains s.members.rows m → row_at range_id (without range_id s.ranges.rows id) m.range ≡ row_at range_id s.ranges.rows m.range =
     λ m c. row_at_beside range_id s.ranges.rows id m.range (unused m c) in
@@ -116,7 +116,7 @@ range_cut s id h log unused =
       spent = log;
     }
 
-member_cut : (s : Pools) (id : ℕ) → IsLawful s → s.spent + 1 ≤ most_spent → IsLawful (without_member s id)
+member_cut : (s : Pools) (id : ℕ) → IsLawfulPools s → s.spent + 1 ≤ most_spent → IsLawfulPools (without_member s id)
 member_cut s id h log = record {
   ranges = h.ranges;
   members = numbered-cleared member_id s.members id h.members;
@@ -127,8 +127,8 @@ member_cut s id h log = record {
   spent = log;
 }
 
-claim_made : (s : Pools) (range : NumberRange) (names : List (List ℕ)) → IsLawful s → row_at range_id s.ranges.rows range.id ≡ Some range → s.members.next + length names ≤ last_next
-    → s.spent + length names ≤ most_spent → IsLawful (with_claim s range names)
+claim_made : (s : Pools) (range : NumberRange) (names : List (List ℕ)) → IsLawfulPools s → row_at range_id s.ranges.rows range.id ≡ Some range → s.members.next + length names ≤ last_next
+    → s.spent + length names ≤ most_spent → IsLawfulPools (with_claim s range names)
 claim_made s range names h there ids log =
     let members : AreMembers s.ranges.rows s.members = record { numbered = h.members; within = h.within; numbers = h.numbers } in
     let b = h.bounds range (found_there range_id s.ranges.rows range.id range there).0 in
@@ -156,11 +156,11 @@ found_range s kind id range e = go (row_at range_id s.ranges.rows id) refl e
         inner false e = cc
 
 -- lawful where it is refused, and where it is done
-either : (why : Check) (s new : Pools) (reply : PoolReply) → IsLawful s → (why ≡ None → IsLawful new) → IsLawful (unless why s new reply).0
+either : (why : Check) (s new : Pools) (reply : PoolReply) → IsLawfulPools s → (why ≡ None → IsLawfulPools new) → IsLawfulPools (unless why s new reply).0
 either (Some w) s new reply h k = h
 either None s new reply h k = k refl
 
-add_lawful : (s : Pools) (kind : PoolKind) (name : List ℕ) (first last : ℕ) → IsLawful s → IsLawful (pool_step s (call.AddRange kind name first last)).0
+add_lawful : (s : Pools) (kind : PoolKind) (name : List ℕ) (first last : ℕ) → IsLawfulPools s → IsLawfulPools (plain_pool_step s (call.AddRange kind name first last)).0
 add_lawful s kind name first last h =
     let row = made_range s kind name first last in
     let taken = is_name_taken s kind name in
@@ -177,10 +177,10 @@ add_lawful s kind name first last h =
     (are_bounds s kind name first last (none_head out (many ∷ ids ∷ log ∷ []) e1))
     (λ x c. none_named s kind name x (none_head taken (out ∷ many ∷ ids ∷ log ∷ []) e) c))
 
-cut_range_lawful : (s : Pools) (kind : PoolKind) (id : ℕ) → IsLawful s → IsLawful (pool_step s (call.CutRange kind id)).0
+cut_range_lawful : (s : Pools) (kind : PoolKind) (id : ℕ) → IsLawfulPools s → IsLawfulPools (plain_pool_step s (call.CutRange kind id)).0
 cut_range_lawful s kind id h = go (range_at s.ranges.rows kind id)
   where
-    go : (o : Option NumberRange) → IsLawful (cut_range_step s id o).0
+    go : (o : Option NumberRange) → IsLawfulPools (cut_range_step s id o).0
     go None = h
     go (Some range) =
         let used = is_in_use s id in
@@ -188,31 +188,31 @@ cut_range_lawful s kind id h = go (range_at s.ranges.rows kind id)
         either (first_of (cut_range_checks s id)) s (without_range s id) Gone h (λ e.
         range_cut s id h (log_fits s 1 (none_head log [] (none_rest used (log ∷ []) e))) (λ m c. none_of_range s id m (none_head used (log ∷ []) e) c))
 
-cut_member_lawful : (s : Pools) (kind : PoolKind) (id : ℕ) → IsLawful s → IsLawful (pool_step s (call.CutMember kind id)).0
+cut_member_lawful : (s : Pools) (kind : PoolKind) (id : ℕ) → IsLawfulPools s → IsLawfulPools (plain_pool_step s (call.CutMember kind id)).0
 cut_member_lawful s kind id h = go (member_at s kind id)
   where
-    go : (o : Option Member) → IsLawful (cut_member_step s id o).0
+    go : (o : Option Member) → IsLawfulPools (cut_member_step s id o).0
     go None = h
     go (Some m) = either (first_of (cut_member_checks s)) s (without_member s id) Gone h (λ e. member_cut s id h (log_fits s 1 (none_head (no_log s 1) [] e)))
 
-members_lawful : (s : Pools) (kind : PoolKind) (id : ℕ) → IsLawful s → IsLawful (pool_step s (call.Members kind id)).0
+members_lawful : (s : Pools) (kind : PoolKind) (id : ℕ) → IsLawfulPools s → IsLawfulPools (plain_pool_step s (call.Members kind id)).0
 members_lawful s kind id h = go (range_at s.ranges.rows kind id)
   where
-    go : (o : Option NumberRange) → IsLawful (members_step s id o).0
+    go : (o : Option NumberRange) → IsLawfulPools (members_step s id o).0
     go None = h
     go (Some range) = h
 
-available_lawful : (s : Pools) (kind : PoolKind) (id limit : ℕ) → IsLawful s → IsLawful (pool_step s (call.Available kind id limit)).0
+available_lawful : (s : Pools) (kind : PoolKind) (id limit : ℕ) → IsLawfulPools s → IsLawfulPools (plain_pool_step s (call.Available kind id limit)).0
 available_lawful s kind id limit h = go (range_at s.ranges.rows kind id)
   where
-    go : (o : Option NumberRange) → IsLawful (available_step s id limit o).0
+    go : (o : Option NumberRange) → IsLawfulPools (available_step s id limit o).0
     go None = h
     go (Some range) = h
 
-claim_lawful : (s : Pools) (kind : PoolKind) (id : ℕ) (list : Bool) (names : List (List ℕ)) → IsLawful s → IsLawful (pool_step s (call.Claim kind id list names)).0
+claim_lawful : (s : Pools) (kind : PoolKind) (id : ℕ) (list : Bool) (names : List (List ℕ)) → IsLawfulPools s → IsLawfulPools (plain_pool_step s (call.Claim kind id list names)).0
 claim_lawful s kind id list names h = go (range_at s.ranges.rows kind id) refl
   where
-    go : (o : Option NumberRange) → range_at s.ranges.rows kind id ≡ o → IsLawful (claim_step s id names o).0
+    go : (o : Option NumberRange) → range_at s.ranges.rows kind id ≡ o → IsLawfulPools (claim_step s id names o).0
     go None o = h
     go (Some range) o =
         let large = too_many Claims MOST_CLAIMED (length names) in

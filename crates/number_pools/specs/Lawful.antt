@@ -32,7 +32,7 @@ HoldOneNumber ranges x y = (pool_at ranges x ≡ pool_at ranges y) × (x.number 
 
 -- ranges and members are numbered; names are unique per kind; each range is in its bounds and each member in its range; no two members
 -- hold one number of one pool; and no more items of the log are spent than may be
-pub record IsLawful (s : Pools) : Type 0 where
+pub record IsLawfulPools (s : Pools) : Type 0 where
   pub ranges : AreNumbered range_id s.ranges
   pub members : AreNumbered member_id s.members
   pub names : IsApart range_id HaveOneName s.ranges.rows

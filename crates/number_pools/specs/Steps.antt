@@ -174,11 +174,11 @@ claim_step s id names (Some range) =
     unless (first_of (claim_checks s range (length names))) s (with_claim s range names) (Claimed (claimed s range names))
 
 -- the plain step. Whether a claim came as a list is told to whoever writes its answer, and changes nothing.
-abbrev pub pool_step : Pools → PoolCall → Pools × PoolReply
-pool_step s (call.AddRange kind name first last) = add_step s kind name first last
-pool_step s (call.CutRange kind id) = cut_range_step s id (range_at s.ranges.rows kind id)
-pool_step s (call.Ranges kind) = (s, Ranges (ranges_of s.ranges.rows kind))
-pool_step s (call.Members kind id) = members_step s id (range_at s.ranges.rows kind id)
-pool_step s (call.CutMember kind id) = cut_member_step s id (member_at s kind id)
-pool_step s (call.Available kind id limit) = available_step s id limit (range_at s.ranges.rows kind id)
-pool_step s (call.Claim kind id list names) = claim_step s id names (range_at s.ranges.rows kind id)
+abbrev pub plain_pool_step : Pools → PoolCall → Pools × PoolReply
+plain_pool_step s (call.AddRange kind name first last) = add_step s kind name first last
+plain_pool_step s (call.CutRange kind id) = cut_range_step s id (range_at s.ranges.rows kind id)
+plain_pool_step s (call.Ranges kind) = (s, Ranges (ranges_of s.ranges.rows kind))
+plain_pool_step s (call.Members kind id) = members_step s id (range_at s.ranges.rows kind id)
+plain_pool_step s (call.CutMember kind id) = cut_member_step s id (member_at s kind id)
+plain_pool_step s (call.Available kind id limit) = available_step s id limit (range_at s.ranges.rows kind id)
+plain_pool_step s (call.Claim kind id list names) = claim_step s id names (range_at s.ranges.rows kind id)

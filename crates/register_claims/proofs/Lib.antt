@@ -5,3 +5,7 @@ mod HostTests
 mod HostSpans
 mod HostLists
 mod HostClaims
+pub mod OneOrder
+pub mod PlaceNumbers
+pub mod SurveyFigures
+pub mod Surveyed

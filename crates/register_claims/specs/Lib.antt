@@ -1,3 +1,4 @@
 pub mod Children
 pub mod Claimed
 pub mod Hosts
+pub mod PlaceDigits

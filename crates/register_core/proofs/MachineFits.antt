@@ -1,5 +1,5 @@
 -- A call of the register is one of a machine.
-use Rattle.std.proofs.Common.{◌≡◌, ◌≢◌, ◌⊎◌, ℕ, ◌<◌, ◌≤◌, List, [], ◌∷◌, map, refl, ap, sym, ◌∙◌}
+use Rattle.std.proofs.Common.{◌≡◌, ◌≢◌, ◌⊎◌, ℕ, ◌<◌, ◌≤◌, true, List, [], ◌∷◌, map, refl, ap, sym, ◌∙◌}
 use Rattle.std.proofs.lemmas.List.{map-append}
 use Rattle.history_lock.specs.Replies.{fault, grown, AnswersAs}
 use Rattle.history_lock.specs.Replay.{replay as machine_replay}
@@ -26,34 +26,38 @@ IsStep old new call reply = reply ≢ Refused Memory → reply ≢ Refused Keepe
 told_of : (old new : State) (call : Call) (reply : Reply) → IsStep old new call reply → reply ≢ Refused Memory → reply ≢ Refused Keeper → reply ≡ (plain_step old call).1
 told_of old new call reply h m k = sym (ap (λ (p : State × Reply). p.1) (h m k))
 
-pub answers : (old new : State) (call : Call) (reply : Reply) → IsStep old new call reply → AnswersAs (kind_of reply) reply (plain_step old call).1
-answers old new call (Made view) h = told_of old new call (Made view) h (λ e. cc) (λ e. cc)
-answers old new call (MadeMany views) h = told_of old new call (MadeMany views) h (λ e. cc) (λ e. cc)
-answers old new call (Changed view) h = told_of old new call (Changed view) h (λ e. cc) (λ e. cc)
-answers old new call Gone h = told_of old new call Gone h (λ e. cc) (λ e. cc)
-answers old new call (Imported created present) h = told_of old new call (Imported created present) h (λ e. cc) (λ e. cc)
-answers old new call (One view) h = told_of old new call (One view) h (λ e. cc) (λ e. cc)
-answers old new call (Page count views) h = told_of old new call (Page count views) h (λ e. cc) (λ e. cc)
-answers old new call (Blocks vrf list) h = told_of old new call (Blocks vrf list) h (λ e. cc) (λ e. cc)
-answers old new call (Addrs vrf len list) h = told_of old new call (Addrs vrf len list) h (λ e. cc) (λ e. cc)
-answers old new call (Percent figure) h = told_of old new call (Percent figure) h (λ e. cc) (λ e. cc)
-answers old new call (Rows rows) h = told_of old new call (Rows rows) h (λ e. cc) (λ e. cc)
-answers old new call (Lines lines) h = told_of old new call (Lines lines) h (λ e. cc) (λ e. cc)
-answers old new call (Refused BadHead) h = told_of old new call (Refused BadHead) h (λ e. cc) (λ e. cc)
-answers old new call (Refused (TooLarge part)) h = told_of old new call (Refused (TooLarge part)) h (λ e. cc) (λ e. cc)
-answers old new call (Refused Coding) h = told_of old new call (Refused Coding) h (λ e. cc) (λ e. cc)
-answers old new call (Refused NoRoute) h = told_of old new call (Refused NoRoute) h (λ e. cc) (λ e. cc)
-answers old new call (Refused Method) h = told_of old new call (Refused Method) h (λ e. cc) (λ e. cc)
-answers old new call (Refused BadJson) h = told_of old new call (Refused BadJson) h (λ e. cc) (λ e. cc)
-answers old new call (Refused (Field member)) h = told_of old new call (Refused (Field member)) h (λ e. cc) (λ e. cc)
-answers old new call (Refused (NotFound kind n)) h = told_of old new call (Refused (NotFound kind n)) h (λ e. cc) (λ e. cc)
-answers old new call (Refused (Breaks rule)) h = told_of old new call (Refused (Breaks rule)) h (λ e. cc) (λ e. cc)
-answers old new call (Refused (InUse kind n)) h = told_of old new call (Refused (InUse kind n)) h (λ e. cc) (λ e. cc)
-answers old new call (Refused (NoSpace n)) h = told_of old new call (Refused (NoSpace n)) h (λ e. cc) (λ e. cc)
-answers old new call (Refused (Limit which n)) h = told_of old new call (Refused (Limit which n)) h (λ e. cc) (λ e. cc)
-answers old new call (Refused Keeper) h = tt
-answers old new call (Refused Memory) h = tt
-answers old new call (Refused (Row n why)) h = told_of old new call (Refused (Row n why)) h (λ e. cc) (λ e. cc)
+-- .. and of a keeper that fails: it was asked to store a change
+abbrev pub IsAsked : State → Call → Reply → Type 0
+IsAsked old call reply = reply ≡ Refused Keeper → is_accepted (plain_step old call).1 ≡ true
+
+pub answers : (old new : State) (call : Call) (reply : Reply) → IsStep old new call reply → IsAsked old call reply → AnswersAs is_accepted (kind_of reply) reply (plain_step old call).1
+answers old new call (Made view) h asked = told_of old new call (Made view) h (λ e. cc) (λ e. cc)
+answers old new call (MadeMany views) h asked = told_of old new call (MadeMany views) h (λ e. cc) (λ e. cc)
+answers old new call (Changed view) h asked = told_of old new call (Changed view) h (λ e. cc) (λ e. cc)
+answers old new call Gone h asked = told_of old new call Gone h (λ e. cc) (λ e. cc)
+answers old new call (Imported created present) h asked = told_of old new call (Imported created present) h (λ e. cc) (λ e. cc)
+answers old new call (One view) h asked = told_of old new call (One view) h (λ e. cc) (λ e. cc)
+answers old new call (Page count views) h asked = told_of old new call (Page count views) h (λ e. cc) (λ e. cc)
+answers old new call (Blocks vrf list) h asked = told_of old new call (Blocks vrf list) h (λ e. cc) (λ e. cc)
+answers old new call (Addrs vrf len list) h asked = told_of old new call (Addrs vrf len list) h (λ e. cc) (λ e. cc)
+answers old new call (Percent figure) h asked = told_of old new call (Percent figure) h (λ e. cc) (λ e. cc)
+answers old new call (Rows rows) h asked = told_of old new call (Rows rows) h (λ e. cc) (λ e. cc)
+answers old new call (Lines lines) h asked = told_of old new call (Lines lines) h (λ e. cc) (λ e. cc)
+answers old new call (Refused BadHead) h asked = told_of old new call (Refused BadHead) h (λ e. cc) (λ e. cc)
+answers old new call (Refused (TooLarge part)) h asked = told_of old new call (Refused (TooLarge part)) h (λ e. cc) (λ e. cc)
+answers old new call (Refused Coding) h asked = told_of old new call (Refused Coding) h (λ e. cc) (λ e. cc)
+answers old new call (Refused NoRoute) h asked = told_of old new call (Refused NoRoute) h (λ e. cc) (λ e. cc)
+answers old new call (Refused Method) h asked = told_of old new call (Refused Method) h (λ e. cc) (λ e. cc)
+answers old new call (Refused BadJson) h asked = told_of old new call (Refused BadJson) h (λ e. cc) (λ e. cc)
+answers old new call (Refused (Field member)) h asked = told_of old new call (Refused (Field member)) h (λ e. cc) (λ e. cc)
+answers old new call (Refused (NotFound kind n)) h asked = told_of old new call (Refused (NotFound kind n)) h (λ e. cc) (λ e. cc)
+answers old new call (Refused (Breaks rule)) h asked = told_of old new call (Refused (Breaks rule)) h (λ e. cc) (λ e. cc)
+answers old new call (Refused (InUse kind n)) h asked = told_of old new call (Refused (InUse kind n)) h (λ e. cc) (λ e. cc)
+answers old new call (Refused (NoSpace n)) h asked = told_of old new call (Refused (NoSpace n)) h (λ e. cc) (λ e. cc)
+answers old new call (Refused (Limit which n)) h asked = told_of old new call (Refused (Limit which n)) h (λ e. cc) (λ e. cc)
+answers old new call (Refused Keeper) h asked = asked refl
+answers old new call (Refused Memory) h asked = tt
+answers old new call (Refused (Row n why)) h asked = told_of old new call (Refused (Row n why)) h (λ e. cc) (λ e. cc)
 
 grown_refusal : (r : Refusal) (who : ℕ) (call : Call) (log : List (ℕ × Call)) → grown (refusal_kind r) (who, call) log ≡ log
 grown_refusal BadHead who call log = refl

@@ -7,14 +7,13 @@ ghost use Rattle.register_tables.specs.Held.{state_of};
 ghost use Rattle.register_tables.specs.Planned.{IsPlanned};
 
 use ipam_data::calls::Call;
-use plan_export::plan_rows;
-use plan_import::plan_import;
-use plan_survey::plan_survey;
 use register_claims::{
     plan_available_blocks, plan_claim_blocks, plan_claim_prefix_addrs, plan_claim_range_addrs,
-    plan_prefix_addrs, plan_range_addrs, plan_utilization,
+    plan_prefix_addrs, plan_range_addrs, plan_survey, plan_utilization,
 };
-use register_plans::{plan_draft, plan_edit, plan_gone, plan_one, plan_page};
+use register_plans::{
+    plan_draft, plan_edit, plan_gone, plan_import, plan_one, plan_page, plan_rows,
+};
 use register_tables::{Planned, RowTables};
 use std::alloc::AllocError;
 

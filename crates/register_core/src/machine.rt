@@ -2,6 +2,7 @@
 
 ghost use Rattle.std.specs.Prelude.{◌≡◌, ◌^◌, ◌<◌, true, length, map, List, ℕ};
 ghost use Rattle.ipam_data.specs.State.{State, empty_state};
+ghost use Rattle.ipam_data.specs.Replays.{is_accepted};
 ghost use Rattle.ipam_data.specs.Steps.{plain_step};
 ghost use Rattle.register_core.specs.Machines.{kind_of, pair_of};
 
@@ -40,6 +41,8 @@ impl<K: Keeper> Machine for Register<K> {
     ghost answer = { λ r. r };
 
     ghost kind = { kind_of };
+
+    ghost fallible = { is_accepted };
 
     ghost takes = { λ c. Unit {0} };
 

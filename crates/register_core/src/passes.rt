@@ -3,14 +3,14 @@
 ghost use Rattle.std.specs.Prelude.{◌≡◌, ℕ, ◌<◌, ◌≤◌, ◌==◌, IfOk, OnOk, Some, None, [], find, fold, map, count_by, take, length};
 ghost use Rattle.std.specs.List.{list_any};
 ghost use Rattle.ipam_data.specs.Updates.{with_view, AreFit};
-ghost use Rattle.stored_tables.specs.Stored.{kind_number, kinds, stored_row};
+ghost use Rattle.stored_tables.specs.Stored.{kinds, stored_row};
 ghost use Rattle.stored_tables.specs.Opening.{breach_of, first_breach, told_next, bare_state, most_of, is_of_kind, is_overfull, is_past, is_bad_next, AreNextIds};
 ghost use Rattle.register_tables.specs.Held.{state_of};
 ghost use Rattle.register_core.specs.Opened.{AreRead};
 
 use ipam_data::address::MOST_ADDRESSES;
 use ipam_data::aggregate::MOST_AGGREGATES;
-use ipam_data::kinds::Kind;
+use ipam_data::kinds::{Kind, is_one_kind};
 use ipam_data::prefix::MOST_PREFIXES;
 use ipam_data::range::MOST_RANGES;
 use ipam_data::replies::View;
@@ -46,21 +46,6 @@ pub(crate) fn read_all(
 
 // ---- no kind has too many
 
-/// The place of a kind among the kinds, from 1.
-fn number_of(kind: Kind) -> u32
-    ensures { result ≡ kind_number kind }
-{
-    match kind {
-        Kind::Vrfs => 1,
-        Kind::Rirs => 2,
-        Kind::Roles => 3,
-        Kind::Aggregates => 4,
-        Kind::Prefixes => 5,
-        Kind::Ranges => 6,
-        Kind::Addresses => 7,
-    }
-}
-
 /// How many rows of a kind there may be.
 pub(crate) fn most_of(kind: Kind) -> u32
     ensures { result ≡ most_of kind }
@@ -80,7 +65,7 @@ pub(crate) fn most_of(kind: Kind) -> u32
 fn is_of_kind(kind: Kind, row: &Row) -> bool
     ensures { result ≡ is_of_kind kind row.now }
 {
-    number_of(row.kind) == number_of(kind)
+    is_one_kind(row.kind, kind)
 }
 
 /// Whether there are more rows of a kind than there may be.
@@ -126,7 +111,7 @@ fn told_next(nexts: &[(Kind, u32)], kind: Kind) -> u32
     ensures { result ≡ told_next nexts.now kind }
 {
     for next in nexts {
-        if number_of(next.0) == number_of(kind) {
+        if is_one_kind(next.0, kind) {
             return next.1;
         }
     }

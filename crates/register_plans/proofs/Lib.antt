@@ -4,3 +4,16 @@ pub mod Finds
 mod Drafted
 pub mod Found
 pub mod Asked
+pub mod CountedKeys
+pub mod ImportRecords
+pub mod SpelledKeys
+pub mod SameKeys
+pub mod KeptDraftLaws
+pub mod ImportSteps
+pub mod ImportLoops
+pub mod ImportRows
+pub mod ImportPlans
+pub mod RecordsLeftLaws
+pub mod TakenBack
+pub mod LookedUp
+pub mod ExportRows

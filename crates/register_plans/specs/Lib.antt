@@ -2,3 +2,10 @@ pub mod Pages
 pub mod Meets
 pub mod Broken
 pub mod Candidates
+pub mod ImportHalts
+pub mod ReadyRows
+pub mod ImportPlan
+pub mod TextKeys
+pub mod RecordsLeft
+pub mod UndoneRecords
+pub mod KeptDrafts

@@ -223,7 +223,7 @@ fn is_on_page(before: u32, limit: u32, offset: u32) -> bool
 }
 
 /// The row at an index that is there.
-fn row_at_index<T: Registered>(row_tables: &RowTables, index: u32) -> &T
+pub(crate) fn row_at_index<T: Registered>(row_tables: &RowTables, index: u32) -> &T
     requires { index < length (T.rules.row_list (state_of row_tables.now)).rows }
     ensures { Some result.now ≡ slice_get (T.rules.row_list (state_of row_tables.now)).rows index }
 {

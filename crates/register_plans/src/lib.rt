@@ -1,5 +1,6 @@
-//! What each call comes to, before anything is done: its refusal, its answer, or an update with its answer. The five calls are
-//! planned once over what a kind gives (`Registered`); a kind has a file, and a line in each dispatch. Nothing here changes a row.
+//! What each call on records comes to, an import and an export too, before anything is done: its refusal, its answer, or an update
+//! with its answer. The five calls are planned once over what a kind gives (`Registered`); a kind has a file, and a line in each
+//! dispatch. No row is changed when a plan is handed out: an import makes its rows and cuts them again.
 #![tactic(auto)]
 
 mod addresses;
@@ -7,7 +8,9 @@ mod aggregate;
 mod calls;
 mod candidates;
 mod dispatch;
+mod exports;
 mod filters;
+mod imports;
 mod prefixes;
 mod ranges;
 mod registered;
@@ -16,6 +19,7 @@ mod roles;
 mod same;
 mod vrfs;
 
-pub use calls::{broken, no_room_for_one};
 pub use dispatch::{broken_by_view, plan_draft, plan_edit, plan_gone, plan_one, plan_page};
-pub use registered::Registered;
+pub use exports::plan_rows;
+pub use imports::laws::keys_are_exact;
+pub use imports::plan_import;

@@ -12,6 +12,7 @@ use Rattle.ipam_data.specs.declared.kinds.Table.{Table}
 use Rattle.ipam_data.specs.declared.kinds.Table.TheVariants.{Global}
 use Rattle.ipam_data.specs.declared.replies.View.{View}
 use Rattle.ipam_data.specs.declared.replies.View.TheVariants.{Vrf as VrfView, Rir as RirView, Role as RoleView, Aggregate as AggregateView, Prefix as PrefixView, IpRange as RangeView, IpAddress as AddressView}
+use Rattle.ipam_data.specs.Rows.{same_kind}
 use Rattle.ipam_data.specs.Tables.{table_of, same_table}
 use Rattle.ipam_data.specs.State.{State}
 use Rattle.placed_book.specs.RowBook.{Book}
@@ -62,16 +63,6 @@ next_in held Addresses = held.next_address
 
 -- ---- room
 
--- the place of a kind among the kinds, so that two can be compared
-abbrev pub place_of_kind : Kind → ℕ
-place_of_kind Vrfs = 0
-place_of_kind Rirs = 1
-place_of_kind Roles = 2
-place_of_kind Aggregates = 3
-place_of_kind Prefixes = 4
-place_of_kind Ranges = 5
-place_of_kind Addresses = 6
-
 -- the kind of a row
 abbrev pub kind_of : View → Kind
 kind_of (VrfView row) = Vrfs
@@ -84,7 +75,7 @@ kind_of (AddressView row) = Addresses
 
 -- the row is of this kind
 abbrev pub is_of : Kind → View → Bool
-is_of kind view = place_of_kind (kind_of view) == place_of_kind kind
+is_of kind view = same_kind (kind_of view) kind
 
 -- the table of a row, where it is of the kind and the rows of that have places in tables
 abbrev pub table_in : Kind → View → Option Table

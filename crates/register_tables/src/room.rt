@@ -5,11 +5,11 @@ ghost use Rattle.ipam_data.specs.Updates.{with_view, IsFit};
 ghost use Rattle.ipam_data.specs.declared.kinds.Table.{Table as SeenTable};
 ghost use Rattle.placed_book.specs.Book.{spare_of, IsInOrder};
 ghost use Rattle.register_tables.specs.Counts.{counted};
-ghost use Rattle.register_tables.specs.Held.{state_of, place_of_kind, kind_of, is_of, table_in, is_in, HasRoom, HasAtMost};
+ghost use Rattle.register_tables.specs.Held.{state_of, kind_of, is_of, table_in, is_in, HasRoom, HasAtMost};
 
 use crate::RowTables;
 use crate::counts::{Counts, counted, counts_of};
-use ipam_data::kinds::{Kind, Table};
+use ipam_data::kinds::{Kind, Table, is_one_kind};
 use ipam_data::replies::View;
 use placed_book::{Book, Located, PlacedBook};
 use radix_tree::Tree;
@@ -17,21 +17,6 @@ use std::alloc::{AllocError, Global};
 
 /// How many rows an update may put, and a kind may have before one more is put: more of them want more memory than there is.
 const MOST_PUTS: u32 = 500_000_000;
-
-/// The place of a kind among the kinds.
-fn place(kind: Kind) -> u32
-    ensures { result ≡ place_of_kind kind }
-{
-    match kind {
-        Kind::Vrfs => 0,
-        Kind::Rirs => 1,
-        Kind::Roles => 2,
-        Kind::Aggregates => 3,
-        Kind::Prefixes => 4,
-        Kind::Ranges => 5,
-        Kind::Addresses => 6,
-    }
-}
 
 /// The kind of a row.
 fn kind_of_view(view: &View) -> Kind
@@ -56,7 +41,7 @@ fn kind_of_view(view: &View) -> Kind
 fn is_of_kind(view: &View, kind: Kind) -> bool
     ensures { result ≡ is_of kind view.now }
 {
-    place(kind_of_view(view)) == place(kind)
+    is_one_kind(kind_of_view(view), kind)
 }
 
 /// The table of a row, where it is of the kind and the rows of that have places in tables.

@@ -8,6 +8,7 @@ use Rattle.history_lock.specs.Seats.{IsCall}
 use Rattle.ipam_data.specs.declared.calls.Call.{Call}
 use Rattle.ipam_data.specs.declared.replies.Reply.{Reply}
 use Rattle.ipam_data.specs.State.{State}
+use Rattle.ipam_data.specs.Replays.{is_accepted}
 use Rattle.ipam_data.specs.Steps.{plain_step}
 use Rattle.http_session.specs.Requests.{Framed}
 use Rattle.http_session.specs.Talk.{Answer}
@@ -37,17 +38,17 @@ grown_replay memory s h n call = refl
 grown_replay plain s h n call = refl
 
 -- what the one caller had seen are all entries before its call
-seen_before : (v w : Caller) (call : Call) (reply : Reply) (place : ℕ) → IsCall plain_step v w call reply (kind_of reply) place → v.weight ≡ 65536
+seen_before : (v w : Caller) (call : Call) (reply : Reply) (place : ℕ) → IsCall plain_step is_accepted v w call reply (kind_of reply) place → v.weight ≡ 65536
     → take place w.seen ≡ v.seen
 seen_before v w call reply place c whole = ap (λ (n : ℕ). take n w.seen) (c.alone_misses_nothing whole) ∙ take_prefix v.seen w.seen c.seen_only_grows
 
-replied : (v w : Caller) (call : Call) (reply : Reply) (place : ℕ) → IsCall plain_step v w call reply (kind_of reply) place → v.weight ≡ 65536
+replied : (v w : Caller) (call : Call) (reply : Reply) (place : ℕ) → IsCall plain_step is_accepted v w call reply (kind_of reply) place → v.weight ≡ 65536
     → IsReplied v.number (plain_of v) (plain_of w) call reply
 replied v w call reply place c whole =
     let all = seen_before v w call reply place c whole in
     let log : w.seen ≡ grown (kind_of reply) (v.number, call) v.seen = c.seen_ends_at_place ∙ ap (grown (kind_of reply) (v.number, call)) all in
     record {
-      right = subst (λ (h : List Made). AnswersAs (kind_of reply) reply (plain_step (replay plain_step v.opening h) call).1) all c.reply_is_legal.right;
+      right = subst (λ (h : List Made). AnswersAs is_accepted (kind_of reply) reply (plain_step (replay plain_step v.opening h) call).1) all c.reply_is_legal.right;
       state = ap (λ (o : State). replay plain_step o w.seen) c.seat_stays.4 ∙ (ap (replay plain_step v.opening) log ∙ grown_replay (kind_of reply) v.opening v.seen v.number call);
       log = log;
     }

@@ -10,6 +10,7 @@ use Rattle.history_lock.proofs.Places.{IsLegalAt-longer}
 use Rattle.ipam_data.specs.declared.calls.Call.{Call}
 use Rattle.ipam_data.specs.declared.replies.Reply.{Reply}
 use Rattle.ipam_data.specs.State.{State}
+use Rattle.ipam_data.specs.Replays.{is_accepted}
 use Rattle.ipam_data.specs.Steps.{plain_step}
 use Rattle.http_session.specs.Requests.{Framed}
 use Rattle.http_session.specs.Talk.{Answer}
@@ -39,14 +40,14 @@ grown_length memory e h = omega arith
 grown_length plain e h = omega arith
 
 -- where a seat stands that answered one call
-seen_length : (v w : Caller) (call : Call) (reply : Reply) (place : ℕ) → IsCall plain_step v w call reply (kind_of reply) place
+seen_length : (v w : Caller) (call : Call) (reply : Reply) (place : ℕ) → IsCall plain_step is_accepted v w call reply (kind_of reply) place
     → length w.seen ≡ place + rise_of (kind_of reply)
 seen_length v w call reply place c =
     ap length c.seen_ends_at_place ∙ (grown_length (kind_of reply) (v.number, call) (take place w.seen)
     ∙ ap (λ (n : ℕ). n + rise_of (kind_of reply)) (take_length place w.seen c.reply_is_legal.within))
 
 -- a call of the lock is one that was told in what the seat has seen then
-told_now : (v w : Caller) (call : Call) (reply : Reply) (place : ℕ) → IsCall plain_step v w call reply (kind_of reply) place
+told_now : (v w : Caller) (call : Call) (reply : Reply) (place : ℕ) → IsCall plain_step is_accepted v w call reply (kind_of reply) place
     → IsTold v.opening w.seen v.number (standing_of v) (standing_of w) call reply place
 told_now v w call reply place c =
     record {
@@ -62,7 +63,7 @@ told_longer : (o : State) (h g : List Made) (n : ℕ) (s t : Standing) (call : C
     → IsTold o h n s t call reply place → IsTold o g n s t call reply place
 told_longer o h g n s t call reply place p k =
     record {
-      legal = IsLegalAt-longer plain_step o h g n call reply (kind_of reply) place p k.legal;
+      legal = IsLegalAt-longer plain_step is_accepted o h g n call reply (kind_of reply) place p k.legal;
       in_order = k.in_order;
       place_after = k.place_after;
       made = k.made;
@@ -102,7 +103,7 @@ later_trans u v w a b =
       seen = prefix_trans u.seen v.seen w.seen a.seen b.seen;
     }
 
-call_later : (v w : Caller) (call : Call) (reply : Reply) (place : ℕ) → IsCall plain_step v w call reply (kind_of reply) place → IsLater v w
+call_later : (v w : Caller) (call : Call) (reply : Reply) (place : ℕ) → IsCall plain_step is_accepted v w call reply (kind_of reply) place → IsLater v w
 call_later v w call reply place c = record { same = c.seat_stays; seen = c.seen_only_grows }
 
 answer_later : (v : Caller) (target : List ℕ) (asked : Asked) (a : Answer) (w : Caller) → IsAnswerNow v target asked a w → IsLater v w

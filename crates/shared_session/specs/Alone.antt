@@ -5,6 +5,7 @@ use Rattle.history_lock.specs.Replay.{replay}
 use Rattle.ipam_data.specs.declared.calls.Call.{Call}
 use Rattle.ipam_data.specs.declared.replies.Reply.{Reply}
 use Rattle.ipam_data.specs.State.{State}
+use Rattle.ipam_data.specs.Replays.{is_accepted}
 use Rattle.ipam_data.specs.Steps.{plain_step}
 use Rattle.http_session.specs.Talk.{Answer, May}
 use Rattle.rest_routes.specs.Requests.{Asked, IsRequest}
@@ -24,9 +25,10 @@ state_after fault old new = old
 state_after memory old new = old
 state_after plain old new = old
 
--- the reply to a call of the caller with this number is the plain step's, or tells a fault or out of memory; and what is kept then
+-- the reply to a call of the caller with this number is the plain step's, or tells a fault where that one is an accepted change, or out of
+-- memory; and what is kept then
 pub record IsReplied (number : ℕ) (old new : Plain) (call : Call) (reply : Reply) : Type 0 where
-  pub right : AnswersAs (kind_of reply) reply (plain_step old.state call).1
+  pub right : AnswersAs is_accepted (kind_of reply) reply (plain_step old.state call).1
   pub state : new.state ≡ state_after (kind_of reply) old.state (plain_step old.state call).0
   pub log : new.log ≡ grown (kind_of reply) (number, call) old.log
 

@@ -8,6 +8,7 @@ use Rattle.history_lock.specs.Seats.{SeatView, IsSameSeat}
 use Rattle.ipam_data.specs.declared.calls.Call.{Call}
 use Rattle.ipam_data.specs.declared.replies.Reply.{Reply}
 use Rattle.ipam_data.specs.State.{State}
+use Rattle.ipam_data.specs.Replays.{is_accepted}
 use Rattle.ipam_data.specs.Steps.{plain_step}
 use Rattle.http_session.specs.Talk.{Answer, May}
 use Rattle.rest_routes.specs.Requests.{Asked, IsRequest}
@@ -43,8 +44,8 @@ standing_of v = record { place = length v.seen; made = own_entries v.number v.se
 -- one call that was answered, in a history from this opening state, of the caller with this number
 pub record IsTold (opening : State) (history : List Made) (number : ℕ) (before after : Standing) (call : Call) (reply : Reply) (place : ℕ) : Type 0 where
   -- the reply is the plain register's after the entries before its place, and an accepted change is the entry there; or it tells a
-  -- fault or out of memory
-  pub legal : IsLegalAt plain_step opening history number call reply (kind_of reply) place
+  -- fault where that reply is an accepted change, or out of memory
+  pub legal : IsLegalAt plain_step is_accepted opening history number call reply (kind_of reply) place
   -- places never fall ..
   pub in_order : before.place ≤ place
   -- .. and that of the next answer is behind an accepted change

@@ -7,13 +7,12 @@ ghost use Rattle.stored_tables.specs.Order.{AreTables};
 
 use ipam_data::kinds::Kind;
 use stored_tables::tables::{Row, Tables};
-use stored_tables::writing::number_of_kind;
 
 /// Where a row stands among all rows.
 fn place_of(row: &Row) -> u64
     ensures { result ≡ row_place row.now }
 {
-    number_of_kind(row.kind) * 4_294_967_296 + row.id as u64
+    row.kind.number() as u64 * 4_294_967_296 + row.id as u64
 }
 
 /// Whether rows stand in the order of their kinds and ids, none twice.
@@ -37,7 +36,7 @@ fn nexts_rise(nexts: &[(Kind, u32)]) -> bool
 {
     let mut last = 0u64;
     for next in nexts {
-        let place = number_of_kind(next.0);
+        let place = next.0.number() as u64;
         if place <= last {
             return false;
         }

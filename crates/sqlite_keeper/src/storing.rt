@@ -27,23 +27,10 @@ pub(crate) struct Statements {
 impl Statements {
     /// Those of a kind. That it has none is not reached.
     fn of(&self, kind: Kind) -> Result<&KindStatements, StoreFault> {
-        match self.kinds.get(index_of(kind)) {
+        match self.kinds.get(kind.number() as usize - 1) {
             Some(statements) => Ok(statements),
             None => Err(StoreFault::Failed),
         }
-    }
-}
-
-/// The index of a kind among the kinds.
-fn index_of(kind: Kind) -> usize {
-    match kind {
-        Kind::Vrfs => 0,
-        Kind::Rirs => 1,
-        Kind::Roles => 2,
-        Kind::Aggregates => 3,
-        Kind::Prefixes => 4,
-        Kind::Ranges => 5,
-        Kind::Addresses => 6,
     }
 }
 

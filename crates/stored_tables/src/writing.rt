@@ -3,7 +3,7 @@
 ghost use Rattle.std.specs.Prelude.{◌≡◌, ◌≤◌, IfOk, string_bytes, decimal, codes, map};
 ghost use Rattle.inet_num.specs.Net.{IsAddress};
 ghost use Rattle.inet_num.specs.Text.{block_text_of, canonical_text_of};
-ghost use Rattle.stored_tables.specs.Stored.{flag_text, optional_text, reference_text, host_text, prefix_status_text, range_status_text, address_status_text, address_role_text, kind_number, stored_columns, stored_row, change_of};
+ghost use Rattle.stored_tables.specs.Stored.{flag_text, optional_text, reference_text, host_text, prefix_status_text, range_status_text, address_status_text, address_role_text, stored_columns, stored_row, change_of};
 
 use crate::address::{address_columns, write_address};
 use crate::aggregate::{aggregate_columns, write_aggregate};
@@ -182,23 +182,6 @@ pub fn column_names(kind: Kind) -> &'static [&'static str]
         Kind::Prefixes => prefix_columns(),
         Kind::Ranges => range_columns(),
         Kind::Addresses => address_columns(),
-    }
-}
-
-/// The number of a kind among the kinds, from 1: rows are stored in the order of it.
-pub fn number_of_kind(kind: Kind) -> u64
-    ensures is { result ≡ kind_number kind }
-    ensures low { 1 ≤ kind_number kind }
-    ensures high { kind_number kind ≤ 7 }
-{
-    match kind {
-        Kind::Vrfs => 1,
-        Kind::Rirs => 2,
-        Kind::Roles => 3,
-        Kind::Aggregates => 4,
-        Kind::Prefixes => 5,
-        Kind::Ranges => 6,
-        Kind::Addresses => 7,
     }
 }
 

@@ -6,7 +6,7 @@ use ipam_words::{
     address_role_label, address_role_named, address_role_value, address_status_label,
     address_status_named, breach_words, excess_words, field_name, fixed_detail, kind_name,
     next_id_words, prefix_status_label, prefix_status_named, prefix_status_value,
-    range_status_label, range_status_named, range_status_value, refusal_line, status, store_unread,
+    range_status_label, range_status_named, range_status_value, refusal_line, status,
     unreadable_words, version_words,
 };
 use std::alloc::{AllocError, Global};
@@ -24,7 +24,6 @@ prefixes 3: unreadable
 version 9
 ip-ranges: bad next id
 ip-addresses exceed 500000
-the store could not be read
 ";
 
 /// Words that name, and words that are shown.
@@ -64,7 +63,6 @@ fn lines(alloc: Global) -> Result<String, AllocError> {
     add(&mut text, next_id_words(alloc, Kind::Ranges))?;
     let addresses = Which::Kind(Kind::Addresses);
     add(&mut text, excess_words(alloc, addresses, 500000))?;
-    add(&mut text, String::from_str(alloc, store_unread()))?;
     Ok(text)
 }
 

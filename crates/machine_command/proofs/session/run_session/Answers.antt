@@ -7,12 +7,12 @@ use Rattle.command_streams.specs.Streams.{streams, told}
 use Rattle.machine_command.specs.Openers.{opener_meaning}
 use Rattle.machine_command.specs.Outside.{IsRaised, outside, stores}
 use Rattle.machine_command.specs.Session.{HasFailedCall, Serves}
-use Rattle.machine_command.proofs.Bounded.{ends_in_memory, none_failed, not_below, stayed_or_failed}
+use Rattle.machine_command.proofs.Bounded.{bounded, ends_in_memory, none_failed, none_told, not_below, stayed_or_told, stays}
 use Rattle.machine_command.proofs.session.run_session.Goals as goal
 
 pub returns-in-Ok : goal.returns-in-Ok
 returns-in-Ok g c =
-    let P = protocol g.M.Machine.step g.M.Machine.answer g.M.Machine.kind g.V.Service.asks g.V.Service.tells g.V.Service.refuses g.V.Service.misread in
+    let P = protocol g.M.Machine.step g.M.Machine.answer g.M.Machine.kind g.M.Machine.fallible g.V.Service.asks g.V.Service.tells g.V.Service.refuses g.V.Service.misread in
     let O = g.O.MachineOpener in
     let U = opener_meaning O.loads O.holds O.refuses O.says in
     let s = c.serve_own-machine.ensures.session in
@@ -25,6 +25,7 @@ returns-in-Ok g c =
     let old = outside (streams (told g.So.Source.left g.So.Source.faults c.args.input.now) (told g.Si.Sink.written g.Si.Sink.faults c.args.output.now) errors) (stores O.stored O.faults c.args.opener.now) in
     let new = outside (streams (told g.So.Source.left g.So.Source.faults c.serve_own-machine.new.source) (told g.Si.Sink.written g.Si.Sink.faults c.serve_own-machine.new.sink) errors) (stores O.stored O.faults c.done.new.self) in
     let counted : IsRaised (O.faults c.args.opener.now) (g.M.Machine.faults m) (O.faults c.done.new.self) = subst (λ n. IsRaised n (g.M.Machine.faults m) (O.faults c.done.new.self)) e.kept c.done.ensures.raised in
+    let still : s.told ≡ 0 → O.faults c.done.new.self ≡ O.faults c.args.opener.now = λ none. stays _ _ _ counted (s.still none ∙ e.fresh.1) in
     let serves : Serves P U asked old new end = record {
       first = _;
       last = _;
@@ -33,12 +34,14 @@ returns-in-Ok g c =
       bytes = s.session.bytes;
       grown = s.session.grown;
       needed = s.session.needed;
+      told = s.told;
       ends = s.session.ends;
       counted = counted;
+      bounded = bounded s.told _ _ _ _ e.fresh.1 s.bounded counted;
+      still = still;
       certain = λ none.
           let zero : g.M.Machine.faults m ≡ 0 = none_failed _ _ _ counted none in
-          let start = e.fresh.1 in
-          s.certain (zero ∙ sym start) (omega arith);
+          s.certain (none_told s.told _ _ e.fresh.1 s.bounded zero);
       holds = subst (λ x. O.holds asked (O.stored c.args.opener.now) (O.stored c.done.new.self) x) own.state
           (subst (λ q. O.holds q (O.stored c.args.opener.now) (O.stored c.done.new.self) (g.M.Machine.state m)) e.asked (c.done.ensures.held _ e.lent));
       silent = refl;
@@ -61,7 +64,7 @@ returns-in-Ok g c =
               output = unless (λ k. absurd (cc (sym memory ∙ k))) own.sink_kept;
               errors = refl;
             },
-            ⊎_map (λ same. same) (λ some. subst (λ how. HasFailedCall P U asked old new how) memory (record { serves = serves; failed = some })) (stayed_or_failed _ _ _ counted),
+            ⊎_map (λ same. same) (λ some. subst (λ how. HasFailedCall P U asked old new how) memory (record { serves = serves; failed = some })) (stayed_or_told s.told _ _ still),
           );
     }
 

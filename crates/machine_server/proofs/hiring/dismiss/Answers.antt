@@ -10,7 +10,7 @@ use Rattle.machine_server.proofs.hiring.dismiss.Goals as goal
 
 pub loop-worker-init : goal.loop-worker-init
 loop-worker-init g c =
-    let P = protocol g.M.Machine.step g.M.Machine.answer g.M.Machine.kind g.V.Service.asks g.V.Service.tells g.V.Service.refuses g.V.Service.misread in
+    let P = protocol g.M.Machine.step g.M.Machine.answer g.M.Machine.kind g.M.Machine.fallible g.V.Service.asks g.V.Service.tells g.V.Service.refuses g.V.Service.misread in
     let r = c.requires in
     let none = r.none_yet in
     let none_long : length c.args.lanes.now.items ≡ 0 = ap length none in
@@ -29,14 +29,14 @@ loop-worker-init g c =
 
 pub unreachable-requires : goal.unreachable-requires
 unreachable-requires g c =
-    let P = protocol g.M.Machine.step g.M.Machine.answer g.M.Machine.kind g.V.Service.asks g.V.Service.tells g.V.Service.refuses g.V.Service.misread in
+    let P = protocol g.M.Machine.step g.M.Machine.answer g.M.Machine.kind g.M.Machine.fallible g.V.Service.asks g.V.Service.tells g.V.Service.refuses g.V.Service.misread in
     let i = c.loop-worker.invariant in
     let p = popped (λ w. IsHired P g.A.Lane.told c.args.seat.opening c.args.seat.base c.args.shared.now w.seat w.lane) c.loop-worker.left.items c.pop.new.self.items c.pop.result c.in-Some.worker c.pop.ensures.items c.in-Some.is i.hired in
     hired_has P g.A.Lane.told g.A.Lane.accepts _ _ _ _ _ p.1 c.in_default-other.is
 
 pub join-seat-requires : goal.join-seat-requires
 join-seat-requires g c =
-    let P = protocol g.M.Machine.step g.M.Machine.answer g.M.Machine.kind g.V.Service.asks g.V.Service.tells g.V.Service.refuses g.V.Service.misread in
+    let P = protocol g.M.Machine.step g.M.Machine.answer g.M.Machine.kind g.M.Machine.fallible g.V.Service.asks g.V.Service.tells g.V.Service.refuses g.V.Service.misread in
     let i = c.loop-worker.invariant in
     let p = popped (λ w. IsHired P g.A.Lane.told c.args.seat.opening c.args.seat.base c.args.shared.now w.seat w.lane) c.loop-worker.left.items c.pop.new.self.items c.pop.result c.in-Some.worker c.pop.ensures.items c.in-Some.is i.hired in
     let s = hired_seat P g.A.Lane.told g.A.Lane.accepts _ _ _ _ _ c.in-Some-other.other p.1 c.in-Some-other.is in
@@ -44,7 +44,7 @@ join-seat-requires g c =
 
 pub loop-worker-preserved : goal.loop-worker-preserved
 loop-worker-preserved g c =
-    let P = protocol g.M.Machine.step g.M.Machine.answer g.M.Machine.kind g.V.Service.asks g.V.Service.tells g.V.Service.refuses g.V.Service.misread in
+    let P = protocol g.M.Machine.step g.M.Machine.answer g.M.Machine.kind g.M.Machine.fallible g.V.Service.asks g.V.Service.tells g.V.Service.refuses g.V.Service.misread in
     let told = g.A.Lane.told in
     let i = c.loop-worker.invariant in
     let j = c.join-seat.ensures in

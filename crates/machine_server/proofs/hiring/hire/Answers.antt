@@ -22,7 +22,7 @@ split-rest-requires-clause-share g c =
 
 pub loop-lane-preserved : goal.loop-lane-preserved
 loop-lane-preserved g c =
-    let P = protocol g.M.Machine.step g.M.Machine.answer g.M.Machine.kind g.V.Service.asks g.V.Service.tells g.V.Service.refuses g.V.Service.misread in
+    let P = protocol g.M.Machine.step g.M.Machine.answer g.M.Machine.kind g.M.Machine.fallible g.V.Service.asks g.V.Service.tells g.V.Service.refuses g.V.Service.misread in
     let told = g.A.Lane.told in
     let i = c.loop-lane.invariant in
     let s = c.split-rest.ensures in

@@ -10,7 +10,7 @@ invariant-loop-lane g l =
       weight : l.seat.weight + length l.hired.items ≡ 65536;
       spare : l.seat.spare ≡ l.seat.weight;
       first : (l.seat.opening ≡ l.fn.seat.opening) × (l.seat.base ≡ l.fn.seat.base) × (l.seat.ended ≡ []) × (l.seat.seen ≡ []) × (l.seat.faults ≡ 0);
-      hired : All (λ w. IsHired (protocol g.M.Machine.step g.M.Machine.answer g.M.Machine.kind g.V.Service.asks g.V.Service.tells g.V.Service.refuses g.V.Service.misread) g.A.Lane.told l.fn.seat.opening l.fn.seat.base l.shared w.seat w.lane) l.hired.items;
+      hired : All (λ w. IsHired (protocol g.M.Machine.step g.M.Machine.answer g.M.Machine.kind g.M.Machine.fallible g.V.Service.asks g.V.Service.tells g.V.Service.refuses g.V.Service.misread) g.A.Lane.told l.fn.seat.opening l.fn.seat.base l.shared w.seat w.lane) l.hired.items;
       fresh : All (λ w. IsFresh g.A.Lane.told w.seat w.lane) l.hired.items;
       waiting : All (λ lane. IfSome (g.A.Lane.told lane) (λ connections. connections ≡ [])) l.lanes.items;
       numbers : AreNumberedDown (λ w. w.seat) top_number l.hired.items;

@@ -6,7 +6,7 @@ use Rattle.machine_server.proofs.serving.close_all.Goals as goal
 
 pub returns-clause-history : goal.returns-clause-history
 returns-clause-history g c =
-    let P = protocol g.M.Machine.step g.M.Machine.answer g.M.Machine.kind g.V.Service.asks g.V.Service.tells g.V.Service.refuses g.V.Service.misread in
+    let P = protocol g.M.Machine.step g.M.Machine.answer g.M.Machine.kind g.M.Machine.fallible g.V.Service.asks g.V.Service.tells g.V.Service.refuses g.V.Service.misread in
     let d = c.dismiss-seat.ensures.dismissed in
     let e = c.close.ensures in
     let v = c.dismiss-seat.result in

@@ -12,18 +12,18 @@ follow-follower-requires-clause-kept g c =
     let after = c.act-reply.new.self in (
       plain_at M.step (M.opening before) (M.log before),
       c.requires.kept,
-      changed M.opening M.state M.log M.faults M.step before after (M.said c.args.call) (M.answer c.act-reply.result) (M.kind c.act-reply.result) c.act-reply.ensures
+      changed M.opening M.state M.log M.faults M.step M.fallible before after (M.said c.args.call) (M.answer c.act-reply.result) (M.kind c.act-reply.result) c.act-reply.ensures
           (λ same. c.if-entries-place.false (c.entries.ensures.count.0 ∙ (same ∙ sym c.entries-place.ensures.count.0))),
     )
 
 pub returns-in-Ok-clause-acted : goal.returns-in-Ok-clause-acted
 returns-in-Ok-clause-acted g c = λ shown shows.
     let M = g.M.Machine in
-    let P = protocol M.step M.answer M.kind g.V.Service.asks g.V.Service.tells g.V.Service.refuses g.V.Service.misread in
+    let P = protocol M.step M.answer M.kind M.fallible g.V.Service.asks g.V.Service.tells g.V.Service.refuses g.V.Service.misread in
     let before = c.args.machine.now in
     let after = c.act-reply.new.self in
     acted P (owned (M.opening before) (M.log before) (M.faults before)) (owned (M.opening after) (M.log after) (M.faults after)) (M.said c.args.call) shown c.act-reply.result c.entries-place.result c.write-answer.result
-    (own_call M.opening M.state M.log M.faults M.step before after (M.said c.args.call) (M.answer c.act-reply.result) (M.kind c.act-reply.result) c.entries-place.ensures.replayed c.act-reply.ensures)
+    (own_call M.opening M.state M.log M.faults M.step M.fallible before after (M.said c.args.call) (M.answer c.act-reply.result) (M.kind c.act-reply.result) c.entries-place.ensures.replayed c.act-reply.ensures)
     c.entries-place.ensures.count.0 (c.write-answer.ensures (M.said c.args.call) shown shows)
 
 pub returns-in-Err-clause-acted : goal.returns-in-Err-clause-acted
@@ -32,6 +32,6 @@ returns-in-Err-clause-acted g c = λ shown shows.
     let before = c.args.machine.now in
     let after = c.act-reply.new.self in (
       c.act-reply.result,
-      own_call M.opening M.state M.log M.faults M.step before after (M.said c.args.call) (M.answer c.act-reply.result) (M.kind c.act-reply.result) c.entries-place.ensures.replayed c.act-reply.ensures,
+      own_call M.opening M.state M.log M.faults M.step M.fallible before after (M.said c.args.call) (M.answer c.act-reply.result) (M.kind c.act-reply.result) c.entries-place.ensures.replayed c.act-reply.ensures,
       tt,
     )

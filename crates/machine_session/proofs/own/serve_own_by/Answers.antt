@@ -4,5 +4,5 @@ use Rattle.machine_session.proofs.own.serve_own_by.Goals as goal
 
 pub returns-clause-session : goal.returns-clause-session
 returns-clause-session g c =
-    let P = protocol g.M.Machine.step g.M.Machine.answer g.M.Machine.kind g.V.Service.asks g.V.Service.tells g.V.Service.refuses g.V.Service.misread in
+    let P = protocol g.M.Machine.step g.M.Machine.answer g.M.Machine.kind g.M.Machine.fallible g.V.Service.asks g.V.Service.tells g.V.Service.refuses g.V.Service.misread in
     own_session P g.So.Source.reads _ _ _ _ _ _ _ _ _ c.serve-seat.ensures.session

@@ -5,7 +5,7 @@ use Rattle.machine_session.proofs.session.serve_session_by.Goals as goal
 
 pub returns-clause-session : goal.returns-clause-session
 returns-clause-session g c =
-    let P = protocol g.M.Machine.step g.M.Machine.answer g.M.Machine.kind g.V.Service.asks g.V.Service.tells g.V.Service.refuses g.V.Service.misread in
+    let P = protocol g.M.Machine.step g.M.Machine.answer g.M.Machine.kind g.M.Machine.fallible g.V.Service.asks g.V.Service.tells g.V.Service.refuses g.V.Service.misread in
     let t = c.serve-sitting.ensures.session in
     let v = c.args.seat in
     let w = c.serve-sitting.result.0.seat in

@@ -32,9 +32,10 @@ returns g c =
     let call = g.M.Machine.said c.args.call in
     let answer = g.M.Machine.answer c.act-reply.result in
     let t = c.take_turn-machine.ensures.view.0 in
-    let acted : IsAct W x y v.number call answer kind = subst (λ (w : ℕ). IsAct W x y w call answer kind) c.seat.invariant.1 c.act-reply.ensures in
-    let k = called W p.table_id v t x y call answer kind c.entries-before.result c.take_turn-machine.ensures.machine c.seat.invariant.0.0 acted c.entries-before.ensures.count.0 in
+    let fallible = g.M.Machine.fallible in
+    let acted : IsAct W fallible x y v.number call answer kind = subst (λ (w : ℕ). IsAct W fallible x y w call answer kind) c.seat.invariant.1 c.act-reply.ensures in
+    let k = called W fallible p.table_id v t x y call answer kind c.entries-before.result c.take_turn-machine.ensures.machine c.seat.invariant.0.0 acted c.entries-before.ensures.count.0 in
     let lock : c.finish.new.place.table_id ≡ p.table_id = c.finish.ensures.table.0 ∙ c.take_turn-machine.ensures.table.0 in
     let view : c.finish.new.place.me.0 ≡ rested (told kind call (leading W t x v)) = ap (λ m. m.0) c.finish.ensures.view ∙ (λ i. let u : View g.row.M-State.Denot g.row.M-Said.Denot = rested (told kind (g.M.Machine.said (c.of-said.ensures i)) (c.take_turn-machine.ensures.view.1 i).0) in u) in
-    subst (λ (z : SeatView g.row.M-State.Denot g.row.M-Said.Denot × SeatView g.row.M-State.Denot g.row.M-Said.Denot). IsCall g.M.Machine.step z.0 z.1 call answer kind c.entries-before.result)
+    subst (λ (z : SeatView g.row.M-State.Denot g.row.M-Said.Denot × SeatView g.row.M-State.Denot g.row.M-Said.Denot). IsCall g.M.Machine.step fallible z.0 z.1 call answer kind c.entries-before.result)
     (λ i. (c.seat.view_is i, seat_view_of (sym lock i) (sym view i))) k

@@ -1,4 +1,0 @@
-pub mod OneOrder
-pub mod Numbers
-pub mod Figures
-pub mod Surveyed

@@ -1,7 +1,0 @@
-use Rattle.std.proofs.Common.{◌≡◌, map, take}
-use Rattle.register_tables.specs.Held.{state_of}
-use Rattle.plan_survey.specs.Digits.{placed_row}
-use Rattle.plan_survey.proofs.placed_lines.Given as goal
-
-abbrev pub invariant-prefixes : goal.invariant-prefixes
-invariant-prefixes l = l.placed.items ≡ map (placed_row (state_of l.row_tables)) (take l.index l.row_tables.prefixes.rows)
