@@ -135,7 +135,7 @@ class Talker:
     def draft(self, kind):
         own = {"vrfs": (["name"], ["rd", "enforce_unique"]), "rirs": (["name", "slug"], ["is_private"]), "roles": (["name", "slug"], ["weight"]),
                "aggregates": (["prefix", "rir"], []), "prefixes": (["prefix"], ["vrf", "vrf", "status", "role", "is_pool", "mark_utilized"]),
-               "ip-ranges": (["start_address", "end_address"], ["vrf", "status", "role", "mark_utilized"]),
+               "ip-ranges": (["start_address", "end_address"], ["vrf", "status", "role", "mark_utilized", "mark_populated"]),
                "ip-addresses": (["address"], ["vrf", "status", "role", "dns_name"])}
         return own[kind][0], own[kind][1] + ["description"]
 

@@ -41,6 +41,7 @@ BENCHES = [
     Bench("limits", ["limits.sh"], ["limits.sh"], 900, ["/usr/bin/time"]),
     Bench("free", ["free.sh"], ["free.sh", "20000"], 900, ["/usr/bin/time", "iprange"]),
     Bench("import", ["import.sh"], ["import.sh"], 900, ["sqlite3"]),
+    Bench("migrate", ["migrate.sh", "20000", "50000", "2000"], ["migrate.sh"], 600, []),
     Bench("growths", ["growths.py"], ["growths.py", "free", "post"], 1800, ["cc"]),
     Bench("register", ["register.sh", "40"], ["register.sh", "5"], 600),
     Bench("claims", ["claims.sh"], ["claims.sh"], 1200, ["psql", "runuser"]),

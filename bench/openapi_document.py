@@ -230,6 +230,7 @@ REFUSALS = [
     ("range_order", 400, "the end must be greater than the start", True, "The end of a range is not above its start."),
     ("range_size", 400, "a range has at most 4294967295 addresses", True, "A range has too many addresses."),
     ("range_overlap", 400, f"^overlaps range {ID}$", True, "Another range of the table has some of its addresses."),
+    ("populated", 400, f"^inside populated range {ID}$", True, "A range of the table that somebody else fills has the host."),
     ("slaac_family", 400, "slaac is for IPv6 only", True, "The status slaac with an IPv4 address."),
     ("dns_name", 400, "not a DNS name", True, "Labels are letters, digits, `_` and `-`, joined by periods; a `*` may come first, a period last."),
     ("wanted_length", 400, "the length does not fit the prefix", True, "A claim asks for a length that does not fit the prefix."),
@@ -303,7 +304,7 @@ def limits(*kinds):
 RULES = {"vrfs": ["rd_taken"], "rirs": ["name_taken", "slug_taken"], "roles": ["name_taken", "slug_taken"],
          "aggregates": ["host_bits", "no_such", "zero_mask", "aggregate_overlap"], "prefixes": ["host_bits", "no_such", "zero_mask", "duplicate"],
          "ip-ranges": ["no_such", "range_family", "range_mask", "zero_mask", "range_order", "range_size", "range_overlap"],
-         "ip-addresses": ["no_such", "zero_mask", "slaac_family", "dns_name", "duplicate"]}
+         "ip-addresses": ["no_such", "zero_mask", "slaac_family", "dns_name", "duplicate", "populated"]}
 
 
 def checked(kind):

@@ -6,6 +6,8 @@ mod command_files_tests;
 #[cfg(test)]
 mod line_tests;
 #[cfg(test)]
+mod migrate_tests;
+#[cfg(test)]
 mod session_tests;
 #[cfg(test)]
 mod store_tests;

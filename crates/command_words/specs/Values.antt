@@ -57,6 +57,11 @@ IsYesValue None flag = flag ≡ true
 IsYesValue (Some text) true = text ≡ codes "yes"
 IsYesValue (Some text) false = text ≡ codes "no"
 
+-- `yes` or `no`, which has to be given
+abbrev pub IsAnswerValue : Option (List ℕ) → Bool → Type 0
+IsAnswerValue None flag = ⊥
+IsAnswerValue (Some text) flag = IsYesValue (Some text) flag
+
 -- the name of a kind, as its paths have it
 abbrev pub kind_word : KindName → List ℕ
 kind_word Vrfs = codes "vrfs"

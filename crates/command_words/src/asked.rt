@@ -123,6 +123,8 @@ pub enum Command {
     Reverse(u32, Store),
     /// PTR lines on the input, as a file that `import ip-addresses` takes.
     ReverseRead,
+    /// The file with tables of version 1 into one of this program's version, with every range marked as populated or none.
+    Migrate { db: WordText, populated: bool },
     /// So many claims by so many workers.
     Load { count: u32, workers: u32 },
 }

@@ -6,6 +6,7 @@ ghost use Rattle.command_words.specs.Asked.{Asks, IsNoCommand, WordsAskForOne};
 
 mod asked;
 mod lists;
+mod migrating;
 mod readers;
 mod values;
 mod zones;
@@ -14,6 +15,7 @@ pub use asked::{
     Command, KindName, ListAsked, Report, Serving, Store, StyleName, TableName, WordText,
 };
 use lists::{read_prefix_check, read_prefix_list};
+use migrating::read_migrate;
 use readers::{
     read_export, read_free, read_import, read_load, read_report, read_serve, read_session,
 };
@@ -49,6 +51,7 @@ pub fn read_words<'a>(alloc: Global, words: &'a [&'a str]) -> Result<Option<Comm
         name if is_word(name, "prefix-check") => read_prefix_check(alloc, words),
         name if is_word(name, "reverse") => read_reverse(alloc, words),
         name if is_word(name, "reverse-read") => read_reverse_read(alloc, words),
+        name if is_word(name, "migrate") => read_migrate(alloc, words),
         name if is_word(name, "load") => read_load(alloc, words),
         _ => Ok(None),
     }

@@ -3,7 +3,7 @@
 ghost use Rattle.std.specs.Prelude.{◌≡◌, ◌≢◌, ◌≤◌, ◌<◌, ◌^◌, ◌↔◌, ℕ, Option, List, [], Some, Bool, option_map, decimal, IfOk, IsTrue, MatchOption};
 ghost use Rattle.inet_num.specs.Net.{Cidr};
 ghost use Rattle.clap.specs.Words.{found_of, rows_of};
-ghost use Rattle.command_words.specs.Values.{IsBlockValue, IsNumberValue, IsNumberOr, IsTextValue, IsTextOrNone, IsYesValue, IsKindValue, IsReportValue, kind_word};
+ghost use Rattle.command_words.specs.Values.{IsBlockValue, IsNumberValue, IsNumberOr, IsTextValue, IsTextOrNone, IsYesValue, IsAnswerValue, IsKindValue, IsReportValue, kind_word};
 ghost use Rattle.command_words.specs.Asked.{IsStore};
 
 use crate::asked::{KindName, Report, Store, WordText};
@@ -137,6 +137,16 @@ fn yes_value(text: Option<&str>) -> Option<bool>
             None
         },
         None => Some(true),
+    }
+}
+
+/// Whether `yes` was given, or `no`.
+pub(crate) fn answer_value(text: Option<&str>) -> Option<bool>
+    ensures { MatchOption result ((b : Bool) → ¬ IsAnswerValue (option_map (λ t. t.now) text.entry) b) (λ b. IsAnswerValue (option_map (λ t. t.now) text.entry) b) }
+{
+    match text {
+        Some(text) => yes_value(Some(text)),
+        None => None,
     }
 }
 

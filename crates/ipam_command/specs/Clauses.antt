@@ -6,7 +6,7 @@ use Rattle.ipam_data.specs.State.{State}
 use Rattle.rest_ipam.specs.Answered.{opened, answers_plainly}
 use Rattle.kept_session.specs.Answered.{fresh, answers_kept}
 use Rattle.command_words.specs.declared.asked.Command.{Command}
-use Rattle.command_words.specs.declared.asked.Command.TheVariants.{Free, Session, Serve, Import, Export, Report, PrefixList, PrefixCheck, Reverse, ReverseRead, Load}
+use Rattle.command_words.specs.declared.asked.Command.TheVariants.{Free, Session, Serve, Import, Export, Report, PrefixList, PrefixCheck, Reverse, ReverseRead, Migrate, Load}
 use Rattle.command_words.specs.declared.asked.KindName.{KindName}
 use Rattle.command_words.specs.declared.asked.Report.{Report as ReportName}
 use Rattle.command_words.specs.declared.asked.Store.{Store}
@@ -29,6 +29,7 @@ use Rattle.command_files.specs.Export.{IsExportText, Prints as PrintsText, IsExp
 use Rattle.command_files.specs.Report.{IsReportText, NamesAbsent, IsReport}
 use Rattle.command_lists.specs.PrefixList.{PrintsList, NamesAbsent as NamesAbsentTable}
 use Rattle.command_lists.specs.PrefixCheck.{PrintsDifference, NamesInput}
+use Rattle.command_migrate.specs.Migrate.{PrintsMigrated, NamesMigrateFault, NamesMigrateFailure}
 use Rattle.command_zones.specs.Reverse.{PrintsZone, NamesZoneRefusal}
 use Rattle.command_zones.specs.Pairs.{PrintsPairs, NamesRead}
 use Rattle.ipam_command.specs.Runs.{Answers, Runs}
@@ -79,6 +80,10 @@ AsksReverse words prefix store = Asks words (Reverse prefix store)
 abbrev pub AsksReverseRead : List (List ℕ) → Type 0
 AsksReverseRead words = Asks words ReverseRead
 
+-- the words ask for a file of version 1 to be migrated
+abbrev pub AsksMigrate : List (List ℕ) → List ℕ → Bool → Type 0
+AsksMigrate words db populated = Asks words (Migrate db populated)
+
 -- they ask for a command that opens a register of a store and has the store written at most by requests
 abbrev pub AsksRegister : List (List ℕ) → Type 0
 AsksRegister words =
@@ -99,6 +104,7 @@ ListenerFailed (PrefixList asked) before after = ⊥
 ListenerFailed (PrefixCheck asked) before after = ⊥
 ListenerFailed (Reverse prefix store) before after = ⊥
 ListenerFailed ReverseRead before after = ⊥
+ListenerFailed (Migrate db populated) before after = ⊥
 ListenerFailed (Load count workers) before after = ⊥
 
 -- the answers of the register that was loaded are on the output
@@ -120,6 +126,7 @@ IsDone words old new before after =
     ⊎ ((asked : ListAsked) × AsksPrefixCheck words asked × PrintsDifference asked old new)
     ⊎ ((prefix : ℕ) × (store : Store) × AsksReverse words prefix store × PrintsZone prefix store old new)
     ⊎ (AsksReverseRead words × PrintsPairs old.streams new.streams)
+    ⊎ ((db : List ℕ) × (populated : Bool) × AsksMigrate words db populated × PrintsMigrated db populated old new)
 
 -- a line of the input is refused, or the tables of the store have a fault; the messages say which, and the output was left alone
 abbrev pub IsNamed : List (List ℕ) → Outside → Outside → Type 0
@@ -134,6 +141,7 @@ IsNamed words old new =
     ⊎ ((asked : ListAsked) × AsksPrefixCheck words asked × (NamesFault asked.store old new ⊎ NamesAbsentTable asked old new ⊎ NamesInput asked old new))
     ⊎ ((prefix : ℕ) × (store : Store) × AsksReverse words prefix store × (NamesFault store old new ⊎ NamesZoneRefusal prefix store old new))
     ⊎ (AsksReverseRead words × NamesRead old.streams new.streams)
+    ⊎ ((db : List ℕ) × (populated : Bool) × AsksMigrate words db populated × NamesMigrateFault db old new)
 
 -- the status says whether a line of these bytes is refused: 1 where one is, 0 where none is, and 5 for lack of memory
 abbrev pub IsExact : Cidr → ℕ → List ℕ → Type 0
@@ -175,7 +183,8 @@ pub record HasClauses (words : List (List ℕ)) (old new : Outside) (before afte
   -- 4: the words ask for a register of a store, the opener failed, which was said, and nothing else was used; or for an import, and the
   -- store could not be read or not be written, which was said, and told tables are as they were
   pub store_fault : status ≡ 4 → NobodyCame before after
-      × ((AsksRegister words × NamesFailure old new) ⊎ ((kind : KindName) × (store : Store) × AsksImport words kind store × (NamesUnread old new ⊎ NamesUnwritten (kind_named kind) store old new)))
+      × ((AsksRegister words × NamesFailure old new) ⊎ ((kind : KindName) × (store : Store) × AsksImport words kind store × (NamesUnread old new ⊎ NamesUnwritten (kind_named kind) store old new))
+      ⊎ ((db : List ℕ) × (populated : Bool) × AsksMigrate words db populated × NamesMigrateFailure old new))
   -- 5: out of memory. Nothing was said, and `free` and `serve` have nothing on the output
   pub memory : status ≡ 5 → (new.streams.errors ≡ old.streams.errors) × (((store : Store) × AsksStore words store) ⊎ (new.streams.output ≡ old.streams.output))
   -- `free` has nothing on the output unless the status is 0 or a write of it failed

@@ -9,6 +9,7 @@ ghost use Rattle.sqlite_keeper.specs.Counting.{IsCounted};
 use crate::fault::StoreFault;
 use crate::loading::load_tables;
 use crate::storing::{Statements, prepare, store};
+use crate::upgrading::upgrade;
 use ipam_keeper::keeper::{KeepFault, Keeper};
 use sqlite::{Alter, Connection};
 use std::alloc::Global;
@@ -84,6 +85,14 @@ impl<S: Alter> SqliteKeeper<S> {
         self.statements = Some(statements);
         stored
     }
+
+    /// Puts tables in the place of those of an older version. The statements that were prepared are of those.
+    fn put_anew(&mut self, tables: &Tables) -> Result<(), StoreFault>
+        ensures { self.new ≡ self.old }
+    {
+        let _older = self.statements.take();
+        upgrade(self.alloc, &mut self.conn, tables)
+    }
 }
 
 impl<S: Alter> Keeper for SqliteKeeper<S> {
@@ -116,6 +125,20 @@ impl<S: Alter> Keeper for SqliteKeeper<S> {
         ensures counted { IsCounted result self.old self.new }
     {
         match self.change(change) {
+            Ok(()) => Ok(()),
+            Err(fault) => Err(self.refused(fault)),
+        }
+    }
+
+    /// Drops the table of ranges, makes it anew, fills it and sets the version, in one transaction. `Failed` comes where the file can't
+    /// be written; each time it comes the count rises by one.
+    fn upgrade(&mut self, tables: &Tables) -> Result<(), KeepFault>
+        ensures later { self.old ≤ self.new }
+        ensures failed { IsErrOf result KeepFault.Failed → Rose self.old self.new }
+        ensures still { IsErrOf result KeepFault.Failed ⊎ (self.new ≡ self.old) }
+        ensures counted { IsCounted result self.old self.new }
+    {
+        match self.put_anew(tables) {
             Ok(()) => Ok(()),
             Err(fault) => Err(self.refused(fault)),
         }

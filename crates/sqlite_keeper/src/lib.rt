@@ -11,6 +11,7 @@ mod opener;
 mod order;
 mod storing;
 mod tables;
+mod upgrading;
 
 pub use connects::{Connects, CountedKeeper};
 pub use keeper::SqliteKeeper;

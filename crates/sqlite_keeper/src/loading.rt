@@ -6,13 +6,13 @@ ghost use Rattle.stored_tables.specs.Order.{AreTables};
 use crate::fault::StoreFault;
 use crate::making::make_tables;
 use crate::order::are_in_order;
-use crate::tables::{SELECT_META, VERSION, VERSION_NAME, next_name_of, select_text};
+use crate::tables::{SELECT_META, VERSION_NAME, columns_in, next_name_of, select_text};
 use ipam_data::kinds::Kind;
 use ipam_data::update::Ids;
 use sqlite::{Alter, Connection, Row as FoundRow};
 use std::alloc::Global;
-use stored_tables::tables::{Row, Rows, Tables, Text, Texts};
-use stored_tables::writing::column_names;
+use stored_tables::migration::FIRST_VERSION;
+use stored_tables::tables::{Row, Rows, Tables, Text, Texts, VERSION};
 
 /// A row of the table of numbers.
 #[derive(Drop)]
@@ -91,56 +91,60 @@ fn texts_of(alloc: Global, found: &FoundRow, count: usize) -> Result<Texts, Stor
     Ok(Texts::of(texts))
 }
 
-fn row_of(alloc: Global, kind: Kind, found: &FoundRow) -> Result<Row, StoreFault> {
+fn row_of(alloc: Global, kind: Kind, found: &FoundRow, count: usize) -> Result<Row, StoreFault> {
     Ok(Row {
         kind,
         id: found.get(0)?,
-        fields: texts_of(alloc, found, column_names(kind).len())?,
+        fields: texts_of(alloc, found, count)?,
     })
 }
 
-/// Reads all rows of a kind, behind those that stand there.
+/// Reads all rows of a kind of tables of this version, behind those that stand there.
 fn read_rows<S: Alter>(
     alloc: Global,
     conn: &mut Connection<S>,
+    version: u32,
     kind: Kind,
     rows: &mut Vec<Row>,
 ) -> Result<(), StoreFault> {
-    let text = select_text(alloc, kind)?;
+    let columns = columns_in(version, kind);
+    let text = select_text(alloc, kind, columns)?;
     let mut found = conn.query(text.as_str(), &[])?;
     for _ in 0..u64::MAX {
         let Some(row) = found.next()? else {
             return Ok(());
         };
-        rows.push(row_of(alloc, kind, row)?)?;
+        rows.push(row_of(alloc, kind, row, columns.len())?)?;
     }
     Ok(())
 }
 
-/// Reads the rows of all kinds, kind after kind.
+/// Reads the rows of all kinds of tables of this version, kind after kind.
 fn read_kinds<S: Alter>(
     alloc: Global,
     conn: &mut Connection<S>,
+    version: u32,
     rows: &mut Vec<Row>,
 ) -> Result<(), StoreFault> {
-    read_rows(alloc, conn, Kind::Vrfs, rows)?;
-    read_rows(alloc, conn, Kind::Rirs, rows)?;
-    read_rows(alloc, conn, Kind::Roles, rows)?;
-    read_rows(alloc, conn, Kind::Aggregates, rows)?;
-    read_rows(alloc, conn, Kind::Prefixes, rows)?;
-    read_rows(alloc, conn, Kind::Ranges, rows)?;
-    read_rows(alloc, conn, Kind::Addresses, rows)
+    read_rows(alloc, conn, version, Kind::Vrfs, rows)?;
+    read_rows(alloc, conn, version, Kind::Rirs, rows)?;
+    read_rows(alloc, conn, version, Kind::Roles, rows)?;
+    read_rows(alloc, conn, version, Kind::Aggregates, rows)?;
+    read_rows(alloc, conn, version, Kind::Prefixes, rows)?;
+    read_rows(alloc, conn, version, Kind::Ranges, rows)?;
+    read_rows(alloc, conn, version, Kind::Addresses, rows)
 }
 
-/// All rows. Of tables of another version none are read, since their columns are not known.
+/// All rows of tables of this program's version or of version 1. Of tables of another one none are read, since their columns are not
+/// known.
 fn read_all<S: Alter>(
     alloc: Global,
     conn: &mut Connection<S>,
     version: u32,
 ) -> Result<Rows, StoreFault> {
     let mut rows = Vec::new(alloc);
-    if version == VERSION {
-        read_kinds(alloc, conn, &mut rows)?;
+    if version == VERSION || version == FIRST_VERSION {
+        read_kinds(alloc, conn, version, &mut rows)?;
     }
     Ok(Rows::of(rows))
 }

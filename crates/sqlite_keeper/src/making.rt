@@ -2,12 +2,11 @@
 
 use crate::calls::{end, prepare_text, run, set_number};
 use crate::fault::StoreFault;
-use crate::tables::{
-    COUNT_TABLES, CREATE_META, PUT_META, VERSION, VERSION_NAME, create_text, next_name_of,
-};
+use crate::tables::{COUNT_TABLES, CREATE_META, PUT_META, VERSION_NAME, create_text, next_name_of};
 use ipam_data::kinds::Kind;
 use sqlite::{Alter, Connection, Statement};
 use std::alloc::Global;
+use stored_tables::tables::VERSION;
 
 /// Whether the file has tables.
 fn has_tables<S: Alter>(conn: &mut Connection<S>) -> Result<bool, StoreFault> {

@@ -1,9 +1,9 @@
 //! An opener of keepers over files.
 
 ghost use Rattle.std.specs.Prelude.{◌≡◌, ℕ, ◌≤◌, ◌⊎◌, Some, None, option_map, option_copied, IfOk, OnOk, OnErr, IsErrOf};
-ghost use Rattle.stored_tables.specs.Stored.{changed};
+ghost use Rattle.stored_tables.specs.Stored.{changed, stored_version};
 ghost use Rattle.stored_tables.specs.Order.{AreTables, empty_tables as no_rows};
-ghost use Rattle.ipam_keeper.specs.Keeping.{Rose, IsRaised, IsTold, started, IsReturned};
+ghost use Rattle.ipam_keeper.specs.Keeping.{Rose, IsRaised, IsTold, replaced_by, started, IsReturned};
 ghost use Rattle.sqlite_keeper.specs.Either.{told_of, faults_of};
 
 use crate::connects::{Connects, CountedKeeper};
@@ -37,6 +37,13 @@ impl<F: Keeper> Keeper for StoreKeeper<F> {
         match self {
             StoreKeeper::File(keeper) => keeper.apply(change),
             StoreKeeper::Memory(keeper) => keeper.apply(change),
+        }
+    }
+
+    fn upgrade(&mut self, tables: &Tables) -> Result<(), KeepFault> {
+        match self {
+            StoreKeeper::File(keeper) => keeper.upgrade(tables),
+            StoreKeeper::Memory(keeper) => keeper.upgrade(tables),
         }
     }
 }

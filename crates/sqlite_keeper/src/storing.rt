@@ -80,7 +80,7 @@ pub(crate) fn prepare<S: Alter>(
     Ok(Statements { kinds, meta })
 }
 
-fn put_row<S: Alter>(
+pub(crate) fn put_row<S: Alter>(
     alloc: Global,
     conn: &mut Connection<S>,
     put: &Statement,

@@ -4,10 +4,12 @@
 
 mod changes;
 mod files;
+mod migrating;
 mod stops;
 #[cfg(test)]
 mod tests;
 
 pub use changes::CHANGES;
 pub use files::{Found, Side, Stop};
+pub use migrating::migration_ending_of;
 pub use stops::{Ending, ending_of};

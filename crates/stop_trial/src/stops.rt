@@ -57,7 +57,7 @@ fn stopped(
 }
 
 /// The tables of files, in words. `Err` means out of memory.
-fn tables_of(alloc: Global, files: Files<Memory>) -> Result<String, AllocError>
+pub(crate) fn tables_of(alloc: Global, files: Files<Memory>) -> Result<String, AllocError>
     requires log { IsTrue (memory_is_usable files.log) }
     requires db { IsTrue (memory_is_usable files.db) }
 {

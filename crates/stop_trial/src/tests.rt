@@ -1,6 +1,6 @@
-//! Every stop of both files while the tables are made and ten rows are imported.
+//! Every stop of both files while the tables are made and ten rows are imported, and while a file of version 1 is migrated.
 
-use crate::{Ending, Found, Side, Stop, ending_of};
+use crate::{Ending, Found, Side, Stop, ending_of, migration_ending_of};
 use std::alloc::{AllocError, Global};
 use std::test::Fail;
 
@@ -27,6 +27,33 @@ fn no_stop_breaks_the_tables(rt: HostRuntime) -> Result<(), Fail> {
     for side in [Side::Log, Side::Database] {
         for found in [Found::Written, Found::Lost, Found::Torn] {
             let wrong = wrong_call(rt.alloc(), side, found)?;
+            assert!(rt; wrong.is_none(), "{side:?} {found:?} {wrong:?}");
+        }
+    }
+    Ok(())
+}
+
+/// The first call of a file whose stop breaks the tables of a migration, as the files are found so; or none.
+fn wrong_call_of_migration(
+    alloc: Global,
+    side: Side,
+    found: Found,
+) -> Result<Option<u64>, AllocError> {
+    for calls in 0..MOST {
+        match migration_ending_of(alloc, Stop { side, calls, found })? {
+            Ending::Whole => {}
+            Ending::Broken => return Ok(Some(calls)),
+            Ending::Beyond => return Ok(None),
+        }
+    }
+    Ok(Some(MOST))
+}
+
+#[test]
+fn no_stop_breaks_the_tables_of_a_migration(rt: HostRuntime) -> Result<(), Fail> {
+    for side in [Side::Log, Side::Database] {
+        for found in [Found::Written, Found::Lost, Found::Torn] {
+            let wrong = wrong_call_of_migration(rt.alloc(), side, found)?;
             assert!(rt; wrong.is_none(), "{side:?} {found:?} {wrong:?}");
         }
     }

@@ -4,4 +4,6 @@
 #[cfg(test)]
 mod database;
 #[cfg(test)]
+mod first;
+#[cfg(test)]
 mod tests;
