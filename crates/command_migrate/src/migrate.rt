@@ -2,22 +2,20 @@
 
 ghost use Rattle.std.specs.Prelude.{◌≡◌, ◌≤◌, ◌+◌, ◌⊎◌, ◌++◌, length, IfOk, IfErr};
 ghost use Rattle.arrayvec.specs.ArrayVec.{array_vec_len};
-ghost use Rattle.ipam_keeper.specs.Keeping.{Rose};
 ghost use Rattle.command_streams.specs.Streams.{Told, streams, told, EndsWith};
 ghost use Rattle.command_store.specs.Outside.{outside, stores, AreSame};
-ghost use Rattle.command_migrate.specs.Migrate.{count_text as count_text_of, fault_of, IsMigrated, IsMigratedIn, IsStop, IsStopIn, IsStopSaid, IsFailure, IsMigrate};
+ghost use Rattle.command_migrate.specs.Migrate.{count_text as count_text_of, fault_of, tables_of_file, AreMigrated, IsMigrated, IsStop, IsStopSaid, IsFailure, IsMigrate};
 
 use arrayvec::ArrayVec;
-use command_store::say_fault;
+use command_store::{file_path, say_fault};
 use command_streams::{DONE, MEMORY, STORE, end_with};
 use command_words::WordText;
 use ipam_edge::Sink;
 use ipam_keeper::keeper::{KeepFault, Keeper, KeeperOpener};
 use itoa::Buffer;
-use std::alloc::{AllocError, Global};
+use std::alloc::Global;
 use stored_tables::migration::{MigrateFault, count_ranges, migrate};
 use stored_tables::opening::OpenFault;
-use stored_tables::tables::Text;
 
 /// How many bytes the line of the count has, at most.
 const LINE: usize = 32;
@@ -63,9 +61,9 @@ fn count_text(count: usize) -> ArrayVec<u8, LINE>
 
 /// Migrates the tables of a keeper, and gives the number of their ranges. `Err` leaves them.
 fn migrate_kept<K: Keeper>(kept: &mut K, populated: bool) -> Result<usize, MigrateStop>
-    ensures ok { IfOk result (λ n. IsMigratedIn populated (K.told kept.old) (K.told kept.new) n) }
+    ensures ok { IfOk result (AreMigrated populated (K.told kept.old) (K.told kept.new)) }
     ensures err { IfErr result (λ stop. K.told kept.new ≡ K.told kept.old) }
-    ensures refused { IfErr result (IsStopIn (K.told kept.old) (K.faults kept.old) (K.faults kept.new)) }
+    ensures stop { IfErr result (IsStop (K.told kept.old) (K.faults kept.old) (K.faults kept.new)) }
     ensures later { K.faults kept.old ≤ K.faults kept.new }
     ensures still { IfErr result (λ stop. IsFailure stop ⊎ (K.faults kept.new ≡ K.faults kept.old)) }
     ensures ok_still { IfOk result (λ n. K.faults kept.new ≡ K.faults kept.old) }
@@ -87,13 +85,6 @@ fn migrate_kept<K: Keeper>(kept: &mut K, populated: bool) -> Result<usize, Migra
     }
 }
 
-/// The path of a file. `Err` means out of memory.
-fn path_of(alloc: Global, db: &WordText) -> Result<Text, AllocError>
-    ensures { IfOk result (λ path. path ≡ db.now) }
-{
-    Ok(Text::of(String::from_str(alloc, db.as_str())?))
-}
-
 /// Migrates the file of a path, and gives the number of its ranges. `Err` leaves what the opener tells.
 fn migrate_file<O: KeeperOpener>(
     alloc: Global,
@@ -103,11 +94,11 @@ fn migrate_file<O: KeeperOpener>(
 ) -> Result<usize, MigrateStop>
     ensures ok { IfOk result (IsMigrated db.now populated (stores O.stored O.faults opener.old) (stores O.stored O.faults opener.new)) }
     ensures same { IfErr result (λ stop. AreSame (O.stored opener.old) (O.stored opener.new)) }
-    ensures err { IfErr result (IsStop db.now (stores O.stored O.faults opener.old) (stores O.stored O.faults opener.new)) }
+    ensures stop { IfErr result (IsStop (tables_of_file db.now (stores O.stored O.faults opener.old)) (O.faults opener.old) (O.faults opener.new)) }
     ensures later { O.faults opener.old ≤ O.faults opener.new }
     ensures still { IfErr result (λ stop. IsFailure stop ⊎ (O.faults opener.new ≡ O.faults opener.old)) }
 {
-    let path = match path_of(alloc, db) {
+    let path = match file_path(alloc, db) {
         Ok(path) => path,
         Err(_) => return Err(MigrateStop::Lacking),
     };
