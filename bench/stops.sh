@@ -10,7 +10,7 @@ scratch=$(mktemp -d)
 trap 'rm -rf "$scratch"' EXIT
 mkdir -p "$scratch/crates/all_stops/src"
 cp "$top/HANDLES" "$scratch/"
-for crate in inet_num block_space ipam_data placed_book stored_tables ipam_keeper sqlite_keeper stop_trial; do
+for crate in inet_num block_space ipam_data placed_book stored_tables ipam_keeper sqlite_calls sqlite_keeper stop_trial; do
     cp -r "$top/crates/$crate" "$scratch/crates/"
     grep "^$crate:" "$top/crates.txt" >> "$scratch/crates.txt"
 done
