@@ -220,14 +220,20 @@ class Talker:
 
 
 LIST = b"GET /api/ipam/vrfs/ HTTP/1.1\r\n"
-# what closes a connection; what stands behind it is not read
-CLOSINGS = [LIST + fields + b"\r\n" for fields in [
-    b"Connection: keep-alive, CLOSE\r\n", b"connection: x\r\nConnection:\tclose\r\n", b"Transfer-Encoding:\r\nContent-Length: x\r\n",
-    b"Content-Length: 1\r\ncontent-length: 1\r\n", b"Content-Length:\r\n", b"Content-Length: +1\r\n", b"Content-Length: 4194305\r\n",
-    b"Content-Length: 9999999999999999999\r\n", b"Content-Length: 00000000000000000001\r\n", b"X: " + b"a" * 16384 + b"\r\n"]]
-CLOSINGS += [b"DELETE /api/ipam/ip-addresses/1/ HTTP/1.0\r\nConnection: keep-alive\r\n\r\n", b"HEAD /x HTTP/1.0\r\n\r\n"]
-# what is cut by the end of the input
-CUT = [b"", LIST, LIST[:9], LIST + b"Content-Length: 4194304\r\n\r\nbody", b"G", LIST + b"X: " + b"a" * 16382]
+
+
+def closings(listed):
+    """What closes a connection, by the first line of a request for a list; what stands behind it is not read."""
+    found = [listed + fields + b"\r\n" for fields in [
+        b"Connection: keep-alive, CLOSE\r\n", b"connection: x\r\nConnection:\tclose\r\n", b"Transfer-Encoding:\r\nContent-Length: x\r\n",
+        b"Content-Length: 1\r\ncontent-length: 1\r\n", b"Content-Length:\r\n", b"Content-Length: +1\r\n", b"Content-Length: 4194305\r\n",
+        b"Content-Length: 9999999999999999999\r\n", b"Content-Length: 00000000000000000001\r\n", b"X: " + b"a" * 16384 + b"\r\n"]]
+    return found + [b"DELETE /api/ipam/ip-addresses/1/ HTTP/1.0\r\nConnection: keep-alive\r\n\r\n", b"HEAD /x HTTP/1.0\r\n\r\n"]
+
+
+def cut(listed):
+    """What is cut by the end of the input."""
+    return [b"", listed, listed[:9], listed + b"Content-Length: 4194304\r\n\r\nbody", b"G", listed + b"X: " + b"a" * 16382]
 
 
 def first_difference(requests, ours, plain):
@@ -240,11 +246,12 @@ def first_difference(requests, ours, plain):
 
 
 class Start:
-    """How a conversation of a seed begins: what the program is told, the plain register, and who talks."""
+    """How a conversation of a seed begins: what the program is told, the first line of a request for a list, the plain register, and who talks."""
 
     def __init__(self, seed, given):
         unique = "yes" if seed % 4 else "no"
         self.words = ["--global-unique", unique]
+        self.listed = LIST
         self.service = Service(unique == "yes", not given.without_claims)
         self.talker = Talker(seed, self.service)
 
@@ -255,7 +262,7 @@ def conversations(start, given):
     for _ in range(given.requests):
         requests.append(start.talker.request())
         list(converse(requests[-1], start.service))
-    requests.append(start.talker.pick.choice([one + LIST + b"\r\n" for one in CLOSINGS] + CUT))
+    requests.append(start.talker.pick.choice([one + start.listed + b"\r\n" for one in closings(start.listed)] + cut(start.listed)))
     half = len(requests) // 2
     return [requests[:half], requests[half:]] if given.stored else [requests]
 

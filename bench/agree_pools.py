@@ -109,7 +109,7 @@ class Start:
     """How a conversation of a seed begins."""
 
     def __init__(self, seed, given):
-        self.words = []
+        self.words, self.listed = [], b"GET /api/ipam/asn-ranges/ HTTP/1.1\r\n"
         self.service = PoolService()
         self.talker = Talker(seed, self.service)
 
