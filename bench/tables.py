@@ -1,6 +1,6 @@
-"""The databases that the program sqlite3 makes of bench/tables.sql and bench/tables_first.sql, as the tests of the store over SQLite have them.
+"""The databases that the program sqlite3 makes of bench/tables.sql, bench/tables_first.sql and bench/pool_tables.sql, as the tests of the stores over SQLite have them.
 
-    python3 bench/tables.py            says whether crates/store_trial/src/database.rt and first.rt have the bytes that sqlite3 makes
+    python3 bench/tables.py            says whether crates/store_trial/src has the bytes that sqlite3 makes
     python3 bench/tables.py --write    writes them there
 
 Two versions of sqlite3 may make different bytes: the number of the version is in the file. Those in the test are of sqlite3 3.40.1.
@@ -13,16 +13,21 @@ import tempfile
 import textwrap
 
 TOP = os.path.join(os.path.dirname(os.path.abspath(__file__)), "..")
-TESTS = {"tables.sql": "crates/store_trial/src/database.rt", "tables_first.sql": "crates/store_trial/src/first.rt"}
+# each text, and the file that has what is made of it
+MADE = {
+    "bench/tables.sql": "crates/store_trial/src/register_file.rt",
+    "bench/tables_first.sql": "crates/store_trial/src/first_file.rt",
+    "bench/pool_tables.sql": "crates/store_trial/src/pool_file.rt",
+}
 TEXT = re.compile(r'(const FILE: &str = "\\\n)(.*?)(";\n)', re.S)
 
 
-def database(name):
-    """The bytes that sqlite3 makes of the text of this name."""
+def database(text):
+    """The bytes that sqlite3 makes of the text."""
     with tempfile.TemporaryDirectory() as folder:
-        path = os.path.join(folder, "register.db")
-        with open(os.path.join(TOP, "bench", name)) as text:
-            subprocess.run(["sqlite3", path], stdin=text, check=True)
+        path = os.path.join(folder, "made.db")
+        with open(os.path.join(TOP, text)) as words:
+            subprocess.run(["sqlite3", path], stdin=words, check=True)
         with open(path, "rb") as file:
             return file.read()
 
@@ -36,16 +41,16 @@ def words_of(data):
 
 
 def main():
-    for name, place in TESTS.items():
-        path = os.path.join(TOP, place)
+    for text, made in MADE.items():
+        path = os.path.join(TOP, made)
         with open(path) as file:
             test = file.read()
-        found = TEXT.sub(lambda match: match[1] + words_of(database(name)) + match[3], test)
+        found = TEXT.sub(lambda match: match[1] + words_of(database(text)) + match[3], test)
         if sys.argv[1:] == ["--write"]:
             with open(path, "w") as file:
                 file.write(found)
         elif found != test:
-            sys.exit(f"tables: {place} has other bytes; bench/tables.py --write writes them")
+            sys.exit(f"tables: {made} has other bytes; bench/tables.py --write writes them")
 
 
 if __name__ == "__main__":

@@ -1,11 +1,10 @@
 //! Tables of an older version in a file become those of this one.
 
-use crate::calls::{end, prepare_text, run, set_number};
-use crate::fault::StoreFault;
 use crate::storing::put_row;
-use crate::tables::{PUT_META, VERSION_NAME, create_text, drop_text, put_text};
+use crate::tables::{VERSION_NAME, create_text, drop_text, put_text};
 use ipam_data::kinds::Kind;
 use sqlite::{Alter, Connection, Statement};
+use sqlite_calls::{StoreFault, begin, end, prepare_number, prepare_text, run, set_number};
 use std::alloc::Global;
 use stored_tables::tables::{Row, Tables};
 
@@ -46,7 +45,7 @@ fn upgrade_all<S: Alter>(
     tables: &Tables,
 ) -> Result<(), StoreFault> {
     make_ranges(alloc, conn, tables.rows.as_slice())?;
-    let put = prepare_text(conn, PUT_META)?;
+    let put = prepare_number(conn)?;
     set_number(conn, &put, VERSION_NAME, tables.version)
 }
 
@@ -56,7 +55,7 @@ pub(crate) fn upgrade<S: Alter>(
     conn: &mut Connection<S>,
     tables: &Tables,
 ) -> Result<(), StoreFault> {
-    run(conn, "BEGIN")?;
+    begin(conn)?;
     let done = upgrade_all(alloc, conn, tables);
     end(conn, done)
 }

@@ -5,6 +5,7 @@ ghost use Rattle.sqlite_disk.specs.Memory.{memory_is_usable};
 
 use crate::files::{Found, Side, Stop, found_files, stopping_files, stopping_over};
 use crate::stops::{Ending, tables_of};
+use crate::store_kinds::Register;
 use ipam_keeper::keeper::Keeper;
 use sqlite::{Alter, Connection, Files, Options};
 use sqlite_disk::{Fuse, Memory};
@@ -88,9 +89,9 @@ fn stopped(alloc: Global, stop: Stop) -> Result<(bool, Files<Fuse<Memory>>), All
 
 /// The tables of the file where nothing stops, in words: before the migration, and after it.
 fn both_tables(alloc: Global) -> Result<(String, String), AllocError> {
-    let before = tables_of(alloc, first_files(alloc)?)?;
+    let before = tables_of::<Register>(alloc, first_files(alloc)?)?;
     let (_, files) = stopped(alloc, NEVER)?;
-    let after = tables_of(alloc, found_files(alloc, files, Found::Written)?)?;
+    let after = tables_of::<Register>(alloc, found_files(alloc, files, Found::Written)?)?;
     Ok((before, after))
 }
 
@@ -98,7 +99,7 @@ fn both_tables(alloc: Global) -> Result<(String, String), AllocError> {
 pub fn migration_ending_of(alloc: Global, stop: Stop) -> Result<Ending, AllocError> {
     let (before, after) = both_tables(alloc)?;
     let (done, files) = stopped(alloc, stop)?;
-    let tables = tables_of(alloc, found_files(alloc, files, stop.found)?)?;
+    let tables = tables_of::<Register>(alloc, found_files(alloc, files, stop.found)?)?;
     let is_after = tables.as_str() == after.as_str();
     if done && is_after {
         return Ok(Ending::Beyond);
