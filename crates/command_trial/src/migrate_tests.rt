@@ -35,7 +35,8 @@ const CASES: [&str; 8] = [
 0|migrate --db a --populated no||migrated 0;|
 1|session --db a|||store: prefixes 3: unreadable;"#,
     r#"9
-1|migrate --db a --populated yes|||store: version 9;"#,
+1|migrate --db a --populated yes|||store: version 9;
+1|export vrfs --db a|||store: version 9;"#,
     r#"0
 1|migrate --db a --populated yes|||store: version 0;"#,
 ];
@@ -46,6 +47,22 @@ fn files_of_version_1(rt: HostRuntime) -> Result<(), Fail> {
         let wrong = wrong_line(&rt, rt.alloc(), case)?;
         assert!(rt; wrong == 0, "line {wrong} of {case}");
     }
+    Ok(())
+}
+
+#[test]
+fn a_message_that_is_not_written_leaves_the_tables(rt: HostRuntime) -> Result<(), Fail> {
+    let mut opener = opener_of(rt.alloc(), "9")?;
+    let words = "migrate --db a --populated yes";
+    let fails: [&[u32]; 3] = [&[], &[], &[0]];
+    let left = run_over(&rt, rt.alloc(), &mut opener, words, b"", 4_096, fails)?;
+    assert!(rt; left.status == 3, "the messages failed");
+    let fails: [&[u32]; 3] = [&[], &[], &[]];
+    let left = run_over(&rt, rt.alloc(), &mut opener, words, b"", 4_096, fails)?;
+    assert!(rt;
+        left.status == 1 && left.errors.as_slice() == b"store: version 9\n".as_slice(),
+        "the file was not migrated"
+    );
     Ok(())
 }
 

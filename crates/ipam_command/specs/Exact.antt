@@ -9,7 +9,6 @@ use Rattle.stored_tables.specs.declared.tables.Tables.{Tables}
 use Rattle.stored_tables.specs.Opening.{IsOfTables, IsOpening, IsRefused}
 use Rattle.stored_tables.specs.declared.migration.MigrateFault.{MigrateFault}
 use Rattle.stored_tables.specs.Migration.{unmigrated}
-use Rattle.ipam_keeper.specs.Keeping.{started}
 use Rattle.ipam_data.specs.declared.imports.ImportRow.{ImportRow}
 use Rattle.ipam_data.specs.Imports.{import_plan}
 use Rattle.csv_import.specs.Files.{IsFileOf}
@@ -25,6 +24,7 @@ use Rattle.command_store.specs.Opening.{found_tables}
 use Rattle.command_serve.specs.Serve.{ListenerView}
 use Rattle.command_files.specs.Files.{kind_named}
 use Rattle.command_files.specs.Report.{IsAbsentIn}
+use Rattle.command_migrate.specs.Migrate.{tables_of_file}
 use Rattle.ipam_command.specs.Runs.{Runs}
 use Rattle.ipam_command.specs.Clauses.{AsksStore, AsksServe, AsksImport, AsksExport, AsksReport, AsksPrefixList, AsksPrefixCheck, AsksReverse, AsksMigrate, ListenerFailed}
 
@@ -77,7 +77,7 @@ pub record LacksPrefix (report : ReportName) (store : Store) (old : Outside) : T
 -- the tables that the file tells can't be migrated
 pub record HasUnmigrated (db : List ℕ) (old : Outside) : Type 0 where
   pub tables : Tables
-  pub told : started old.stores.stored (Some db) ≡ Some tables
+  pub told : tables_of_file db old.stores ≡ Some tables
   pub fault : MigrateFault
   pub refused : unmigrated tables ≡ Some fault
 
