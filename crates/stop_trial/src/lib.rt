@@ -12,6 +12,6 @@ mod tests;
 
 pub use changes::CHANGES;
 pub use files::{Found, Side, Stop};
-pub use store_kinds::{Pools, Register, StoreKind};
 pub use pool_changes::POOL_CHANGES;
 pub use stops::{Ending, ending_of};
+pub use store_kinds::{Pools, Register, StoreKind};

@@ -14,7 +14,12 @@ const STORED_POOLS: u32 = 2;
 const MOST: u64 = 1_000;
 
 /// The first call of a file whose stop breaks the tables, as the files are found so; or none.
-fn wrong_call<K: StoreKind>(alloc: Global, changes: u32, side: Side, found: Found) -> Result<Option<u64>, AllocError> {
+fn wrong_call<K: StoreKind>(
+    alloc: Global,
+    changes: u32,
+    side: Side,
+    found: Found,
+) -> Result<Option<u64>, AllocError> {
     for calls in 0..MOST {
         match ending_of::<K>(alloc, changes, Stop { side, calls, found })? {
             Ending::Whole => {}
