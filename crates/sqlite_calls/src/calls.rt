@@ -14,7 +14,10 @@ pub fn run<S: Alter>(conn: &mut Connection<S>, text: &str) -> Result<(), StoreFa
 }
 
 /// Prepares the statement of a text.
-pub fn prepare_text<S: Alter>(conn: &mut Connection<S>, text: &str) -> Result<Statement, StoreFault> {
+pub fn prepare_text<S: Alter>(
+    conn: &mut Connection<S>,
+    text: &str,
+) -> Result<Statement, StoreFault> {
     Ok(conn.prepare(text)?)
 }
 

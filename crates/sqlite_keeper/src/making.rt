@@ -3,7 +3,9 @@
 use crate::tables::{VERSION_NAME, create_text, next_name_of};
 use ipam_data::kinds::Kind;
 use sqlite::{Alter, Connection, Statement};
-use sqlite_calls::{StoreFault, begin, end, has_tables, make_numbers, prepare_number, run, set_number};
+use sqlite_calls::{
+    StoreFault, begin, end, has_tables, make_numbers, prepare_number, run, set_number,
+};
 use std::alloc::Global;
 use stored_tables::tables::VERSION;
 

@@ -96,10 +96,7 @@ where
         let Some(path) = path else {
             let tables = empty_tables(self.alloc);
             self.lent = Some(None);
-            return Ok(StorePools::Memory(MemoryPools::new(
-                tables,
-                Vec::new(self.alloc),
-            )));
+            return Ok(StorePools::Memory(MemoryPools::new(tables, Vec::new(self.alloc))));
         };
         match self.start_at(path) {
             Ok((keeper, path)) => {

@@ -66,12 +66,7 @@ fn change_of(alloc: Global, number: u32) -> Result<PoolChange, AllocError> {
     match number {
         1 => creation(alloc),
         2 => claim(alloc),
-        _ => Ok(change_with(
-            Vec::new(alloc),
-            Vec::new(alloc),
-            Some(3),
-            CLAIMED + 1,
-        )),
+        _ => Ok(change_with(Vec::new(alloc), Vec::new(alloc), Some(3), CLAIMED + 1)),
     }
 }
 
@@ -119,7 +114,10 @@ fn words_of(alloc: Global, tables: &PoolTables) -> Result<String, AllocError> {
     let mut text = format!(in alloc; "{},{}:", tables.next_range, tables.next_member)?;
     for range in tables.ranges.as_slice() {
         let name = range.name.as_str();
-        let words = format!(in alloc; "{} {:?} {name} {} {}", range.id, range.kind, range.first, range.last)?;
+        let words = format!(in alloc;
+            "{} {:?} {name} {} {}",
+            range.id, range.kind, range.first, range.last
+        )?;
         text.push_str(words.as_str())?;
     }
     push_members(alloc, &mut text, tables.members.as_slice())?;

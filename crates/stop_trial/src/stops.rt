@@ -57,7 +57,11 @@ fn are_after<K: StoreKind>(alloc: Global, tables: &str, changes: u32) -> Result<
 }
 
 /// What comes of a stop while so many changes are stored. `Err` means out of memory.
-pub fn ending_of<K: StoreKind>(alloc: Global, changes: u32, stop: Stop) -> Result<Ending, AllocError> {
+pub fn ending_of<K: StoreKind>(
+    alloc: Global,
+    changes: u32,
+    stop: Stop,
+) -> Result<Ending, AllocError> {
     let (stored, files) = stopped::<K>(alloc, changes, stop);
     let stored = stored?;
     let files = found_files(alloc, files, stop.found)?;

@@ -1,7 +1,9 @@
 //! Every stop of both files while the tables are made and ten rows are imported, while a file of version 1 is migrated, and while a
 //! group of VLANs is made and ten of them are claimed.
 
-use crate::{Ending, Found, Pools, Register, Side, Stop, StoreKind, ending_of, migration_ending_of};
+use crate::{
+    Ending, Found, Pools, Register, Side, Stop, StoreKind, ending_of, migration_ending_of,
+};
 use std::alloc::{AllocError, Global};
 use std::test::Fail;
 
@@ -15,7 +17,12 @@ const STORED_POOLS: u32 = 2;
 const MOST: u64 = 1_000;
 
 /// The first call of a file whose stop breaks the tables, as the files are found so; or none.
-fn wrong_call<K: StoreKind>(alloc: Global, changes: u32, side: Side, found: Found) -> Result<Option<u64>, AllocError> {
+fn wrong_call<K: StoreKind>(
+    alloc: Global,
+    changes: u32,
+    side: Side,
+    found: Found,
+) -> Result<Option<u64>, AllocError> {
     for calls in 0..MOST {
         match ending_of::<K>(alloc, changes, Stop { side, calls, found })? {
             Ending::Whole => {}

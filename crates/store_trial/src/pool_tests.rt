@@ -42,7 +42,8 @@ made numbers INSERT INTO members (id, range, number, name) VALUES (1, -2, 3, 'a'
 ";
 
 /// What sets the next ids.
-const NUMBERS: &str = "INSERT INTO meta (name, value) VALUES ('next_ranges', 3), ('next_members', 7); ";
+const NUMBERS: &str =
+    "INSERT INTO meta (name, value) VALUES ('next_ranges', 3), ('next_members', 7); ";
 
 /// Changes one after another, each with its answer: the ranges and the members that come, the id of the range and of the member that goes, the
 /// next ids. The first one makes what bench/pool_tables.sql makes. Where `many` come they are members of the range 3.

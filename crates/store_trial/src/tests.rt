@@ -226,10 +226,7 @@ fn changes_are_stored_whole_or_not_at_all(rt: HostRuntime) -> Result<(), Fail> {
 #[test]
 fn a_database_of_sqlite3_is_loaded_and_changed(rt: HostRuntime) -> Result<(), Fail> {
     let bytes = bytes_of(rt.alloc(), FILE)?;
-    let keeper = SqliteKeeper::adopt(
-        rt.alloc(),
-        connection_of(rt.alloc(), bytes.as_slice())?,
-    );
+    let keeper = SqliteKeeper::adopt(rt.alloc(), connection_of(rt.alloc(), bytes.as_slice())?);
     let (first, rest) = CHANGES.split_once('\n').unwrap_or(("", ""));
     let wrong = wrong_lines(rt.alloc(), keeper, first, rest)?;
     assert!(rt; wrong.is_empty(), "{wrong}");
