@@ -11,7 +11,7 @@ use clap::{Arg, ArgAction, ArgMatches, Error};
 use std::alloc::{AllocError, Global};
 
 /// An option that takes one value.
-fn option<'a>(alloc: Global, name: &'a str) -> Arg<'a>
+pub fn option<'a>(alloc: Global, name: &'a str) -> Arg<'a>
     ensures rule { rule_of result ≡ option_rule name.entry.now }
     ensures local { result.global ≡ false }
 {
@@ -19,7 +19,7 @@ fn option<'a>(alloc: Global, name: &'a str) -> Arg<'a>
 }
 
 /// An option that takes one value and has to be given.
-fn needed<'a>(alloc: Global, name: &'a str) -> Arg<'a>
+pub fn needed<'a>(alloc: Global, name: &'a str) -> Arg<'a>
     ensures rule { rule_of result ≡ needed_rule name.entry.now }
     ensures local { result.global ≡ false }
 {
@@ -38,14 +38,14 @@ fn place<'a>(alloc: Global, name: &'a str) -> Arg<'a>
 }
 
 /// A command of this name, without a help flag.
-fn plain_command<'a>(alloc: Global, name: &'a str) -> clap::Command<'a>
+pub fn plain_command<'a>(alloc: Global, name: &'a str) -> clap::Command<'a>
     ensures { app_of result ≡ command_app name.entry.now }
 {
     clap::Command::new(alloc, name).disable_help_flag(true)
 }
 
 /// The command with one more place or option. `Err` means out of memory.
-fn with<'a>(command: clap::Command<'a>, arg: Arg<'a>) -> Result<clap::Command<'a>, AllocError>
+pub fn with<'a>(command: clap::Command<'a>, arg: Arg<'a>) -> Result<clap::Command<'a>, AllocError>
     requires { arg.global ≡ false }
     ensures { IfOk result (λ c. app_of c ≡ with_rule (app_of command.entry) (rule_of arg.entry)) }
 {

@@ -24,27 +24,12 @@ use Rattle.command_words.specs.declared.asked.Command.{Command}
 use Rattle.command_words.specs.declared.asked.Command.TheVariants as command
 use Rattle.command_grammar.specs.Grammar.{given}
 use Rattle.command_words.specs.Values.{most_workers, most_connections, most_claims, most_id, IsBlockValue, IsNumberValue, IsNumberOr, IsTextValue, IsYesValue, IsAnswerValue, IsKindValue, IsReportValue, IsTableValue, IsFamilyValue, IsStyleValue, IsNameValue, kind_word, family_word, style_word}
-use Rattle.command_words.proofs.Found.{same_first}
+use Rattle.word_values.proofs.Unique.{one_number, one_number_or, one_text, same_first}
 use Rattle.command_words.specs.Asked.{name_of, app_for, IsStore, IsServing, IsListAsked, HasValues, WordsAskForOne}
 
 one_block : (text : Option (List ℕ)) (b c : Cidr) → IsBlockValue text b → IsBlockValue text c → b ≡ c
 one_block None b c h k = absurd h
 one_block (Some text) b c h k = reading_is_one.blocks text b c h.0 k.0
-
-one_number : (most : ℕ) (text : Option (List ℕ)) (m n : ℕ) → most < 2 ^ 64 → IsNumberValue most text m → IsNumberValue most text n → m ≡ n
-one_number most None m n small h k = absurd h
-one_number most (Some text) m n small h k =
-    let low = h.2 in
-    let low_too = k.2 in
-    decimal_injective m n (omega arith) (omega arith) (sym h.0 ∙ k.0)
-
-one_number_or : (usual most : ℕ) (text : Option (List ℕ)) (m n : ℕ) → most < 2 ^ 64 → IsNumberOr usual most text m → IsNumberOr usual most text n → m ≡ n
-one_number_or usual most None m n small h k = h ∙ sym k
-one_number_or usual most (Some text) m n small h k = one_number most (Some text) m n small h k
-
-one_text : (text : Option (List ℕ)) (s t : List ℕ) → IsTextValue text s → IsTextValue text t → s ≡ t
-one_text None s t h k = absurd h
-one_text (Some text) s t h k = h.0 ∙ sym k.0
 
 one_answer : (text : Option (List ℕ)) (b c : Bool) → IsYesValue text b → IsYesValue text c → b ≡ c
 one_answer None b c h k = h ∙ sym k

@@ -1,6 +1,6 @@
 use Rattle.std.proofs.Common.{◌≡◌, Ok, arith}
 use Rattle.std.proofs.lemmas.Fmt.{parse-decimal}
-use Rattle.command_words.proofs.values.number_read.Goals as goal
+use Rattle.word_values.proofs.values.number_read.Goals as goal
 
 pub returns-in-Ok : goal.returns-in-Ok
 returns-in-Ok c = λ id fits e.
