@@ -4,9 +4,10 @@ ghost use Rattle.std.specs.Prelude.{IfOk, map, codes};
 ghost use Rattle.command_words.specs.Asked.{IsReadAs};
 
 use crate::asked::Command;
-use crate::values::{answer_value, text_value};
+use crate::values::answer_value;
 use command_grammar::{migrate_command, parse, value};
 use std::alloc::{AllocError, Global};
+use word_values::text_value;
 
 /// Reads the words of `migrate`. `Err` means out of memory.
 #[tactic(auto, using(command_grammar::proofs::Plain::migrate_is_plain))]
