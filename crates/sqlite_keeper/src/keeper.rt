@@ -3,14 +3,14 @@
 ghost use Rattle.std.specs.Prelude.{◌≡◌, ℕ, ◌≤◌, ◌⊎◌, None, option_map, IfOk, OnOk, OnErr, IsErrOf};
 ghost use Rattle.stored_tables.specs.Stored.{changed};
 ghost use Rattle.stored_tables.specs.Order.{AreTables};
-ghost use Rattle.ipam_keeper.specs.Keeping.{Rose, IsTold, IsRaised};
-ghost use Rattle.sqlite_keeper.specs.Counting.{IsCounted};
+ghost use Rattle.ipam_keeper.specs.Keeping.{Rose, IsTold};
+ghost use Rattle.sqlite_calls.specs.Counting.{IsCounted};
 
-use crate::fault::StoreFault;
 use crate::loading::load_tables;
 use crate::storing::{Statements, prepare, store};
 use ipam_keeper::keeper::{KeepFault, Keeper};
 use sqlite::{Alter, Connection};
+use sqlite_calls::{StoreFault, refused};
 use std::alloc::Global;
 use std::marker::Model;
 use stored_tables::tables::{Change, Tables};
@@ -58,20 +58,6 @@ impl<S: Alter> SqliteKeeper<S> {
         self.conn
     }
 
-    /// What a stop is to the caller. It is counted, unless it means out of memory.
-    fn refused(&mut self, fault: StoreFault) -> KeepFault
-        ensures memory { fault ≡ StoreFault.Memory → (result ≡ KeepFault.Memory) × (self.new ≡ self.old) }
-        ensures failed { fault ≡ StoreFault.Failed → (result ≡ KeepFault.Failed) × IsRaised self.old 1 self.new }
-    {
-        match fault {
-            StoreFault::Memory => KeepFault::Memory,
-            StoreFault::Failed => {
-                self.faults = self.faults.saturating_add(1);
-                KeepFault::Failed
-            }
-        }
-    }
-
     /// Stores a change; before the first one the statements are prepared.
     fn change(&mut self, change: &Change) -> Result<(), StoreFault>
         ensures { self.new ≡ self.old }
@@ -103,7 +89,7 @@ impl<S: Alter> Keeper for SqliteKeeper<S> {
     {
         match load_tables(self.alloc, &mut self.conn) {
             Ok(tables) => Ok(tables),
-            Err(fault) => Err(self.refused(fault)),
+            Err(fault) => Err(refused(&mut self.faults, fault)),
         }
     }
 
@@ -117,7 +103,7 @@ impl<S: Alter> Keeper for SqliteKeeper<S> {
     {
         match self.change(change) {
             Ok(()) => Ok(()),
-            Err(fault) => Err(self.refused(fault)),
+            Err(fault) => Err(refused(&mut self.faults, fault)),
         }
     }
 }

@@ -1,9 +1,7 @@
 //! Keepers of stored tables in SQLite files, and their opener.
 #![tactic(auto)]
 
-mod calls;
 mod connects;
-mod fault;
 mod keeper;
 mod loading;
 mod making;

@@ -3,56 +3,16 @@
 ghost use Rattle.std.specs.Prelude.{IfOk};
 ghost use Rattle.stored_tables.specs.Order.{AreTables};
 
-use crate::fault::StoreFault;
 use crate::making::make_tables;
 use crate::order::are_in_order;
-use crate::tables::{SELECT_META, VERSION, VERSION_NAME, next_name_of, select_text};
+use crate::tables::{VERSION, VERSION_NAME, next_name_of, select_text};
 use ipam_data::kinds::Kind;
 use ipam_data::update::Ids;
 use sqlite::{Alter, Connection, Row as FoundRow};
+use sqlite_calls::{Number, StoreFault, number_under, read_numbers};
 use std::alloc::Global;
 use stored_tables::tables::{Row, Rows, Tables, Text, Texts};
 use stored_tables::writing::column_names;
-
-/// A row of the table of numbers.
-#[derive(Drop)]
-struct Number {
-    name: String,
-    value: u32,
-}
-
-fn number_of(found: &FoundRow) -> Result<Number, StoreFault> {
-    Ok(Number {
-        name: found.get(0)?,
-        value: found.get(1)?,
-    })
-}
-
-/// All numbers. One that is not from 0 to 4,294,967,295 is a fault.
-fn read_numbers<S: Alter>(
-    alloc: Global,
-    conn: &mut Connection<S>,
-) -> Result<Vec<Number>, StoreFault> {
-    let mut numbers = Vec::new(alloc);
-    let mut found = conn.query(SELECT_META, &[])?;
-    for _ in 0..u64::MAX {
-        let Some(row) = found.next()? else {
-            return Ok(numbers);
-        };
-        numbers.push(number_of(row)?)?;
-    }
-    Ok(numbers)
-}
-
-/// The number of this name.
-fn number_under(numbers: &[Number], name: &str) -> Option<u32> {
-    for number in numbers {
-        if number.name.as_str() == name {
-            return Some(number.value);
-        }
-    }
-    None
-}
 
 /// Puts the next id of a kind behind others, where it stands among the numbers.
 fn push_next(

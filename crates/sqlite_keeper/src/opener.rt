@@ -7,10 +7,10 @@ ghost use Rattle.ipam_keeper.specs.Keeping.{Rose, IsRaised, IsTold, started, IsR
 ghost use Rattle.sqlite_keeper.specs.Either.{told_of, faults_of};
 
 use crate::connects::{Connects, CountedKeeper};
-use crate::fault::StoreFault;
 use ipam_keeper::empty::empty_tables;
 use ipam_keeper::keeper::{KeepFault, Keeper, KeeperOpener};
 use ipam_keeper::memory::MemoryKeeper;
+use sqlite_calls::{StoreFault, refused};
 use std::alloc::{AllocError, Global};
 use stored_tables::tables::{Change, Tables, Text};
 
@@ -111,11 +111,7 @@ where
                 self.lent = Some(Some(path));
                 Ok(StoreKeeper::File(keeper))
             }
-            Err(StoreFault::Memory) => Err(KeepFault::Memory),
-            Err(StoreFault::Failed) => {
-                self.faults = self.faults.saturating_add(1);
-                Err(KeepFault::Failed)
-            }
+            Err(fault) => Err(refused(&mut self.faults, fault)),
         }
     }
 

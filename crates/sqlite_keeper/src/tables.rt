@@ -10,20 +10,6 @@ pub(crate) const VERSION: u32 = 1;
 /// The name of the row with the version.
 pub(crate) const VERSION_NAME: &str = "version";
 
-/// Says how many tables a file has.
-pub(crate) const COUNT_TABLES: &str = "SELECT count(*) FROM sqlite_schema WHERE type = 'table'";
-
-/// Makes the table of numbers.
-pub(crate) const CREATE_META: &str =
-    "CREATE TABLE meta (name TEXT PRIMARY KEY, value INTEGER NOT NULL) STRICT";
-
-/// Reads the numbers.
-pub(crate) const SELECT_META: &str = "SELECT name, value FROM meta";
-
-/// Sets a number.
-pub(crate) const PUT_META: &str =
-    "INSERT INTO meta (name, value) VALUES (?, ?) ON CONFLICT (name) DO UPDATE SET value = excluded.value";
-
 /// The name of the table of a kind.
 fn name_of(kind: Kind) -> &'static str {
     match kind {

@@ -1,7 +1,17 @@
-//! The store over SQLite, tried on databases in memory: what is stored, loaded and refused.
+//! The stores over SQLite, tried on databases in memory: what is stored, loaded and refused, of a register and of pools.
 #![tactic(auto)]
 
 #[cfg(test)]
 mod database;
 #[cfg(test)]
+mod other_tests;
+#[cfg(test)]
+mod pool_file;
+#[cfg(test)]
+mod pool_tests;
+#[cfg(test)]
+mod register_file;
+#[cfg(test)]
 mod tests;
+#[cfg(test)]
+mod words;

@@ -1,16 +1,18 @@
 //! Keepers over databases: what they load, and that what they hold after changes is what a keeper in memory holds.
 
-use crate::database::keeper_of_file;
+use crate::database::{bytes_of, connection_of};
+use crate::register_file::FILE;
+use crate::words::{number_of, text_of, word_of};
 use ipam_data::kinds::Kind;
 use ipam_data::update::Ids;
 use ipam_keeper::empty::empty_tables;
-use ipam_keeper::keeper::{KeepFault, Keeper};
+use ipam_keeper::keeper::Keeper;
 use ipam_keeper::memory::MemoryKeeper;
 use sqlite::{Alter, Connection};
 use sqlite_keeper::SqliteKeeper;
 use std::alloc::{AllocError, Global};
 use std::test::Fail;
-use stored_tables::tables::{Change, Row, Rows, Tables, Text, Texts};
+use stored_tables::tables::{Change, Row, Rows, Tables, Texts};
 
 /// What makes a database, a bar, and what its keeper then loads.
 const LOADS: &str = "\
@@ -37,10 +39,6 @@ done|many||vrfs,2000
 
 /// How many VRFs are many.
 const MANY: u32 = 1_100;
-
-fn text_of(alloc: Global, text: &str) -> Result<Text, AllocError> {
-    Ok(Text::of(String::from_str(alloc, text)?))
-}
 
 fn push_row(alloc: Global, text: &mut String, row: &Row) -> Result<(), AllocError> {
     text.push_str(format!(in alloc; "{:?} {}", row.kind, row.id)?.as_str())?;
@@ -107,10 +105,6 @@ fn kind_of(name: Option<&str>) -> Kind {
     }
 }
 
-fn number_of(word: Option<&str>) -> u32 {
-    word.unwrap_or("").parse::<u32>().unwrap_or(0)
-}
-
 /// A row of these words: its kind, its id and its fields.
 fn row_of(alloc: Global, words: &str) -> Result<Row, AllocError> {
     let mut fields = Vec::new(alloc);
@@ -163,14 +157,6 @@ fn change_of(alloc: Global, line: &str) -> Result<Change, AllocError> {
         cuts: ids_of(alloc, line.split('|').nth(2).unwrap_or(""))?,
         next: ids_of(alloc, line.split('|').nth(3).unwrap_or(""))?,
     })
-}
-
-fn word_of(answer: Result<(), KeepFault>) -> &'static str {
-    match answer {
-        Ok(()) => "done",
-        Err(KeepFault::Failed) => "Failed",
-        Err(KeepFault::Memory) => "Memory",
-    }
 }
 
 /// Whether a keeper over a database answers the change of a line as the line says, and then loads what a keeper in memory loads, which makes the
@@ -238,7 +224,8 @@ fn changes_are_stored_whole_or_not_at_all(rt: HostRuntime) -> Result<(), Fail> {
 
 #[test]
 fn a_database_of_sqlite3_is_loaded_and_changed(rt: HostRuntime) -> Result<(), Fail> {
-    let keeper = keeper_of_file(rt.alloc())?;
+    let bytes = bytes_of(rt.alloc(), FILE)?;
+    let keeper = SqliteKeeper::adopt(rt.alloc(), connection_of(rt.alloc(), bytes.as_slice())?);
     let (first, rest) = CHANGES.split_once('\n').unwrap_or(("", ""));
     let wrong = wrong_lines(rt.alloc(), keeper, first, rest)?;
     assert!(rt; wrong.is_empty(), "{wrong}");

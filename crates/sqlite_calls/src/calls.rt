@@ -1,35 +1,45 @@
-//! Single statements, and the end of a transaction.
+//! Single statements, and transactions.
 
 use crate::fault::StoreFault;
 use sqlite::types::ValueRef;
 use sqlite::{Alter, Connection, Statement};
 
+/// Says how many tables a file has.
+const COUNT_TABLES: &str = "SELECT count(*) FROM sqlite_schema WHERE type = 'table'";
+
 /// Runs a statement without values.
-pub(crate) fn run<S: Alter>(conn: &mut Connection<S>, text: &str) -> Result<(), StoreFault> {
+pub fn run<S: Alter>(conn: &mut Connection<S>, text: &str) -> Result<(), StoreFault> {
     conn.execute(text, &[])?;
     Ok(())
 }
 
-pub(crate) fn prepare_text<S: Alter>(
+/// Prepares the statement of a text.
+pub fn prepare_text<S: Alter>(
     conn: &mut Connection<S>,
     text: &str,
 ) -> Result<Statement, StoreFault> {
     Ok(conn.prepare(text)?)
 }
 
-/// Sets the number of this name.
-pub(crate) fn set_number<S: Alter>(
+/// Runs a prepared statement with these values.
+pub fn run_with<S: Alter>(
     conn: &mut Connection<S>,
-    put: &Statement,
-    name: &str,
-    value: u32,
+    statement: &Statement,
+    values: &[ValueRef<'_>],
 ) -> Result<(), StoreFault> {
-    let values = [
-        ValueRef::Text(name.as_bytes()),
-        ValueRef::Int(i64::from(value)),
-    ];
-    put.execute(conn, &values)?;
+    statement.execute(conn, values)?;
     Ok(())
+}
+
+/// Whether the file has tables.
+pub fn has_tables<S: Alter>(conn: &mut Connection<S>) -> Result<bool, StoreFault> {
+    let count: u64 = conn.query_row(COUNT_TABLES, &[])?.get(0)?;
+    Ok(count > 0)
+}
+
+/// Begins a transaction.
+pub fn begin<S: Alter>(conn: &mut Connection<S>) -> Result<(), StoreFault> {
+    run(conn, "BEGIN")
 }
 
 /// Undoes what was begun.
@@ -41,7 +51,7 @@ fn undo<S: Alter>(conn: &mut Connection<S>) {
 }
 
 /// Commits what was done since the begin, or undoes it where it was stopped.
-pub(crate) fn end<S: Alter>(
+pub fn end<S: Alter>(
     conn: &mut Connection<S>,
     done: Result<(), StoreFault>,
 ) -> Result<(), StoreFault> {
