@@ -1,15 +1,13 @@
 -- What a store holds behind a keeper that went back.
-use Rattle.std.proofs.Common.{◌≡◌, ℕ, ◌≤◌, ◌⊎◌, List, inl, inr, Option, Some, None, Bool, true, false, bytes_eq, is_some, refl, subst, sym, ap, ◌∙◌, arith}
+use Rattle.std.proofs.Common.{◌≡◌, ℕ, ◌≤◌, ◌⊎◌, List, inl, inr, Option, Some, None, Bool, true, false, bytes_eq, refl, subst, sym, ◌∙◌, arith}
 use Rattle.std.proofs.lemmas.Slice.Eq.{bytes_eq-Decides}
 use Rattle.ipam_keeper.specs.Keeping.{Rose, IsRaised}
 use Rattle.pool_keeper.specs.declared.tables.PoolTables.{PoolTables}
 use Rattle.pool_keeper.specs.Keeping.{AreGiven, IsReturned, started, tables_at}
-use Rattle.pool_keeper.specs.Stored.{Tells}
-use Rattle.number_pools.specs.Rows.{Pools}
 use Rattle.pool_opening.specs.declared.faults.PoolFault.{PoolFault}
 use Rattle.pool_opening.specs.declared.faults.PoolFault.TheVariants.{Keeper, Memory}
 use Rattle.pool_register.specs.Opened.{IsUnopened}
-use Rattle.pool_store.specs.Opening.{AreSame, Holds, StoredPools}
+use Rattle.pool_store.specs.Opening.{AreSame, IsRefusedOpening, StoredPools}
 
 not_used : (stored : StoredPools) → AreSame stored stored
 not_used None = tt
@@ -36,14 +34,14 @@ back_again (Some path) told (Some entries) (Some new) is returned = λ other.
     (subst (λ (t : Option PoolTables). AreGiven path t (Some new)) is returned.0) returned.1
 
 -- the same, with what is known of the opener and of the keeper by then
-pub back_after : (path : Option (List ℕ)) (lent : Option (Option (List ℕ))) (told last : Option PoolTables) (old mid new : StoredPools)
+back_after : (path : Option (List ℕ)) (lent : Option (Option (List ℕ))) (told last : Option PoolTables) (old mid new : StoredPools)
     → lent ≡ Some path → mid ≡ old → last ≡ told → told ≡ started old path → IsReturned lent last mid new → AreSame old new
 back_after path lent told last old mid new out stays same is returned =
     let here = subst (λ (l : Option (Option (List ℕ))). IsReturned l last mid new) out returned in
     back_again path last old new (same ∙ is) (subst (λ (s : StoredPools). IsReturned (Some path) last s new) stays here)
 
 -- where a keeper that went back had failed, the opener's count rose
-pub raised_rose : (old mid few more new : ℕ) → old ≤ mid → Rose few more → IsRaised mid more new → Rose old new
+raised_rose : (old mid few more new : ℕ) → old ≤ mid → Rose few more → IsRaised mid more new → Rose old new
 raised_rose old mid few more new later (inl above) (inl is) = inl (omega arith)
 raised_rose old mid few more new later (inr last) (inl is) = inr (omega arith)
 raised_rose old mid few more new later rose (inr is) = inr (let e = is.1 in omega arith)
@@ -54,14 +52,12 @@ unopened_so None fault is = tt
 unopened_so (Some tables) fault (inl is) = subst (λ (f : PoolFault). IsUnopened (Some tables) f) (sym is) tt
 unopened_so (Some tables) fault (inr is) = subst (λ (f : PoolFault). IsUnopened (Some tables) f) (sym is) tt
 
--- what pools leave whose keeper told their tables
-pub held : (path : Option (List ℕ)) (lent : Option (Option (List ℕ))) (s : Pools) (was told : Option PoolTables) (first old new : StoredPools)
-    → lent ≡ Some path → old ≡ first → told ≡ was → Tells told s → IsReturned lent told old new → Holds path first new (record { pools = s; tells = is_some was })
-held path lent s was told first old new out is same tells returned =
-    let here = subst (λ (l : Option (Option (List ℕ))). IsReturned l told old new) out returned in
-    record {
-      told = told;
-      tells = ap (λ (t : Option PoolTables). is_some t) same;
-      are = tells;
-      returned = subst (λ (o : StoredPools). IsReturned (Some path) told o new) is here;
-    }
+-- an opening that was refused behind its keeper's start, whose keeper went back
+pub refused_so : (path : Option (List ℕ)) (lent : Option (Option (List ℕ))) (told last : Option PoolTables) (old mid new : StoredPools) (fault : PoolFault) (faults_old faults_mid few more faults_new : ℕ)
+    → lent ≡ Some path → mid ≡ old → last ≡ told → told ≡ started old path → IsReturned lent last mid new → IsUnopened told fault → faults_old ≤ faults_mid → (fault ≡ Keeper → Rose few more)
+    → IsRaised faults_mid more faults_new → IsRefusedOpening path (record { stored = old; faults = faults_old }) (record { stored = new; faults = faults_new }) fault
+refused_so path lent told last old mid new fault faults_old faults_mid few more faults_new out stays same is returned cause later rose raised = record {
+  cause = subst (λ (t : Option PoolTables). IsUnopened t fault) is cause;
+  failed = λ keeper. raised_rose faults_old faults_mid few more faults_new later (rose keeper) raised;
+  same = back_after path lent told last old mid new out stays same is returned;
+}

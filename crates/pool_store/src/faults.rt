@@ -2,7 +2,7 @@
 
 ghost use Rattle.std.specs.Prelude.{◌≡◌, ◌≤◌, ◌+◌, ◌++◌, length};
 ghost use Rattle.arrayvec.specs.ArrayVec.{array_vec_len};
-ghost use Rattle.command_streams.specs.Streams.{told};
+ghost use Rattle.command_streams.specs.Streams.{EndsWith, told};
 ghost use Rattle.pool_store.specs.FaultWords.{IsSaid, row_line as row_line_of};
 
 use arrayvec::ArrayVec;
@@ -39,6 +39,16 @@ fn row_line(name: &[u8], id: u32) -> ArrayVec<u8, LINE>
     line
 }
 
+/// Says which row refused an opening.
+fn say_row<Se: Sink>(name: &[u8], id: u32, errors: &mut Se) -> u8
+    requires { length name.now ≤ 16 }
+    ensures said { EndsWith (told Se.written Se.faults errors.old) (told Se.written Se.faults errors.new) (row_line_of name.now id) 1 result }
+    ensures later { Se.faults errors.old ≤ Se.faults errors.new }
+{
+    let line = row_line(name, id);
+    end_with(errors, line.as_slice(), REFUSED)
+}
+
 /// Says why an opening was refused, and gives the status of that: 1 for a fault of the tables, 4 where the store failed, 5 where memory ran
 /// out, of which nothing is said; and 3 where the line could not be written.
 pub fn say_fault<Se: Sink>(fault: PoolFault, errors: &mut Se) -> u8
@@ -46,15 +56,9 @@ pub fn say_fault<Se: Sink>(fault: PoolFault, errors: &mut Se) -> u8
     ensures later { Se.faults errors.old ≤ Se.faults errors.new }
 {
     match fault {
-        PoolFault::Keeper => {
-            end_with(
-                errors,
-                b"store: the store could not be read\n",
-                STORE,
-            )
-        }
-        PoolFault::BadRange(id) => end_with(errors, row_line(b"range ", id).as_slice(), REFUSED),
-        PoolFault::BadMember(id) => end_with(errors, row_line(b"member ", id).as_slice(), REFUSED),
+        PoolFault::Keeper => { end_with(errors, b"store: the store could not be read\n", STORE) }
+        PoolFault::BadRange(id) => say_row(b"range ", id, errors),
+        PoolFault::BadMember(id) => say_row(b"member ", id, errors),
         PoolFault::BadNext => end_with(errors, b"store: bad next id\n", REFUSED),
         PoolFault::Memory => MEMORY,
     }

@@ -2,9 +2,7 @@
 #![tactic(auto)]
 
 mod faults;
-mod opening;
 mod store;
 
 pub use faults::say_fault;
-pub use opening::{open_pools, return_pools};
 pub use store::PoolStore;

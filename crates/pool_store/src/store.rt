@@ -3,12 +3,12 @@
 ghost use Rattle.std.specs.Prelude.{◌≡◌, Some, ℕ, List, Option, option_copied};
 
 use crate::faults::say_fault;
-use crate::opening::{open_pools, return_pools};
 use ipam_edge::Sink;
+use ipam_keeper::keeper::KeepFault;
 use machine_command::MachineOpener;
 use pool_keeper::keeper::PoolOpener;
 use pool_opening::PoolFault;
-use pool_register::Pools;
+use pool_register::{Pools, open};
 use std::alloc::Global;
 use stored_tables::tables::Text;
 
@@ -55,11 +55,22 @@ impl<'a, O: PoolOpener> MachineOpener<Pools<O::Kept>> for PoolStore<'a, O> {
     ghost says = { IsSaid };
 
     fn open(&mut self, alloc: Global) -> Result<Pools<O::Kept>, PoolFault> {
-        open_pools(alloc, self.path, self.opener)
+        let kept = match self.opener.start(self.path) {
+            Ok(kept) => kept,
+            Err(KeepFault::Failed) => return Err(PoolFault::Keeper),
+            Err(KeepFault::Memory) => return Err(PoolFault::Memory),
+        };
+        match open(alloc, kept) {
+            Ok(pools) => Ok(pools),
+            Err((kept, fault)) => {
+                self.opener.done(kept);
+                Err(fault)
+            }
+        }
     }
 
     fn done(&mut self, machine: Pools<O::Kept>) {
-        return_pools(machine, self.opener)
+        self.opener.done(machine.into_keeper());
     }
 
     fn say<Se: Sink>(alloc: Global, fault: PoolFault, errors: &mut Se) -> u8 {
