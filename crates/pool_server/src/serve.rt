@@ -11,7 +11,7 @@ ghost use Rattle.pool_store.specs.Meaning.{pool_opener};
 use crate::workers::work_all;
 use ipam_edge::Sink;
 use ipam_listen::Listener;
-use machine_serving::{begin_serve, finish_serve, say_entries, say_unserved};
+use machine_serving::{Begun, begin_serve, finish_serve, say_entries, say_unserved};
 use pool_keeper::keeper::PoolOpener;
 use pool_register::Pools;
 use pool_service::PoolService;
@@ -50,10 +50,23 @@ pub fn run_serve<R: Threads + Wait + Sync, Si: Sink, Se: Sink, L: Listener, O: P
         listener,
     ) {
         Ok(begun) => {
-            let mut begun = begun;
-            work_all(rt, alloc, &begun.shared, begun.hired.as_mut_slice(), workers);
+            let Begun {
+                shared,
+                seat,
+                lanes,
+                mut hired,
+                came,
+            } = begun;
+            work_all(rt, alloc, &shared, hired.as_mut_slice(), workers);
+            let worked = Begun {
+                shared,
+                seat,
+                lanes,
+                hired,
+                came,
+            };
             let served = finish_serve::<Pools<O::Kept>, PoolService, PoolStore<'_, O>, L>(
-                begun, store, listener,
+                worked, store, listener,
             );
             say_entries(served, output)
         }
