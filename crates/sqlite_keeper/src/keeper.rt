@@ -126,7 +126,7 @@ impl<S: Alter> Keeper for SqliteKeeper<S> {
     {
         match self.put_anew(tables) {
             Ok(()) => Ok(()),
-            Err(fault) => Err(self.refused(fault)),
+            Err(fault) => Err(refused(&mut self.faults, fault)),
         }
     }
 }
