@@ -52,7 +52,7 @@ limits_hold = record {
     spent = refl;
     last_id = refl;
     version = refl;
-    first_version = refl;
+    migrated_version = refl;
   };
   commands = record {
     workers = refl;

@@ -36,7 +36,7 @@ pub record HasRegisterLimits : Type 0 where
   pub spent : most_spent ≡ 1000000
   pub last_id : LAST_ID ≡ 4294967294
   pub version : stored_version ≡ 2
-  pub first_version : first_version ≡ 1
+  pub migrated_version : first_version ≡ 1
 
 -- what words, lines, files, lists and reports have at most
 pub record HasCommandLimits : Type 0 where
