@@ -4,7 +4,7 @@ use Rattle.command_store.specs.Outside.{stores}
 use Rattle.command_store.proofs.Refused.{quiet_refused}
 use Rattle.command_session.proofs.Sessions.{of_ended}
 use Rattle.command_session.proofs.Refused.{of_refused}
-use Rattle.command_session.proofs.session.run_by.Goals as goal
+use Rattle.command_session.proofs.session.run_session.Goals as goal
 
 pub returns-in-Ok : goal.returns-in-Ok
 returns-in-Ok g c =
