@@ -15,8 +15,7 @@ use Rattle.command_free.specs.Run.{IsFree}
 use Rattle.command_free.proofs.OneAnswer.{one_answer}
 use Rattle.command_free.proofs.Runs.{always}
 use Rattle.ipam_data.specs.State.{State, empty_state}
-use Rattle.rest_ipam.specs.Answered.{answers_plainly}
-use Rattle.kept_session.specs.Answered.{fresh}
+use Rattle.rest_ipam.specs.Answered.{answers_plainly, opened}
 use Rattle.command_store.specs.Outside.{Stores, Outside, StoreFailed, AnyFailed, NoCountFalls}
 use Rattle.command_session.specs.Session.{Prints, Serves, IsSession}
 use Rattle.command_serve.specs.Serve.{ListenerView, ListeningFailed, IsServe}
@@ -115,12 +114,12 @@ of_free words old new before after status within asks f same_stores same_listene
 -- ---- a run of `session`
 
 -- what is on the output, where a session from a loaded state is done, is what an empty register answers, where the state is empty
-from_empty : (old new : Outside) (state : State) (unique : Bool) → state ≡ empty_state unique → Prints answers_plainly (fresh state).seen old new
-    → Prints answers_plainly (fresh (empty_state unique)).seen old new
-from_empty old new state unique is printed = subst (λ (s : State). Prints answers_plainly (fresh s).seen old new) is printed
+from_empty : (old new : Outside) (state : State) (unique : Bool) → state ≡ empty_state unique → Prints answers_plainly (opened state) old new
+    → Prints answers_plainly (opened (empty_state unique)) old new
+from_empty old new state unique is printed = subst (λ (s : State). Prints answers_plainly (opened s) old new) is printed
 
 done_empty : (store : Store) (old new : Outside) (status : ℕ) (unique : Bool) → store ≡ record { db = None; global_unique = unique }
-    → IsSession store old new status → (¬ StoreFailed old new) → status ≡ 0 → Prints answers_plainly (fresh (empty_state unique)).seen old new
+    → IsSession store old new status → (¬ StoreFailed old new) → status ≡ 0 → Prints answers_plainly (opened (empty_state unique)) old new
 done_empty store old new status unique same s well z =
     let t = subst (λ (r : Store). IsSession r old new status) same s in
     let done = t.done z in

@@ -2,9 +2,8 @@
 use Rattle.std.specs.Prelude.{◌≡◌, ℕ, ◌+◌, ◌≤◌, ◌⊎◌, Bool, List, length, None, IfSome}
 use Rattle.inet_num.specs.Net.{Cidr}
 use Rattle.http_session.specs.declared.session.SessionEnd.TheVariants.{SourceFault, Memory}
-use Rattle.ipam_data.specs.State.{State}
-use Rattle.rest_ipam.specs.Answered.{opened, answers_plainly}
-use Rattle.kept_session.specs.Answered.{fresh, answers_kept}
+use Rattle.ipam_data.specs.State.{State, empty_state}
+use Rattle.rest_ipam.specs.Answered.{answers_kept, answers_plainly, fresh, opened}
 use Rattle.command_words.specs.declared.asked.Command.{Command}
 use Rattle.command_words.specs.declared.asked.Command.TheVariants.{Free, Session, Serve, Import, Export, Report, PrefixList, PrefixCheck, Reverse, ReverseRead, Migrate, Load}
 use Rattle.command_words.specs.declared.asked.KindName.{KindName}
@@ -110,7 +109,7 @@ ListenerFailed (Load count workers) before after = ⊥
 -- the answers of the register that was loaded are on the output
 abbrev pub IsServed : Store → Outside → Outside → Type 0
 IsServed store old new = (state : State) × IsLoaded store old state × Prints answers_kept (fresh state) old new
-    × ((¬ StoreFailed old new) → Prints answers_plainly (fresh state).seen old new)
+    × ((¬ StoreFailed old new) → Prints answers_plainly (opened state) old new)
 
 -- what the words ask for is on the output; of `serve` that is the count of the changes, once all that connect were served
 abbrev pub IsDone : List (List ℕ) → Outside → Outside → ListenerView → ListenerView → Type 0
@@ -228,7 +227,7 @@ pub record HasClauses (words : List (List ℕ)) (old new : Outside) (before afte
   -- of each command its record: with each status, what was read, printed and said, and what the store holds
   pub answers : (command : Command) → Asks words command → Answers command old new before after status
   -- `session` without a file, where the opener did not fail: the answers are those of an empty register
-  pub empty : (unique : Bool) → AsksSession words unique → (¬ StoreFailed old new) → status ≡ 0 → Prints answers_plainly (opened unique) old new
+  pub empty : (unique : Bool) → AsksSession words unique → (¬ StoreFailed old new) → status ≡ 0 → Prints answers_plainly (opened (empty_state unique)) old new
   -- a command ends by itself where nothing fails: done, refused, or for lack of memory
   pub complete : (command : Command) → Asks words command → (¬ AnyFailed old new) → (¬ ListenerFailed command before after)
       → (status ≡ 0) ⊎ (status ≡ 1) ⊎ (status ≡ 5)
