@@ -2,6 +2,7 @@
 use Rattle.std.proofs.Common.{◌≡◌, ℕ, ◌+◌, ◌++◌, ◌≤◌, ◌<◌, ◌⊎◌, List, length, inl, inr, refl, sym, ◌∙◌, ap, subst, arith, Option}
 use Rattle.ipam_edge.specs.Faults.{Rose}
 use Rattle.atomic_table.specs.Seated.{TableId}
+use Rattle.history_lock.specs.Replay.{replay}
 use Rattle.history_lock.specs.Seats.{SeatView}
 use Rattle.ipam_listen.specs.Connections.{Connection, Returned}
 use Rattle.http_lanes.specs.declared.listening.Listening.{Listening}
@@ -63,22 +64,24 @@ counted P o base m faults_old faults_new first old new none_left all_came h fres
       spent = λ came. k.spent (gives came);
     }
 
-pub of_served : {S C A B W E L X Q T F : Type 0} (P : Protocol S C A B W E) (U : OpenerMeaning Q T S F) (asked : Q) (s : Serving) (told : L → Option (List Connection)) (z : TableId) (seat : SeatView S C) (seat_of : X → Option (SeatView S C)) (lane_of : X → L)
-    (hired : List X) (came : Listening) (lends : Stored T → Type 0) (none_left : Type 0) (served : Served) (old new : Outside T) (before now after : ListenerView) (count status : ℕ)
+-- the machine went back to an opener that is asked for the same and has failed as often as when it lent the machine
+pub of_served : {S C A B W E L X Q T F : Type 0} (P : Protocol S C A B W E) (U : OpenerMeaning Q T S F) (asked asked_now : Q) (s : Serving) (told : L → Option (List Connection)) (z : TableId) (seat : SeatView S C) (seat_of : X → Option (SeatView S C)) (lane_of : X → L)
+    (hired : List X) (came : Listening) (lends : Stored T → Type 0) (none_left : Type 0) (served : Served) (old new : Outside T) (before now after : ListenerView) (faults_now count status : ℕ)
     → IsManned P told s before now z seat seat_of lane_of hired came → count ≡ length hired
-    → U.loads asked old.stores.stored seat.opening → seat.base ≡ 0 → lends old.stores.stored
-    → IsFinished P U asked lends seat.opening seat.base old.stores.faults new.stores now after none_left count came served
+    → U.loads asked old.stores.stored seat.opening → seat.base ≡ 0 → lends old.stores.stored → asked_now ≡ asked → faults_now ≡ old.stores.faults
+    → IsFinished P U asked_now lends seat.opening seat.base faults_now new.stores now after none_left count came served
     → (length hired ≡ s.workers → none_left)
     → new.streams.input ≡ old.streams.input → new.streams.errors ≡ old.streams.errors → old.streams.output.faults ≤ new.streams.output.faults
     → EndsWith old.streams.output new.streams.output (entries_line served.entries) (listening_status served.listening) status
     → IsServe P U asked s old new before after status
-of_served P U asked s told z seat seat_of lane_of hired came lends none_left served old new before now after count status m number loaded fresh lent f left input errors output said =
+of_served {Q = Q} P U asked asked_now s told z seat seat_of lane_of hired came lends none_left served old new before now after faults_now count status m number loaded fresh lent same_asked same_faults f left input errors output said =
     let lanes = m.lanes in
     let back = f.lanes in
     let came_back = f.came_back in
     let same = ap (λ (l : List Returned). length l) m.returned in
     let first = m.later in
     let then = f.later in
+    let raised : IsRaised old.stores.faults f.counted new.stores.faults = subst (λ (n : ℕ). IsRaised n f.counted new.stores.faults) same_faults f.raised in
     let all : AllCame s before after → length hired ≡ s.workers = λ all. omega arith in
     record {
       run = inl (record {
@@ -88,9 +91,9 @@ of_served P U asked s told z seat seat_of lane_of hired came lends none_left ser
           opening = seat.opening;
           loaded = loaded;
           history = f.history;
-          served = counted P seat.opening seat.base f.counted old.stores.faults new.stores.faults before.returned now.returned after.returned none_left (AllCame s before after) f.history fresh f.raised m.returned (λ all_came. left (all all_came)) f.one_history;
+          served = counted P seat.opening seat.base f.counted old.stores.faults new.stores.faults before.returned now.returned after.returned none_left (AllCame s before after) f.history fresh raised m.returned (λ all_came. left (all all_came)) f.one_history;
           entries_are = f.entries;
-          holds = f.holds old.stores.stored lent;
+          holds = subst (λ (q : Q). U.holds q old.stores.stored new.stores.stored (replay P.step seat.opening f.history)) same_asked (f.holds old.stores.stored lent);
         };
         listening = served.listening;
         heard = heard_of s.workers (length hired) before now after s came served.listening refl lanes back first then m.heard f.whole f.broken;
@@ -102,7 +105,7 @@ of_served P U asked s told z seat seat_of lane_of hired came lends none_left ser
       bound = λ some. f.bound ∙ m.bound;
       later = record {
         streams = record { input = (let e = ap (λ (t : Told). t.faults) input in omega arith); output = output; errors = (let e = ap (λ (t : Told). t.faults) errors in omega arith) };
-        stores = not_below old.stores.faults f.counted new.stores.faults f.raised;
+        stores = not_below old.stores.faults f.counted new.stores.faults raised;
       };
       listener_later = omega arith;
       quiet = λ five. absurd (not_want old.streams.output new.streams.output (entries_line served.entries) served.listening status said five);
