@@ -1,8 +1,9 @@
 -- Pools may go to another thread where their keeper may.
 use denote.RattleType.{RattleType}
-use denote.Param.Send.{IsSend, IsSync, recorded_send, recorded_sync, shr_sync, struct_send, struct_sync, view_send}
+use denote.Builtin.{u32}
+use denote.Param.Send.{IsSend, IsSync, recorded_send, recorded_sync, sendable, shr_sync, struct_send, struct_sync, view_send}
 use denote.Struct.Declared.{shape}
-use denote.Struct.Tuple.{TupleAt, type_at, field_at}
+use denote.Struct.Tuple.{Tuple, TupleAt, tuple_type, tuple_field, type_at, field_at}
 use denote.Struct.Field.{shr_ref_field}
 use denote.Ref.{NamedLft}
 use denote.Param.{param}
@@ -13,12 +14,14 @@ use Rattle.std.proofs.Crossing.{Vec-send, crosses}
 use Rattle.std.proofs.option.Option.TheSendSync as option
 use Rattle.std.specs.contracts.vec.Vec as Vec
 use Rattle.std.specs.contracts.alloc.Global as Heap
+use Rattle.std.specs.contracts.impls.GlobalAllocator.TheImpl.{ghosts}
 use Rattle.pool_keeper.specs.declared.keeper.PoolKeeper as keeper
 use Rattle.pool_register.specs.contracts.pools.Pools as Pools
 use Rattle.pool_register.specs.contracts.pools.Pools.TheInside as inside
 use Rattle.pool_register.proofs.books.Books.TheSendSync as books
 use Rattle.machine_workers.specs.contracts.workers.Worker as Worker
 use Rattle.number_pools.specs.contracts.calls.PoolCall as Call
+use Rattle.number_pools.proofs.calls.PoolCall.TheSendSync as call
 use Rattle.number_pools.specs.contracts.calls.PoolReply as Reply
 use Rattle.pool_register.specs.contracts.machine.SeenPools as SeenPools
 use Rattle.pool_register.specs.contracts.machine.PoolsMachine.TheImpl as machine
@@ -27,8 +30,16 @@ use Rattle.history_lock.specs.contracts.lock.Shared as Shared
 use Rattle.history_lock.proofs.lock.Seat.TheSendSync as seat
 use Rattle.history_lock.proofs.lock.Shared.TheSendSync as shared
 
+entry_send : IsSend (Tuple (u32 ∷ Call.the_row ∷ []))
+entry_send =
+    let t = tuple_type (u32 ∷ Call.the_row ∷ []) in
+    recorded_send (tuple_field (u32 ∷ Call.the_row ∷ [])).row _ _ t.to_one (struct_send (shape t) (search sendable, (call.the_send, tt)))
+
+entries_send : IsSend (Vec.the_field (Tuple (u32 ∷ Call.the_row ∷ [])) Heap.the_row ghosts).row
+entries_send = Vec-send (Tuple (u32 ∷ Call.the_row ∷ [])) entry_send
+
 fields_send : (K : RattleType) (g : keeper.Ghosts K.Denot) → IsSend K → IsSend (inside.the_row K g)
-fields_send K g s = recorded_send (inside.the_field K g).row _ _ (inside.the_type K g).to_one (struct_send (shape (inside.the_type K g)) (books.the_send, (search crosses depth 20, (s, (search crosses depth 20, tt)))))
+fields_send K g s = recorded_send (inside.the_field K g).row _ _ (inside.the_type K g).to_one (struct_send (shape (inside.the_type K g)) (books.the_send, (entries_send, (s, (search crosses depth 20, tt)))))
 
 pub pools_send : (K : RattleType) (g : keeper.Ghosts K.Denot) → IsSend K → IsSend (Pools.the_row K g)
 pools_send K g s = view_send (inside.the_row K g) _ _ _ _ (fields_send K g s)

@@ -70,8 +70,6 @@ pub fn run_serve<R: Threads + Wait + Sync, Si: Sink, Se: Sink, L: Listener, O: P
             );
             say_entries(served, output)
         }
-        Err(why) => {
-            say_unserved::<Pools<O::Kept>, PoolStore<'_, O>, Se>(alloc, why, errors)
-        }
+        Err(why) => { say_unserved::<Pools<O::Kept>, PoolStore<'_, O>, Se>(alloc, why, errors) }
     }
 }

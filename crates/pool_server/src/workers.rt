@@ -25,13 +25,7 @@ pub fn serve_workers<
     K: PoolKeeper + Send,
     A: Lane + Send,
     G: Gate + Sync,
->(
-    rt: &R,
-    alloc: Global,
-    shared: &Shared<Pools<K>>,
-    workers: &mut [Worker<Pools<K>, A>],
-    gate: &G,
-)
+>(rt: &R, alloc: Global, shared: &Shared<Pools<K>>, workers: &mut [Worker<Pools<K>, A>], gate: &G)
     requires ready { All (λ w. IsReady A.told shared.now w.seat w.lane) workers.old }
     ensures worked { AllHaveWorked pool_protocol A.told A.accepts A.faults (λ w. w.seat) (λ w. w.lane) workers.old workers.new }
     ensures all { length workers.new ≡ length workers.old }
@@ -58,7 +52,7 @@ pub(crate) fn work_all<R: Threads + Wait + Sync, K: PoolKeeper + Send, A: Lane +
     workers: &mut [Worker<Pools<K>, A>],
     wanted: u32,
 )
-    requires { (opening : Seen) × (base : ℕ) × AreFresh pool_protocol A.told opening base shared.now (λ w. w.seat) (λ w. w.lane) workers.old }
+    requires ready { (opening : Seen) × (base : ℕ) × AreFresh pool_protocol A.told opening base shared.now (λ w. w.seat) (λ w. w.lane) workers.old }
     ensures hired { (opening : Seen) (base : ℕ) → AreFresh pool_protocol A.told opening base shared.now (λ w. w.seat) (λ w. w.lane) workers.old
         → AreHired pool_protocol A.told opening base shared.now (λ w. w.seat) (λ w. w.lane) workers.new }
     ensures spent { length workers.old ≡ wanted → All (λ w. A.accepts w.lane ≡ 0) workers.new }

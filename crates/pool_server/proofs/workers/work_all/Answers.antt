@@ -4,7 +4,7 @@ use Rattle.pool_server.proofs.workers.work_all.Goals as goal
 
 pub serve_workers-requires-clause-ready : goal.serve_workers-requires-clause-ready
 serve_workers-requires-clause-ready g c κs within =
-    crew_ready pool_protocol g.A.Lane.told _ _ c.args.shared.now (λ w. w.seat) (λ w. w.lane) _ c.requires.2
+    crew_ready pool_protocol g.A.Lane.told _ _ c.args.shared.now (λ w. w.seat) (λ w. w.lane) _ c.requires.ready.2
 
 pub returns-then-workers-wanted-clause-hired : goal.returns-then-workers-wanted-clause-hired
 returns-then-workers-wanted-clause-hired g c = λ opening base fresh.
