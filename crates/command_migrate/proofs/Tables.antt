@@ -1,11 +1,7 @@
 -- Tables of a keeper that were migrated, and what the opener knows once that keeper is back.
 use Rattle.std.proofs.Common.{◌≡◌, ℕ, ◌≤◌, Bool, List, [], ◌∷◌, Option, Some, None, option_map, Result, Ok, Err, IfErr, map, refl, ap, sym, subst, ◌∙◌}
-use Rattle.ipam_data.specs.RowList.{Rises}
-use Rattle.stored_tables.specs.declared.tables.Row.{Row}
 use Rattle.stored_tables.specs.declared.tables.Tables.{Tables}
-use Rattle.stored_tables.specs.Stored.{row_place}
-use Rattle.stored_tables.specs.Order.{AreTables}
-use Rattle.stored_tables.specs.Migration.{migrated_row, migrated, unmigrated, range_count}
+use Rattle.stored_tables.specs.Migration.{migrated, unmigrated, range_count}
 use Rattle.ipam_keeper.specs.Keeping.{IsRaised, IsTold, replaced_by, started, IsReturned}
 use Rattle.command_store.specs.Outside.{Stores, AreSame}
 use Rattle.command_store.proofs.Refused.{back_after, raised_rose}
@@ -14,16 +10,6 @@ use Rattle.command_migrate.specs.declared.migrate.MigrateStop.TheVariants.{Unrea
 use Rattle.command_migrate.specs.Migrate.{AreFit, AreUnfit, AreMigrated, IsStop, IsMigrated, tables_of_file}
 
 -- ---- a keeper
-
--- rows keep their places
-rows_rise : (populated : Bool) (low : ℕ) (rows : List Row) → Rises row_place low rows → Rises row_place low (map (migrated_row populated) rows)
-rows_rise populated low [] rises = tt
-rows_rise populated low (row ∷ rows) rises = (rises.0, rows_rise populated (row_place row) rows rises.1)
-
--- so migrated tables are in order
-pub order_stays : (populated : Bool) (tables anew : Tables) → anew ≡ migrated populated tables → AreTables tables → AreTables anew
-order_stays populated tables anew is order =
-    subst AreTables (sym is) (record { rows = rows_rise populated 0 tables.rows order.rows; next = order.next })
 
 -- told tables that were replaced are the migrated ones
 told_anew : (populated : Bool) (told : Option Tables) (tables : Tables) → IsTold told tables

@@ -1,5 +1,9 @@
 //! A database of version 1 that the program `sqlite3` made of bench/tables_first.sql is migrated, and loaded again.
 
+ghost use Rattle.std.specs.Prelude.{◌≡◌, IfOk};
+ghost use Rattle.stored_tables.specs.Order.{AreTables};
+ghost use Rattle.stored_tables.specs.Stored.{stored_version};
+
 use crate::database::{bytes_of, connection_of};
 use crate::first_file::FILE;
 use crate::tests::loaded;
@@ -46,7 +50,10 @@ fn wanted(alloc: Global, version: u32, mark: &str) -> Result<String, AllocError>
 fn migrated<S: Alter>(
     keeper: &mut SqliteKeeper<S>,
     populated: bool,
-) -> Result<Result<Tables, MigrateFault>, AllocError> {
+) -> Result<Result<Tables, MigrateFault>, AllocError>
+    ensures order { IfOk result (λ found. IfOk found AreTables) }
+    ensures version { IfOk result (λ found. IfOk found (λ tables. tables.version ≡ stored_version)) }
+{
     match keeper.load() {
         Ok(tables) => Ok(migrate(&tables, populated)),
         Err(_) => Err(AllocError),

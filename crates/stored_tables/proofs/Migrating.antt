@@ -1,18 +1,30 @@
 -- Tables of version 1 of a state become the tables of that state with every mark as asked.
-use Rattle.std.proofs.Common.{◌≡◌, Bool, true, false, List, [], ◌∷◌, ◌++◌, Option, Some, None, option_map, map, find, refl, ap, ap₂, ◌∙◌, cond}
+use Rattle.std.proofs.Common.{◌≡◌, ℕ, Bool, true, false, List, [], ◌∷◌, ◌++◌, Option, Some, None, option_map, map, find, refl, ap, ap₂, sym, subst, ◌∙◌, cond}
 use Rattle.std.specs.List.{flat_map}
 use Rattle.std.proofs.lemmas.List.{map-append}
 use Rattle.ipam_data.specs.declared.kinds.Kind.{Kind}
 use Rattle.ipam_data.specs.declared.kinds.Kind.TheVariants.{Vrfs, Rirs, Roles, Aggregates, Prefixes, Ranges, Addresses}
 use Rattle.ipam_data.specs.declared.range.IpRange.{IpRange}
+use Rattle.ipam_data.specs.RowList.{Rises}
 use Rattle.ipam_data.specs.State.{State}
 use Rattle.ipam_data.specs.Marks.{with_mark, marked}
 use Rattle.stored_tables.specs.declared.tables.Row.{Row}
 use Rattle.stored_tables.specs.declared.tables.Tables.{Tables}
 use Rattle.stored_tables.specs.declared.migration.MigrateFault.{MigrateFault}
 use Rattle.stored_tables.specs.declared.migration.MigrateFault.TheVariants.{BadRow}
-use Rattle.stored_tables.specs.Stored.{stored_vrf, stored_rir, stored_role, stored_aggregate, stored_prefix, stored_range, stored_address, stored_rows, kinds, range_texts}
-use Rattle.stored_tables.specs.Migration.{first_range_texts, first_rows, first_tables_of, migrated_row, is_misshapen, MigratedTablesStand}
+use Rattle.stored_tables.specs.Stored.{row_place, stored_vrf, stored_rir, stored_role, stored_aggregate, stored_prefix, stored_range, stored_address, stored_rows, kinds, range_texts}
+use Rattle.stored_tables.specs.Order.{AreTables}
+use Rattle.stored_tables.specs.Migration.{first_range_texts, first_rows, first_tables_of, migrated_row, migrated, is_misshapen, MigratedTablesStand}
+
+-- rows keep their places
+rows_rise : (populated : Bool) (low : ℕ) (rows : List Row) → Rises row_place low rows → Rises row_place low (map (migrated_row populated) rows)
+rows_rise populated low [] rises = tt
+rows_rise populated low (row ∷ rows) rises = (rises.0, rows_rise populated (row_place row) rows rises.1)
+
+-- so migrated tables are in order
+pub order_stays : (populated : Bool) (tables anew : Tables) → anew ≡ migrated populated tables → AreTables tables → AreTables anew
+order_stays populated tables anew is order =
+    subst AreTables (sym is) (record { rows = rows_rise populated 0 tables.rows order.rows; next = order.next })
 
 -- rows that are changed one by one
 each : {T : Type 0} (m : Row → Row) (old new : T → Row) → ((x : T) → m (old x) ≡ new x) → (xs : List T) → map m (map old xs) ≡ map new xs

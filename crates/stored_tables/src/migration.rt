@@ -2,6 +2,7 @@
 
 ghost use Rattle.std.specs.Prelude.{◌≡◌, ◌≤◌, ◌∷◌, ◌++◌, [], None, false, IfOk, IfErr, OnOk, option_copied, find, take, drop, map, length};
 ghost use Rattle.stored_tables.specs.Stored.{flag_text};
+ghost use Rattle.stored_tables.specs.Order.{AreTables};
 ghost use Rattle.stored_tables.specs.Migration.{first_columns, migrated_fields, migrated_row, migrated, has_wrong_count, is_misshapen, unmigrated, IsUnmigrated, is_range, range_count};
 ghost use Rattle.stored_tables.specs.declared.migration.MigrateFault.TheVariants.{Memory};
 ghost use Rattle.ipam_data.specs.declared.kinds.Kind.TheVariants as Kind;
@@ -145,6 +146,7 @@ fn migrate_rows(alloc: Global, rows: &[Row], populated: bool) -> Result<Rows, Al
 /// such one. `Memory` means out of memory.
 pub fn migrate(tables: &Tables, populated: bool) -> Result<Tables, MigrateFault>
     ensures ok { IfOk result (λ t. (unmigrated tables.now ≡ None) × (t ≡ migrated populated tables.now)) }
+    ensures order { AreTables tables.now → IfOk result AreTables }
     ensures err { IfErr result (IsUnmigrated tables.now) }
 {
     if tables.version != FIRST_VERSION {

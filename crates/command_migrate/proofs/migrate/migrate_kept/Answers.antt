@@ -1,8 +1,8 @@
-use Rattle.command_migrate.proofs.Tables.{order_stays, migrated_in}
+use Rattle.command_migrate.proofs.Tables.{migrated_in}
 use Rattle.command_migrate.proofs.migrate.migrate_kept.Goals as goal
 
 pub upgrade-requires-clause-order : goal.upgrade-requires-clause-order
-upgrade-requires-clause-order g c = order_stays c.args.populated c.in-Ok.tables c.in-Ok-migrate.anew c.in-Ok-migrate.ensures.ok.1 c.in-Ok.ensures.order
+upgrade-requires-clause-order g c = c.in-Ok-migrate.ensures.order c.in-Ok.ensures.order
 
 pub returns-in-Ok-upgrade-clause-ok : goal.returns-in-Ok-upgrade-clause-ok
 returns-in-Ok-upgrade-clause-ok g c =
