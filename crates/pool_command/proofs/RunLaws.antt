@@ -6,7 +6,7 @@ use Rattle.command_streams.specs.Streams.{EndsWith, Failed, Gains, NeverRises, S
 use Rattle.machine_session.specs.Alone.{plain_at}
 use Rattle.machine_session.specs.Owned.{answers_certainly}
 use Rattle.machine_command.specs.Outside.{NoCountFalls, StoreFailed, Stores}
-use Rattle.machine_command.specs.Session.{HasFailedCall, IsRefused, IsSession, Prints, Serves, end_status}
+use Rattle.machine_command.specs.Session.{HasFailedCall, IsSession, Prints, Serves, end_status}
 use Rattle.machine_serving.specs.Serve.{IsServe}
 use Rattle.machine_serving.specs.Views.{ListenerView, ListeningFailed, NobodyCame}
 use Rattle.number_pools.specs.declared.calls.PoolCall.{PoolCall}
@@ -110,21 +110,6 @@ idle_of words (Session db) old new before after status asks answers none = answe
 idle_of words (Serve s) old new before after status asks answers none = absurd (none s asks)
 
 -- ---- what the record of `session` gives
-
--- what is said of a refused opening is no status of a session that was served
-said_so : (path : Option (List ℕ)) (old new : PoolOutside) (status : ℕ) → IsRefused pool_opener path old new status → ¬ (status ≡ 0)
-said_so path old new status r zero_ = not_done r.fault old.streams.errors new.streams.errors status r.said zero_
-where
-  ends : (old new : Told) (line : List ℕ) (wanted status : ℕ) → 1 ≤ wanted → EndsWith old new line wanted status → status ≡ 0 → ⊥
-  ends old new line wanted status some (inl said) z = let e = said.0 in omega arith
-  ends old new line wanted status some (inr said) z = let e = said.0 in omega arith
-
-  not_done : (fault : PoolFault) (old new : Told) (status : ℕ) → IsSaid fault old new status → status ≡ 0 → ⊥
-  not_done Keeper old new status said z = ends old new (fault_line Keeper) 4 status (omega arith) said z
-  not_done (BadRange id) old new status said z = ends old new (fault_line (BadRange id)) 1 status (omega arith) said z
-  not_done (BadMember id) old new status said z = ends old new (fault_line (BadMember id)) 1 status (omega arith) said z
-  not_done BadNext old new status said z = ends old new (fault_line BadNext) 1 status (omega arith) said z
-  not_done Memory old new status said z = let e = said.0 in omega arith
 
 -- it is the input that failed where neither the output nor the messages did
 starved_by : (db : Option (List ℕ)) (old new : PoolOutside) (status : ℕ) → IsSession pool_protocol pool_opener db old new status → status ≡ 3 → ¬ Failed old.streams.output new.streams.output
