@@ -79,13 +79,7 @@ pub(crate) fn run_session<So: Source, Si: Sink, Se: Sink, O: PoolOpener>(
 }
 
 /// Runs `serve`: serves the pools of the file that is named, or else of none, to all that connect to the place of the words.
-pub(crate) fn serve_words<
-    R: Threads + Wait + Sync,
-    Si: Sink,
-    Se: Sink,
-    L: Listener,
-    O: PoolOpener,
->(
+pub(crate) fn serve_words<R: Threads + Wait + Sync, Si: Sink, Se: Sink, L: Listener, O: PoolOpener>(
     rt: &R,
     alloc: Global,
     serving: &Serving,
