@@ -118,25 +118,25 @@ starved_by db old new status s z output errors = elim s.run [
   | inl r ↦ by_end r.0 r.1 r.2.source r.2.sink r.3
   | inr r ↦ absurd (unsaid r.fault r.said)
 ]
-where
-  by_end : (end_ : SessionEnd) → Serves pool_protocol pool_opener db old new end_ → (end_ ≡ SourceFault → Failed old.streams.input new.streams.input)
-      → (end_ ≡ SinkFault → Failed old.streams.output new.streams.output) → status ≡ end_status end_
-      → Failed old.streams.input new.streams.input × Serves pool_protocol pool_opener db old new SourceFault
-  by_end (Closed n) serves source sink is = absurd (omega arith)
-  by_end SourceFault serves source sink is = (source refl, serves)
-  by_end SinkFault serves source sink is = absurd (output (sink refl))
-  by_end NoMemory serves source sink is = absurd (omega arith)
+  where
+    by_end : (end_ : SessionEnd) → Serves pool_protocol pool_opener db old new end_ → (end_ ≡ SourceFault → Failed old.streams.input new.streams.input)
+        → (end_ ≡ SinkFault → Failed old.streams.output new.streams.output) → status ≡ end_status end_
+        → Failed old.streams.input new.streams.input × Serves pool_protocol pool_opener db old new SourceFault
+    by_end (Closed n) serves source sink is = absurd (omega arith)
+    by_end SourceFault serves source sink is = (source refl, serves)
+    by_end SinkFault serves source sink is = absurd (output (sink refl))
+    by_end NoMemory serves source sink is = absurd (omega arith)
 
-  line_failed : (line : List ℕ) (wanted : ℕ) → ¬ (wanted ≡ 3) → EndsWith old.streams.errors new.streams.errors line wanted status → ⊥
-  line_failed line wanted other (inl said) = other (sym said.0 ∙ z)
-  line_failed line wanted other (inr said) = errors said.1
+    line_failed : (line : List ℕ) (wanted : ℕ) → ¬ (wanted ≡ 3) → EndsWith old.streams.errors new.streams.errors line wanted status → ⊥
+    line_failed line wanted other (inl said) = other (sym said.0 ∙ z)
+    line_failed line wanted other (inr said) = errors said.1
 
-  unsaid : (fault : PoolFault) → IsSaid fault old.streams.errors new.streams.errors status → ⊥
-  unsaid Keeper said = line_failed (fault_line Keeper) 4 (λ e. omega arith) said
-  unsaid (BadRange id) said = line_failed (fault_line (BadRange id)) 1 (λ e. omega arith) said
-  unsaid (BadMember id) said = line_failed (fault_line (BadMember id)) 1 (λ e. omega arith) said
-  unsaid BadNext said = line_failed (fault_line BadNext) 1 (λ e. omega arith) said
-  unsaid Memory said = let e = said.0 in omega arith
+    unsaid : (fault : PoolFault) → IsSaid fault old.streams.errors new.streams.errors status → ⊥
+    unsaid Keeper said = line_failed (fault_line Keeper) 4 (λ e. omega arith) said
+    unsaid (BadRange id) said = line_failed (fault_line (BadRange id)) 1 (λ e. omega arith) said
+    unsaid (BadMember id) said = line_failed (fault_line (BadMember id)) 1 (λ e. omega arith) said
+    unsaid BadNext said = line_failed (fault_line BadNext) 1 (λ e. omega arith) said
+    unsaid Memory said = let e = said.0 in omega arith
 
 -- pools that were loaded from empty tables are empty, and tell theirs
 one_seen : (s : Seen) (p : Pools) → s.pools ≡ p → s.tells ≡ true → s ≡ record { pools = p; tells = true }
@@ -276,12 +276,12 @@ of_want words old new before after status five same idle = record {
   refused = λ z. absurd (omega arith);
   usage = λ z. absurd (omega arith);
   usage_first = λ none. (
-      ap (λ (o : PoolOutside). o.streams.input) same,
-      ap (λ (o : PoolOutside). o.streams.output) same,
-      ap (λ (o : PoolOutside). o.stores) same,
-      idle,
-      inr (inr (five, ap (λ (o : PoolOutside). o.streams.errors) same)),
-    );
+    ap (λ (o : PoolOutside). o.streams.input) same,
+    ap (λ (o : PoolOutside). o.streams.output) same,
+    ap (λ (o : PoolOutside). o.stores) same,
+    idle,
+    inr (inr (five, ap (λ (o : PoolOutside). o.streams.errors) same)),
+  );
   fault = λ z. absurd (omega arith);
   starved = λ db a z. absurd (omega arith);
   store_fault = λ z. absurd (omega arith);
