@@ -74,7 +74,7 @@ store_fault_of : (words : List (List ℕ)) (old new : PoolOutside) (before after
 store_fault_of words old new before after status (inl o) z = absurd (let e = o.0 in omega arith)
 store_fault_of words old new before after status (inr (inl o)) z = absurd (let e = o.0 in omega arith)
 store_fault_of words old new before after status (inr (inr (inl o))) z = absurd (let e = o.0 in omega arith)
-store_fault_of words old new before after status (inr (inr (inr (inl o)))) z = (o.1, o.2, o.3)
+store_fault_of words old new before after status (inr (inr (inr (inl o)))) z = o.1
 store_fault_of words old new before after status (inr (inr (inr (inr o)))) z = absurd (let e = o.0 in omega arith)
 
 memory_of : (words : List (List ℕ)) (old new : PoolOutside) (before after : ListenerView) (status : ℕ) → Outcome words old new before after status → status ≡ 5 → RanOut words old new
@@ -82,7 +82,7 @@ memory_of words old new before after status (inl o) z = absurd (let e = o.0 in o
 memory_of words old new before after status (inr (inl o)) z = absurd (let e = o.0 in omega arith)
 memory_of words old new before after status (inr (inr (inl o))) z = absurd (let e = o.0 in omega arith)
 memory_of words old new before after status (inr (inr (inr (inl o)))) z = absurd (let e = o.0 in omega arith)
-memory_of words old new before after status (inr (inr (inr (inr o)))) z = (o.1, o.2)
+memory_of words old new before after status (inr (inr (inr (inr o)))) z = o.1
 
 -- where nothing fails a command ends by itself
 complete_of : (words : List (List ℕ)) (command : Command) (old new : PoolOutside) (before after : ListenerView) (status : ℕ) → Asks words command → Outcome words old new before after status
@@ -100,7 +100,7 @@ complete_of words command old new before after status asks (inr (inr (inl o))) w
         ]
       ]
     ])
-complete_of words command old new before after status asks (inr (inr (inr (inl o)))) well heard = absurd (well (inr o.3.failed))
+complete_of words command old new before after status asks (inr (inr (inr (inl o)))) well heard = absurd (well (inr o.1.2.failed))
 complete_of words command old new before after status asks (inr (inr (inr (inr o)))) well heard = inr (inr o.0)
 
 -- only `serve` uses the listener
