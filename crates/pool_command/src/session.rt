@@ -35,8 +35,25 @@ fn path_of(alloc: Global, word: &Option<WordText>) -> Result<Option<Text>, Alloc
     }
 }
 
-/// Answers the requests of the input on the output, by pools of the store under the path, or of none. The path and the opener are lent for
-/// one time, as the store wants them.
+/// Answers the requests of the input on the output, by pools of the store. The store keeps the opener that is lent to it.
+fn session_of<So: Source, Si: Sink, Se: Sink, O: PoolOpener>(
+    alloc: Global,
+    input: &mut So,
+    output: &mut Si,
+    errors: &mut Se,
+    store: &mut PoolStore<'_, O>,
+) -> u8
+    ensures session { IsSession pool_protocol pool_opener (option_copied store.old.path)
+        (outside (streams (told So.left So.faults input.old) (told Si.written Si.faults output.old) (told Se.written Se.faults errors.old)) (stores O.stored O.faults store.old.opener.now))
+        (outside (streams (told So.left So.faults input.new) (told Si.written Si.faults output.new) (told Se.written Se.faults errors.new)) (stores O.stored O.faults store.new.opener.now)) result }
+    ensures lent { store.new.opener.ghost_name ≡ store.old.opener.ghost_name }
+{
+    machine_command::run_session::<Pools<O::Kept>, PoolService, PoolStore<'_, O>, So, Si, Se>(
+        alloc, input, output, errors, store,
+    )
+}
+
+/// The same by the store under the path, or of none. The path and the opener are lent for one time, as the store wants them.
 fn session_at<'a, So: Source, Si: Sink, Se: Sink, O: PoolOpener>(
     alloc: Global,
     path: Option<&'a Text>,
@@ -50,9 +67,7 @@ fn session_at<'a, So: Source, Si: Sink, Se: Sink, O: PoolOpener>(
         (outside (streams (told So.left So.faults input.new) (told Si.written Si.faults output.new) (told Se.written Se.faults errors.new)) (stores O.stored O.faults opener.new)) result }
 {
     let mut store = PoolStore { opener, path };
-    machine_command::run_session::<Pools<O::Kept>, PoolService, PoolStore<'_, O>, So, Si, Se>(
-        alloc, input, output, errors, &mut store,
-    )
+    session_of(alloc, input, output, errors, &mut store)
 }
 
 /// Runs `session`: the requests of the input, by pools of the file that is named, or else of none. What a refused opening says goes to the
@@ -75,7 +90,37 @@ pub(crate) fn run_session<So: Source, Si: Sink, Se: Sink, O: PoolOpener>(
     }
 }
 
-/// Serves the pools of the store under the path, or of none, as the words say.
+/// Serves the pools of the store, as the words say. The store keeps the opener that is lent to it.
+fn serve_of<R: Threads + Wait + Sync, Si: Sink, Se: Sink, L: Listener, O: PoolOpener>(
+    rt: &R,
+    alloc: Global,
+    serving: &Serving,
+    output: &mut Si,
+    errors: &mut Se,
+    listener: &mut L,
+    store: &mut PoolStore<'_, O>,
+) -> u8
+    requires few { serving.now.workers ≤ 32 }
+    ensures serve { (input : Told) → IsServe pool_protocol pool_opener (option_copied store.old.path) (serving_of serving.now.bind serving.now.workers serving.now.connections)
+        (outside (streams input (told Si.written Si.faults output.old) (told Se.written Se.faults errors.old)) (stores O.stored O.faults store.old.opener.now))
+        (outside (streams input (told Si.written Si.faults output.new) (told Se.written Se.faults errors.new)) (stores O.stored O.faults store.new.opener.now))
+        (listener_view L.bound L.lanes L.returned L.faults listener.old) (listener_view L.bound L.lanes L.returned L.faults listener.new) result }
+    ensures lent { store.new.opener.ghost_name ≡ store.old.opener.ghost_name }
+{
+    run_serve(
+        rt,
+        alloc,
+        serving.bind.as_str(),
+        serving.workers,
+        serving.connections,
+        output,
+        errors,
+        listener,
+        store,
+    )
+}
+
+/// The same by the store under the path, or of none.
 fn serve_at<'a, R: Threads + Wait + Sync, Si: Sink, Se: Sink, L: Listener, O: PoolOpener>(
     rt: &R,
     alloc: Global,
@@ -93,17 +138,7 @@ fn serve_at<'a, R: Threads + Wait + Sync, Si: Sink, Se: Sink, L: Listener, O: Po
         (listener_view L.bound L.lanes L.returned L.faults listener.old) (listener_view L.bound L.lanes L.returned L.faults listener.new) result }
 {
     let mut store = PoolStore { opener, path };
-    run_serve(
-        rt,
-        alloc,
-        serving.bind.as_str(),
-        serving.workers,
-        serving.connections,
-        output,
-        errors,
-        listener,
-        &mut store,
-    )
+    serve_of(rt, alloc, serving, output, errors, listener, &mut store)
 }
 
 /// Runs `serve`: serves the pools of the file that is named, or else of none, to all that connect to the place of the words.
