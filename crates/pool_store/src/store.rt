@@ -1,6 +1,7 @@
 //! What opens pools for a command, and takes them back.
 
-ghost use Rattle.std.specs.Prelude.{◌≡◌, Some, ℕ, List, Option, option_copied};
+ghost use Rattle.std.specs.Prelude.{◌≡◌, ◌≤◌, Some, ℕ, List, Option, option_copied};
+ghost use Rattle.command_streams.specs.Streams.{told};
 
 use crate::faults::say_fault;
 use ipam_edge::Sink;
@@ -73,7 +74,11 @@ impl<'a, 'p, O: PoolOpener> MachineOpener<Pools<O::Kept>> for PoolStore<'a, 'p, 
         self.opener.done(machine.into_keeper());
     }
 
-    fn say<Se: Sink>(alloc: Global, fault: PoolFault, errors: &mut Se) -> u8 {
+    fn say<Se: Sink>(alloc: Global, fault: PoolFault, errors: &mut Se) -> u8
+        ensures said { IsSaid fault (told Se.written Se.faults errors.old) (told Se.written Se.faults errors.new) result }
+        ensures quiet { result ≡ 5 → (¬ (fault ≡ KeeperFailed)) × (Se.faults errors.new ≡ Se.faults errors.old) }
+        ensures later { Se.faults errors.old ≤ Se.faults errors.new }
+    {
         let _ = alloc;
         say_fault(fault, errors)
     }
