@@ -20,6 +20,7 @@ use std::alloc::Global;
 use std::marker::Sync;
 use std::sync::Wait;
 use std::thread::Threads;
+use stored_tables::tables::Text;
 
 /// Runs `serve`: opens the pools of the store, binds the listener to the place, serves all that connect by as many workers as are asked for, one
 /// connection of each at a time, and prints how many changes were accepted. What a refused opening says goes to the messages.
@@ -32,7 +33,7 @@ pub fn run_serve<R: Threads + Wait + Sync, Si: Sink, Se: Sink, L: Listener, O: P
     output: &mut Si,
     errors: &mut Se,
     listener: &mut L,
-    store: &mut PoolStore<'_, '_, O>,
+    store: &mut PoolStore<'_, O, Option<&Text>>,
 ) -> u8
     requires few { workers ≤ 1000 }
     ensures serve { (input : Told) → IsServe pool_protocol pool_opener (option_copied store.old.path) (serving place.now workers connections)
@@ -41,7 +42,7 @@ pub fn run_serve<R: Threads + Wait + Sync, Si: Sink, Se: Sink, L: Listener, O: P
         (listener_view L.bound L.lanes L.returned L.faults listener.old) (listener_view L.bound L.lanes L.returned L.faults listener.new) result }
     ensures lent { store.new.opener.ghost_name ≡ store.old.opener.ghost_name }
 {
-    match begin_serve::<Pools<O::Kept>, PoolService, PoolStore<'_, '_, O>, L>(
+    match begin_serve::<Pools<O::Kept>, PoolService, PoolStore<'_, O, Option<&Text>>, L>(
         alloc,
         place,
         workers,
@@ -65,11 +66,16 @@ pub fn run_serve<R: Threads + Wait + Sync, Si: Sink, Se: Sink, L: Listener, O: P
                 hired,
                 came,
             };
-            let served = finish_serve::<Pools<O::Kept>, PoolService, PoolStore<'_, '_, O>, L>(
-                worked, store, listener,
-            );
+            let served = finish_serve::<
+                Pools<O::Kept>,
+                PoolService,
+                PoolStore<'_, O, Option<&Text>>,
+                L,
+            >(worked, store, listener);
             say_entries(served, output)
         }
-        Err(why) => { say_unserved::<Pools<O::Kept>, PoolStore<'_, '_, O>, Se>(alloc, why, errors) }
+        Err(why) => {
+            say_unserved::<Pools<O::Kept>, PoolStore<'_, O, Option<&Text>>, Se>(alloc, why, errors)
+        }
     }
 }

@@ -41,16 +41,21 @@ fn session_of<So: Source, Si: Sink, Se: Sink, O: PoolOpener>(
     input: &mut So,
     output: &mut Si,
     errors: &mut Se,
-    store: &mut PoolStore<'_, '_, O>,
+    store: &mut PoolStore<'_, O, Option<&Text>>,
 ) -> u8
     ensures session { IsSession pool_protocol pool_opener (option_copied store.old.path)
         (outside (streams (told So.left So.faults input.old) (told Si.written Si.faults output.old) (told Se.written Se.faults errors.old)) (stores O.stored O.faults store.old.opener.now))
         (outside (streams (told So.left So.faults input.new) (told Si.written Si.faults output.new) (told Se.written Se.faults errors.new)) (stores O.stored O.faults store.new.opener.now)) result }
     ensures lent { store.new.opener.ghost_name ≡ store.old.opener.ghost_name }
 {
-    machine_command::run_session::<Pools<O::Kept>, PoolService, PoolStore<'_, '_, O>, So, Si, Se>(
-        alloc, input, output, errors, store,
-    )
+    machine_command::run_session::<
+        Pools<O::Kept>,
+        PoolService,
+        PoolStore<'_, O, Option<&Text>>,
+        So,
+        Si,
+        Se,
+    >(alloc, input, output, errors, store)
 }
 
 /// The same by the store under the path, or of none.
@@ -98,7 +103,7 @@ fn serve_of<R: Threads + Wait + Sync, Si: Sink, Se: Sink, L: Listener, O: PoolOp
     output: &mut Si,
     errors: &mut Se,
     listener: &mut L,
-    store: &mut PoolStore<'_, '_, O>,
+    store: &mut PoolStore<'_, O, Option<&Text>>,
 ) -> u8
     requires few { serving.now.workers ≤ 32 }
     ensures serve { (input : Told) → IsServe pool_protocol pool_opener (option_copied store.old.path) (serving_of serving.now.bind serving.now.workers serving.now.connections)

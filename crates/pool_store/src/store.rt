@@ -13,14 +13,15 @@ use pool_register::{Pools, open};
 use std::alloc::Global;
 use stored_tables::tables::Text;
 
-/// The store that a command names by its path, or else one in memory. The opener of keepers is lent to it.
+/// The store that a command names by its path, or else one in memory. The opener of keepers is lent to it. The path is an `Option<&Text>`: as a
+/// parameter, so that a function which lends its opener to a store knows it again behind the store.
 #[derive(Drop)]
-pub struct PoolStore<'a, 'p, O> {
+pub struct PoolStore<'a, O, P> {
     pub opener: &'a mut O,
-    pub path: Option<&'p Text>,
+    pub path: P,
 }
 
-impl<'a, 'p, O: PoolOpener> MachineOpener<Pools<O::Kept>> for PoolStore<'a, 'p, O> {
+impl<'a, 'p, O: PoolOpener> MachineOpener<Pools<O::Kept>> for PoolStore<'a, O, Option<&'p Text>> {
     ghost use Rattle.std.specs.Borrow.{GName};
     ghost use Rattle.pool_keeper.specs.declared.tables.PoolTables.{PoolTables as StoredPools};
     ghost use Rattle.pool_opening.specs.declared.faults.PoolFault.TheVariants.{Keeper as KeeperFailed};
