@@ -1,5 +1,5 @@
 use Rattle.pool_store.proofs.Refused.{refused_so}
-use Rattle.pool_store.proofs.store.PoolStoreMachineOpenerPoolsKept.open.Goals as goal
+use Rattle.pool_store.proofs.store.PoolStoreOptionRefTextMachineOpenerPoolsKept.open.Goals as goal
 
 pub returns-in-Err-clause-err : goal.returns-in-Err-clause-err
 returns-in-Err-clause-err g c =
