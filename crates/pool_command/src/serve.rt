@@ -1,6 +1,6 @@
 //! The command `serve` of `poold`.
 
-ghost use Rattle.std.specs.Prelude.{◌≡◌, ◌≤◌, option_copied};
+ghost use Rattle.std.specs.Prelude.{◌≡◌, ◌≤◌};
 ghost use Rattle.command_streams.specs.Streams.{Told, streams, told};
 ghost use Rattle.machine_command.specs.Outside.{outside, stores};
 ghost use Rattle.machine_serving.specs.Serve.{IsServe, serving};
@@ -20,7 +20,6 @@ use std::alloc::Global;
 use std::marker::Sync;
 use std::sync::Wait;
 use std::thread::Threads;
-use stored_tables::tables::Text;
 
 /// Runs `serve`: opens the pools of the store, binds the listener to the place, serves all that connect by as many workers as are asked for, one
 /// connection of each at a time, and prints how many changes were accepted. What a refused opening says goes to the messages.
@@ -33,16 +32,16 @@ pub fn run_serve<R: Threads + Wait + Sync, Si: Sink, Se: Sink, L: Listener, O: P
     output: &mut Si,
     errors: &mut Se,
     listener: &mut L,
-    store: &mut PoolStore<'_, O, Option<&Text>>,
+    store: &mut PoolStore<'_, '_, O>,
 ) -> u8
     requires few { workers ≤ 1000 }
-    ensures serve { (input : Told) → IsServe pool_protocol pool_opener (option_copied store.old.path) (serving place.now workers connections)
+    ensures serve { (input : Told) → IsServe pool_protocol pool_opener store.old.path.now (serving place.now workers connections)
         (outside (streams input (told Si.written Si.faults output.old) (told Se.written Se.faults errors.old)) (stores O.stored O.faults store.old.opener.now))
         (outside (streams input (told Si.written Si.faults output.new) (told Se.written Se.faults errors.new)) (stores O.stored O.faults store.new.opener.now))
         (listener_view L.bound L.lanes L.returned L.faults listener.old) (listener_view L.bound L.lanes L.returned L.faults listener.new) result }
     ensures lent { store.new.opener.ghost_name ≡ store.old.opener.ghost_name }
 {
-    match begin_serve::<Pools<O::Kept>, PoolService, PoolStore<'_, O, Option<&Text>>, L>(
+    match begin_serve::<Pools<O::Kept>, PoolService, PoolStore<'_, '_, O>, L>(
         alloc,
         place,
         workers,
@@ -66,16 +65,11 @@ pub fn run_serve<R: Threads + Wait + Sync, Si: Sink, Se: Sink, L: Listener, O: P
                 hired,
                 came,
             };
-            let served = finish_serve::<
-                Pools<O::Kept>,
-                PoolService,
-                PoolStore<'_, O, Option<&Text>>,
-                L,
-            >(worked, store, listener);
+            let served = finish_serve::<Pools<O::Kept>, PoolService, PoolStore<'_, '_, O>, L>(
+                worked, store, listener,
+            );
             say_entries(served, output)
         }
-        Err(why) => {
-            say_unserved::<Pools<O::Kept>, PoolStore<'_, O, Option<&Text>>, Se>(alloc, why, errors)
-        }
+        Err(why) => { say_unserved::<Pools<O::Kept>, PoolStore<'_, '_, O>, Se>(alloc, why, errors) }
     }
 }

@@ -1,6 +1,6 @@
 //! The commands over the store that their words name.
 
-ghost use Rattle.std.specs.Prelude.{◌≡◌, ◌≤◌, IfOk, option_copied};
+ghost use Rattle.std.specs.Prelude.{◌≡◌, ◌≤◌, IfOk};
 ghost use Rattle.command_streams.specs.Streams.{Told, streams, told};
 ghost use Rattle.machine_command.specs.Outside.{outside, stores};
 ghost use Rattle.machine_command.specs.Session.{IsSession};
@@ -41,33 +41,28 @@ fn session_of<So: Source, Si: Sink, Se: Sink, O: PoolOpener>(
     input: &mut So,
     output: &mut Si,
     errors: &mut Se,
-    store: &mut PoolStore<'_, O, Option<&Text>>,
+    store: &mut PoolStore<'_, '_, O>,
 ) -> u8
-    ensures session { IsSession pool_protocol pool_opener (option_copied store.old.path)
+    ensures session { IsSession pool_protocol pool_opener store.old.path.now
         (outside (streams (told So.left So.faults input.old) (told Si.written Si.faults output.old) (told Se.written Se.faults errors.old)) (stores O.stored O.faults store.old.opener.now))
         (outside (streams (told So.left So.faults input.new) (told Si.written Si.faults output.new) (told Se.written Se.faults errors.new)) (stores O.stored O.faults store.new.opener.now)) result }
     ensures lent { store.new.opener.ghost_name ≡ store.old.opener.ghost_name }
 {
-    machine_command::run_session::<
-        Pools<O::Kept>,
-        PoolService,
-        PoolStore<'_, O, Option<&Text>>,
-        So,
-        Si,
-        Se,
-    >(alloc, input, output, errors, store)
+    machine_command::run_session::<Pools<O::Kept>, PoolService, PoolStore<'_, '_, O>, So, Si, Se>(
+        alloc, input, output, errors, store,
+    )
 }
 
 /// The same by the store under the path, or of none.
 fn session_at<So: Source, Si: Sink, Se: Sink, O: PoolOpener>(
     alloc: Global,
-    path: Option<&Text>,
+    path: &Option<Text>,
     input: &mut So,
     output: &mut Si,
     errors: &mut Se,
     opener: &mut O,
 ) -> u8
-    ensures { IsSession pool_protocol pool_opener (option_copied path.entry)
+    ensures { IsSession pool_protocol pool_opener path.now
         (outside (streams (told So.left So.faults input.old) (told Si.written Si.faults output.old) (told Se.written Se.faults errors.old)) (stores O.stored O.faults opener.old))
         (outside (streams (told So.left So.faults input.new) (told Si.written Si.faults output.new) (told Se.written Se.faults errors.new)) (stores O.stored O.faults opener.new)) result }
 {
@@ -90,7 +85,7 @@ pub(crate) fn run_session<So: Source, Si: Sink, Se: Sink, O: PoolOpener>(
         (outside (streams (told So.left So.faults input.new) (told Si.written Si.faults output.new) (told Se.written Se.faults errors.new)) (stores O.stored O.faults opener.new)) result }
 {
     match path_of(alloc, db) {
-        Ok(path) => session_at(alloc, path.as_ref(), input, output, errors, opener),
+        Ok(path) => session_at(alloc, &path, input, output, errors, opener),
         Err(_) => MEMORY,
     }
 }
@@ -103,10 +98,10 @@ fn serve_of<R: Threads + Wait + Sync, Si: Sink, Se: Sink, L: Listener, O: PoolOp
     output: &mut Si,
     errors: &mut Se,
     listener: &mut L,
-    store: &mut PoolStore<'_, O, Option<&Text>>,
+    store: &mut PoolStore<'_, '_, O>,
 ) -> u8
     requires few { serving.now.workers ≤ 32 }
-    ensures serve { (input : Told) → IsServe pool_protocol pool_opener (option_copied store.old.path) (serving_of serving.now.bind serving.now.workers serving.now.connections)
+    ensures serve { (input : Told) → IsServe pool_protocol pool_opener store.old.path.now (serving_of serving.now.bind serving.now.workers serving.now.connections)
         (outside (streams input (told Si.written Si.faults output.old) (told Se.written Se.faults errors.old)) (stores O.stored O.faults store.old.opener.now))
         (outside (streams input (told Si.written Si.faults output.new) (told Se.written Se.faults errors.new)) (stores O.stored O.faults store.new.opener.now))
         (listener_view L.bound L.lanes L.returned L.faults listener.old) (listener_view L.bound L.lanes L.returned L.faults listener.new) result }
@@ -129,7 +124,7 @@ fn serve_of<R: Threads + Wait + Sync, Si: Sink, Se: Sink, L: Listener, O: PoolOp
 fn serve_at<R: Threads + Wait + Sync, Si: Sink, Se: Sink, L: Listener, O: PoolOpener>(
     rt: &R,
     alloc: Global,
-    path: Option<&Text>,
+    path: &Option<Text>,
     serving: &Serving,
     output: &mut Si,
     errors: &mut Se,
@@ -137,7 +132,7 @@ fn serve_at<R: Threads + Wait + Sync, Si: Sink, Se: Sink, L: Listener, O: PoolOp
     opener: &mut O,
 ) -> u8
     requires few { serving.now.workers ≤ 32 }
-    ensures { (input : Told) → IsServe pool_protocol pool_opener (option_copied path.entry) (serving_of serving.now.bind serving.now.workers serving.now.connections)
+    ensures { (input : Told) → IsServe pool_protocol pool_opener path.now (serving_of serving.now.bind serving.now.workers serving.now.connections)
         (outside (streams input (told Si.written Si.faults output.old) (told Se.written Se.faults errors.old)) (stores O.stored O.faults opener.old))
         (outside (streams input (told Si.written Si.faults output.new) (told Se.written Se.faults errors.new)) (stores O.stored O.faults opener.new))
         (listener_view L.bound L.lanes L.returned L.faults listener.old) (listener_view L.bound L.lanes L.returned L.faults listener.new) result }
@@ -163,16 +158,7 @@ pub(crate) fn serve_words<R: Threads + Wait + Sync, Si: Sink, Se: Sink, L: Liste
         (listener_view L.bound L.lanes L.returned L.faults listener.old) (listener_view L.bound L.lanes L.returned L.faults listener.new) result }
 {
     match path_of(alloc, &serving.db) {
-        Ok(path) => serve_at(
-            rt,
-            alloc,
-            path.as_ref(),
-            serving,
-            output,
-            errors,
-            listener,
-            opener,
-        ),
+        Ok(path) => serve_at(rt, alloc, &path, serving, output, errors, listener, opener),
         Err(_) => MEMORY,
     }
 }

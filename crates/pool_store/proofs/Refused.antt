@@ -2,6 +2,7 @@
 use Rattle.std.proofs.Common.{◌≡◌, ℕ, ◌≤◌, ◌⊎◌, List, inl, inr, Option, Some, None, Bool, true, false, bytes_eq, refl, subst, sym, ◌∙◌, arith}
 use Rattle.std.proofs.lemmas.Slice.Eq.{bytes_eq-Decides}
 use Rattle.ipam_keeper.specs.Keeping.{Rose, IsRaised}
+use Rattle.machine_command.specs.Outside.{Stores}
 use Rattle.pool_keeper.specs.declared.tables.PoolTables.{PoolTables}
 use Rattle.pool_keeper.specs.Keeping.{AreGiven, IsReturned, started, tables_at}
 use Rattle.pool_opening.specs.declared.faults.PoolFault.{PoolFault}
@@ -61,3 +62,7 @@ refused_so path lent told last old mid new fault faults_old faults_mid few more 
   failed = λ keeper. raised_rose faults_old faults_mid few more faults_new later (rose keeper) raised;
   same = back_after path lent told last old mid new out stays same is returned;
 }
+
+-- the same of a path that is equal
+pub refused_at : (path asked : Option (List ℕ)) (old new : Stores PoolTables) (fault : PoolFault) → path ≡ asked → IsRefusedOpening path old new fault → IsRefusedOpening asked old new fault
+refused_at path asked old new fault same refused = subst (λ (p : Option (List ℕ)). IsRefusedOpening p old new fault) same refused

@@ -1,6 +1,6 @@
 //! What opens pools for a command, and takes them back.
 
-ghost use Rattle.std.specs.Prelude.{◌≡◌, ◌≤◌, Some, ℕ, List, Option, option_copied};
+ghost use Rattle.std.specs.Prelude.{◌≡◌, ◌≤◌, Some, ℕ, List, Option};
 ghost use Rattle.command_streams.specs.Streams.{told};
 
 use crate::faults::say_fault;
@@ -13,15 +13,15 @@ use pool_register::{Pools, open};
 use std::alloc::Global;
 use stored_tables::tables::Text;
 
-/// The store that a command names by its path, or else one in memory. The opener of keepers is lent to it. The path is an `Option<&Text>`: as a
-/// parameter, so that a function which lends its opener to a store knows it again behind the store.
+/// The store that a command names by its path, or else one in memory. The opener of keepers is lent to it. The path is lent as a whole, and not
+/// an option of a reference: so a function that lends its opener to a store knows it again behind the store.
 #[derive(Drop)]
-pub struct PoolStore<'a, O, P> {
+pub struct PoolStore<'a, 'p, O> {
     pub opener: &'a mut O,
-    pub path: P,
+    pub path: &'p Option<Text>,
 }
 
-impl<'a, 'p, O: PoolOpener> MachineOpener<Pools<O::Kept>> for PoolStore<'a, O, Option<&'p Text>> {
+impl<'a, 'p, O: PoolOpener> MachineOpener<Pools<O::Kept>> for PoolStore<'a, 'p, O> {
     ghost use Rattle.std.specs.Borrow.{GName};
     ghost use Rattle.pool_keeper.specs.declared.tables.PoolTables.{PoolTables as StoredPools};
     ghost use Rattle.pool_opening.specs.declared.faults.PoolFault.TheVariants.{Keeper as KeeperFailed};
@@ -34,7 +34,7 @@ impl<'a, 'p, O: PoolOpener> MachineOpener<Pools<O::Kept>> for PoolStore<'a, O, O
 
     ghost Asked = { Option (List ℕ) };
 
-    ghost asked = { λ s. option_copied s.path };
+    ghost asked = { λ s. s.path.now };
 
     ghost Loan = { GName };
 
@@ -44,7 +44,7 @@ impl<'a, 'p, O: PoolOpener> MachineOpener<Pools<O::Kept>> for PoolStore<'a, O, O
 
     ghost faults = { λ s. O.faults s.opener.now };
 
-    ghost lends = { λ s first. (O.lent s.opener.now ≡ Some (option_copied s.path)) × (O.stored s.opener.now ≡ first) };
+    ghost lends = { λ s first. (O.lent s.opener.now ≡ Some s.path.now) × (O.stored s.opener.now ≡ first) };
 
     ghost loads = { IsLoaded };
 
@@ -57,7 +57,7 @@ impl<'a, 'p, O: PoolOpener> MachineOpener<Pools<O::Kept>> for PoolStore<'a, O, O
     ghost says = { IsSaid };
 
     fn open(&mut self, alloc: Global) -> Result<Pools<O::Kept>, PoolFault> {
-        let kept = match self.opener.start(self.path) {
+        let kept = match self.opener.start(self.path.as_ref()) {
             Ok(kept) => kept,
             Err(KeepFault::Failed) => return Err(PoolFault::Keeper),
             Err(KeepFault::Memory) => return Err(PoolFault::Memory),
