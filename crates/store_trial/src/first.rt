@@ -1,19 +1,14 @@
 //! A database of version 1 that the program `sqlite3` made of bench/tables_first.sql is migrated, and loaded again.
 
-ghost use Rattle.std.specs.Prelude.{◌≡◌, IfOk};
-ghost use Rattle.stored_tables.specs.Order.{AreTables};
-ghost use Rattle.stored_tables.specs.Stored.{stored_version};
-
 use crate::database::{bytes_of, connection_of};
 use crate::first_file::FILE;
-use crate::tests::loaded;
+use crate::tests::{followed, loaded};
 use ipam_keeper::keeper::Keeper;
 use sqlite::Alter;
 use sqlite_keeper::SqliteKeeper;
 use std::alloc::{AllocError, Global};
 use std::test::Fail;
-use stored_tables::migration::{MigrateFault, count_ranges, migrate};
-use stored_tables::tables::Tables;
+use stored_tables::migration::migrate;
 
 /// What is loaded of it, up to the ranges.
 const FRONT: &str = "3,4,5,6,7,8,9,:\
@@ -46,40 +41,43 @@ fn wanted(alloc: Global, version: u32, mark: &str) -> Result<String, AllocError>
     Ok(text)
 }
 
-/// The tables of a keeper, migrated.
-fn migrated<S: Alter>(
-    keeper: &mut SqliteKeeper<S>,
-    populated: bool,
-) -> Result<Result<Tables, MigrateFault>, AllocError>
-    ensures order { IfOk result (λ found. IfOk found AreTables) }
-    ensures version { IfOk result (λ found. IfOk found (λ tables. tables.version ≡ stored_version)) }
-{
+/// Migrates what a keeper has, and says whether it did.
+fn is_migrated<K: Keeper>(keeper: &mut K, populated: bool) -> bool {
     match keeper.load() {
-        Ok(tables) => Ok(migrate(&tables, populated)),
-        Err(_) => Err(AllocError),
+        Ok(tables) => match migrate(&tables, populated) {
+            Ok(anew) => keeper.upgrade(&anew).is_ok(),
+            Err(_) => false,
+        },
+        Err(_) => false,
     }
 }
 
-/// What a keeper over the file loads before it is migrated and after that, and why it is not migrated again.
-fn around(alloc: Global, populated: bool) -> Result<String, AllocError> {
-    let bytes = bytes_of(alloc, FILE)?;
-    let mut keeper = SqliteKeeper::adopt(alloc, connection_of(alloc, bytes.as_slice())?);
+/// Why what a keeper has is not migrated, or that it could be.
+fn refused<K: Keeper>(alloc: Global, keeper: &mut K) -> Result<String, AllocError> {
+    match keeper.load() {
+        Ok(tables) => match migrate(&tables, true) {
+            Ok(_) => String::from_str(alloc, "migrated"),
+            Err(fault) => format!(in alloc; "{fault:?}"),
+        },
+        Err(fault) => format!(in alloc; "{fault:?}"),
+    }
+}
+
+/// What a keeper loads before it is migrated and what one over the same database loads after that, and why it is not migrated again.
+fn around<S: Alter + Drop>(
+    alloc: Global,
+    mut keeper: SqliteKeeper<S>,
+    populated: bool,
+) -> Result<String, AllocError> {
     let mut text = loaded(alloc, &mut keeper)?;
-    let Ok(tables) = migrated(&mut keeper, populated)? else {
-        return Err(AllocError);
-    };
-    if keeper.upgrade(&tables).is_err() {
+    if !is_migrated(&mut keeper, populated) {
         return Err(AllocError);
     }
-    let mut keeper = SqliteKeeper::adopt(alloc, keeper.into_connection());
+    let mut keeper = followed(alloc, keeper);
     text.push('\n')?;
     text.push_str(loaded(alloc, &mut keeper)?.as_str())?;
-    let again = migrated(&mut keeper, populated)?;
-    let again = match again {
-        Ok(tables) => format!(in alloc; "\n{}", count_ranges(&tables))?,
-        Err(fault) => format!(in alloc; "\n{fault:?}")?,
-    };
-    text.push_str(again.as_str())?;
+    text.push('\n')?;
+    text.push_str(refused(alloc, &mut keeper)?.as_str())?;
     Ok(text)
 }
 
@@ -92,11 +90,18 @@ fn wanted_around(alloc: Global, mark: &str) -> Result<String, AllocError> {
     Ok(text)
 }
 
+/// What a keeper over that database does.
+fn found_around(alloc: Global, populated: bool) -> Result<String, AllocError> {
+    let bytes = bytes_of(alloc, FILE)?;
+    let conn = connection_of(alloc, bytes.as_slice())?;
+    around(alloc, SqliteKeeper::adopt(alloc, conn), populated)
+}
+
 #[test]
 fn a_database_of_version_1_is_migrated(rt: HostRuntime) -> Result<(), Fail> {
-    let found = around(rt.alloc(), true)?;
+    let found = found_around(rt.alloc(), true)?;
     assert!(rt; found == wanted_around(rt.alloc(), " true")?, "{found}");
-    let found = around(rt.alloc(), false)?;
+    let found = found_around(rt.alloc(), false)?;
     assert!(rt; found == wanted_around(rt.alloc(), " false")?, "{found}");
     Ok(())
 }

@@ -177,7 +177,7 @@ fn is_alike<S: Alter>(
 }
 
 /// A keeper that a second one follows over the same database.
-fn followed<S: Alter>(alloc: Global, keeper: SqliteKeeper<S>) -> SqliteKeeper<S> {
+pub(crate) fn followed<S: Alter>(alloc: Global, keeper: SqliteKeeper<S>) -> SqliteKeeper<S> {
     SqliteKeeper::adopt(alloc, keeper.into_connection())
 }
 
