@@ -1,20 +1,25 @@
 #!/bin/sh
-# Copies the program, its manual page and its systemd unit below a prefix: PREFIX/bin, PREFIX/share/man/man1, PREFIX/lib/systemd/system.
-# The program is built first where it is not built yet (./build); IPAMD=PROGRAM installs one that is built. Nothing is started, and no
-# user is made.
-# usage: ./install.sh PREFIX, as ./install.sh /usr/local
+# Copies a program, its manual page and its systemd unit below a prefix: PREFIX/bin, PREFIX/share/man/man1, PREFIX/lib/systemd/system.
+# The program is ipamd, or the one that is named. It is built first where it is not built yet (./build); IPAMD=PROGRAM, or POOLD=PROGRAM,
+# installs one that is built. Nothing is started, and no user is made.
+# usage: ./install.sh PREFIX [ipamd|poold], as ./install.sh /usr/local
 set -eu
-[ $# -eq 1 ] || { echo "usage: ./install.sh PREFIX" >&2; exit 2; }
+name=${2:-ipamd}
+case "$#:$name" in
+    [12]:ipamd) program=${IPAMD:-} words= ;;
+    2:poold) program=${POOLD:-} words=poold ;;
+    *) echo "usage: ./install.sh PREFIX [ipamd|poold]" >&2; exit 2 ;;
+esac
 top=$(cd "$(dirname "$0")" && pwd)
 # the newest version has the first heading of CHANGES.md, and stands nowhere else
 version=$(sed -n 's/^## \([0-9][0-9.]*\).*/\1/p' "$top/CHANGES.md" | head -n 1)
-program=${IPAMD:-$top/crates/ipamd/out/ipamd}
-[ -n "${IPAMD:-}" ] || "$top/build"
+[ -n "$program" ] || "$top/build" $words
+program=${program:-$top/crates/$name/out/$name}
 mkdir -p "$1"
 prefix=$(cd "$1" && pwd)
 install -d "$prefix/bin" "$prefix/share/man/man1" "$prefix/lib/systemd/system"
-install -m 755 "$program" "$prefix/bin/ipamd"
-sed "s|@VERSION@|$version|" "$top/docs/ipamd.1" > "$prefix/share/man/man1/ipamd.1"
-sed "s|@BIN@|$prefix/bin|; s|@VERSION@|$version|" "$top/examples/ipamd.service" > "$prefix/lib/systemd/system/ipamd.service"
-chmod 644 "$prefix/share/man/man1/ipamd.1" "$prefix/lib/systemd/system/ipamd.service"
-echo "installed ipamd $version: $prefix/bin/ipamd, $prefix/share/man/man1/ipamd.1, $prefix/lib/systemd/system/ipamd.service"
+install -m 755 "$program" "$prefix/bin/$name"
+sed "s|@VERSION@|$version|" "$top/docs/$name.1" > "$prefix/share/man/man1/$name.1"
+sed "s|@BIN@|$prefix/bin|; s|@VERSION@|$version|" "$top/examples/$name.service" > "$prefix/lib/systemd/system/$name.service"
+chmod 644 "$prefix/share/man/man1/$name.1" "$prefix/lib/systemd/system/$name.service"
+echo "installed $name $version: $prefix/bin/$name, $prefix/share/man/man1/$name.1, $prefix/lib/systemd/system/$name.service"

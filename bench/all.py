@@ -9,6 +9,8 @@ import time
 from dataclasses import dataclass, field
 
 HERE = os.path.dirname(os.path.abspath(__file__))
+# the program of number pools; what wants it is not run where it is not built
+POOLD = os.environ.get("POOLD", os.path.join(HERE, "..", "crates", "poold", "out", "poold"))
 
 
 @dataclass
@@ -26,8 +28,10 @@ BENCHES = [
     Bench("refusals", ["refusals.py"], ["refusals.py"], 120),
     Bench("hostile", ["hostile.py"], ["hostile.py"], 600),
     Bench("agree", ["agree.sh", "--streams", "60"], ["agree.sh", "--streams", "5", "--requests", "100"], 900),
+    Bench("agree_pools", ["agree.sh", "poold", "--streams", "60"], ["agree.sh", "poold", "--streams", "5", "--requests", "100"], 900, [POOLD]),
     Bench("openapi", ["openapi.sh"], ["openapi.sh", "--streams", "3"], 600),
     Bench("files", ["files.sh"], ["files.sh"], 300),
+    Bench("files_pools", ["files.sh", "poold"], ["files.sh", "poold"], 300, [POOLD]),
     Bench("serve_smoke", ["serve_smoke.sh"], ["serve_smoke.sh"], 120, ["curl"]),
     Bench("clients", ["clients.sh"], ["clients.sh"], 600, ["curl"]),
     Bench("copies", ["copies.sh", "--full"], ["copies.sh"], 900, ["nginx", "openssl"]),
@@ -37,13 +41,16 @@ BENCHES = [
     Bench("proxy", ["proxy.sh"], ["proxy.sh"], 400, ["curl", "nginx", "openssl"]),
     Bench("keepalive", ["keepalive.sh"], ["keepalive.sh"], 400),
     Bench("kill", ["kill.sh", "3"], ["kill.sh", "1"], 600),
+    Bench("kill_pools", ["kill.sh", "poold", "3"], ["kill.sh", "poold", "1"], 600, [POOLD]),
     Bench("fuzz", ["fuzz.py", "--session", "2000", "--serve", "20000"], ["fuzz.py", "--session", "200", "--serve", "2000"], 1800),
     Bench("limits", ["limits.sh"], ["limits.sh"], 900, ["/usr/bin/time"]),
     Bench("free", ["free.sh"], ["free.sh", "20000"], 900, ["/usr/bin/time", "iprange"]),
     Bench("import", ["import.sh"], ["import.sh"], 900, ["sqlite3"]),
+    Bench("migrate", ["migrate.sh", "20000", "50000", "2000"], ["migrate.sh"], 600, []),
     Bench("growths", ["growths.py"], ["growths.py", "free", "post"], 1800, ["cc"]),
     Bench("register", ["register.sh", "40"], ["register.sh", "5"], 600),
     Bench("claims", ["claims.sh"], ["claims.sh"], 1200, ["psql", "runuser"]),
+    Bench("pools", ["pools.sh"], ["pools.sh"], 1200, [POOLD, "psql", "runuser"]),
     Bench("store", ["store.sh", "3"], ["store.sh", "1"], 600),
     Bench("serve", ["serve.sh", "2"], ["serve.sh", "1"], 900, ["curl"]),
     Bench("full", ["full.sh"], ["full.sh"], 1200),
@@ -83,11 +90,11 @@ def of_free(told):
     return rows
 
 
-def of_claims(told):
+def of_claims(told, what="addresses"):
     rows = []
     for found in re.finditer(r"^\| ([\d,]+) \| ([\d,.]+) \| ([\d,.]+) \| ([\d,.]+) \|", told, re.M):
         for where, figure in (("in memory", found[2]), ("over a file", found[3])):
-            rows.append((f"claims a second among {found[1]} addresses, {where}", figure, "PostgreSQL", found[4], number(figure) / number(found[4])))
+            rows.append((f"claims a second among {found[1]} {what}, {where}", figure, "PostgreSQL", found[4], number(figure) / number(found[4])))
     return rows
 
 
@@ -134,7 +141,7 @@ def of_full(told):
     return rows
 
 
-TABLE = {"free": of_free, "claims": of_claims, "store": of_store, "serve": of_serve, "register": of_register, "import": of_import, "full": of_full}
+TABLE = {"free": of_free, "claims": of_claims, "pools": lambda told: of_claims(told, "numbers"), "store": of_store, "serve": of_serve, "register": of_register, "import": of_import, "full": of_full}
 
 
 def version_of(words, pattern):

@@ -1,11 +1,12 @@
 #!/usr/bin/env bash
 # The scripts of examples/ and the pictures of docs/, by the built program (./ipamd builds it; IPAMD=PROGRAM takes another one): curl's day; pynetbox, without
-# nginx and behind it; random filters behind nginx; plays of Ansible's netbox.netbox behind nginx, each twice; the moves from NetBox, phpIPAM and a spreadsheet
+# nginx and behind it, and over poold (./build poold; POOLD=PROGRAM takes another one); random filters behind nginx; plays of Ansible's netbox.netbox behind nginx, each twice; the moves from NetBox, phpIPAM and a spreadsheet
 # with what they print and the CSV files that they write; and that docs/layers.svg and docs/tree.svg are still what their scripts draw. Each has a register of
 # its own. It says what could not be run. Debian's packages python3-pynetbox, nginx-light, openssl and ansible have what is needed.   bench/clients.sh [PORT]
 set -euo pipefail
 top=$(cd "$(dirname "$0")/.." && pwd)
 program=${IPAMD:-$top/crates/ipamd/out/ipamd}
+pools=${POOLD:-$top/crates/poold/out/poold}
 [ -x "$program" ] || { echo "build the program first: ./ipamd free 10.0.0.0/8 </dev/null" >&2; exit 1; }
 export PYTHONDONTWRITEBYTECODE=1
 port=${1:-18490}
@@ -84,6 +85,14 @@ if /usr/bin/python3 -c 'import pynetbox' 2>/dev/null; then
     stop
 else
     echo "not run: pynetbox, which /usr/bin/python3 does not have"
+fi
+if [ ! -x "$pools" ]; then
+    echo "not run: pynetbox over poold, which is not built (./build poold)"
+elif /usr/bin/python3 -c 'import pynetbox' 2>/dev/null; then
+    program=$pools start
+    /usr/bin/python3 "$top/examples/client_pools.py" "$url" > "$folder/out" || fail "pynetbox over poold: $(cat "$folder/out")"
+    tail -n 1 "$folder/out"
+    stop
 fi
 if ! /usr/bin/python3 -c 'import pynetbox' 2>/dev/null || [ -z "$(command -v nginx)" ]; then
     echo "not run: clients of NetBox behind nginx, without pynetbox or nginx"

@@ -1,11 +1,17 @@
 #!/usr/bin/env bash
 # Sessions over a real file, by the built program (./ipamd builds it; IPAMD=PROGRAM takes another one): what one process made the next
 # one has; while a process has the file open a second one is refused, and so is sqlite3, and nothing is changed; afterwards sqlite3
-# reads the file; an answered change outlives a process that is killed.   bench/files.sh
+# reads the file; an answered change outlives a process that is killed. With `poold`, the same of the program of number pools (./build poold;
+# POOLD=PROGRAM takes another one), and that each program refuses the other one's file and leaves it.   bench/files.sh [poold]
 set -euo pipefail
 top=$(cd "$(dirname "$0")/.." && pwd)
 program=${IPAMD:-$top/crates/ipamd/out/ipamd}
 [ -x "$program" ] || { echo "build the program first: ./ipamd free 10.0.0.0/8 </dev/null" >&2; exit 1; }
+if [ "${1-}" = poold ]; then
+    pools=${POOLD:-$top/crates/poold/out/poold}
+    [ -x "$pools" ] || { echo "build the program first: ./build poold" >&2; exit 1; }
+    exec python3 "$top/bench/pool_files.py" "$pools" "$program"
+fi
 exec python3 - "$program" <<'E2'
 import hashlib, json, os, sqlite3, subprocess, sys, tempfile
 

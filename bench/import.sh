@@ -118,4 +118,24 @@ sum=$("$program" export prefixes --db "$at/full.db" | sha256sum)
 said=$("$program" import prefixes --db "$at/full.db" < "$at/bad.csv" 2>&1) && { echo "a bad file was taken" >&2; exit 1; }
 echo "refused: $said"
 [ "$sum" = "$("$program" export prefixes --db "$at/full.db" | sha256sum)" ] || { echo "a refused import made rows" >&2; exit 1; }
+# beside 10,000 populated ranges an import of addresses takes at most 1.2 times what it takes beside 10,000 that are not marked
+beside() {
+    python3 - "$1" > "$at/ranges.csv" <<'PYTHON'
+import ipaddress, sys
+print("start_address,end_address,mark_populated")
+base = int(ipaddress.ip_address("192.168.0.0")) - 65536 * 80
+for n in range(10000):
+    print(f"{ipaddress.ip_address(base + 16 * n)}/12,{ipaddress.ip_address(base + 16 * n + 7)}/12,{sys.argv[1]}")
+PYTHON
+    rm -f "$at/ranges.db" "$at/ranges.db-wal"
+    "$program" import ip-ranges --db "$at/ranges.db" < "$at/ranges.csv" > /dev/null
+    timed_import "import ip-addresses --db $at/ranges.db" "$at/ip-addresses.csv" 'created 10000 present 0'
+}
+unmarked=9999; marked=9999
+for _ in 1 2 3; do
+    some=$(beside false); unmarked=$(awk -v a="$unmarked" -v b="$some" 'BEGIN { print a < b ? a : b }')
+    some=$(beside true); marked=$(awk -v a="$marked" -v b="$some" 'BEGIN { print a < b ? a : b }')
+done
+echo "10,000 addresses beside 10,000 ranges: $unmarked s, beside 10,000 populated ones $marked s (least of three)"
+awk -v a="$unmarked" -v b="$marked" 'BEGIN { exit !(b <= 1.2 * a + 0.01) }' || { echo "populated ranges slow the import down" >&2; exit 1; }
 echo "import: all as it should be"

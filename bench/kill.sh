@@ -2,20 +2,36 @@
 # `serve` over a real file, killed under load, by the built program (./ipamd builds it; IPAMD=PROGRAM takes another one). In each round four
 # clients claim addresses of one prefix over HTTP, one at a time, and the program is killed by a signal that it cannot catch. Then the file
 # is opened again: every claim that was answered is there as it was answered, no address was given twice, and there are at most as many more
-# as there were clients.   bench/kill.sh [ROUNDS [PORT]]
+# as there were clients. With `poold` in front, the same with the program of number pools (POOLD=PROGRAM takes another one), whose clients
+# claim numbers of two ranges that have all numbers in common.   bench/kill.sh [poold] [ROUNDS [PORT]]
 set -euo pipefail
 top=$(cd "$(dirname "$0")/.." && pwd)
-program=${IPAMD:-$top/crates/ipamd/out/ipamd}
-[ -x "$program" ] || { echo "build the program first: ./ipamd free 10.0.0.0/8 </dev/null" >&2; exit 1; }
-exec python3 - "$program" "${1:-5}" "${2:-18090}" <<'E2'
+name=ipamd
+if [ "${1-}" = poold ]; then
+    name=poold
+    shift
+    program=${POOLD:-$top/crates/poold/out/poold}
+else
+    program=${IPAMD:-$top/crates/ipamd/out/ipamd}
+fi
+[ -x "$program" ] || { echo "build the program first: ./build" >&2; exit 1; }
+exec python3 - "$name" "$program" "${1:-5}" "${2:-18090}" <<'E2'
 import http.client, json, os, random, shutil, socket, sqlite3, subprocess, sys, tempfile, threading, time
 
-program, rounds, port = sys.argv[1], int(sys.argv[2]), int(sys.argv[3])
+name, program, rounds, port = sys.argv[1], sys.argv[2], int(sys.argv[3]), int(sys.argv[4])
 CLIENTS = 4
 # how many answers each client has before the program is killed, at least
 FEW = 20
 PAGE = 1000
-CLAIM = "/api/ipam/prefixes/1/available-ips/"
+# what is made first, where each client claims, and what a claim gives
+if name == "ipamd":
+    MADE = [("/api/ipam/prefixes/", {"prefix": "10.0.0.0/12"})]
+    CLAIMS = ["/api/ipam/prefixes/1/available-ips/"] * CLIENTS
+    GIVEN = "address"
+else:
+    MADE = [("/api/ipam/asn-ranges/", {"name": f"range {n}", "start": 4200000000, "end": 4294967294}) for n in (1, 2)]
+    CLAIMS = [f"/api/ipam/asn-ranges/{1 + client % 2}/available-asns/" for client in range(CLIENTS)]
+    GIVEN = "asn"
 folder = tempfile.mkdtemp()
 path = os.path.join(folder, "office.db")
 server = None
@@ -53,20 +69,36 @@ def bodies(output):
     return found
 
 
-def stored():
-    # the addresses of the file, page by page, as objects by their ids
-    rows, offset = {}, 0
+def pages():
+    # the addresses of the file, page by page
+    rows, offset = [], 0
     while True:
         (status, page), = bodies(session([request("GET", f"/api/ipam/ip-addresses/?limit={PAGE}&offset={offset}")]))
         if status != 200:
             give_up(f"a list is answered {status}: {page}")
-        for row in page["results"]:
-            rows[row["id"]] = row
+        rows += page["results"]
         offset += PAGE
         if page["next"] is None:
             if len(rows) != page["count"]:
-                give_up(f"{len(rows)} ids of {page['count']} rows")
+                give_up(f"{len(rows)} of {page['count']} rows")
             return rows
+
+
+def members():
+    # the numbers of both ranges of the file
+    (first, ours), (second, theirs) = bodies(session([request("GET", f"/api/ipam/asn-ranges/{n}/asns/") for n in (1, 2)]))
+    if (first, second) != (200, 200):
+        give_up(f"lists are answered {first} and {second}")
+    return ours + theirs
+
+
+def stored():
+    # what the file has, as objects by their ids
+    found = pages() if name == "ipamd" else members()
+    rows = {row["id"]: row for row in found}
+    if len(rows) != len(found):
+        give_up(f"{len(rows)} ids of {len(found)} rows")
+    return rows
 
 
 def listens():
@@ -90,8 +122,8 @@ def start():
     give_up(f"the port {port} does not listen")
 
 
-def client(answered, wrong):
-    # claims one address after another until the program is gone
+def client(claim, answered, wrong):
+    # claims one after another until the program is gone
     connection = None
     while True:
         try:
@@ -99,7 +131,7 @@ def client(answered, wrong):
                 connection = http.client.HTTPConnection("127.0.0.1", port, timeout=30)
                 connection.connect()
                 connection.sock.setsockopt(socket.IPPROTO_TCP, socket.TCP_NODELAY, 1)
-            connection.request("POST", CLAIM, "{}")
+            connection.request("POST", claim, "{}")
             answer = connection.getresponse()
             body = answer.read()
             if answer.status != 201:
@@ -114,15 +146,15 @@ def client(answered, wrong):
             return
 
 
-(status, made), = bodies(session([request("POST", "/api/ipam/prefixes/", {"prefix": "10.0.0.0/12"})]))
-if status != 201 or made["id"] != 1:
-    give_up(f"the prefix: {status} {made}")
+for number, (status, made) in enumerate(bodies(session([request("POST", *one) for one in MADE])), 1):
+    if status != 201 or made["id"] != number:
+        give_up(f"what is made first: {status} {made}")
 
 known = {}
 for number in range(1, rounds + 1):
     start()
     answers, wrong = [[] for _ in range(CLIENTS)], []
-    threads = [threading.Thread(target=client, args=(answers[i], wrong)) for i in range(CLIENTS)]
+    threads = [threading.Thread(target=client, args=(CLAIMS[i], answers[i], wrong)) for i in range(CLIENTS)]
     for thread in threads:
         thread.start()
     patience = time.monotonic() + 30
@@ -146,9 +178,9 @@ for number in range(1, rounds + 1):
     for id, row in known.items():
         if rows.get(id) != row:
             give_up(f"round {number}: answered {row}, and the file has {rows.get(id)}")
-    given = [row["address"] for row in rows.values()]
+    given = [row[GIVEN] for row in rows.values()]
     if len(set(given)) != len(given):
-        give_up(f"round {number}: an address was given twice")
+        give_up(f"round {number}: {max(given, key=given.count)} was given twice")
     # what was made and not answered: at most one claim of each client, and later rounds do not get its place
     more = [row for id, row in rows.items() if id not in known]
     if len(more) > CLIENTS:

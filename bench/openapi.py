@@ -15,9 +15,9 @@ from jsonschema import Draft202012Validator
 
 import openapi_document
 import openapi_edges
-from agree import CLOSINGS, CUT, LIST, Talker
+from agree import Start, closings, cut
 from openapi_reading import EARLY, METHODS, Document, accepts, answers_in, wrong_in
-from plain_register import Service, converse
+from plain_register import converse
 
 HERE = os.path.dirname(os.path.abspath(__file__))
 DOCUMENT = os.path.join(HERE, "..", "docs", "openapi.json")
@@ -89,21 +89,22 @@ def unquoted(target):
     return target.partition(b"?")[0].decode("latin-1")
 
 
-def conversation(seed, count):
+def conversation(start, count):
     """Random requests, and one that closes the connection or is cut."""
-    service = Service(bool(seed % 4))
-    talker, requests = Talker(seed, service), []
+    requests = []
     for _ in range(count):
-        requests.append(talker.request())
-        list(converse(requests[-1], service))
-    return "yes" if seed % 4 else "no", requests, talker.pick.choice(CLOSINGS + CUT)
+        requests.append(start.talker.request())
+        list(converse(requests[-1], start.service))
+    return requests, start.talker.pick.choice(closings(start.listed) + cut(start.listed))
 
 
-def replay(document, given):
+def replay(document, given, start_of, listed):
+    """`listed`: what the document says of the list that a conversation ends with."""
     seen = Counter()
     for seed in range(given.seed, given.seed + given.streams):
-        unique, requests, last = conversation(seed, given.requests)
-        done = subprocess.run([given.program, "session", "--global-unique", unique], input=b"".join(requests) + last, capture_output=True)
+        start = start_of(seed, given)
+        requests, last = conversation(start, given.requests)
+        done = subprocess.run([given.program, "session", *start.words], input=b"".join(requests) + last, capture_output=True)
         methods = [one.split(b" ")[0].decode("latin-1") for one in requests]
         answers = answers_in(done.stdout, methods)
         if done.returncode != 0 or not len(requests) <= len(answers) <= len(requests) + 1:
@@ -111,8 +112,8 @@ def replay(document, given):
         for request, answer in zip(requests, answers):
             seen[check_answer(document, request, answer)] += 1
         for answer in answers[len(requests):]:
-            wrong = wrong_in(document, answer, document.paths["/api/ipam/vrfs/"]["get"])
-            if wrong and (last.startswith(LIST) or answer.code in ("bad_head", "too_large", "coding")):
+            wrong = wrong_in(document, answer, listed)
+            if wrong and (last.startswith(start.listed) or answer.code in ("bad_head", "too_large", "coding")):
                 sys.exit(f"openapi: {wrong}\nrequest  {last[:300]!r}\nanswer   {answer.text!r}")
             seen["the end of a conversation", f"{answer.status} {answer.code or ''}".strip()] += 1
     return tell(document, seen)
@@ -131,24 +132,38 @@ def tell(document, seen):
     return {what.split(" ")[-1] for what in codes}
 
 
-def main():
+def options(variable, name):
+    """The words of the command line, for the program of this name or of this variable of the environment."""
     words = argparse.ArgumentParser()
     words.add_argument("--write", action="store_true")
-    words.add_argument("--program", default=os.environ.get("IPAMD", os.path.join(HERE, "..", "crates", "ipamd", "out", "ipamd")))
+    words.add_argument("--program", default=os.environ.get(variable, os.path.join(HERE, "..", "crates", name, "out", name)))
     words.add_argument("--streams", type=int, default=20)
     words.add_argument("--requests", type=int, default=300)
     words.add_argument("--seed", type=int, default=1)
-    given = words.parse_args()
-    if given.write:
-        with open(DOCUMENT, "w", encoding="utf-8") as text:
-            text.write(openapi_document.written())
-        return
-    with open(DOCUMENT, encoding="utf-8") as text:
-        if text.read() != openapi_document.written():
-            sys.exit("openapi: docs/openapi.json is not what bench/openapi.py --write writes")
-    document = Document(DOCUMENT)
+    words.set_defaults(without_claims=False)
+    return words.parse_args()
+
+
+def read_document(path, made, is_to_write):
+    """The document, which is what is made; or None where it was written."""
+    if is_to_write:
+        with open(path, "w", encoding="utf-8") as text:
+            text.write(made)
+        return None
+    with open(path, encoding="utf-8") as text:
+        if text.read() != made:
+            sys.exit(f"openapi: {os.path.relpath(path)} is not what is written by --write")
+    document = Document(path)
     check_document(document)
-    seen = replay(document, given) | openapi_edges.check_edges(document, given.program)
+    return document
+
+
+def main():
+    given = options("IPAMD", "ipamd")
+    document = read_document(DOCUMENT, openapi_document.written(), given.write)
+    if document is None:
+        return
+    seen = replay(document, given, Start, document.paths["/api/ipam/vrfs/"]["get"]) | openapi_edges.check_edges(document, given.program)
     print(f"openapi: refusals of the document that neither saw: {', '.join(sorted(set(document.refusals) - seen)) or 'none'}")
 
 

@@ -230,6 +230,7 @@ REFUSALS = [
     ("range_order", 400, "the end must be greater than the start", True, "The end of a range is not above its start."),
     ("range_size", 400, "a range has at most 4294967295 addresses", True, "A range has too many addresses."),
     ("range_overlap", 400, f"^overlaps range {ID}$", True, "Another range of the table has some of its addresses."),
+    ("populated", 400, f"^inside populated range {ID}$", True, "A range of the table that somebody else fills has the host."),
     ("slaac_family", 400, "slaac is for IPv6 only", True, "The status slaac with an IPv4 address."),
     ("dns_name", 400, "not a DNS name", True, "Labels are letters, digits, `_` and `-`, joined by periods; a `*` may come first, a period last."),
     ("wanted_length", 400, "the length does not fit the prefix", True, "A claim asks for a length that does not fit the prefix."),
@@ -239,8 +240,6 @@ REFUSALS = [
     ("keeper", 503, "the store could not be written", True, "The file could not be written; nothing is changed."),
     ("limit", 507, f"^(?:{'|'.join(KINDS)}|claims|log|ids) would exceed [1-9][0-9]*$", True, "A limit is reached."),
 ]
-STATUS = {code: status for code, status, _, _, _ in REFUSALS}
-ASKED = {code: asked for code, _, _, asked, _ in REFUSALS}
 CLOSES = ("bad_head", "too_large", "coding")
 
 
@@ -248,9 +247,9 @@ def refusal_name(code):
     return "".join(word.capitalize() for word in code.split("_")) + "Refusal"
 
 
-def refusals():
+def refusals(book=REFUSALS):
     found = {}
-    for code, status, detail, asked, cause in REFUSALS:
+    for code, status, detail, asked, cause in book:
         said = {"type": "string", "pattern": detail} if detail.startswith("^") else {"const": detail}
         found[refusal_name(code)] = {"description": cause, "x-status": status, "x-place": asked, **closed({"code": {"const": code}, "detail": said})}
     return found
@@ -268,26 +267,29 @@ def headers(places, close=False):
     return found | {"Connection": {"$ref": f"#/components/headers/{'ConnectionClose' if close else 'Connection'}"}}
 
 
-def refused(status, codes):
+def refused(status, codes, book=REFUSALS):
     """The answer of a status with these refusals, of which some have known details, or a pattern of them."""
+    asked = {code: has_place for code, _, _, has_place, _ in book}
+
     def schema(code, details):
         told = {"pattern": details} if isinstance(details, str) else {"enum": details}
         return ref(refusal_name(code)) if details is None else {"allOf": [ref(refusal_name(code)), {"properties": {"detail": told}}]}
     schemas = [schema(code, details) for code, details in codes]
     said = " ".join(f"`{code}`" for code, _ in codes)
-    return {"description": f"{PHRASES_ALL[status]}: {said}", "headers": headers([ASKED[code] for code, _ in codes], all(code in CLOSES for code, _ in codes)),
+    return {"description": f"{PHRASES_ALL[status]}: {said}", "headers": headers([asked[code] for code, _ in codes], all(code in CLOSES for code, _ in codes)),
             "content": content(schemas[0] if len(schemas) == 1 else {"oneOf": schemas})}
 
 
 PHRASES_ALL = {**PHRASES, 500: "Internal Server Error", 503: "Service Unavailable"}
 
 
-def answers(status, schema, codes):
+def answers(status, schema, codes, book=REFUSALS):
     """What an operation answers: its success, and its refusals as a dict of codes and their known details."""
+    statuses = {code: its_status for code, its_status, _, _, _ in book}
     codes = {"bad_head": None, **codes, "too_large": None, "memory": None, "coding": None}
     found = {str(status): {"description": PHRASES_ALL[status], "headers": headers([True]), **({"content": content(schema)} if schema else {})}}
-    for code in sorted({STATUS[code] for code in codes}):
-        found[str(code)] = refused(code, [(name, details) for name, details in codes.items() if STATUS[name] == code])
+    for code in sorted({statuses[code] for code in codes}):
+        found[str(code)] = refused(code, [(name, details) for name, details in codes.items() if statuses[name] == code], book)
     return found
 
 
@@ -303,7 +305,7 @@ def limits(*kinds):
 RULES = {"vrfs": ["rd_taken"], "rirs": ["name_taken", "slug_taken"], "roles": ["name_taken", "slug_taken"],
          "aggregates": ["host_bits", "no_such", "zero_mask", "aggregate_overlap"], "prefixes": ["host_bits", "no_such", "zero_mask", "duplicate"],
          "ip-ranges": ["no_such", "range_family", "range_mask", "zero_mask", "range_order", "range_size", "range_overlap"],
-         "ip-addresses": ["no_such", "zero_mask", "slaac_family", "dns_name", "duplicate"]}
+         "ip-addresses": ["no_such", "zero_mask", "slaac_family", "dns_name", "duplicate", "populated"]}
 
 
 def checked(kind):
@@ -404,7 +406,7 @@ def paths():
 
 # ---- the document
 
-def shared_headers():
+def shared_headers(methods):
     place = {"description": "The number of changes that the register accepted before this answer, since its start.",
              "schema": {"type": "integer", "minimum": 0, "maximum": MOST_LOG}}
     close = {"schema": {"const": "close"}}
@@ -413,7 +415,7 @@ def shared_headers():
             "Connection": {"description": "If it is there, the connection closes: after a request of HTTP/1.0, after one with `Connection: close`, "
                                           f"and after the answer number {MOST_ANSWERS}.", **close},
             "ConnectionClose": {"description": "The connection closes.", "required": True, **close},
-            "Allow": {"description": "The methods of the path.", "required": True, "schema": {"enum": ["GET, POST", "GET, PATCH, DELETE", "GET"]}}}
+            "Allow": {"description": "The methods of the path.", "required": True, "schema": {"enum": methods}}}
 
 
 def version():
@@ -421,9 +423,17 @@ def version():
         return re.search(r"^## ([0-9][0-9.]*)", page.read(), re.M)[1]
 
 
-def document():
-    method = refused(405, [("method", None)])
+def other_answers(book=REFUSALS):
+    """What is answered where the document has no path, or no method."""
+    method = refused(405, [("method", None)], book)
     method["headers"] = {"Allow": {"$ref": "#/components/headers/Allow"}, **method["headers"]}
+    return {"NoRoute": refused(404, [("no_route", None)], book), "MethodNotAllowed": method}
+
+
+OTHERS = {"x-other-paths": {"$ref": "#/components/responses/NoRoute"}, "x-other-methods": {"$ref": "#/components/responses/MethodNotAllowed"}}
+
+
+def document():
     return {
         "openapi": "3.1.0",
         "info": {"title": "ipamd", "summary": "A register of IPv4 and IPv6 address space", "version": version(), "description": ABOUT},
@@ -434,11 +444,10 @@ def document():
         "components": {
             "schemas": {**texts(), **numbers(), **choices(), **bodies(), **refusals()},
             "parameters": {"id": ID_OF_PATH},
-            "headers": shared_headers(),
-            "responses": {"NoRoute": refused(404, [("no_route", None)]), "MethodNotAllowed": method},
+            "headers": shared_headers(["GET, POST", "GET, PATCH, DELETE", "GET"]),
+            "responses": other_answers(),
         },
-        "x-other-paths": {"$ref": "#/components/responses/NoRoute"},
-        "x-other-methods": {"$ref": "#/components/responses/MethodNotAllowed"},
+        **OTHERS,
         "x-limits": {"head_bytes": MOST_HEAD, "head_fields": MOST_FIELDS, "body_bytes": MOST_BODY, "body_depth": MOST_DEPTH,
                      "answers_of_a_connection": MOST_ANSWERS, "log_items": MOST_LOG, "ids": MOST_ID, "records": MOST_ROWS},
     }
@@ -457,5 +466,6 @@ def compact(value, indent=0, used=0):
     return ends[0] + "\n" + ",\n".join(pad + part for part in parts) + "\n" + " " * indent + ends[1]
 
 
-def written():
-    return compact(document()) + "\n"
+def written(made=None):
+    """The text of a document, or of the register's."""
+    return compact(made or document()) + "\n"

@@ -118,6 +118,11 @@ sqlite3 "$folder/twice.db" "UPDATE prefixes SET prefix = '10.0.1.0/24' WHERE id 
 ends 0 "" "$program" session --db "$folder/twice.db"
 sqlite3 "$folder/twice.db" "UPDATE prefixes SET prefix = '10.0.1.1/24' WHERE id = 2"
 ends 1 "store: prefixes 2: unreadable" "$program" session --db "$folder/twice.db"
+sqlite3 "$folder/first.db" < "$top/bench/tables_first.sql"
+ends 1 "store: version 1" "$program" session --db "$folder/first.db"
+[ "$("$program" migrate --db "$folder/first.db" --populated no)" = "migrated 3" ] || fail "a file of version 1 was not migrated"
+ends 0 "" "$program" session --db "$folder/first.db"
+ends 1 "store: version 2" "$program" migrate --db "$folder/first.db" --populated no
 cp "$folder/copy.db" "$folder/nine.db"
 sqlite3 "$folder/nine.db" "UPDATE meta SET value = 9 WHERE name = 'version'"
 ends 1 "store: version 9" "$program" session --db "$folder/nine.db"

@@ -1,8 +1,9 @@
 #!/usr/bin/env python3
-"""The commands of README.md, docs/USING.md, docs/CLIENTS.md and docs/OPERATING.md, run as they are written in a fresh clone, each with what it has to print. A
+"""The commands of README.md, docs/USING.md, docs/USING-POOLS.md, docs/CLIENTS.md and docs/OPERATING.md, run as they are written in a fresh clone, each with what it has to print. A
 command has to stand in its page, and each indented line of a page has to be a command that was run, a line that the run printed, or one that is
 named at the end with the reason why not. What wants systemd is in bench/systemd.sh. The clone takes the built program of this folder (IPAMD=PROGRAM
-takes another one); with --build it is built there, the small program first, by the kit's `rt`. It needs curl and socat, and the port 8080.
+takes another one); with --build it is built there, the small program first, by the kit's `rt`. It needs curl and socat, and the ports 8080 and 8081. What
+asks poold is run where that program is built (POOLD=PROGRAM takes another one).
 
     bench/pages.py [--build] [--quiet]
 """
@@ -11,6 +12,7 @@ import os
 import re
 import shutil
 import signal
+import sqlite3
 import subprocess
 import sys
 import tempfile
@@ -18,7 +20,8 @@ import time
 from dataclasses import dataclass
 
 TOP = os.path.abspath(os.path.join(os.path.dirname(os.path.abspath(__file__)), ".."))
-BASE = "http://127.0.0.1:8080/api/ipam"
+BASE, POOLS_BASE = "http://127.0.0.1:8080/api/ipam", "http://127.0.0.1:8081/api/ipam"
+POOLD = os.environ.get("POOLD", os.path.join(TOP, "crates/poold/out/poold"))
 # the text that stands behind a command in a page and is none of it
 REMARK = re.compile(r" {2,}# .*$")
 PREFIXES = "prefix,vrf,status\n10.0.0.0/16,,container\n10.0.0.0/24,,active\n10.0.1.0/24,,active\n"
@@ -50,6 +53,10 @@ def clients(command, wanted, **more):
     return Step("docs/CLIENTS.md", command, wanted, **more)
 
 
+def pools(command, wanted, **more):
+    return Step("docs/USING-POOLS.md", command, wanted, **more)
+
+
 def file(name, text):
     return lambda folder: open(os.path.join(folder, name), "w", newline="").write(text)
 
@@ -67,6 +74,14 @@ def office(rows):
         for kind, text in rows.items():
             subprocess.run(["./ipamd", "import", kind, "--db", "office.db"], cwd=folder, input=text.encode(), check=True, stdout=subprocess.DEVNULL)
     return make
+
+
+def first_office(folder):
+    """A register that an older program made, of version 1."""
+    forget_office(folder)
+    with open(os.path.join(TOP, "bench/tables_first.sql"), encoding="utf-8") as text, sqlite3.connect(os.path.join(folder, "office.db")) as made:
+        made.executescript(text.read())
+    made.close()
 
 
 def serving(folder):
@@ -149,6 +164,7 @@ STEPS = [
     using("""curl -s -d '[{"prefix_length":25},{"prefix_length":25}]' $U/prefixes/1/available-prefixes/""", r'\A\{"code":"no_space","detail":"[^"]*\b1\b[^"]*"\}\Z'),
     using("curl -s $U/prefixes/1/utilization/", r'\A\{"utilization":\d+\}\Z'),
     using("curl -s $U/ip-ranges/1/utilization/", r'\A\{"utilization":10\}\Z'),
+    using("""curl -s -X PATCH -d '{"mark_populated":true}' $U/ip-ranges/1/""", r'"mark_populated":true'),
     using("curl -s $U/aggregates/1/utilization/", r'\A\{"utilization":0\}\Z'),
     using("curl -s -X DELETE $U/prefixes/1/", r"\A\Z"),
     using("curl -s -X DELETE $U/rirs/1/", r'\A\{"code":"in_use","detail":"named by aggregates 1"\}\Z'),
@@ -185,6 +201,11 @@ STEPS = [
     lambda folder: expect(folder, "prefixes.csv", "prefix,vrf,status,role,description\n10.9.0.0/24,,active,,first floor\n10.9.1.0/24,,reserved,,\n"),
     using(PYTHON, r"\A\Z"),
     lambda folder: expect(folder, "prefixes.csv", "prefix,vrf,status,description\n10.9.0.0/24,,active,first floor\n10.9.1.0/24,,reserved,\n"),
+    first_office,
+    using("./ipamd migrate --db office.db --populated yes", r"\Amigrated 3\n\Z"),
+    lambda folder: serving(folder) + ["--db", "office.db"],
+    using("""curl -s -X PATCH -d '{"mark_populated":false}' $U/ip-ranges/7/""", r'"id":7,"mark_populated":false'),
+    None,
     using("./ipamd load 1000 --workers 4", r"\Aclaimed 1000\nfirst 10\.0\.0\.1\nlast 10\.0\.3\.232\npercent 24\nentries 1001\n\Z"),
     clients("./ipamd serve --bind 127.0.0.1:8080 --workers 4 &", "", stays=True),
     clients("examples/client_curl.sh http://127.0.0.1:8080", r"client_curl: 23 answers, all as they should be\n\Z"),
@@ -211,6 +232,31 @@ STEPS = [
     operating("python3 examples/move.py spreadsheet examples/spreadsheet.csv --to http://127.0.0.1:8080", r"made 23, present 1, refused 1\n", status=1),
     None,
 ]
+# the steps that ask poold
+POOL_STEPS = [
+    pools("./poold serve --bind 127.0.0.1:8081 --workers 4 --db pools.db &", "", stays=True),
+    pools("U=" + POOLS_BASE, r"\A\Z"),
+    pools("""curl -s -d '{"name":"private","start":64512,"end":65534}' $U/asn-ranges/""", r'\A\{"end":65534,"id":1,"name":"private","start":64512\}\Z'),
+    pools("curl -s -d '{}' $U/asn-ranges/1/available-asns/", r'\A\{"asn":64512,"id":1,"range":1\}\Z'),
+    pools("""curl -s -d '{"name":"floor 1","start":100,"end":199}' $U/vlan-groups/""", r'\A\{"end":199,"id":2,"name":"floor 1","start":100\}\Z'),
+    pools("curl -s $U/vlan-groups/", r'\A\[\{"end":199,"id":2,"name":"floor 1","start":100\}\]\Z'),
+    pools("curl -s $U/asn-ranges/", r'\A\[\{"end":65534,"id":1,"name":"private","start":64512\}\]\Z'),
+    pools("curl -s -X DELETE $U/vlan-groups/2/", r"\A\Z"),
+    pools('curl -s "$U/asn-ranges/1/available-asns/?limit=3"', r"\A\[64513,64514,64515\]\Z"),
+    pools("curl -s -d '{}' $U/asn-ranges/1/available-asns/", r'\A\{"asn":64513,"id":2,"range":1\}\Z'),
+    pools("curl -s -d '[{},{}]' $U/asn-ranges/1/available-asns/", r'\A\[\{"asn":64514,"id":3,"range":1\},\{"asn":64515,"id":4,"range":1\}\]\Z'),
+    pools("curl -s $U/asn-ranges/1/asns/", r'\A\[\{"asn":64512,"id":1,"range":1\},.*,\{"asn":64515,"id":4,"range":1\}\]\Z'),
+    pools("curl -s -X DELETE $U/asns/1/", r"\A\Z"),
+    pools("""curl -s -d '{"name":"floor 1","start":100,"end":199}' $U/vlan-groups/""", r'\A\{"end":199,"id":3,"name":"floor 1","start":100\}\Z'),
+    pools("""curl -s -d '{"name":"voice"}' $U/vlan-groups/3/available-vlans/""", r'\A\{"group":3,"id":5,"name":"voice","vid":100\}\Z'),
+    pools("curl -s $U/vlan-groups/3/vlans/", r'\A\[\{"group":3,"id":5,"name":"voice","vid":100\}\]\Z'),
+    pools("curl -s -X DELETE $U/vlans/5/", r"\A\Z"),
+    None,
+    clients("./poold serve --bind 127.0.0.1:8081 --workers 4 &", "", stays=True),
+    clients("/usr/bin/python3 examples/client_pools.py http://127.0.0.1:8081", r"client_pools: all as it should be\n\Z"),
+    None,
+]
+STEPS += POOL_STEPS if os.access(POOLD, os.X_OK) else []
 # lines of a page that are neither run here nor printed by a run, by how they begin, and why
 ELSE = [
     ("README.md", "rt ci", "the gate"),
@@ -245,7 +291,11 @@ ELSE = [
     ("docs/OPERATING.md", "full_log:", "bench/full_log.sh prints it"),
     ("docs/OPERATING.md", "HTTP/1.1 507", "bench/full_log.sh sees it"),
     ("docs/OPERATING.md", '{"code":"limit"', "bench/full_log.sh sees it"),
-]
+] + ([] if os.access(POOLD, os.X_OK) else [
+    ("docs/USING-POOLS.md", "", "poold is not built"),
+    ("docs/CLIENTS.md", "./poold", "poold is not built"),
+    ("docs/CLIENTS.md", "/usr/bin/python3 examples/client_pools.py", "poold is not built"),
+])
 
 
 def expect(folder, name, text):
@@ -267,7 +317,7 @@ def lines_of(page):
 
 def listens():
     with open("/proc/net/tcp") as table:
-        return any(" 0100007F:1F90 00000000:0000 0A" in line for line in table)
+        return any(re.search(" 0100007F:1F9[01] 00000000:0000 0A", line) for line in table)
 
 
 class Folder:
@@ -282,6 +332,10 @@ class Folder:
             os.makedirs(os.path.dirname(self.program))
             shutil.copy(os.environ.get("IPAMD", os.path.join(TOP, "crates/ipamd/out/ipamd")), self.program)
             os.chmod(self.program, 0o755)
+        if os.access(POOLD, os.X_OK):
+            os.makedirs(f"{path}/crates/poold/out")
+            shutil.copy(POOLD, f"{path}/crates/poold/out/poold")
+            os.chmod(f"{path}/crates/poold/out/poold", 0o755)
 
     def start(self, words):
         self.running.append(subprocess.Popen(words, cwd=self.path, env=self.env, stdin=subprocess.DEVNULL, stdout=subprocess.DEVNULL, start_new_session=True))
@@ -289,7 +343,7 @@ class Folder:
             if listens():
                 return
             time.sleep(0.1)
-        sys.exit(f"pages: the port 8080 does not listen: {words}")
+        sys.exit(f"pages: the port 8080 or 8081 does not listen: {words}")
 
     def end(self):
         for child in self.running:
@@ -306,7 +360,8 @@ class Folder:
             return ""
         # nothing is written outside the clone
         command = step.command.replace("/usr/local", f"{self.path}/here")
-        done = subprocess.run(["bash", "-c", command], cwd=self.path, env=self.env, stdin=subprocess.DEVNULL, capture_output=True, timeout=1800)
+        env = {**self.env, "U": POOLS_BASE} if step.page == "docs/USING-POOLS.md" else self.env
+        done = subprocess.run(["bash", "-c", command], cwd=self.path, env=env, stdin=subprocess.DEVNULL, capture_output=True, timeout=1800)
         told = (done.stdout.decode() + done.stderr.decode()).replace(f"{self.path}/here", "/usr/local")
         told = re.sub(r"^ipamd: (proving and building .*|built|the whole program is not built.*|\d+ of \d+ crates proved.*)\n", "", told, flags=re.M)
         if done.returncode != step.status or not re.search(step.wanted, told, re.S):
@@ -336,7 +391,7 @@ def left_over(pages, steps, told):
 def main():
     path = tempfile.mkdtemp()
     folder = Folder(os.path.join(path, "ipamd"), "--build" in sys.argv[1:])
-    pages = {page: lines_of(page) for page in ("README.md", "docs/USING.md", "docs/CLIENTS.md", "docs/OPERATING.md")}
+    pages = {page: lines_of(page) for page in ("README.md", "docs/USING.md", "docs/USING-POOLS.md", "docs/CLIENTS.md", "docs/OPERATING.md")}
     told, steps = {page: [] for page in pages}, [step for step in STEPS if isinstance(step, Step)]
     try:
         for step in STEPS:

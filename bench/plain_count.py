@@ -53,13 +53,13 @@ def usable(register, parent):
         omitted = not parent["is_pool"] and (block[0] == 4 and block[2] < 31 and number in (block[1], last_of(block))
                                              or block[0] == 6 and block[2] < 127 and number == block[1])
         held = any(row["address"][:2] == (block[0], number) and in_table(row, parent) for row in register.rows["ip-addresses"])
-        if not omitted and not held and not in_a_range(register, parent["vrf"], block[0], number, marked=False):
+        if not omitted and not held and not in_a_range(register, parent["vrf"], block[0], number, "mark_populated"):
             yield number
 
 
-def in_a_range(register, vrf, family, number, marked):
+def in_a_range(register, vrf, family, number, mark):
     return any(row["vrf"] == vrf and family_of(row) == family and row["start_address"][1] <= number <= row["end_address"][1]
-               and (row["mark_utilized"] or not marked) for row in register.rows["ip-ranges"])
+               and row[mark] for row in register.rows["ip-ranges"])
 
 
 def figure(register, kind, row):
@@ -79,7 +79,7 @@ def figure(register, kind, row):
     elif kind == "ip-ranges":
         count = sum(number in hosts for number in all_numbers)
     else:
-        count = sum(number in hosts or in_a_range(register, row["vrf"], family, number, marked=True) for number in all_numbers)
+        count = sum(number in hosts or in_a_range(register, row["vrf"], family, number, "mark_utilized") for number in all_numbers)
         size -= 2 if family == 4 and row["prefix"][2] < 31 and not row["is_pool"] else 0
     return min(100, 100 * count // size)
 
@@ -100,7 +100,7 @@ def check_prefix(register, row):
 
 def check_range(register, row):
     hosts = {one["address"][1] for one in register.rows["ip-addresses"] if one["vrf"] == row["vrf"] and family_of(one) == family_of(row)}
-    wanted = [number for number in range(row["start_address"][1], row["end_address"][1] + 1) if number not in hosts]
+    wanted = [number for number in range(row["start_address"][1], row["end_address"][1] + 1) if number not in hosts and not row["mark_populated"]]
     assert list(register.free_in_range(row)) == wanted, row
 
 

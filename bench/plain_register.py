@@ -217,8 +217,19 @@ class Register:
         self.check_address_texts(row["status"], row["address"][0], row["dns_name"])
         self.check_duplicate("ip-addresses", row, self.hosts_clash)
 
+    def check_populated(self, row, before):
+        """No address comes into a range of its table that somebody else fills; one that was there before stays."""
+        if before is None or host_of(row) != host_of(before) or row["vrf"] != before["vrf"]:
+            family, host = host_of(row)[:2]
+            for one in self.rows["ip-ranges"]:
+                if (one["mark_populated"] and one["vrf"] == row["vrf"] and one["start_address"][0] == family
+                        and one["start_address"][1] <= host <= one["end_address"][1]):
+                    raise rule("populated", f"inside populated range {one['id']}")
+
     def check(self, kind, row, before):
         getattr(self, "check_" + kind.replace("-", "_"))(row, before)
+        if kind == "ip-addresses":
+            self.check_populated(row, before)
 
     def check_room(self, kind, count):
         if len(self.rows[kind]) + count > MOST_ROWS[kind]:
@@ -290,9 +301,9 @@ class Register:
         return [row["address"][1] for row in self.rows["ip-addresses"] if contains(parent["prefix"], host_of(row))
                 and (self.sees_all(parent) or row["vrf"] == parent["vrf"])]
 
-    def range_spans(self, vrf, family, marked=False):
+    def range_spans(self, vrf, family, mark):
         return [(row["start_address"][1], row["end_address"][1]) for row in self.rows["ip-ranges"]
-                if row["vrf"] == vrf and row["start_address"][0] == family and (row["mark_utilized"] or not marked)]
+                if row["vrf"] == vrf and row["start_address"][0] == family and row[mark]]
 
     def free_blocks(self, within, taken):
         """The fewest blocks that make up what no block of `taken` has, in address order."""
@@ -324,9 +335,11 @@ class Register:
         last = last_of(parent["prefix"])
         if not parent["is_pool"] and length < (31 if family == 4 else 127):
             first, last = first + 1, last - (1 if family == 4 else 0)
-        return self.free_numbers(first, last, self.child_hosts(parent), self.range_spans(parent["vrf"], family))
+        return self.free_numbers(first, last, self.child_hosts(parent), self.range_spans(parent["vrf"], family, "mark_populated"))
 
     def free_in_range(self, parent):
+        if parent["mark_populated"]:
+            return iter(())
         start, end = parent["start_address"], parent["end_address"]
         taken = [row["address"][1] for row in self.rows["ip-addresses"] if row["vrf"] == parent["vrf"] and row["address"][0] == start[0]]
         return self.free_numbers(start[1], end[1], taken, [])
@@ -412,7 +425,7 @@ class Register:
         if row["status"] == "container":
             inside = [one["prefix"] for one in self.rows["prefixes"] if one["vrf"] == row["vrf"] and strictly_inside(one["prefix"], block)]
             return percent(union_size([(one[1], last_of(one)) for one in inside], first, last), size)
-        spans = [(host, host) for host in self.child_hosts(row)] + self.range_spans(row["vrf"], block[0], marked=True)
+        spans = [(host, host) for host in self.child_hosts(row)] + self.range_spans(row["vrf"], block[0], "mark_utilized")
         if block[0] == 4 and block[2] < 31 and not row["is_pool"]:
             size -= 2
         return percent(union_size(spans, first, last), size)

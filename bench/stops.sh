@@ -1,7 +1,7 @@
 #!/usr/bin/env bash
-# Every stop of a store: an import of ten prefixes, ten creations and a deletion are stored in a SQLite file in memory until a call of the log's or the database's
-# file fails, at each call in turn; the files, with all that was written, with what was synced alone, or torn, are opened again, and must
-# have the tables of before or after the change that was being made. It writes a program over the crate stop_trial into a scratch copy,
+# Every stop of a store: an import of ten prefixes, ten creations and a deletion of a register, and then a group, a claim of ten VLANs and one that is given
+# back of pools, are stored in a SQLite file in memory until a call of the log's or the database's file fails, at each call in turn; the files, with all that was
+# written, with what was synced alone, or torn, are opened again, and must have the tables of before or after the change that was being made. It writes a program over the crate stop_trial into a scratch copy,
 # proves and builds it there, runs it, and says how many stops were tried.   bench/stops.sh [changes]
 set -euo pipefail
 top=$(cd "$(dirname "$0")/.." && pwd)
@@ -10,10 +10,14 @@ scratch=$(mktemp -d)
 trap 'rm -rf "$scratch"' EXIT
 mkdir -p "$scratch/crates/all_stops/src"
 cp "$top/HANDLES" "$scratch/"
-for crate in inet_num block_space ipam_data placed_book stored_tables ipam_keeper sqlite_keeper stop_trial; do
-    cp -r "$top/crates/$crate" "$scratch/crates/"
-    grep "^$crate:" "$top/crates.txt" >> "$scratch/crates.txt"
-done
+# the lines of crates.txt for stop_trial and all that it depends on
+awk -F': *' '!/^#/ && NF { split($1, words, " "); line[words[1]] = $0; below[words[1]] = $2; name[++count] = words[1] }
+    END {
+        need["stop_trial"]
+        do { grew = 0; for (one in need) { n = split(below[one], found, " "); for (i = 1; i <= n; i++) if ((found[i] in line) && !(found[i] in need)) { need[found[i]]; grew = 1 } } } while (grew)
+        for (i = 1; i <= count; i++) if (name[i] in need) print line[name[i]]
+    }' "$top/crates.txt" > "$scratch/crates.txt"
+tar -C "$top" --exclude='crates/*/out' -cf - $(sed 's|^\([^: ]*\).*|crates/\1|' "$scratch/crates.txt") | tar -C "$scratch" -xf -
 echo "all_stops: stop_trial anyhow" >> "$scratch/crates.txt"
 rm -rf "$scratch"/crates/*/must-fail
 cat > "$scratch/crates/all_stops/src/main.rt" <<E2
@@ -22,9 +26,9 @@ cat > "$scratch/crates/all_stops/src/main.rt" <<E2
 
 use anyhow::Result;
 use std::alloc::{AllocError, Global};
-use stop_trial::{Ending, Found, Side, Stop, ending_of};
+use stop_trial::{Ending, Found, POOL_CHANGES, Pools, Register, Side, Stop, StoreKind, ending_of};
 
-/// How many changes are stored.
+/// How many changes of a register are stored.
 const CHANGES: u32 = $changes;
 
 /// How many stops were tried of a file, and how many of them left other tables.
@@ -35,10 +39,15 @@ struct Tally {
 }
 
 /// Tries the stops of a file at all its calls, found so.
-fn tried(alloc: Global, side: Side, found: Found) -> Result<Tally, AllocError> {
+fn tried<K: StoreKind>(
+    alloc: Global,
+    changes: u32,
+    side: Side,
+    found: Found,
+) -> Result<Tally, AllocError> {
     let mut tally = Tally { stops: 0, broken: 0 };
     for calls in 0..100_000u64 {
-        match ending_of(alloc, CHANGES, Stop { side, calls, found })? {
+        match ending_of::<K>(alloc, changes, Stop { side, calls, found })? {
             Ending::Beyond => return Ok(tally),
             Ending::Broken => tally.broken = tally.broken.saturating_add(1),
             Ending::Whole => {}
@@ -51,8 +60,10 @@ fn tried(alloc: Global, side: Side, found: Found) -> Result<Tally, AllocError> {
 fn main(rt: HostRuntime) -> Result<()> {
     for side in [Side::Log, Side::Database] {
         for found in [Found::Written, Found::Lost, Found::Torn] {
-            let tally = tried(rt.alloc(), side, found)?;
+            let tally = tried::<Register>(rt.alloc(), CHANGES, side, found)?;
             println!(rt; "{side:?} {found:?}: {} stops, {} of them left other tables", tally.stops, tally.broken)?;
+            let tally = tried::<Pools>(rt.alloc(), POOL_CHANGES, side, found)?;
+            println!(rt; "pools, {side:?} {found:?}: {} stops, {} of them left other tables", tally.stops, tally.broken)?;
         }
     }
     Ok(())

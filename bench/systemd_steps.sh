@@ -129,6 +129,23 @@ step 0 '^installed ipamd' './install.sh /usr/local'
 step 0 '' 'systemctl daemon-reload && systemctl start ipamd'
 listens
 look 0 '^\{"count":2,' 'curl -s http://127.0.0.1:8080/api/ipam/prefixes/'
+# a file of version 1: the unit fails over it, a copy with nothing running, the migration, and it serves
+look 0 '' 'systemctl stop ipamd; cp /var/lib/ipamd/register.db kept.db; rm -f first.db; sqlite3 first.db < bench/tables_first.sql; cp first.db /var/lib/ipamd/register.db; rm -f /var/lib/ipamd/register.db-wal /var/lib/ipamd/register.db-shm'
+look 0 '^ExecMainStatus=1$' 'systemctl start ipamd; sleep 8; systemctl show -p ExecMainStatus ipamd'
+look 0 'store: version 1' 'journalctl --no-pager -u ipamd | tail -n 20'
+step 0 '' 'systemctl stop ipamd'
+step 0 '' 'cp /var/lib/ipamd/register.db register-before.db'
+look 0 '' '[ ! -e /var/lib/ipamd/register.db-wal ] || cp /var/lib/ipamd/register.db-wal register-before.db-wal'
+look 1 '^store: version 1$' 'ipamd session --db register-before.db < /dev/null'
+step 0 '^migrated 3$' 'ipamd migrate --db /var/lib/ipamd/register.db --populated yes'
+look 1 '^store: version 2$' 'ipamd migrate --db /var/lib/ipamd/register.db --populated yes'
+look 0 '' 'systemctl reset-failed ipamd'
+step 0 '' 'systemctl daemon-reload && systemctl start ipamd'
+listens
+look 0 '"mark_populated":true' 'curl -s http://127.0.0.1:8080/api/ipam/ip-ranges/7/'
+step 0 '"mark_populated":false' "curl -s -X PATCH -d '{\"mark_populated\":false}' http://127.0.0.1:8080/api/ipam/ip-ranges/7/"
+look 0 '' 'systemctl stop ipamd; cp kept.db /var/lib/ipamd/register.db; rm -f /var/lib/ipamd/register.db-wal /var/lib/ipamd/register.db-shm; systemctl start ipamd'
+listens
 # the package in place of what install.sh put there; the register stays
 version=$(sed -n 's/^## \([0-9][0-9.]*\).*/\1/p' CHANGES.md | head -n 1)
 look 0 '' 'systemctl disable --now ipamd; cd /usr/local; rm bin/ipamd share/man/man1/ipamd.1 lib/systemd/system/ipamd.service && systemctl daemon-reload'

@@ -1,6 +1,6 @@
-"""The database that the program sqlite3 makes of bench/tables.sql, as the test of the store over SQLite has it.
+"""The databases that the program sqlite3 makes of bench/tables.sql, bench/tables_first.sql and bench/pool_tables.sql, as the tests of the stores over SQLite have them.
 
-    python3 bench/tables.py            says whether crates/store_trial/src/database.rt has the bytes that sqlite3 makes
+    python3 bench/tables.py            says whether crates/store_trial/src has the bytes that sqlite3 makes
     python3 bench/tables.py --write    writes them there
 
 Two versions of sqlite3 may make different bytes: the number of the version is in the file. Those in the test are of sqlite3 3.40.1.
@@ -13,16 +13,21 @@ import tempfile
 import textwrap
 
 TOP = os.path.join(os.path.dirname(os.path.abspath(__file__)), "..")
-TEST = os.path.join(TOP, "crates/store_trial/src/database.rt")
+# each text, and the file that has what is made of it
+MADE = {
+    "bench/tables.sql": "crates/store_trial/src/register_file.rt",
+    "bench/tables_first.sql": "open/store_trial/first_file.rt",
+    "bench/pool_tables.sql": "open/store_trial/pool_file.rt",
+}
 TEXT = re.compile(r'(const FILE: &str = "\\\n)(.*?)(";\n)', re.S)
 
 
-def database():
+def database(text):
     """The bytes that sqlite3 makes of the text."""
     with tempfile.TemporaryDirectory() as folder:
-        path = os.path.join(folder, "register.db")
-        with open(os.path.join(TOP, "bench/tables.sql")) as text:
-            subprocess.run(["sqlite3", path], stdin=text, check=True)
+        path = os.path.join(folder, "made.db")
+        with open(os.path.join(TOP, text)) as words:
+            subprocess.run(["sqlite3", path], stdin=words, check=True)
         with open(path, "rb") as file:
             return file.read()
 
@@ -36,14 +41,16 @@ def words_of(data):
 
 
 def main():
-    with open(TEST) as file:
-        test = file.read()
-    found = TEXT.sub(lambda match: match[1] + words_of(database()) + match[3], test)
-    if sys.argv[1:] == ["--write"]:
-        with open(TEST, "w") as file:
-            file.write(found)
-    elif found != test:
-        sys.exit("tables: the test has other bytes; bench/tables.py --write writes them")
+    for text, made in MADE.items():
+        path = os.path.join(TOP, made)
+        with open(path) as file:
+            test = file.read()
+        found = TEXT.sub(lambda match: match[1] + words_of(database(text)) + match[3], test)
+        if sys.argv[1:] == ["--write"]:
+            with open(path, "w") as file:
+                file.write(found)
+        elif found != test:
+            sys.exit(f"tables: {made} has other bytes; bench/tables.py --write writes them")
 
 
 if __name__ == "__main__":

@@ -167,7 +167,7 @@ TEXTS = Group("texts of addresses", [
 RANGES = Group("ranges", [
     made("vrfs", name="red", enforce_unique=False, keep="red"),
     post("ten addresses", "ip-ranges/", {"start_address": "10.0.0.10/24", "end_address": "10.0.0.19/24"}, 201,
-         '{"description":"","end_address":"10.0.0.19/24","family":4,"id":@ten,"mark_utilized":false,"role":null,"size":10,'
+         '{"description":"","end_address":"10.0.0.19/24","family":4,"id":@ten,"mark_populated":false,"mark_utilized":false,"role":null,"size":10,'
          '"start_address":"10.0.0.10/24","status":{"label":"Active","value":"active"},"vrf":null}', keep="ten"),
     post("ranges that touch in one address", "ip-ranges/", {"start_address": "10.0.0.19/24", "end_address": "10.0.0.29/24"}, 400,
          no("range_overlap", "overlaps range @ten")),

@@ -29,14 +29,14 @@ PAGE = 1000
 # seconds between two passes
 PAUSE = 0.2
 MOST_ID = 4_294_967_295
-# The columns of the tables of version 1.
+# The columns of the tables of version 2.
 COLUMNS = {
     "vrfs": ["name", "rd", "enforce_unique", "description"],
     "rirs": ["name", "slug", "is_private", "description"],
     "roles": ["name", "slug", "weight", "description"],
     "aggregates": ["prefix", "rir", "description"],
     "prefixes": ["prefix", "vrf", "status", "role", "is_pool", "mark_utilized", "description"],
-    "ip-ranges": ["start_address", "end_address", "vrf", "status", "role", "mark_utilized", "description"],
+    "ip-ranges": ["start_address", "end_address", "vrf", "status", "role", "mark_utilized", "mark_populated", "description"],
     "ip-addresses": ["address", "vrf", "status", "role", "dns_name", "description"],
 }
 
@@ -126,7 +126,7 @@ def rows_of(kind, pages):
 def fill(connection, pages, nexts):
     """Makes the tables, and gives the number of rows of each kind."""
     connection.execute("CREATE TABLE meta (name TEXT PRIMARY KEY, value INTEGER NOT NULL) STRICT")
-    connection.execute("INSERT INTO meta VALUES ('version', 1)")
+    connection.execute("INSERT INTO meta VALUES ('version', 2)")
     counts = {}
     for kind, columns in COLUMNS.items():
         table = kind.replace("-", "_")

@@ -27,9 +27,9 @@ install -m 644 "$top/packaging/ipamd.bash-completion" "$root/usr/share/bash-comp
 
 # the pages keep their places beside one another, so that their links hold
 install -m 644 "$top/README.md" "$top/CHANGES.md" "$doc/"
-install -m 644 "$top"/docs/*.md "$top"/docs/*.svg "$top/docs/openapi.json" "$doc/docs/"
+install -m 644 "$top"/docs/*.md "$top"/docs/*.svg "$top"/docs/openapi*.json "$doc/docs/"
 cp -r "$top/examples" "$doc/examples"
-rm -rf "$doc/examples/__pycache__" "$doc/examples/ipamd.service"
+rm -rf "$doc/examples/__pycache__" "$doc"/examples/*.service
 find "$doc/examples" -type f | while IFS= read -r file; do case $(head -c 2 "$file") in "#!") chmod 755 "$file" ;; *) chmod 644 "$file" ;; esac; done
 install -m 644 "$top/packaging/copyright" "$doc/copyright"
 "$top/packaging/changelog.py" "$version" < "$top/CHANGES.md" | gzip -9n > "$doc/changelog.gz"

@@ -72,6 +72,10 @@ reverse_app = with_store (with_rule (command_app (codes "reverse")) (needed_rule
 unfoldable pub reverse_read_app : App
 reverse_read_app = command_app (codes "reverse-read")
 
+-- `migrate --db FILE --populated yes`, or `no`
+unfoldable pub migrate_app : App
+migrate_app = with_rule (with_rule (command_app (codes "migrate")) (needed_rule (codes "db"))) (needed_rule (codes "populated"))
+
 -- `load N`
 unfoldable pub load_app : App
 load_app = with_rule (with_rule (command_app (codes "load")) (place_rule (codes "count"))) (option_rule (codes "workers"))

@@ -4,14 +4,14 @@
 ghost use Rattle.std.specs.Prelude.{◌≡◌, ◌↔◌, Option, IfOk, IsTrue, MatchOption, map, option_map, true, false, codes};
 ghost use Rattle.clap.specs.Words.{app_of, first_of, found_of, kind_of, rows_of, rule_of};
 ghost use Rattle.clap.specs.Simple.{App, with_rule};
-ghost use Rattle.command_grammar.specs.Grammar.{IsPlainCommand, Takes, given, command_app, option_rule, needed_rule, place_rule, with_store, list_app, free_app, session_app, serve_app, import_app, export_app, report_app, prefix_list_app, prefix_check_app, reverse_app, reverse_read_app, load_app};
+ghost use Rattle.command_grammar.specs.Grammar.{IsPlainCommand, Takes, given, command_app, option_rule, needed_rule, place_rule, with_store, list_app, free_app, session_app, serve_app, import_app, export_app, report_app, prefix_list_app, prefix_check_app, reverse_app, reverse_read_app, migrate_app, load_app};
 
 use clap::error::ErrorKind;
 use clap::{Arg, ArgAction, ArgMatches, Error};
 use std::alloc::{AllocError, Global};
 
 /// An option that takes one value.
-fn option<'a>(alloc: Global, name: &'a str) -> Arg<'a>
+pub fn option<'a>(alloc: Global, name: &'a str) -> Arg<'a>
     ensures rule { rule_of result ≡ option_rule name.entry.now }
     ensures local { result.global ≡ false }
 {
@@ -19,7 +19,7 @@ fn option<'a>(alloc: Global, name: &'a str) -> Arg<'a>
 }
 
 /// An option that takes one value and has to be given.
-fn needed<'a>(alloc: Global, name: &'a str) -> Arg<'a>
+pub fn needed<'a>(alloc: Global, name: &'a str) -> Arg<'a>
     ensures rule { rule_of result ≡ needed_rule name.entry.now }
     ensures local { result.global ≡ false }
 {
@@ -38,14 +38,14 @@ fn place<'a>(alloc: Global, name: &'a str) -> Arg<'a>
 }
 
 /// A command of this name, without a help flag.
-fn plain_command<'a>(alloc: Global, name: &'a str) -> clap::Command<'a>
+pub fn plain_command<'a>(alloc: Global, name: &'a str) -> clap::Command<'a>
     ensures { app_of result ≡ command_app name.entry.now }
 {
     clap::Command::new(alloc, name).disable_help_flag(true)
 }
 
 /// The command with one more place or option. `Err` means out of memory.
-fn with<'a>(command: clap::Command<'a>, arg: Arg<'a>) -> Result<clap::Command<'a>, AllocError>
+pub fn with<'a>(command: clap::Command<'a>, arg: Arg<'a>) -> Result<clap::Command<'a>, AllocError>
     requires { arg.global ≡ false }
     ensures { IfOk result (λ c. app_of c ≡ with_rule (app_of command.entry) (rule_of arg.entry)) }
 {
@@ -157,6 +157,15 @@ pub fn reverse_read_command<'a>(alloc: Global) -> clap::Command<'a>
     ensures { app_of result ≡ reverse_read_app }
 {
     plain_command(alloc, "reverse-read")
+}
+
+/// `migrate --db FILE --populated yes`, or `no`. `Err` means out of memory.
+#[tactic(auto, unfolding(crate::specs::Grammar::migrate_app))]
+pub fn migrate_command<'a>(alloc: Global) -> Result<clap::Command<'a>, AllocError>
+    ensures { IfOk result (λ c. app_of c ≡ migrate_app) }
+{
+    let command = with(plain_command(alloc, "migrate"), needed(alloc, "db"))?;
+    with(command, needed(alloc, "populated"))
 }
 
 /// `load N`. `Err` means out of memory.

@@ -12,6 +12,8 @@ use Rattle.ipam_data.specs.declared.replies.Reply.{Reply}
 use Rattle.ipam_data.specs.declared.replies.Reply.TheVariants.{Percent}
 use Rattle.ipam_data.specs.State.{State, empty_state}
 use Rattle.ipam_data.specs.Steps.{plain_step}
+use Rattle.register_core.specs.Machines.{Seen, seen_step}
+use Rattle.register_core.proofs.MachineFits.{answer_plainly}
 use Rattle.command_load.specs.Claims.{block_of, claimed_state, creation_of, figure_call}
 use Rattle.command_load.specs.Histories.{HasRoomFor, IsLoadHistory}
 use Rattle.command_load.proofs.ClaimFigures.{figure_of_claims}
@@ -45,19 +47,19 @@ dismissed_still whole first many v w all k ended seen =
 -- a seat h hired the workers and was v once they were joined, and is w once it asked for the figure
 pub all_claimed : (count workers many share : ℕ) (start h v w : Caller) (tally : Tally) (whole : Bool) (percent : Option ℕ) (o : Option LoadOutcome)
     → IfSome o (λ came. (whole ≡ true) × (came.tally ≡ tally) × (percent ≡ Some came.percent))
-    → IfSome percent (λ p. (w.seen ≡ v.seen) × ((plain_step (replay plain_step v.opening v.seen) figure_call).1 ≡ Percent p))
+    → IfSome percent (λ p. (w.seen ≡ v.seen) × ((seen_step (replay seen_step v.opening v.seen) figure_call).1 ≡ Percent p))
     → IsSameSeat v w → HasDismissed whole (top_number + 1 - many) many v tally → many ≡ workers → (whole ≡ true → tally.claimed ≡ share) → share ≡ count
-    → (h.number ≡ 0) × (h.opening ≡ empty_state true) × (h.seen ≡ start.seen) → (v.number ≡ h.number) × (v.opening ≡ h.opening)
+    → (h.number ≡ 0) × (h.opening.state ≡ empty_state true) × (h.seen ≡ start.seen) → (v.number ≡ h.number) × (v.opening ≡ h.opening)
     → own_entries h.number v.seen ≡ own_entries h.number h.seen → IsPrefix h.seen v.seen
     → IfSome o (λ came. HasAllClaimed count workers start w came)
 all_claimed count workers many share start h v w tally whole percent None came told same k are exact is first stays own seen = tt
 all_claimed count workers many share start h v w tally whole percent (Some came) came_is told same k are exact is first stays own seen =
-    let t = subst (λ (x : Option ℕ). IfSome x (λ p. (w.seen ≡ v.seen) × ((plain_step (replay plain_step v.opening v.seen) figure_call).1 ≡ Percent p))) came_is.2 told in
+    let t = subst (λ (x : Option ℕ). IfSome x (λ p. (w.seen ≡ v.seen) × ((seen_step (replay seen_step v.opening v.seen) figure_call).1 ≡ Percent p))) came_is.2 told in
     let mine = subst (λ (n : ℕ). own_entries n v.seen ≡ own_entries n h.seen) first.0 own in
-    let opening = stays.1 ∙ first.1 in
+    let opening = ap (λ (s : Seen). s.state) stays.1 ∙ first.1 in
     record {
       number = same.1 ∙ (stays.0 ∙ first.0);
-      opening = same.4 ∙ opening;
+      opening = ap (λ (s : Seen). s.state) same.4 ∙ opening;
       own = ap (own_entries 0) t.0 ∙ (mine ∙ ap (own_entries 0) first.2);
       seen = subst (λ (x : List (ℕ × Call)). IsPrefix x w.seen) first.2 (subst (IsPrefix h.seen) (sym t.0) seen);
       claimed = ap (λ (x : Tally). x.claimed) came_is.1 ∙ (exact came_is.0 ∙ is);
@@ -65,7 +67,7 @@ all_claimed count workers many share start h v w tally whole percent (Some came)
           (subst (λ (n : ℕ). HasDismissed true (top_number + 1 - n) n w tally) are
           (dismissed_still true (top_number + 1 - many) many v w tally (subst (λ (b : Bool). HasDismissed b (top_number + 1 - many) many v tally) came_is.0 k) same.6 t.0));
       percent = subst (λ (s : State). (plain_step (replay plain_step s w.seen) figure_call).1 ≡ Percent came.percent) opening
-          (subst (λ (l : List (ℕ × Call)). (plain_step (replay plain_step v.opening l) figure_call).1 ≡ Percent came.percent) (sym t.0) t.1);
+          (answer_plainly v.opening w.seen figure_call ∙ subst (λ (l : List (ℕ × Call)). (seen_step (replay seen_step v.opening l) figure_call).1 ≡ Percent came.percent) (sym t.0) t.1);
     }
 
 -- ---- closed

@@ -7,8 +7,7 @@ use Rattle.ipam_data.specs.declared.calls.Call.{Call}
 use Rattle.ipam_data.specs.declared.replies.Reply.{Reply}
 use Rattle.ipam_data.specs.declared.replies.Reply.TheVariants.{Made, MadeMany, Changed, Gone, Imported, One, Page, Blocks, Addrs, Percent, Rows, Lines, Refused}
 use Rattle.ipam_data.specs.Replays.{is_accepted}
-use Rattle.ipam_data.specs.Steps.{plain_step}
-use Rattle.register_core.specs.Machines.{kind_of}
+use Rattle.register_core.specs.Machines.{kind_of, seen_step}
 use Rattle.command_load.specs.Claims.{claim_of_one}
 use Rattle.command_load.specs.Replies.{address_in, is_made_in}
 use Rattle.command_load.proofs.Notes.{one_noted}
@@ -47,30 +46,30 @@ address_kind (Lines lines) value is = absurd (cc is)
 address_kind (Refused refusal) value is = absurd (cc is)
 
 -- the first accepted call of a seat beside which no other is live is all that it has seen
-accepted_first : (v w : Caller) (call : Call) (reply : Reply) (place : ℕ) → IsCall plain_step is_accepted v w call reply accepted place → v.weight ≡ 65536 → v.seen ≡ []
+accepted_first : (v w : Caller) (call : Call) (reply : Reply) (place : ℕ) → IsCall seen_step is_accepted v w call reply accepted place → v.weight ≡ 65536 → v.seen ≡ []
     → w.seen ≡ (v.number, call) ∷ []
 accepted_first v w call reply place c whole none =
     c.seen_ends_at_place ∙ ap (λ (n : ℕ). take n w.seen ++ (v.number, call) ∷ []) (c.alone_misses_nothing whole ∙ ap length none)
 
-pub made_first : (v w : Caller) (call : Call) (reply : Reply) (place : ℕ) → IsCall plain_step is_accepted v w call reply (kind_of reply) place → v.weight ≡ 65536 → v.seen ≡ []
+pub made_first : (v w : Caller) (call : Call) (reply : Reply) (place : ℕ) → IsCall seen_step is_accepted v w call reply (kind_of reply) place → v.weight ≡ 65536 → v.seen ≡ []
     → is_made_in reply ≡ true → w.seen ≡ (v.number, call) ∷ []
 made_first v w call reply place c whole none is =
-    accepted_first v w call reply place (subst (λ (k : ReplyKind). IsCall plain_step is_accepted v w call reply k place) (made_kind reply is) c) whole none
+    accepted_first v w call reply place (subst (λ (k : ReplyKind). IsCall seen_step is_accepted v w call reply k place) (made_kind reply is) c) whole none
 
 -- a claim that got an address of IPv4 is noted
-claim_got : (v w : Caller) (reply : Reply) (place value : ℕ) → IsCall plain_step is_accepted v w claim_of_one reply (kind_of reply) place → address_in reply ≡ Some value → value ≤ last_of_v4
+claim_got : (v w : Caller) (reply : Reply) (place value : ℕ) → IsCall seen_step is_accepted v w claim_of_one reply (kind_of reply) place → address_in reply ≡ Some value → value ≤ last_of_v4
     → (claimed least greatest : ℕ) → Notes v claimed least greatest → Notes w (claimed + 1) (min least value) (max greatest value)
 claim_got v w reply place value c is le claimed least greatest k =
     one_noted true last_of_v4 v w claimed least greatest value place reply k
-    (subst (λ (x : ReplyKind). IsCall plain_step is_accepted v w claim_of_one reply x place) (address_kind reply value is) c) is le
+    (subst (λ (x : ReplyKind). IsCall seen_step is_accepted v w claim_of_one reply x place) (address_kind reply value is) c) is le
 
-pub claim_noted : (v w : Caller) (call : Call) (reply : Reply) (place : ℕ) (got o : Option ℕ) → IsCall plain_step is_accepted v w call reply (kind_of reply) place → call ≡ claim_of_one → got ≡ address_in reply
+pub claim_noted : (v w : Caller) (call : Call) (reply : Reply) (place : ℕ) (got o : Option ℕ) → IsCall seen_step is_accepted v w call reply (kind_of reply) place → call ≡ claim_of_one → got ≡ address_in reply
     → IfSome o (λ value. (got ≡ Some value) × (value ≤ last_of_v4))
     → (claimed least greatest : ℕ) → Notes v claimed least greatest
     → IfSome o (λ value. Notes w (claimed + 1) (min least value) (max greatest value))
 claim_noted v w call reply place got None c is told within claimed least greatest k = tt
 claim_noted v w call reply place got (Some value) c is told within claimed least greatest k =
-    claim_got v w reply place value (subst (λ (x : Call). IsCall plain_step is_accepted v w x reply (kind_of reply) place) is c) (sym told ∙ within.0) within.1 claimed least greatest k
+    claim_got v w reply place value (subst (λ (x : Call). IsCall seen_step is_accepted v w x reply (kind_of reply) place) is c) (sym told ∙ within.0) within.1 claimed least greatest k
 
 -- notes said by equal numbers
 pub renoted : (v : Caller) (c l g a b d : ℕ) → a ≡ c → b ≡ l → d ≡ g → Notes v c l g → Notes v a b d

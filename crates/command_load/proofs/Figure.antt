@@ -9,8 +9,7 @@ use Rattle.ipam_data.specs.declared.calls.Call.{Call}
 use Rattle.ipam_data.specs.declared.replies.Reply.{Reply}
 use Rattle.ipam_data.specs.declared.replies.Reply.TheVariants.{Made, MadeMany, Changed, Gone, Imported, One, Page, Blocks, Addrs, Percent, Rows, Lines, Refused}
 use Rattle.ipam_data.specs.Replays.{is_accepted}
-use Rattle.ipam_data.specs.Steps.{plain_step}
-use Rattle.register_core.specs.Machines.{kind_of}
+use Rattle.register_core.specs.Machines.{kind_of, seen_step}
 use Rattle.command_load.specs.Claims.{figure_call}
 use Rattle.command_load.specs.Replies.{percent_in}
 use Rattle.command_load.specs.Hired.{Caller}
@@ -35,19 +34,19 @@ percent_is (Rows rows) p is = absurd (cc is)
 percent_is (Lines lines) p is = absurd (cc is)
 percent_is (Refused refusal) p is = absurd (cc is)
 
-asked : (v w : Caller) (place p : ℕ) → IsCall plain_step is_accepted v w figure_call (Percent p) plain place → v.weight ≡ 65536
-    → (w.seen ≡ v.seen) × ((plain_step (replay plain_step v.opening v.seen) figure_call).1 ≡ Percent p)
+asked : (v w : Caller) (place p : ℕ) → IsCall seen_step is_accepted v w figure_call (Percent p) plain place → v.weight ≡ 65536
+    → (w.seen ≡ v.seen) × ((seen_step (replay seen_step v.opening v.seen) figure_call).1 ≡ Percent p)
 asked v w place p c whole =
     let all : take place w.seen ≡ v.seen = ap (λ (n : ℕ). take n w.seen) (c.alone_misses_nothing whole) ∙ take_prefix v.seen w.seen c.seen_only_grows in (
       c.seen_ends_at_place ∙ all,
-      sym (subst (λ (h : List (ℕ × Call)). Percent p ≡ (plain_step (replay plain_step v.opening h) figure_call).1) all c.reply_is_legal.right),
+      sym (subst (λ (h : List (ℕ × Call)). Percent p ≡ (seen_step (replay seen_step v.opening h) figure_call).1) all c.reply_is_legal.right),
     )
 
 -- where the one live seat is told a percentage, it has seen nothing new, and the percentage is the plain register's
-pub figure_asked : (v w : Caller) (call : Call) (reply : Reply) (place : ℕ) (o : Option ℕ) → IsCall plain_step is_accepted v w call reply (kind_of reply) place → call ≡ figure_call → o ≡ percent_in reply
-    → v.weight ≡ 65536 → IfSome o (λ p. (w.seen ≡ v.seen) × ((plain_step (replay plain_step v.opening v.seen) figure_call).1 ≡ Percent p))
+pub figure_asked : (v w : Caller) (call : Call) (reply : Reply) (place : ℕ) (o : Option ℕ) → IsCall seen_step is_accepted v w call reply (kind_of reply) place → call ≡ figure_call → o ≡ percent_in reply
+    → v.weight ≡ 65536 → IfSome o (λ p. (w.seen ≡ v.seen) × ((seen_step (replay seen_step v.opening v.seen) figure_call).1 ≡ Percent p))
 figure_asked v w call reply place None c is told whole = tt
 figure_asked v w call reply place (Some p) c is told whole =
     let e : reply ≡ Percent p = percent_is reply p (sym told) in
     asked v w place p
-    (subst (λ (r : Reply). IsCall plain_step is_accepted v w figure_call r (kind_of r) place) e (subst (λ (x : Call). IsCall plain_step is_accepted v w x reply (kind_of reply) place) is c)) whole
+    (subst (λ (r : Reply). IsCall seen_step is_accepted v w figure_call r (kind_of r) place) e (subst (λ (x : Call). IsCall seen_step is_accepted v w x reply (kind_of reply) place) is c)) whole

@@ -14,7 +14,7 @@ use Rattle.command_load.specs.declared.workers.Claimer.{Claimer}
 use Rattle.command_load.specs.Hired.{AllHaveClaimed, AreNumberedDown, Caller, HasClaimed, IsDone, IsHired, Notes, last_of_v4}
 
 -- a caller under whose number nobody called has claimed nothing
-fresh_notes : (r : Caller) → r.opening ≡ empty_state true → own_entries r.number r.seen ≡ [] → Notes r 0 last_of_v4 0
+fresh_notes : (r : Caller) → r.opening.state ≡ empty_state true → own_entries r.number r.seen ≡ [] → Notes r 0 last_of_v4 0
 fresh_notes r opening none =
     record {
       opening = opening;
@@ -27,7 +27,7 @@ fresh_notes r opening none =
       greatest_is = refl;
     }
 
-pub newly_hired : {K : Type 0} → (z : TableId) (v l r : Caller) (w : Claimer K) → IsSplit v 1 l r → v.lock ≡ z → v.opening ≡ empty_state true → w.seat ≡ Some r → IsHired z w
+pub newly_hired : {K : Type 0} → (z : TableId) (v l r : Caller) (w : Claimer K) → IsSplit v 1 l r → v.lock ≡ z → v.opening.state ≡ empty_state true → w.seat ≡ Some r → IsHired z w
 newly_hired z v l r w s lock opening has =
     record {
       seat = r;
@@ -35,7 +35,7 @@ newly_hired z v l r w s lock opening has =
       lock = ap (λ (k : Caller). k.lock) s.new_has_share ∙ lock;
       weight = ap (λ (k : Caller). k.weight) s.new_has_share;
       ended = ap (λ (k : Caller). k.ended) s.new_has_share;
-      fresh = fresh_notes r (ap (λ (k : Caller). k.opening) s.new_has_share ∙ opening) s.new_number_is_fresh;
+      fresh = fresh_notes r (ap (λ (k : Caller). k.opening.state) s.new_has_share ∙ opening) s.new_number_is_fresh;
     }
 
 -- one more element

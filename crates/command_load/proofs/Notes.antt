@@ -14,6 +14,8 @@ use Rattle.ipam_data.specs.State.{State, empty_state}
 use Rattle.ipam_data.specs.Replays.{is_accepted}
 use Rattle.ipam_data.specs.Steps.{plain_step}
 use Rattle.ipam_data.proofs.RowLists.{contains_cases}
+use Rattle.register_core.specs.Machines.{Seen}
+use Rattle.register_core.proofs.MachineFits.{legal_plainly}
 use Rattle.command_load.specs.LoadText.{load_first}
 use Rattle.command_load.specs.Claims.{claim_of_one, creation_of}
 use Rattle.command_load.specs.Histories.{IsLoadHistory, HasRoomFor, own_places}
@@ -46,7 +48,7 @@ pub one_noted : ClaimIsNoted
 one_noted unique most v w claimed least greatest value place reply noted c tells low =
     let same = c.seat_stays.1 in
     record {
-      opening = c.seat_stays.4 ∙ noted.opening;
+      opening = ap (λ (s : Seen). s.state) c.seat_stays.4 ∙ noted.opening;
       claims = subst (AllByRecursion (λ e. e.1 ≡ claim_of_one)) (sym (ap (λ (n : ℕ). own_entries n w.seen) same ∙ c.own_entries_grow))
           (all-push (λ e. e.1 ≡ claim_of_one) (own_entries v.number v.seen) (v.number, claim_of_one) noted.claims refl);
       notes = noted.notes ++ (value, place) ∷ [];
@@ -55,7 +57,12 @@ one_noted unique most v w claimed least greatest value place reply noted c tells
           ∙ sym (map-append (λ (n : ℕ × ℕ). n.1) noted.notes ((value, place) ∷ []));
       got = subst (λ (n : ℕ). AllByRecursion (IsGot unique w.seen n) (noted.notes ++ (value, place) ∷ [])) (sym same)
           (all-push (IsGot unique w.seen v.number) noted.notes (value, place) (longer unique v.seen w.seen v.number noted.notes c.seen_only_grows noted.got)
-          (record { reply = reply; tells = tells; legal = subst (λ (s : State). IsLegalAt plain_step is_accepted s w.seen v.number claim_of_one reply accepted place) noted.opening c.reply_is_legal }));
+          (record {
+            reply = reply;
+            tells = tells;
+            legal = subst (λ (s : State). IsLegalAt plain_step is_accepted s w.seen v.number claim_of_one reply accepted place) noted.opening
+                (legal_plainly is_accepted v.opening w.seen v.number claim_of_one reply accepted place c.reply_is_legal);
+          }));
       count = (
           let a = noted.count in
           let b : length (own_entries w.number w.seen) ≡ length (own_entries v.number v.seen) + 1 =

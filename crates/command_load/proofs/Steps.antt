@@ -13,7 +13,7 @@ use Rattle.ipam_data.specs.Rows.{address_id, most_addresses}
 use Rattle.ipam_data.specs.State.{State, Plan, verdict_of}
 use Rattle.ipam_data.specs.Updates.{outcome, updated, answered}
 use Rattle.ipam_data.specs.Replays.{replay}
-use Rattle.ipam_data.specs.Claims.{is_hosted, is_ranged, usable_in, claim_addresses_of}
+use Rattle.ipam_data.specs.Claims.{is_hosted, is_withheld, usable_in, claim_addresses_of}
 use Rattle.ipam_data.specs.declared.calls.Answered.TheVariants.{AsOne}
 use Rattle.inet_num.specs.declared.Family.TheVariants.{V4}
 use Rattle.ipam_data.proofs.RowLists.{with_row_above}
@@ -25,7 +25,7 @@ use Rattle.command_load.proofs.Hosts.{hosted, many, below}
 -- ---- the next address
 
 abbrev usable_now : ℕ → ℕ → ℕ → Bool
-usable_now len k = is_usable (is_hosted (address_rows len k) (prefix_row len)) (is_ranged [] (prefix_row len)) (block_of len) false
+usable_now len k = is_usable (is_hosted (address_rows len k) (prefix_row len)) (is_withheld [] (prefix_row len)) (block_of len) false
 
 usable_by : (t u : Bool) → t ≡ u → (len a : ℕ) → (not t && not false && not (is_omitted (block_of len) false a)) ≡ (not u && not false && not (is_omitted (block_of len) false a))
 usable_by t u e len a = ap (λ (v : Bool). not v && not false && not (is_omitted (block_of len) false a)) e

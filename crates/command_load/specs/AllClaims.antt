@@ -16,7 +16,7 @@ use Rattle.command_load.specs.Hired.{Caller, top_number}
 -- so many workers made so many claims, all of them, and were joined: the first seat was v and is w, and knows what they did
 pub record HasAllClaimed (count workers : ℕ) (v w : Caller) (came : LoadOutcome) : Type 0 where
   pub number : w.number ≡ 0
-  pub opening : w.opening ≡ empty_state true
+  pub opening : w.opening.state ≡ empty_state true
   pub own : own_entries 0 w.seen ≡ own_entries 0 v.seen
   pub seen : IsPrefix v.seen w.seen
   pub claimed : came.tally.claimed ≡ count

@@ -3,13 +3,13 @@ use Rattle.std.specs.Prelude.{◌≡◌, ◌<◌, ◌≤◌, ◌-◌, ℕ, List,
 use Rattle.atomic_table.specs.Seated.{TableId}
 use Rattle.history_lock.specs.Seats.{SeatView, IsSameSeat}
 use Rattle.ipam_data.specs.declared.calls.Call.{Call}
-use Rattle.ipam_data.specs.State.{State}
+use Rattle.register_core.specs.Machines.{Seen}
 use Rattle.command_load.specs.Notes.{IsNoted}
 use Rattle.command_load.specs.declared.workers.Claimer.{Claimer}
 
 -- a seat as contracts see it
 abbrev pub Caller : Type 0
-Caller = SeatView State Call
+Caller = SeatView Seen Call
 
 -- the greatest number of an address of IPv4
 abbrev pub last_of_v4 : ℕ

@@ -15,6 +15,7 @@ use Rattle.ipam_data.specs.Rows.{most_addresses}
 use Rattle.ipam_data.specs.State.{State, empty_state}
 use Rattle.ipam_data.specs.Replays.{is_accepted}
 use Rattle.ipam_data.specs.Steps.{plain_step}
+use Rattle.register_core.specs.Machines.{Seen, seen_step}
 use Rattle.command_load.specs.Claims.{creation_of, claim_of_one, claimed_state, address_row}
 
 -- the call of each entry is a claim of one address
@@ -64,7 +65,7 @@ SharesAddUp = (numbers : List ℕ) (history : List (ℕ × Call)) → AreShared 
 
 -- an accepted call has the next place of its caller
 abbrev pub CallHasNextPlace : Type 0
-CallHasNextPlace = (v w : SeatView State Call) (call : Call) (reply : Reply) (place : ℕ) → IsCall plain_step is_accepted v w call reply accepted place
+CallHasNextPlace = (v w : SeatView Seen Call) (call : Call) (reply : Reply) (place : ℕ) → IsCall seen_step is_accepted v w call reply accepted place
     → own_places v.number 0 w.seen ≡ own_places v.number 0 v.seen ++ place ∷ []
 
 -- where no entry of a caller came, its places stay

@@ -8,9 +8,10 @@ use Rattle.history_lock.specs.Places.{IsLegalAt}
 use Rattle.history_lock.specs.Seats.{SeatView, IsCall}
 use Rattle.ipam_data.specs.declared.calls.Call.{Call}
 use Rattle.ipam_data.specs.declared.replies.Reply.{Reply}
-use Rattle.ipam_data.specs.State.{State, empty_state}
+use Rattle.ipam_data.specs.State.{empty_state}
 use Rattle.ipam_data.specs.Replays.{is_accepted}
 use Rattle.ipam_data.specs.Steps.{plain_step}
+use Rattle.register_core.specs.Machines.{Seen, seen_step}
 use Rattle.command_load.specs.LoadText.{load_address}
 use Rattle.command_load.specs.Claims.{claim_of_one, creation_of}
 use Rattle.command_load.specs.Histories.{AreClaims, AreShared, IsLoadHistory, HasRoomFor, own_places}
@@ -33,8 +34,8 @@ greatest_among [] = 0
 greatest_among (note ∷ notes) = max note.0 (greatest_among notes)
 
 -- the caller of a seat made claims alone: how many were accepted, and the least and the greatest number of an address that they got
-pub record IsNoted (unique : Bool) (most : ℕ) (v : SeatView State Call) (claimed least greatest : ℕ) : Type 0 where
-  pub opening : v.opening ≡ empty_state unique
+pub record IsNoted (unique : Bool) (most : ℕ) (v : SeatView Seen Call) (claimed least greatest : ℕ) : Type 0 where
+  pub opening : v.opening.state ≡ empty_state unique
   pub claims : AreClaims (own_entries v.number v.seen)
   pub notes : List (ℕ × ℕ)
   pub places : own_places v.number 0 v.seen ≡ map (λ n. n.1) notes
@@ -45,12 +46,12 @@ pub record IsNoted (unique : Bool) (most : ℕ) (v : SeatView State Call) (claim
 
 -- one more accepted claim is noted
 abbrev pub ClaimIsNoted : Type 0
-ClaimIsNoted = (unique : Bool) (most : ℕ) (v w : SeatView State Call) (claimed least greatest value place : ℕ) (reply : Reply) → IsNoted unique most v claimed least greatest
-    → IsCall plain_step is_accepted v w claim_of_one reply accepted place → address_in reply ≡ Some value → value ≤ most → IsNoted unique most w (claimed + 1) (min least value) (max greatest value)
+ClaimIsNoted = (unique : Bool) (most : ℕ) (v w : SeatView Seen Call) (claimed least greatest value place : ℕ) (reply : Reply) → IsNoted unique most v claimed least greatest
+    → IsCall seen_step is_accepted v w claim_of_one reply accepted place → address_in reply ≡ Some value → value ≤ most → IsNoted unique most w (claimed + 1) (min least value) (max greatest value)
 
 -- in the history that all share, the notes are the caller's tally
 abbrev pub NotesAreTally : Type 0
-NotesAreTally = (unique : Bool) (len most : ℕ) (history : List (ℕ × Call)) (v : SeatView State Call) (claimed least greatest : ℕ) (h : IsLoadHistory len history) → HasRoomFor len (length history)
+NotesAreTally = (unique : Bool) (len most : ℕ) (history : List (ℕ × Call)) (v : SeatView Seen Call) (claimed least greatest : ℕ) (h : IsLoadHistory len history) → HasRoomFor len (length history)
     → IsNoted unique most v claimed least greatest → IsPrefix v.seen history → own_entries v.number history ≡ own_entries v.number v.seen → h.maker ≢ v.number
     → (load_address (length history)).value ≤ most → IsTallyOf history (v.number ∷ []) claimed least greatest
 

@@ -4,8 +4,8 @@ ghost use Rattle.std.specs.Prelude.{◌≡◌, ◌+◌, ◌≤◌, ℕ, true, []
 ghost use Rattle.history_lock.specs.Seats.{IsSameSeat};
 ghost use Rattle.command_load.specs.LoadText.{load_len as len_of};
 ghost use Rattle.history_lock.specs.Replay.{replay};
-ghost use Rattle.ipam_data.specs.Steps.{plain_step};
 ghost use Rattle.ipam_data.specs.declared.replies.Reply.TheVariants.{Percent};
+ghost use Rattle.register_core.specs.Machines.{seen_step};
 ghost use Rattle.command_load.specs.Claims.{creation_of, figure_call};
 ghost use Rattle.command_load.specs.Hired.{Notes, last_of_v4};
 
@@ -105,7 +105,7 @@ pub fn ask_figure<R: Wait, K: Keeper>(
     requires lock { seat.lock ≡ shared.now }
     requires alone { seat.weight ≡ 65536 }
     ensures same { IsSameSeat seat result.0 }
-    ensures asked { IfSome result.1 (λ p. (result.0.seen ≡ seat.seen) × ((plain_step (replay plain_step seat.opening seat.seen) figure_call).1 ≡ Percent p)) }
+    ensures asked { IfSome result.1 (λ p. (result.0.seen ≡ seat.seen) × ((seen_step (replay seen_step seat.opening seat.seen) figure_call).1 ≡ Percent p)) }
 {
     let (seat, reply, _) = shared.call(rt, seat, figure());
     let percent = percentage(&reply);

@@ -50,7 +50,7 @@ fn claim_all<R: Threads + Wait + Sync, K: Keeper + Send>(
     claimers: Vec<Claimer<K>>,
 ) -> (Seat<Register<K>>, Option<LoadOutcome>)
     requires seat { (seat.lock ≡ shared.now) × (seat.weight ≡ 65536) × (seat.spare ≡ 65536) }
-    requires first { (seat.number ≡ 0) × (seat.ended ≡ []) × (seat.opening ≡ empty_state true) }
+    requires first { (seat.number ≡ 0) × (seat.ended ≡ []) × (seat.opening.state ≡ empty_state true) }
     requires none_yet { claimers.items ≡ [] }
     requires few { (1 ≤ workers) × (workers ≤ 32) × (count ≤ 100000) }
     requires room { workers ≤ vec_capacity claimers }
@@ -76,7 +76,7 @@ fn load_shared<R: Threads + Wait + Sync, K: Keeper + Send>(
     claimers: Vec<Claimer<K>>,
 ) -> (Register<K>, Option<LoadOutcome>)
     requires seat { (seat.lock ≡ shared) × (seat.weight ≡ 65536) × (seat.spare ≡ 65536) }
-    requires first { (seat.number ≡ 0) × (seat.ended ≡ []) × (seat.seen ≡ []) × (seat.opening ≡ empty_state true) }
+    requires first { (seat.number ≡ 0) × (seat.ended ≡ []) × (seat.seen ≡ []) × (seat.opening.state ≡ empty_state true) }
     requires none_yet { claimers.items ≡ [] }
     requires few { (1 ≤ workers) × (workers ≤ 32) × (1 ≤ count) × (count ≤ 100000) }
     requires room { workers ≤ vec_capacity claimers }

@@ -86,12 +86,12 @@ pub fn hire<K: Keeper>(
     claimers: &mut Vec<Claimer<K>>,
 ) -> Seat<Register<K>>
     requires seat { (seat.lock ≡ shared.now) × (seat.weight ≡ 65536) × (seat.spare ≡ 65536) }
-    requires first { (seat.number ≡ 0) × (seat.ended ≡ []) × (seat.opening ≡ empty_state true) }
+    requires first { (seat.number ≡ 0) × (seat.ended ≡ []) × (seat.opening.state ≡ empty_state true) }
     requires none_yet { claimers.old.items ≡ [] }
     requires few { (1 ≤ workers) × (workers ≤ 32) }
     requires room { workers ≤ vec_capacity claimers.old }
     ensures seat { (result.lock ≡ shared.now) × (result.weight + length claimers.new.items ≡ 65536) }
-    ensures first { (result.number ≡ 0) × (result.ended ≡ []) × (result.opening ≡ empty_state true) × (result.seen ≡ seat.seen) }
+    ensures first { (result.number ≡ 0) × (result.ended ≡ []) × (result.opening.state ≡ empty_state true) × (result.seen ≡ seat.seen) }
     ensures hired { All (IsHired shared.now) claimers.new.items }
     ensures numbers { AreNumberedDown top_number claimers.new.items }
     ensures shares { sum_by (λ w. w.share) claimers.new.items ≡ count }

@@ -1,9 +1,10 @@
 -- What a run of `serve` leaves whose register was served, as the command's record has it.
 use Rattle.std.proofs.Common.{◌≡◌, ℕ, ◌⊎◌, List, inl, inr, Option, arith}
 use Rattle.stored_tables.specs.declared.tables.Tables.{Tables}
-use Rattle.register_server.specs.Serving.{IsListening, IsServedFrom}
-use Rattle.register_server.specs.declared.ending.Listening.{Listening}
-use Rattle.register_server.specs.declared.ending.Listening.TheVariants.{Whole, Broken}
+use Rattle.http_lanes.specs.Listened.{IsListening}
+use Rattle.http_lanes.specs.declared.listening.Listening.{Listening}
+use Rattle.http_lanes.specs.declared.listening.Listening.TheVariants.{Whole, Broken}
+use Rattle.register_server.specs.Serving.{IsServedFrom}
 use Rattle.command_words.specs.declared.asked.Serving.{Serving}
 use Rattle.command_streams.specs.Streams.{Told, Gains, GainsFront, Failed, EndsWith}
 use Rattle.command_store.specs.Outside.{Outside}
@@ -77,7 +78,7 @@ serves_store told serving old new before after entries from bound silent = recor
   history = from.whole.history;
   served = from.whole.served;
   entries_are = from.whole.length_is;
-  holds = (told from.kept, from.whole.told_are, from.returned);
+  holds = (told from.kept, from.telling, from.whole.told_are, from.returned);
   silent = silent;
 }
 

@@ -6,8 +6,7 @@ use Rattle.stored_tables.specs.declared.opening.OpenFault.{OpenFault}
 use Rattle.stored_tables.specs.declared.opening.OpenFault.TheVariants.{Keeper, BadTables, Memory, BadRow, Version, BadNext, Limit}
 use Rattle.stored_tables.specs.Opening.{IsOfTables}
 use Rattle.ipam_listen.specs.Connections.{Returned}
-use Rattle.register_core.specs.Opened.{IsUnopened}
-use Rattle.register_server.specs.Serving.{AreLeft, IsFaultOf, IsListened, IsRefusal}
+use Rattle.register_server.specs.Serving.{AreLeft, IsFaultOf, IsListened}
 use Rattle.register_server.specs.declared.ending.Served.{Served}
 use Rattle.register_server.specs.declared.ending.Unserved.{Unserved}
 use Rattle.register_server.specs.declared.ending.Unserved.TheVariants.{Opening, Place}
@@ -17,8 +16,8 @@ use Rattle.command_streams.specs.Streams.{Told, Streams, EndsWith}
 use Rattle.command_store.specs.Outside.{Outside, StoreFailed, AreSame, IsUnused, NoCountFalls, NoCountRises}
 use Rattle.command_store.specs.FaultWords.{IsSaid, fault_line}
 use Rattle.command_store.specs.Opening.{found_tables, IsBadStore}
-use Rattle.command_store.proofs.Refused.{back_again, quiet_refused, unchanged}
-use Rattle.command_serve.specs.Serve.{ListenerView, ListeningFailed, AllCame, NoneFailed, NobodyCame, IsBoundBy, IsLeft, IsUnserved, IsUnservedSaid, IsServe}
+use Rattle.command_store.proofs.Refused.{back_again, not_used, quiet_refused, unchanged}
+use Rattle.command_serve.specs.Serve.{ListenerView, ListeningFailed, AllCame, NoneFailed, NobodyCame, IsBoundBy, IsUnserved, IsUnservedSaid, IsServe}
 
 -- what holds of a run whatever its status
 pub record Whatever (serving : Serving) (old new : Outside) (before after : ListenerView) (status : ℕ) : Type 0 where
@@ -50,22 +49,22 @@ nobody_came before after idle = record { lanes = ap (λ (d : ListenerView). d.la
 nobody_bound : (serving : Serving) (before after : ListenerView) → NobodyCame before after → before.lanes < after.lanes → IsBoundBy serving after
 nobody_bound serving before after none came = let same = none.lanes in absurd (omega arith)
 
--- where the tables were refused, those of all paths are as they were
-left_same : (store : Store) (old new : Outside) (why : Unserved) → IsRefusal why → IsLeft store old new why → AreSame old.stores.stored new.stores.stored
-left_same store old new why refusal (inl same) = unchanged old.stores.stored new.stores.stored same
-left_same store old new why refusal (inr (told, before, returned)) = back_again store.db told old.stores.stored new.stores.stored (before.refused refusal) returned
+-- those of all paths are as they were, where one keeper or none came back with what it told
+left_same : {K : Type 0} (told : K → Option Tables) (store : Store) (old new : Outside) → AreLeft told store.db old.stores.stored new.stores.stored → AreSame old.stores.stored new.stores.stored
+left_same told store old new (inl same) = unchanged old.stores.stored new.stores.stored same
+left_same told store old new (inr (kept, is, returned)) = back_again store.db (told kept) old.stores.stored new.stores.stored is returned
 
 -- for lack of memory
-of_memory : (serving : Serving) (old new : Outside) (before after : ListenerView) (status : ℕ) (why : Unserved) → Whatever serving old new before after status
-    → new.streams.output ≡ old.streams.output → IsLeft serving.store old new why → after ≡ before
+of_memory : (serving : Serving) (old new : Outside) (before after : ListenerView) (status : ℕ) → Whatever serving old new before after status
+    → new.streams.output ≡ old.streams.output → AreSame old.stores.stored new.stores.stored → after ≡ before
     → status ≡ 5 → new.streams.errors ≡ old.streams.errors → IsServe serving old new before after status
-of_memory serving old new before after status why all output left idle five silent = let none = nobody_came before after idle in record {
+of_memory serving old new before after status all output left idle five silent = let none = nobody_came before after idle in record {
   statuses = inr (inr (inr (inr five)));
   done = λ z. absurd (omega arith);
   refused = λ z. absurd (omega arith);
   fault = λ z. absurd (omega arith);
   store_fault = λ z. absurd (omega arith);
-  memory = λ z. (record { streams = same_streams old.streams new.streams all.unread output silent; why = why; left = left; nobody = none }, idle);
+  memory = λ z. (record { streams = same_streams old.streams new.streams all.unread output silent; stored = left; nobody = none }, idle);
   unread = all.unread;
   lanes_back = all.lanes_back;
   bound = nobody_bound serving before after none;
@@ -140,19 +139,23 @@ of_bad serving old new before after status fault all bad unused idle (inr said) 
   quiet = all.quiet;
 }
 
+-- nothing was used
+unused : (serving : Serving) (old new : Outside) (before after : ListenerView) (status : ℕ) → Whatever serving old new before after status
+    → new.streams.output ≡ old.streams.output → AreSame old.stores.stored new.stores.stored → IsUnused old new
+unused serving old new before after status all output left = record { input = all.unread; output = output; stored = left }
+
 -- the tables of the store have a fault, which was said, or memory ran out to say it
 of_tables : (serving : Serving) (old new : Outside) (before after : ListenerView) (status : ℕ) (fault : OpenFault) → Whatever serving old new before after status
-    → new.streams.output ≡ old.streams.output → IsLeft serving.store old new (Opening fault) → after ≡ before
-    → IsBadStore serving.store old fault → IsUnused old new
+    → new.streams.output ≡ old.streams.output → AreSame old.stores.stored new.stores.stored → after ≡ before → IsBadStore serving.store old fault
     → EndsWith old.streams.errors new.streams.errors (fault_line fault) 1 status ⊎ ((status ≡ 5) × (new.streams.errors ≡ old.streams.errors))
     → IsServe serving old new before after status
-of_tables serving old new before after status fault all output left idle bad unused (inl said) = of_bad serving old new before after status fault all bad unused idle said
-of_tables serving old new before after status fault all output left idle bad unused (inr said) =
-    of_memory serving old new before after status (Opening fault) all output left idle said.0 said.1
+of_tables serving old new before after status fault all output left idle bad (inl said) =
+    of_bad serving old new before after status fault all bad (unused serving old new before after status all output left) idle said
+of_tables serving old new before after status fault all output left idle bad (inr said) = of_memory serving old new before after status all output left idle said.0 said.1
 
 -- the place could not be had
 of_place : (serving : Serving) (old new : Outside) (before after : ListenerView) (status : ℕ) → Whatever serving old new before after status
-    → new.streams.output ≡ old.streams.output → IsLeft serving.store old new Place → NobodyCame before after → ListeningFailed before after
+    → new.streams.output ≡ old.streams.output → AreSame old.stores.stored new.stores.stored → NobodyCame before after → ListeningFailed before after
     → status ≡ 3 → new.streams.errors ≡ old.streams.errors → IsServe serving old new before after status
 of_place serving old new before after status all output left none failed three silent = record {
   statuses = inr (inr (inl three));
@@ -160,7 +163,7 @@ of_place serving old new before after status all output left none failed three s
   refused = λ z. absurd (omega arith);
   fault = λ z. inr (inr (inl (record {
     failed = failed;
-    unserved = record { streams = same_streams old.streams new.streams all.unread output silent; why = Place; left = left; nobody = none };
+    unserved = record { streams = same_streams old.streams new.streams all.unread output silent; stored = left; nobody = none };
   })));
   store_fault = λ z. absurd (omega arith);
   memory = λ z. absurd (omega arith);
@@ -172,44 +175,27 @@ of_place serving old new before after status all output left none failed three s
   quiet = all.quiet;
 }
 
--- nothing was used, where the tables were refused
-unused : (serving : Serving) (old new : Outside) (before after : ListenerView) (status : ℕ) (why : Unserved) → Whatever serving old new before after status
-    → new.streams.output ≡ old.streams.output → IsLeft serving.store old new why → IsRefusal why → IsUnused old new
-unused serving old new before after status why all output left refusal =
-    record { input = all.unread; output = output; stored = left_same serving.store old new why refusal left }
-
 of_why : (serving : Serving) (old new : Outside) (before after : ListenerView) (status : ℕ) (why : Unserved) → Whatever serving old new before after status
-    → new.streams.output ≡ old.streams.output → IsLeft serving.store old new why → NobodyCame before after
+    → new.streams.output ≡ old.streams.output → AreSame old.stores.stored new.stores.stored → NobodyCame before after
     → IsFaultOf (found_tables serving.store old) serving.store.global_unique old.stores.faults new.stores.faults why
     → IsListened (AllCame serving before after × NoneFailed before after) (ListeningFailed before after) (after ≡ before) (Err why)
     → IsUnservedSaid why old.streams.errors new.streams.errors status → IsServe serving old new before after status
 of_why serving old new before after status (Opening Keeper) all output left none of heard said =
-    of_keeper serving old new before after status all (of.1 refl) (unused serving old new before after status (Opening Keeper) all output left (λ same. absurd (cc))) heard said
+    of_keeper serving old new before after status all (of.1 refl) (unused serving old new before after status all output left) heard said
 of_why serving old new before after status (Opening Memory) all output left none of heard said =
-    of_memory serving old new before after status (Opening Memory) all output left heard said.0 said.1
+    of_memory serving old new before after status all output left heard said.0 said.1
 of_why serving old new before after status (Opening (BadTables kind n rule)) all output left none of heard said =
-    of_tables serving old new before after status (BadTables kind n rule) all output left heard (record { of_tables = tt; refused = of.0 tt })
-    (unused serving old new before after status (Opening (BadTables kind n rule)) all output left (λ same. absurd (cc))) said
+    of_tables serving old new before after status (BadTables kind n rule) all output left heard (record { of_tables = tt; refused = of.0 tt }) said
 of_why serving old new before after status (Opening (BadRow kind n)) all output left none of heard said =
-    of_tables serving old new before after status (BadRow kind n) all output left heard (record { of_tables = tt; refused = of.0 tt })
-    (unused serving old new before after status (Opening (BadRow kind n)) all output left (λ same. absurd (cc))) said
+    of_tables serving old new before after status (BadRow kind n) all output left heard (record { of_tables = tt; refused = of.0 tt }) said
 of_why serving old new before after status (Opening (Version n)) all output left none of heard said =
-    of_tables serving old new before after status (Version n) all output left heard (record { of_tables = tt; refused = of.0 tt })
-    (unused serving old new before after status (Opening (Version n)) all output left (λ same. absurd (cc))) said
+    of_tables serving old new before after status (Version n) all output left heard (record { of_tables = tt; refused = of.0 tt }) said
 of_why serving old new before after status (Opening (BadNext kind)) all output left none of heard said =
-    of_tables serving old new before after status (BadNext kind) all output left heard (record { of_tables = tt; refused = of.0 tt })
-    (unused serving old new before after status (Opening (BadNext kind)) all output left (λ same. absurd (cc))) said
+    of_tables serving old new before after status (BadNext kind) all output left heard (record { of_tables = tt; refused = of.0 tt }) said
 of_why serving old new before after status (Opening (Limit which n)) all output left none of heard said =
-    of_tables serving old new before after status (Limit which n) all output left heard (record { of_tables = tt; refused = of.0 tt })
-    (unused serving old new before after status (Opening (Limit which n)) all output left (λ same. absurd (cc))) said
+    of_tables serving old new before after status (Limit which n) all output left heard (record { of_tables = tt; refused = of.0 tt }) said
 of_why serving old new before after status Place all output left none of heard said =
     of_place serving old new before after status all output left none heard said.0 said.1
-
--- the tables were left, as one keeper or none told
-left_of : {K : Type 0} (told : K → Option Tables) (store : Store) (old new : Outside) (why : Unserved)
-    → AreLeft told store.db old.stores.stored new.stores.stored why → IsLeft store old new why
-left_of told store old new why (inl same) = inl same
-left_of told store old new why (inr (kept, before, returned)) = inr (told kept, before, returned)
 
 -- what is said of the listener's value is said of what it tells
 pub heard_of_view : (came failed : Type 0) (unused idle : Type 0) (why : Unserved) → (unused → idle) → IsListened came failed unused (Err why) → IsListened came failed idle (Err why)
@@ -219,12 +205,12 @@ heard_of_view came failed unused idle Place tell heard = heard
 -- nobody was served
 pub of_unserved : {K : Type 0} (told : K → Option Tables) (serving : Serving) (old new : Outside) (before after : ListenerView) (status : ℕ) (why : Unserved)
     → Whatever serving old new before after status → new.streams.output ≡ old.streams.output
-    → AreLeft told serving.store.db old.stores.stored new.stores.stored why × (after.returned ≡ before.returned)
+    → AreLeft told serving.store.db old.stores.stored new.stores.stored × (after.returned ≡ before.returned)
     × IsFaultOf (found_tables serving.store old) serving.store.global_unique old.stores.faults new.stores.faults why
     → IsListened (AllCame serving before after × NoneFailed before after) (ListeningFailed before after) (after ≡ before) (Err why)
     → IsUnservedSaid why old.streams.errors new.streams.errors status → IsServe serving old new before after status
 of_unserved told serving old new before after status why all output (left, returned, of) heard said =
-    of_why serving old new before after status why all output (left_of told serving.store old new why left) (nobody before after returned all.lanes_back) of heard said
+    of_why serving old new before after status why all output (left_same told serving.store old new left) (nobody before after returned all.lanes_back) of heard said
 
 -- where memory ran out before anything was used
 pub not_begun : (serving : Serving) (old new : Outside) (before after : ListenerView) (status : ℕ) → status ≡ 5 → new ≡ old → after ≡ before
@@ -232,7 +218,7 @@ pub not_begun : (serving : Serving) (old new : Outside) (before after : Listener
 not_begun serving old new before after status five same same_listener =
     subst (λ (t : Outside). IsServe serving old t before after status) (sym same)
     (subst (λ (d : ListenerView). IsServe serving old old before d status) (sym same_listener)
-    (of_memory serving old old before before status (Opening Memory)
+    (of_memory serving old old before before status
     (record {
       unread = refl;
       lanes_back = refl;
@@ -240,7 +226,7 @@ not_begun serving old new before after status five same same_listener =
       listener_later = omega arith;
       quiet = λ z. record { streams = record { input = refl; output = refl; errors = refl }; stores = refl };
     })
-    refl (inl refl) refl five refl))
+    refl (not_used old.stores.stored) refl five refl))
 
 -- where memory ran out no count rose
 pub quiet_unserved : (old new : Outside) (why : Unserved) (status : ℕ)

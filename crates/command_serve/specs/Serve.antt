@@ -3,23 +3,20 @@
 use Rattle.std.specs.Prelude.{◌≡◌, ℕ, ◌+◌, ◌++◌, ◌≤◌, ◌<◌, ◌⊎◌, List, [], ◌∷◌, Option, Some, length, codes, decimal}
 use Rattle.ipam_edge.specs.Faults.{Rose}
 use Rattle.history_lock.specs.Replay.{replay}
+use Rattle.ipam_data.specs.declared.calls.Call.{Call}
 use Rattle.ipam_data.specs.State.{State}
 use Rattle.ipam_data.specs.Steps.{plain_step}
-use Rattle.stored_tables.specs.declared.tables.Tables.{Tables}
-use Rattle.ipam_keeper.specs.Keeping.{IsReturned}
 use Rattle.ipam_listen.specs.Connections.{Binding, Returned, binding}
-use Rattle.shared_session.specs.Told.{Made}
-use Rattle.register_server.specs.Serving.{AreAsBefore, IsServedBy}
-use Rattle.register_server.specs.declared.ending.Listening.{Listening}
-use Rattle.register_server.specs.declared.ending.Listening.TheVariants.{Whole, Broken}
+use Rattle.http_lanes.specs.declared.listening.Listening.{Listening}
+use Rattle.http_lanes.specs.declared.listening.Listening.TheVariants.{Whole, Broken}
+use Rattle.register_server.specs.Serving.{IsServedBy}
 use Rattle.register_server.specs.declared.ending.Unserved.{Unserved}
 use Rattle.register_server.specs.declared.ending.Unserved.TheVariants.{Opening, Place}
-use Rattle.command_words.specs.declared.asked.Store.{Store}
 use Rattle.command_words.specs.declared.asked.Serving.{Serving}
 use Rattle.command_streams.specs.Streams.{Told, Gains, GainsFront, Failed}
-use Rattle.command_store.specs.Outside.{Outside, NoCountFalls, NoCountRises}
+use Rattle.command_store.specs.Outside.{AreSame, Outside, NoCountFalls, NoCountRises}
 use Rattle.command_store.specs.FaultWords.{IsSaid}
-use Rattle.command_store.specs.Opening.{found_tables, IsLoaded, Holds, NamesFault, NamesFailure, FailsToSay}
+use Rattle.command_store.specs.Opening.{IsLoaded, HoldsTold, NamesFault, NamesFailure, FailsToSay}
 
 -- ---- what is seen of a listener
 
@@ -73,14 +70,14 @@ pub record ServesStore (serving : Serving) (old new : Outside) (before after : L
   pub bound : IsBoundBy serving after
   pub state : State
   pub loaded : IsLoaded serving.store old state
-  pub history : List Made
+  pub history : List (ℕ × Call)
   -- all answers of all connections are out of the one history, which has their changes, in order, and no others; each lane that came back
   -- tells the connections that were served; where all lanes came none has an accept left; and no more answers tell that the keeper
   -- failed than the opener's count rose, as far as that goes
   pub served : IsServedBy state old.stores.faults new.stores.faults before.returned after.returned (AllCame serving before after) history
   pub entries_are : entries ≡ length history
-  -- the store has the history's replay
-  pub holds : Holds serving.store old new (replay plain_step state history)
+  -- the store has the history's replay, and tells it where its tables were told
+  pub holds : HoldsTold serving.store old new (replay plain_step state history)
   -- nothing is said
   pub silent : new.streams.errors ≡ old.streams.errors
 
@@ -106,23 +103,16 @@ pub record FailsToCount (serving : Serving) (old new : Outside) (before after : 
   pub serves : ServesStore serving old new before after entries
   pub front : GainsFront old.streams.output new.streams.output (entries_line entries)
 
--- told tables are as they were, but those of the store where the keeper that came back tells none: what it tells was there before
-abbrev pub IsLeft : Store → Outside → Outside → Unserved → Type 0
-IsLeft store old new why =
-    (new.stores.stored ≡ old.stores.stored)
-    ⊎ ((told : Option Tables) × AreAsBefore (found_tables store old) told why × IsReturned (Some store.db) told old.stores.stored new.stores.stored)
-
--- nobody was served, nothing was read and nothing written
-pub record IsUnserved (store : Store) (old new : Outside) (before after : ListenerView) : Type 0 where
+-- nobody was served, nothing was read and nothing written, and told tables are as they were
+pub record IsUnserved (old new : Outside) (before after : ListenerView) : Type 0 where
   pub streams : new.streams ≡ old.streams
-  pub why : Unserved
-  pub left : IsLeft store old new why
+  pub stored : AreSame old.stores.stored new.stores.stored
   pub nobody : NobodyCame before after
 
 -- the listener could not be bound to the place: nothing is said, and nobody was served
-pub record HasNoPlace (store : Store) (old new : Outside) (before after : ListenerView) : Type 0 where
+pub record HasNoPlace (old new : Outside) (before after : ListenerView) : Type 0 where
   pub failed : ListeningFailed before after
-  pub unserved : IsUnserved store old new before after
+  pub unserved : IsUnserved old new before after
 
 -- what is said where nobody was served: why the opening was refused, and of a place that could not be had nothing
 abbrev pub IsUnservedSaid : Unserved → Told → Told → ℕ → Type 0
@@ -140,11 +130,11 @@ pub record IsServe (serving : Serving) (old new : Outside) (before after : Liste
   -- 3: the listener failed, and the count was printed; or the output failed; or the place could not be had; or what was to be said of the
   -- opening could not be
   pub fault : status ≡ 3 → BreaksOff serving old new before after ⊎ FailsToCount serving old new before after
-      ⊎ HasNoPlace serving.store old new before after ⊎ (FailsToSay serving.store old new × (after ≡ before))
+      ⊎ HasNoPlace old new before after ⊎ (FailsToSay serving.store old new × (after ≡ before))
   -- 4: the opening was refused since the store failed; the listener was not used
   pub store_fault : status ≡ 4 → NamesFailure old new × (after ≡ before)
   -- 5: nobody was served, and nothing was said; the listener was not used, so no count of its faults rose
-  pub memory : status ≡ 5 → IsUnserved serving.store old new before after × (after ≡ before)
+  pub memory : status ≡ 5 → IsUnserved old new before after × (after ≡ before)
   -- the input is not read
   pub unread : new.streams.input ≡ old.streams.input
   -- every lane that was handed out was given back

@@ -1,8 +1,11 @@
 -- What a session over a store leaves, as the command's record has it.
-use Rattle.std.proofs.Common.{◌≡◌, ℕ, ◌+◌, ◌≤◌, ◌⊎◌, List, [], ◌++◌, inl, inr, Option, Some, None, IfSome, zero, suc, IsSome, ◌↔◌, refl, subst, sym, ◌∙◌, ap, arith}
+use Rattle.std.proofs.Common.{◌≡◌, ℕ, ◌+◌, ◌≤◌, ◌⊎◌, List, [], ◌++◌, inl, inr, Option, Some, None, IfSome, is_some, zero, suc, map, IsSome, refl, subst, sym, ◌∙◌, ap, arith}
 use Rattle.ipam_edge.specs.Reading.{Step}
 use Rattle.std.specs.Io.KnownBytes.{Appends}
+use Rattle.ipam_data.specs.declared.calls.Call.{Call}
+use Rattle.ipam_data.specs.Replays.{replay as entries_replay}
 use Rattle.ipam_data.specs.State.{State}
+use Rattle.ipam_data.specs.Steps.{plain_step}
 use Rattle.stored_tables.specs.declared.tables.Tables.{Tables}
 use Rattle.stored_tables.specs.Stored.{Tells}
 use Rattle.ipam_keeper.specs.Keeping.{Rose, IsRaised, IsReturned, last_count}
@@ -10,13 +13,20 @@ use Rattle.ipam_keeper.proofs.FaultLemmas.{raised_by_none}
 use Rattle.http_session.specs.Steps.{Grown}
 use Rattle.http_session.specs.Talk.{Answer, May, Run, texts}
 use Rattle.http_session.specs.Requests.{AreAllItems, Item}
-use Rattle.http_session.specs.Ends.{IsEnd, IsSession as IsTalkSession}
+use Rattle.http_session.specs.Ends.{IsEnd}
 use Rattle.http_session.specs.declared.session.SessionEnd.{SessionEnd}
 use Rattle.http_session.specs.declared.session.SessionEnd.TheVariants.{Closed, SourceFault, SinkFault, Memory}
 use Rattle.http_session.proofs.ItemLemmas.{all_in_all}
-use Rattle.rest_ipam.specs.Answered.{Seen}
-use Rattle.kept_session.specs.Answered.{standing, fresh, answers_kept}
-use Rattle.kept_session.proofs.Plainly.{end_plainly}
+use Rattle.history_lock.specs.Machines.{Reaches}
+use Rattle.history_lock.specs.Replay.{replay}
+use Rattle.machine_session.specs.Owned.{Owned, counted, owned, plain_of_owned}
+use Rattle.machine_session.specs.Sessions.{IsOwnSession}
+use Rattle.machine_session.proofs.Beside.{session_beside}
+use Rattle.register_core.specs.Kept.{Kept}
+use Rattle.register_core.specs.Machines.{Seen, pair_of, seen, seen_step}
+use Rattle.register_core.proofs.MachineFits.{replay_pairs}
+use Rattle.rest_ipam.specs.Answered.{answers_kept, fresh, opened}
+use Rattle.rest_ipam.specs.Protocol.{register_protocol, seen_protocol}
 use Rattle.command_words.specs.declared.asked.Store.{Store}
 use Rattle.ipam_edge.proofs.FaultLemmas.{unless}
 use Rattle.command_streams.specs.Streams.{Told, Failed}
@@ -42,46 +52,44 @@ prints may first register (Some input) (Some left) written_old written_new n byt
     )
 
 -- where the opener's count did not rise, no answer told that the keeper failed
-none_failed : (old mid count new failed : ℕ) → failed ≤ count → old ≤ mid → IsRaised mid count new → (¬ Rose old new) → failed ≡ 0
+none_failed : (old mid count new told : ℕ) → Reaches (0 + told) count → old ≤ mid → IsRaised mid count new → (¬ Rose old new) → told ≡ 0
 none_failed old mid count new zero few later raised well = refl
-none_failed old mid count new (suc failed) few later (inl is) well = absurd (well (inl (omega arith)))
-none_failed old mid count new (suc failed) few later (inr is) well = absurd (well (inr (let e = is.1 in omega arith)))
+none_failed old mid count new (suc told) (inl few) later (inl is) well = absurd (well (inl (omega arith)))
+none_failed old mid count new (suc told) (inr most) later (inl is) well = absurd (well (inr (omega arith)))
+none_failed old mid count new (suc told) few later (inr is) well = absurd (well (inr (let e = is.1 in omega arith)))
 
-bounded : (old mid count new failed : ℕ) → failed ≤ count → old ≤ mid → IsRaised mid count new → (old + failed ≤ new) ⊎ (last_count ≤ new)
-bounded old mid count new failed few later (inl is) = inl (omega arith)
-bounded old mid count new failed few later (inr is) = inr (let e = is.1 in omega arith)
+bounded : (old mid count new told : ℕ) → Reaches (0 + told) count → old ≤ mid → IsRaised mid count new → (old + told ≤ new) ⊎ (last_count ≤ new)
+bounded old mid count new told (inl few) later (inl is) = inl (omega arith)
+bounded old mid count new told (inr most) later (inl is) = inr (omega arith)
+bounded old mid count new told few later (inr is) = inr (let e = is.1 in omega arith)
 
--- a session that was served, and whose keeper is back
-pub serves : {R : Type 0} (step : Step R) (from to : R) (store : Store) (old new : Outside) (how : SessionEnd) (state : State) (first seen : Seen)
-    (failed count mid : ℕ) (told : Option Tables)
-    → IsLoaded store old state → first ≡ (fresh state).seen
-    → IsTalkSession answers_kept step (standing first 0) (standing seen failed) from to old.streams.input.bytes new.streams.input.bytes
-    old.streams.output.bytes new.streams.output.bytes how
-    → failed ≤ count → (failed ≡ 0 → count ≡ 0) → mid ≡ old.stores.faults → IsRaised mid count new.stores.faults
+-- a session of a register that was opened with this state, over a keeper that had not failed, and whose keeper is back
+serves : {R : Type 0} (step : Step R) (from to : R) (store : Store) (old new : Outside) (how : SessionEnd) (state : State) (last : Owned State Call) (mid : ℕ) (told : Option Tables)
+    → IsLoaded store old state
+    → IsOwnSession register_protocol step (owned state [] 0) last from to old.streams.input.bytes new.streams.input.bytes old.streams.output.bytes new.streams.output.bytes how
+    → mid ≡ old.stores.faults → IsRaised mid last.faults new.stores.faults
     → (IsSome (found_tables store old) → IsSome told)
-    → Tells told seen.state → IsReturned (Some store.db) told old.stores.stored new.stores.stored
+    → Tells told (replay plain_step state last.log) → IsReturned (Some store.db) told old.stores.stored new.stores.stored
     → new.streams.errors ≡ old.streams.errors → Serves store old new how
-serves step from to store old new how state first seen failed count mid told loaded begins talk few none same raised telling tells returned silent =
+serves step from to store old new how state last mid told loaded s same raised telling tells returned silent =
     let later : old.stores.faults ≤ mid = omega (arith, same) in
-    let ends = subst (λ (k : Seen). IsEnd answers_kept (standing k 0) (standing seen failed) old.streams.output.bytes new.streams.output.bytes talk.bytes new.streams.input.bytes how) begins talk.ends in
     record {
       state = state;
       loaded = loaded;
-      bytes = talk.bytes;
-      last = standing seen failed;
-      grown = talk.grown;
-      ends = ends;
-      bounded = bounded old.stores.faults mid count new.stores.faults failed few later raised;
-      plain = λ well. end_plainly (fresh state) (standing seen failed) old.streams.output.bytes new.streams.output.bytes talk.bytes new.streams.input.bytes how ends
-          (none_failed old.stores.faults mid count new.stores.faults failed few later raised well);
-      needed = talk.needed;
-      calm = λ zero_. raised_by_none mid count new.stores.faults (none zero_) raised ∙ same;
+      bytes = s.session.bytes;
+      last = counted last s.told;
+      grown = s.session.grown;
+      ends = s.session.ends;
+      bounded = bounded old.stores.faults mid last.faults new.stores.faults s.told s.bounded later raised;
+      plain = λ well. s.certain (none_failed old.stores.faults mid last.faults new.stores.faults s.told s.bounded later raised well);
+      needed = s.session.needed;
+      calm = λ none. raised_by_none mid last.faults new.stores.faults (s.still none) raised ∙ same;
       holds = (told, telling, tells, returned);
       silent = silent;
     }
 
 -- the opener's count rose only where a call was answered by a failed keeper
-rises : (store : Store) (old new : Outside) (how : SessionEnd) (s : Serves store old new how) (n : ℕ) → s.last.failed ≡ n
+rises : (store : Store) (old new : Outside) (how : SessionEnd) (s : Serves store old new how) (n : ℕ) → s.last.told ≡ n
     → (new.stores.faults ≡ old.stores.faults) ⊎ HasFailedCall store old new how
 rises store old new how s zero is = inl (s.calm is)
 rises store old new how s (suc n) is = inr (record { serves = s; failed = omega (arith, is) })
@@ -98,7 +106,7 @@ of_served store old new (Closed n) s source sink later read wrote = record {
     count = n;
     serves = s;
     prints = prints answers_kept (fresh s.state) s.last _ _ _ _ n s.bytes s.grown s.ends;
-    plain = λ well. prints _ (fresh s.state).seen s.last.seen _ _ _ _ n s.bytes s.grown (s.plain well);
+    plain = λ well. prints _ (opened s.state) (plain_of_owned plain_step s.last.now) _ _ _ _ n s.bytes s.grown (s.plain well);
   };
   refused = λ z. absurd (omega arith);
   fault = λ z. absurd (omega arith);
@@ -137,7 +145,7 @@ of_served store old new Memory s source sink later read wrote = record {
   later = later;
   quiet = λ z. (
     record { input = unless (λ e. cc e) read; output = unless (λ e. cc e) wrote; errors = ap (λ (t : Told). t.faults) s.silent },
-    rises store old new Memory s s.last.failed refl,
+    rises store old new Memory s s.last.told refl,
   );
 }
 
@@ -148,21 +156,39 @@ pub of_ended : (store : Store) (old new : Outside) (how : SessionEnd) (status : 
     → IsSession store old new status
 of_ended store old new how status is s source sink later read wrote = subst (λ (n : ℕ). IsSession store old new n) (sym is) (of_served store old new how s source sink later read wrote)
 
--- a session that was served, by what is known of the opener that lent its keeper
-pub serves_back : {R : Type 0} {K : Type 0} (step : Step R) (from to : R) (store : Store) (old new : Outside) (how : SessionEnd) (state : State) (first seen : Seen)
-    (told_by : K → Option Tables) (faults_by : K → ℕ) (lent_out kept keeper : K) (mid : ℕ) (lent : Option (Option (List ℕ))) (mid_stored : Option (List (List ℕ × Tables)))
-    → IsLoaded store old state → first ≡ (fresh state).seen
-    → (failed : ℕ) × (failed ≤ faults_by keeper) × (failed ≡ 0 → faults_by keeper ≡ faults_by lent_out)
-    × IsTalkSession answers_kept step (standing first 0) (standing seen failed) from to old.streams.input.bytes new.streams.input.bytes
-    old.streams.output.bytes new.streams.output.bytes how
-    → told_by lent_out ≡ found_tables store old → IsSome (told_by lent_out) ↔ IsSome (told_by keeper)
-    → kept ≡ keeper → mid ≡ old.stores.faults → faults_by lent_out ≡ 0 → IsRaised mid (faults_by kept) new.stores.faults → Tells (told_by keeper) seen.state
+-- a keeper that goes on as before tells where it did
+still_tells : (start told : Option Tables) → is_some told ≡ is_some start → IsSome start → IsSome told
+still_tells None None still some = some
+still_tells (Some first) None still some = absurd (cc still)
+still_tells None (Some tables) still some = absurd (cc still)
+still_tells (Some first) (Some tables) still some = some
+
+-- a session that was served, by what is known of the opener that lent its keeper: the register was first and is last
+pub serves_back : {R K : Type 0} (step : Step R) (from to : R) (store : Store) (old new : Outside) (how : SessionEnd) (told_by : K → Option Tables) (faults_by : K → ℕ)
+    (first last : Kept K) (kept : K) (mid : ℕ) (lent : Option (Option (List ℕ))) (mid_stored : Option (List (List ℕ × Tables)))
+    → IsLoaded store old first.state → first.log ≡ [] → first.state ≡ entries_replay first.opening first.log → faults_by first.keeper ≡ 0
+    → IsOwnSession seen_protocol step (owned (seen first.opening (told_by first.keeper)) (map pair_of first.log) (faults_by first.keeper))
+    (owned (seen last.opening (told_by last.keeper)) (map pair_of last.log) (faults_by last.keeper)) from to
+    old.streams.input.bytes new.streams.input.bytes old.streams.output.bytes new.streams.output.bytes how
+    → told_by first.keeper ≡ found_tables store old → last.state ≡ entries_replay last.opening last.log → Tells (told_by last.keeper) last.state
+    → kept ≡ last.keeper → mid ≡ old.stores.faults → IsRaised mid (faults_by kept) new.stores.faults
     → lent ≡ Some store.db → old.stores.stored ≡ mid_stored → IsReturned lent (told_by kept) mid_stored new.stores.stored
     → new.streams.errors ≡ old.streams.errors → Serves store old new how
-serves_back {R} {K} step from to store old new how state first seen told_by faults_by lent_out kept keeper mid lent mid_stored loaded begins talk starts telling same later fresh_ raised tells out stays returned silent =
+serves_back {R} {K} step from to store old new how told_by faults_by first last kept mid lent mid_stored loaded none begun well talk starts replayed tells same later raised out stays returned silent =
     let raised' = subst (λ (k : K). IsRaised mid (faults_by k) new.stores.faults) same raised in
     let back = subst (λ (k : K). IsReturned lent (told_by k) mid_stored new.stores.stored) same returned in
-    let here = subst (λ (l : Option (Option (List ℕ))). IsReturned l (told_by keeper) mid_stored new.stores.stored) out back in
-    let there = subst (λ (s : Option (List (List ℕ × Tables))). IsReturned (Some store.db) (told_by keeper) s new.stores.stored) (sym stays) here in
-    let goes_on = subst (λ (t : Option Tables). IsSome t → IsSome (told_by keeper)) starts telling.0 in
-    serves step from to store old new how state first seen talk.0 (faults_by keeper) mid (told_by keeper) loaded begins talk.3 talk.1 (λ zero_. talk.2 zero_ ∙ fresh_) later raised' goes_on tells there silent
+    let here = subst (λ (l : Option (Option (List ℕ))). IsReturned l (told_by last.keeper) mid_stored new.stores.stored) out back in
+    let there = subst (λ (s : Option (List (List ℕ × Tables))). IsReturned (Some store.db) (told_by last.keeper) s new.stores.stored) (sym stays) here in
+    let opening : first.opening ≡ first.state = sym (begun ∙ ap (entries_replay first.opening) none) in
+    let log = map pair_of last.log in
+    let plainly = session_beside register_protocol seen_step (λ (s : Seen). s.state) (λ s call. refl) step _ _ from to _ _ _ _ how talk in
+    let from_here : IsOwnSession register_protocol step (owned first.state [] 0) (owned last.opening log (faults_by last.keeper)) from to
+    old.streams.input.bytes new.streams.input.bytes old.streams.output.bytes new.streams.output.bytes how =
+    subst (λ (v : Owned State Call). IsOwnSession register_protocol step v (owned last.opening log (faults_by last.keeper)) from to
+    old.streams.input.bytes new.streams.input.bytes old.streams.output.bytes new.streams.output.bytes how)
+    (λ i. owned (opening i) (map pair_of (none i)) (well i)) plainly in
+    let on : last.opening ≡ first.state = ap (λ (s : Seen). s.state) talk.opening ∙ opening in
+    let state : last.state ≡ replay plain_step first.state log = replayed ∙ (sym (replay_pairs last.opening last.log) ∙ ap (λ (o : State). replay plain_step o log) on) in
+    let goes_on = still_tells (found_tables store old) (told_by last.keeper) (ap (λ (s : Seen). s.tells) talk.opening ∙ ap is_some starts) in
+    serves step from to store old new how first.state (owned last.opening log (faults_by last.keeper)) mid (told_by last.keeper) loaded from_here later raised' goes_on
+    (subst (Tells (told_by last.keeper)) state tells) there silent

@@ -1,7 +1,9 @@
 -- What a run of the command `session` promises of each status: one connection over the input and the output, with a register of
 -- its own, over the store that the words name, or else in memory.
 use Rattle.std.specs.Prelude.{◌≡◌, ℕ, ◌+◌, ◌≤◌, ◌⊎◌, List, [], IfSome}
+use Rattle.ipam_data.specs.declared.calls.Call.{Call}
 use Rattle.ipam_data.specs.State.{State}
+use Rattle.ipam_data.specs.Steps.{plain_step}
 use Rattle.ipam_keeper.specs.Keeping.{last_count}
 use Rattle.http_session.specs.Requests.{AreAllItems, Item}
 use Rattle.http_session.specs.Steps.{Grown}
@@ -9,8 +11,9 @@ use Rattle.http_session.specs.Talk.{Answer, May, Run, texts}
 use Rattle.http_session.specs.Ends.{IsEnd, IsReadAsNeeded}
 use Rattle.http_session.specs.declared.session.SessionEnd.{SessionEnd}
 use Rattle.http_session.specs.declared.session.SessionEnd.TheVariants.{Closed, SourceFault, SinkFault, Memory}
-use Rattle.rest_ipam.specs.Answered.{answers_plainly}
-use Rattle.kept_session.specs.Answered.{Standing, fresh, answers_kept}
+use Rattle.history_lock.specs.Replay.{replay}
+use Rattle.machine_session.specs.Owned.{Counted, plain_of_owned}
+use Rattle.rest_ipam.specs.Answered.{answers_kept, answers_plainly, fresh, opened}
 use Rattle.command_words.specs.declared.asked.Store.{Store}
 use Rattle.command_streams.specs.Streams.{Gains, Failed, NeverRises}
 use Rattle.command_store.specs.Outside.{Outside, StoreFailed, IsUnused, NoCountFalls}
@@ -21,20 +24,21 @@ pub record Serves (store : Store) (old new : Outside) (end : SessionEnd) : Type 
   pub state : State
   pub loaded : IsLoaded store old state
   pub bytes : List ℕ
-  pub last : Standing
+  -- the register behind the last answer, its keeper's count of faults, and how many answers told that the keeper failed
+  pub last : Counted State Call
   pub grown : Grown old.streams.input.bytes new.streams.input.bytes [] bytes
-  -- the answers are the plain register's, from the loaded state, but where the keeper failed or memory ran out in the register ..
+  -- the answers are the plain register's, from the loaded state, but where the keeper failed a change or memory ran out in the register ..
   pub ends : IsEnd answers_kept (fresh state) last old.streams.output.bytes new.streams.output.bytes bytes new.streams.input.bytes end
   -- .. of which the first is told at most as often as the opener's count rose, as far as that goes ..
-  pub bounded : (old.stores.faults + last.failed ≤ new.stores.faults) ⊎ (last_count ≤ new.stores.faults)
+  pub bounded : (old.stores.faults + last.told ≤ new.stores.faults) ⊎ (last_count ≤ new.stores.faults)
   -- .. and where it did not rise they are all the plain register's, out of memory aside
   pub plain : (¬ StoreFailed old new)
-      → IsEnd answers_plainly (fresh state).seen last.seen old.streams.output.bytes new.streams.output.bytes bytes new.streams.input.bytes end
+      → IsEnd answers_plainly (opened state) (plain_of_owned plain_step last.now) old.streams.output.bytes new.streams.output.bytes bytes new.streams.input.bytes end
   pub needed : IsReadAsNeeded bytes
   -- .. and it rose only where a call was answered by a failed keeper
-  pub calm : last.failed ≡ 0 → new.stores.faults ≡ old.stores.faults
+  pub calm : last.told ≡ 0 → new.stores.faults ≡ old.stores.faults
   -- the store has what was accepted, and tells it where its tables were told
-  pub holds : HoldsTold store old new last.seen.state
+  pub holds : HoldsTold store old new (replay plain_step state last.now.log)
   -- nothing is said
   pub silent : new.streams.errors ≡ old.streams.errors
 
@@ -51,7 +55,7 @@ pub record Closes (store : Store) (old new : Outside) : Type 0 where
   pub count : ℕ
   pub serves : Serves store old new (Closed count)
   pub prints : Prints answers_kept (fresh serves.state) old new
-  pub plain : (¬ StoreFailed old new) → Prints answers_plainly (fresh serves.state).seen old new
+  pub plain : (¬ StoreFailed old new) → Prints answers_plainly (opened serves.state) old new
 
 -- the input failed, with the answers to all requests that lay whole in the bytes read on the output
 pub record Starves (store : Store) (old new : Outside) : Type 0 where
@@ -73,7 +77,7 @@ end_status Memory = 5
 -- a call was answered by a failed keeper
 pub record HasFailedCall (store : Store) (old new : Outside) (end : SessionEnd) : Type 0 where
   pub serves : Serves store old new end
-  pub failed : 1 ≤ serves.last.failed
+  pub failed : 1 ≤ serves.last.told
 
 -- a run of `session` over this store
 pub record IsSession (store : Store) (old new : Outside) (status : ℕ) : Type 0 where

@@ -12,12 +12,12 @@ ghost use Rattle.ipam_edge.specs.Faults.{Rose as EdgeRose};
 use command_store::{open_store, say_fault};
 use command_streams::{DONE, FAULT, MEMORY};
 use command_words::Store;
+use http_session::SessionEnd;
 use ipam_edge::{Sink, Source};
 use ipam_keeper::keeper::KeeperOpener;
-use kept_session::serve_kept;
+use machine_session::{NoFollower, serve_own};
 use register_core::Register;
-use rest_ipam::SessionEnd;
-use rest_routes::Routes;
+use rest_ipam::RegisterService;
 use std::alloc::Global;
 
 /// The status with which a session ends.
@@ -35,7 +35,6 @@ fn status_of(end: SessionEnd) -> u8
 /// Serves the requests of the input by a register that was opened, and gives its keeper back.
 fn serve_opened<So: Source, Si: Sink, O: KeeperOpener>(
     alloc: Global,
-    routes: &Routes,
     register: Register<O::Kept>,
     input: &mut So,
     output: &mut Si,
@@ -55,33 +54,19 @@ fn serve_opened<So: Source, Si: Sink, O: KeeperOpener>(
     ensures sink_kept { (result ≡ SessionEnd.SinkFault) ⊎ (Si.faults output.new ≡ Si.faults output.old) }
     ensures later { O.faults opener.old ≤ O.faults opener.new }
 {
-    let (register, end) = serve_kept(alloc, routes, register, input, output);
+    // Hints to the prover: what holds of every register.
+    register.replayed();
+    let (register, _, end) = serve_own::<Register<O::Kept>, RegisterService, NoFollower, So, Si>(
+        alloc, register, NoFollower, input, output,
+    );
     register.told();
+    register.replayed();
     opener.done(register.into_keeper());
     end
 }
 
-/// Runs `session` with a table of routes, which is lent.
-fn run_by<So: Source, Si: Sink, Se: Sink, O: KeeperOpener>(
-    alloc: Global,
-    routes: &Routes,
-    store: &Store,
-    input: &mut So,
-    output: &mut Si,
-    errors: &mut Se,
-    opener: &mut O,
-) -> u8
-    ensures { IsSession store.now
-        (outside (streams (told So.left So.faults input.old) (told Si.written Si.faults output.old) (told Se.written Se.faults errors.old)) (stores O.stored O.faults opener.old))
-        (outside (streams (told So.left So.faults input.new) (told Si.written Si.faults output.new) (told Se.written Se.faults errors.new)) (stores O.stored O.faults opener.new)) result }
-{
-    match open_store(alloc, store, opener) {
-        Ok(register) => status_of(serve_opened(alloc, routes, register, input, output, opener)),
-        Err(fault) => say_fault(alloc, &fault, errors),
-    }
-}
-
-/// Runs `session`: the requests of the input, by a register over the store. What a refused opening says goes to the messages.
+/// Runs `session`: answers the requests of the input on the output, by a register over the store. What a refused opening says goes to the
+/// messages.
 pub fn run_session<So: Source, Si: Sink, Se: Sink, O: KeeperOpener>(
     alloc: Global,
     store: &Store,
@@ -94,9 +79,8 @@ pub fn run_session<So: Source, Si: Sink, Se: Sink, O: KeeperOpener>(
         (outside (streams (told So.left So.faults input.old) (told Si.written Si.faults output.old) (told Se.written Se.faults errors.old)) (stores O.stored O.faults opener.old))
         (outside (streams (told So.left So.faults input.new) (told Si.written Si.faults output.new) (told Se.written Se.faults errors.new)) (stores O.stored O.faults opener.new)) result }
 {
-    let routes = match Routes::new(alloc) {
-        Ok(routes) => routes,
-        Err(_) => return MEMORY,
-    };
-    run_by(alloc, &routes, store, input, output, errors, opener)
+    match open_store(alloc, store, opener) {
+        Ok(register) => status_of(serve_opened(alloc, register, input, output, opener)),
+        Err(fault) => say_fault(alloc, &fault, errors),
+    }
 }

@@ -4,4 +4,4 @@
 mod fault_words;
 mod opening;
 
-pub use opening::{open_store, path_of, say_fault, start_keeper};
+pub use opening::{file_path, open_store, path_of, say_fault, start_keeper};

@@ -21,12 +21,19 @@ use stored_tables::tables::Text;
 /// What is said where the store fails: a fixed text, so that it takes no memory.
 const UNREAD: &[u8] = b"store: the store could not be read\n";
 
+/// The path of a file. `Err` means out of memory.
+pub fn file_path(alloc: Global, word: &WordText) -> Result<Text, AllocError>
+    ensures { IfOk result (λ path. path ≡ word.now) }
+{
+    Ok(Text::of(String::from_str(alloc, word.as_str())?))
+}
+
 /// The path that was given, if any. `Err` means out of memory.
 pub fn path_of(alloc: Global, word: &Option<WordText>) -> Result<Option<Text>, AllocError>
     ensures { IfOk result (λ path. path ≡ word.now) }
 {
     match word {
-        Some(word) => Ok(Some(Text::of(String::from_str(alloc, word.as_str())?))),
+        Some(word) => Ok(Some(file_path(alloc, word)?)),
         None => Ok(None),
     }
 }

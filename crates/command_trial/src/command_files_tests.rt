@@ -13,24 +13,24 @@ use std::thread::Threads;
 
 /// A store a case. Its first line is as that of a case of `store_tests`. Each line after it is a run over the store: its status, its words,
 /// its input, its output and what it says, each as `bytes_of` reads it.
-const CASES: [&str; 14] = [
-    r#"1
+const CASES: [&str; 15] = [
+    r#"2
 0|import prefixes --db a|prefix,vrf,status;10.0.0.0/24,,active;10.0.1.0/24,,active;10.0.2.0/24,,container;|created 3 present 0;|
 0|import prefixes --db a|prefix,vrf,status;10.0.0.0/24,,active;10.0.1.0/24,,active;10.0.2.0/24,,container;|created 0 present 3;|
 0|export prefixes --db a||prefix,vrf,status,role,is_pool,mark_utilized,description;10.0.0.0/24,,active,,false,false,;10.0.1.0/24,,active,,false,false,;10.0.2.0/24,,container,,false,false,;|
 0|export prefixes --db b||prefix,vrf,status,role,is_pool,mark_utilized,description;|
 0|export prefixes||prefix,vrf,status,role,is_pool,mark_utilized,description;|"#,
-    r#"1
+    r#"2
 0|import vrfs --db a|name;red;red;|created 2 present 0;|
 1|import prefixes --db a|prefix,vrf;10.0.0.0/8,red;||row 1: ambiguous: vrfs 1 and 2 have this name;
 1|import prefixes --db a|prefix,vrf;10.0.0.0/8,;10.1.0.0/16,green;||row 2: no_such_name: no vrfs has this name;
 0|import vrfs --db a|name;red;red;|created 0 present 2;|
 0|import vrfs --db a|name;red;red;red;|created 1 present 2;|
 0|export prefixes --db a||prefix,vrf,status,role,is_pool,mark_utilized,description;|"#,
-    r#"1
+    r#"2
 1|import ip-addresses --db a|address,role;10.0.0.1/24,vip;10.0.0.1/24,vip;10.0.0.1/24,;||row 3: duplicate: coincides with 1;
 0|export ip-addresses --db a||address,vrf,status,role,dns_name,description;|"#,
-    r#"1
+    r#"2
 1|import prefixes --db a|prefix,description;10.0.0.0/24,"a ""b"", c";10.0.1.0/24||row 2: field: row is missing or malformed;
 0|export prefixes --db a||prefix,vrf,status,role,is_pool,mark_utilized,description;|
 0|import prefixes --db a|prefix,description;10.0.0.0/24,"a ""b"", c";|created 1 present 0;|
@@ -41,7 +41,7 @@ const CASES: [&str; 14] = [
 1|import prefixes --db a|prefix,color;||row 0: field: column is missing or malformed;
 1|import prefixes --db a|prefix,status;10.3.0.0/16,new;||row 1: field: status is missing or malformed;
 1|import prefixes --db a|prefix;10.3.0.1/16;||row 1: host_bits: host bits are set, the prefix is 10.3.0.0/16;"#,
-    r#"1
+    r#"2
 0|import vrfs --db a|name,rd,enforce_unique,description;red,65000:1,false,;blue,,,kept;|created 2 present 0;|
 0|import rirs --db a|slug,name;rfc-1918,RFC 1918;|created 1 present 0;|
 0|import roles --db a|name,slug,weight;Servers,servers,;|created 1 present 0;|
@@ -54,25 +54,33 @@ const CASES: [&str; 14] = [
 0|export roles --db a||name,slug,weight,description;Servers,servers,1000,;|
 0|export aggregates --db a||prefix,rir,description;10.0.0.0/8,RFC 1918,;|
 0|export prefixes --db a||prefix,vrf,status,role,is_pool,mark_utilized,description;10.0.0.0/16,,container,,false,false,;10.0.0.0/24,red,active,Servers,true,false,;|
-0|export ip-ranges --db a||start_address,end_address,vrf,status,role,mark_utilized,description;10.0.0.10/24,10.0.0.19/24,red,active,,false,;|
+0|export ip-ranges --db a||start_address,end_address,vrf,status,role,mark_utilized,mark_populated,description;10.0.0.10/24,10.0.0.19/24,red,active,,false,false,;|
 0|export ip-addresses --db a||address,vrf,status,role,dns_name,description;10.0.0.1/24,red,active,vip,gw.example.org,;|"#,
-    r#"1
+    r#"2
 0|import prefixes --db a|prefix,status;10.0.0.0/16,container;10.0.0.0/24,active;|created 2 present 0;|
 0|report tree --db a||global;  10.0.0.0/16 container;    10.0.0.0/24 active;|
 0|report utilization --db a||10.0.0.0/16                                 global         container    0;10.0.0.0/24                                 global         active       0;|
 0|report free --db a --prefix 1||10.0.1.0/24                                                                     256;10.0.2.0/23                                                                     512;10.0.4.0/22                                                                    1024;10.0.8.0/21                                                                    2048;10.0.16.0/20                                                                   4096;10.0.32.0/19                                                                   8192;10.0.64.0/18                                                                  16384;10.0.128.0/17                                                                 32768;|
 1|report free --db a --prefix 9|||not_found: prefixes 9 is not there;
 0|report tree --db b|||"#,
-    r#"1;fails 0
+    r#"2;fails 0
 4|import prefixes --db a|prefix;10.0.0.0/24;||store: the store could not be read;
 4|export prefixes --db a|||store: the store could not be read;
 4|report tree --db a|||store: the store could not be read;
 4|prefix-list --table 9 --family 4 --style plain --name X --db a|||store: the store could not be read;
 4|prefix-check --table 9 --family 4 --style plain --name X --db a|x;||store: the store could not be read;
 4|reverse --prefix 9 --db a|||store: the store could not be read;"#,
-    r#"1;fails 1
+    r#"2;fails 1
 4|import prefixes --db a|prefix;10.0.0.0/24;||keeper: the store could not be written;
 0|export prefixes --db a||prefix,vrf,status,role,is_pool,mark_utilized,description;|"#,
+    r#"2
+0|import ip-addresses --db a|address;10.0.0.5/24;|created 1 present 0;|
+0|import ip-ranges --db a|start_address,end_address,mark_populated;10.0.0.1/24,10.0.0.9/24,true;|created 1 present 0;|
+1|import ip-addresses --db a|address;10.0.0.6/24;||row 1: populated: inside populated range 1;
+1|import ip-addresses --db a|address;10.0.0.10/24;10.0.0.9/32;||row 2: populated: inside populated range 1;
+0|import ip-addresses --db a|address;10.0.0.5/24;|created 0 present 1;|
+1|import ip-ranges --db a|start_address,end_address;10.0.0.1/24,10.0.0.9/24;||row 1: range_overlap: overlaps range 1;
+0|export ip-ranges --db a||start_address,end_address,vrf,status,role,mark_utilized,mark_populated,description;10.0.0.1/24,10.0.0.9/24,,active,,false,true,;|"#,
     r#"9
 1|import prefixes --db a|prefix;10.0.0.0/24;||store: version 9;
 1|export vrfs --db a|||store: version 9;
@@ -80,13 +88,13 @@ const CASES: [&str; 14] = [
 1|prefix-list --table global --family 4 --style plain --name X --db a|||store: version 9;
 1|prefix-check --table global --family 4 --style plain --name X --db a|x;||store: version 9;
 1|reverse --prefix 1 --db a|||store: version 9;"#,
-    r#"1
+    r#"2
 0|import rirs --db a|name,slug;R,r;|created 1 present 0;|
 1|import aggregates --db a|prefix,rir;<1001:2001:db8::@/128,R;>||row 1001: limit: aggregates would exceed 1000;
 0|import aggregates --db a|prefix,rir;<1000:2001:db8::@/128,R;>|created 1000 present 0;|
 0|import ip-ranges --db a|start_address,end_address;<9999:2001:db8::@:0/64,2001:db8::@:1/64;>2001:db9::/64,2001:db9::1/64;|created 10000 present 0;|
 1|import ip-ranges --db a|start_address,end_address;2001:dba::/64,2001:dba::1/64;||row 1: limit: ip-ranges would exceed 10000;"#,
-    r#"1
+    r#"2
 0|import prefixes --db a|prefix;10.0.0.0/24;10.0.1.0/24;10.0.1.128/25;10.0.2.0/24;|created 4 present 0;|
 0|prefix-list --table global --family 4 --style ios --name OFFICE --db a||ip prefix-list OFFICE seq 5 permit 10.0.0.0/23;ip prefix-list OFFICE seq 10 permit 10.0.2.0/24;|
 0|prefix-list --table global --family 4 --style plain --name OFFICE --db a||10.0.0.0/23;10.0.2.0/24;|
@@ -99,7 +107,7 @@ const CASES: [&str; 14] = [
 1|prefix-check --table global --family 4 --style plain --name OFFICE --db a|10.0.0.0/24;10.0.2.0/24^;||line 2: not of the style;
 1|prefix-list --table 9 --family 4 --style plain --name OFFICE --db a|||not_found: vrfs 9 is not there;
 1|prefix-check --table 9 --family 4 --style plain --name OFFICE --db a|x;||not_found: vrfs 9 is not there;"#,
-    r#"1
+    r#"2
 0|import vrfs --db a|name;red;|created 1 present 0;|
 0|import prefixes --db a|prefix,status;0.0.0.0/1,container;128.0.0.0/1,deprecated;2001:db8::/33,active;2001:db8:8000::/33,active;|created 4 present 0;|
 0|prefix-list --table global --family 4 --style plain --name X --db a||0.0.0.0/0;|
@@ -109,7 +117,7 @@ const CASES: [&str; 14] = [
 0|prefix-check --table 1 --family 6 --style junos --name X --db a|set policy-options prefix-list X 2001:db8::/32;|beyond 2001:db8::/32;|
 1|prefix-check --table global --family 6 --style junos --name X --db a|set policy-options prefix-list Y 2001:db8::/32;||line 1: not of the style;
 1|prefix-check --table global --family 6 --style ios --name X --db a|ip prefix-list X seq 5 permit 2001:db8::/32;||line 1: not of the style;"#,
-    r#"1
+    r#"2
 0|import prefixes --db a|prefix;192.0.2.0/24;2001:db8::/64;|created 2 present 0;|
 0|import ip-addresses --db a|address,dns_name;192.0.2.1/24,www.example.com;192.0.2.10/24,;192.0.2.11/24,*.example.com;2001:db8::1/64,h.example.;|created 4 present 0;|
 0|reverse --prefix 1 --db a||1.2.0.192.in-addr.arpa. IN PTR www.example.com.;|
@@ -120,7 +128,7 @@ const CASES: [&str; 14] = [
 0|reverse-read||address,dns_name;|
 1|reverse-read|x. IN PTR y.;||line 1: not a PTR line;
 1|reverse-read|<4194305:;>||too_large: the body exceeds 4194304 bytes;"#,
-    r#"1
+    r#"2
 0|import prefixes --db a|prefix;192.0.2.0/24;|created 1 present 0;|
 0|import ip-addresses --db a|address,dns_name;192.0.2.9/24,www.example.com;192.0.2.7/24,<64:a>.example;192.0.2.1/24,<64:b>.example;|created 3 present 0;|
 1|reverse --prefix 1 --db a|||address 2: the name does not fit the DNS;"#,
@@ -187,7 +195,7 @@ fn is_as_said<R: Threads + Wait + Sync>(
 }
 
 /// The number of the first line of a case that does not leave what it says, or 0.
-fn wrong_line<R: Threads + Wait + Sync>(
+pub fn wrong_line<R: Threads + Wait + Sync>(
     rt: &R,
     alloc: Global,
     case: &str,

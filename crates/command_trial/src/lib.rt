@@ -2,9 +2,13 @@
 #![tactic(auto)]
 
 #[cfg(test)]
+mod claims_tests;
+#[cfg(test)]
 mod command_files_tests;
 #[cfg(test)]
 mod line_tests;
+#[cfg(test)]
+mod migrate_tests;
 #[cfg(test)]
 mod session_tests;
 #[cfg(test)]

@@ -231,7 +231,7 @@ fn left_by<R: Threads + Wait + Sync>(
     alloc: Global,
     line: &str,
 ) -> Result<Vec<u8>, AllocError> {
-    let tables = format!(in alloc; "1;fails {}", failing(line, "keeper"))?;
+    let tables = format!(in alloc; "2;fails {}", failing(line, "keeper"))?;
     let mut opener = opener_of(alloc, &tables)?;
     let mut listener = listener_of(alloc, line)?;
     let left = ran(rt, alloc, &mut listener, &mut opener, line)?;

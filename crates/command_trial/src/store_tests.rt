@@ -16,27 +16,29 @@ use std::thread::Threads;
 use stored_tables::tables::{Change, Row, Rows, Tables, Text, Texts};
 
 /// A store a case. Its first line is the version of the tables under the path `a` and, behind semicolons, what is put into the empty
-/// ones: prefixes, where a hyphen stands for the empty text, and which calls of each keeper fail. Each line after it is a session over
+/// ones: prefixes and ranges, where a hyphen stands for the empty text, their next ids, and which calls of each keeper fail. Each line after it is a session over
 /// the store: its status, its words and what it says, and behind each `~` an exchange.
-const CASES: [&str; 7] = [
-    r#"1
+const CASES: [&str; 8] = [
+    r#"2
 0|session --db a|~POST /api/ipam/prefixes/|{"prefix":"10.0.0.0/24"}|201 Created|Ipam-Place: 0|{"children":0,"depth":0,"description":"","family":4,"id":1,"is_pool":false,"mark_utilized":false,"prefix":"10.0.0.0/24","role":null,"status":{"label":"Active","value":"active"},"vrf":null}
 0|session --db a|~GET /api/ipam/prefixes/1/||200 OK|Ipam-Place: 0|{"children":0,"depth":0,"description":"","family":4,"id":1,"is_pool":false,"mark_utilized":false,"prefix":"10.0.0.0/24","role":null,"status":{"label":"Active","value":"active"},"vrf":null}
 0|session --db b|~GET /api/ipam/prefixes/1/||404 Not Found|Ipam-Place: 0|{"code":"not_found","detail":"prefixes 1 is not there"}
 0|session|~GET /api/ipam/prefixes/1/||404 Not Found|Ipam-Place: 0|{"code":"not_found","detail":"prefixes 1 is not there"}"#,
-    r#"1
+    r#"2
 0|session --db a --global-unique no|~POST /api/ipam/prefixes/|{"prefix":"10.0.0.0/24"}|201 Created|Ipam-Place: 0|{"children":0,"depth":0,"description":"","family":4,"id":1,"is_pool":false,"mark_utilized":false,"prefix":"10.0.0.0/24","role":null,"status":{"label":"Active","value":"active"},"vrf":null}~POST /api/ipam/prefixes/|{"prefix":"10.0.0.0/24"}|201 Created|Ipam-Place: 1|{"children":0,"depth":0,"description":"","family":4,"id":2,"is_pool":false,"mark_utilized":false,"prefix":"10.0.0.0/24","role":null,"status":{"label":"Active","value":"active"},"vrf":null}
 1|session --db a --global-unique yes|store: prefixes 2: duplicate: coincides with 1
 0|session --db a --global-unique=no|~GET /api/ipam/prefixes/2/||200 OK|Ipam-Place: 0|{"children":0,"depth":0,"description":"","family":4,"id":2,"is_pool":false,"mark_utilized":false,"prefix":"10.0.0.0/24","role":null,"status":{"label":"Active","value":"active"},"vrf":null}"#,
     r#"9
 1|session --db a|store: version 9"#,
-    r#"1;3 10.0.0.1/24 - active - false false -
+    r#"1
+1|session --db a|store: version 1"#,
+    r#"2;3 10.0.0.1/24 - active - false false -
 1|session --db a|store: prefixes 3: unreadable"#,
-    r#"1;fails 0
+    r#"2;fails 0
 4|session --db a|store: the store could not be read"#,
-    r#"1;fails 1
+    r#"2;fails 1
 0|session --db a|~POST /api/ipam/prefixes/|{"prefix":"10.0.0.0/24"}|503 Service Unavailable|Ipam-Place: 0|{"code":"keeper","detail":"the store could not be written"}~POST /api/ipam/prefixes/|{"prefix":"10.0.0.0/24"}|201 Created|Ipam-Place: 0|{"children":0,"depth":0,"description":"","family":4,"id":1,"is_pool":false,"mark_utilized":false,"prefix":"10.0.0.0/24","role":null,"status":{"label":"Active","value":"active"},"vrf":null}"#,
-    r#"1;fails 2
+    r#"2;fails 2
 0|session --db a|~POST /api/ipam/prefixes/|{"prefix":"10.0.0.0/24"}|201 Created|Ipam-Place: 0|{"children":0,"depth":0,"description":"","family":4,"id":1,"is_pool":false,"mark_utilized":false,"prefix":"10.0.0.0/24","role":null,"status":{"label":"Active","value":"active"},"vrf":null}~POST /api/ipam/prefixes/1/available-ips/|{}|503 Service Unavailable|Ipam-Place: 1|{"code":"keeper","detail":"the store could not be written"}~GET /api/ipam/ip-addresses/||200 OK|Ipam-Place: 1|{"count":0,"next":null,"previous":null,"results":[]}~POST /api/ipam/prefixes/1/available-ips/|{}|201 Created|Ipam-Place: 1|{"address":"10.0.0.1/24","description":"","dns_name":"","family":4,"id":1,"role":null,"status":{"label":"Active","value":"active"},"vrf":null}~GET /api/ipam/ip-addresses/1/||200 OK|Ipam-Place: 2|{"address":"10.0.0.1/24","description":"","dns_name":"","family":4,"id":1,"role":null,"status":{"label":"Active","value":"active"},"vrf":null}
 0|session --db a|~GET /api/ipam/ip-addresses/1/||200 OK|Ipam-Place: 0|{"address":"10.0.0.1/24","description":"","dns_name":"","family":4,"id":1,"role":null,"status":{"label":"Active","value":"active"},"vrf":null}"#,
 ];
@@ -56,16 +58,25 @@ fn texts_of(alloc: Global, part: &str) -> Result<Texts, AllocError> {
     Ok(Texts::of(texts))
 }
 
-/// The prefixes of a first line.
+/// The row of these words: a prefix, or behind the word `range` a range.
+fn row_of(alloc: Global, words: &str) -> Result<Row, AllocError> {
+    let (kind, words) = match words.strip_prefix("range ") {
+        Some(rest) => (Kind::Ranges, rest),
+        None => (Kind::Prefixes, words),
+    };
+    Ok(Row {
+        kind,
+        id: number(words.split(' ').next().unwrap_or("")),
+        fields: texts_of(alloc, words)?,
+    })
+}
+
+/// The rows of a first line.
 fn rows_of(alloc: Global, line: &str) -> Result<Rows, AllocError> {
     let mut rows = Vec::new(alloc);
     for words in line.split(';').skip(1) {
-        if !words.starts_with("fails ") {
-            rows.push(Row {
-                kind: Kind::Prefixes,
-                id: number(words.split(' ').next().unwrap_or("")),
-                fields: texts_of(alloc, words)?,
-            })?;
+        if !words.starts_with("fails ") && !words.starts_with("next ") {
+            rows.push(row_of(alloc, words)?)?;
         }
     }
     Ok(Rows::of(rows))
@@ -82,13 +93,26 @@ fn fails_of(alloc: Global, line: &str) -> Result<Vec<u32>, AllocError> {
     Ok(fails)
 }
 
+/// The next ids of prefixes and ranges, where they are given.
+fn nexts_of(alloc: Global, line: &str) -> Result<Ids, AllocError> {
+    let mut next = Vec::new(alloc);
+    for words in line.split(';').skip(1) {
+        if words.starts_with("next ") {
+            let id = number(words.split(' ').nth(1).unwrap_or(""));
+            next.push((Kind::Prefixes, id))?;
+            next.push((Kind::Ranges, id))?;
+        }
+    }
+    Ok(Ids::of(next))
+}
+
 /// A keeper of the tables of a first line.
 fn keeper_of(alloc: Global, line: &str) -> Result<MemoryKeeper, AllocError> {
     let mut keeper = MemoryKeeper::new(empty_tables(alloc)?, Vec::new(alloc));
     let change = Change {
         puts: rows_of(alloc, line)?,
         cuts: Ids::of(Vec::new(alloc)),
-        next: Ids::of(Vec::new(alloc)),
+        next: nexts_of(alloc, line)?,
     };
     if keeper.apply(&change).is_err() {
         return Err(AllocError);

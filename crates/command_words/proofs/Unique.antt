@@ -23,28 +23,13 @@ use Rattle.command_words.specs.declared.asked.ListAsked.{ListAsked}
 use Rattle.command_words.specs.declared.asked.Command.{Command}
 use Rattle.command_words.specs.declared.asked.Command.TheVariants as command
 use Rattle.command_grammar.specs.Grammar.{given}
-use Rattle.command_words.specs.Values.{most_workers, most_connections, most_claims, most_id, IsBlockValue, IsNumberValue, IsNumberOr, IsTextValue, IsYesValue, IsKindValue, IsReportValue, IsTableValue, IsFamilyValue, IsStyleValue, IsNameValue, kind_word, family_word, style_word}
-use Rattle.command_words.proofs.Found.{same_first}
+use Rattle.command_words.specs.Values.{most_workers, most_connections, most_claims, most_id, IsBlockValue, IsNumberValue, IsNumberOr, IsTextValue, IsYesValue, IsAnswerValue, IsKindValue, IsReportValue, IsTableValue, IsFamilyValue, IsStyleValue, IsNameValue, kind_word, family_word, style_word}
+use Rattle.word_values.proofs.Unique.{one_number, one_number_or, one_text, same_first}
 use Rattle.command_words.specs.Asked.{name_of, app_for, IsStore, IsServing, IsListAsked, HasValues, WordsAskForOne}
 
 one_block : (text : Option (List ℕ)) (b c : Cidr) → IsBlockValue text b → IsBlockValue text c → b ≡ c
 one_block None b c h k = absurd h
 one_block (Some text) b c h k = reading_is_one.blocks text b c h.0 k.0
-
-one_number : (most : ℕ) (text : Option (List ℕ)) (m n : ℕ) → most < 2 ^ 64 → IsNumberValue most text m → IsNumberValue most text n → m ≡ n
-one_number most None m n small h k = absurd h
-one_number most (Some text) m n small h k =
-    let low = h.2 in
-    let low_too = k.2 in
-    decimal_injective m n (omega arith) (omega arith) (sym h.0 ∙ k.0)
-
-one_number_or : (usual most : ℕ) (text : Option (List ℕ)) (m n : ℕ) → most < 2 ^ 64 → IsNumberOr usual most text m → IsNumberOr usual most text n → m ≡ n
-one_number_or usual most None m n small h k = h ∙ sym k
-one_number_or usual most (Some text) m n small h k = one_number most (Some text) m n small h k
-
-one_text : (text : Option (List ℕ)) (s t : List ℕ) → IsTextValue text s → IsTextValue text t → s ≡ t
-one_text None s t h k = absurd h
-one_text (Some text) s t h k = h.0 ∙ sym k.0
 
 one_answer : (text : Option (List ℕ)) (b c : Bool) → IsYesValue text b → IsYesValue text c → b ≡ c
 one_answer None b c h k = h ∙ sym k
@@ -52,6 +37,10 @@ one_answer (Some text) true true h k = refl
 one_answer (Some text) false false h k = refl
 one_answer (Some text) true false h k = (let e : sum (codes "yes") ≡ sum (codes "no") = ap sum (sym h ∙ k) in absurd (omega arith))
 one_answer (Some text) false true h k = (let e : sum (codes "no") ≡ sum (codes "yes") = ap sum (sym h ∙ k) in absurd (omega arith))
+
+one_given_answer : (text : Option (List ℕ)) (b c : Bool) → IsAnswerValue text b → IsAnswerValue text c → b ≡ c
+one_given_answer None b c h k = absurd h
+one_given_answer (Some text) b c h k = one_answer (Some text) b c h k
 
 -- what is in both is one
 one_of_two : (a b : List ℕ) → Some a ≡ Some b → a ≡ b
@@ -175,6 +164,7 @@ one_named words (command.PrefixList a) (command.PrefixList b) e h k = ap command
 one_named words (command.PrefixCheck a) (command.PrefixCheck b) e h k = ap command.PrefixCheck (one_list _ a b h k)
 one_named words (command.Reverse m s) (command.Reverse n t) e h k = ap₂ command.Reverse (one_number most_id _ m n (omega arith) h.0 k.0) (one_store _ s t h.1 k.1)
 one_named words command.ReverseRead command.ReverseRead e h k = refl
+one_named words (command.Migrate d p) (command.Migrate e q) same h k = ap₂ command.Migrate (one_text _ d e h.0 k.0) (one_given_answer _ p q h.1 k.1)
 one_named words (command.Load m w) (command.Load n v) e h k =
     ap₂ command.Load (one_number most_claims _ m n (omega arith) h.0 k.0) (one_number_or 1 most_workers _ w v (omega arith) h.1 k.1)
 one_named words one other e h k = absurd (omega arith)

@@ -7,9 +7,9 @@ use Rattle.command_words.specs.declared.asked.Store.{Store}
 use Rattle.command_words.specs.declared.asked.Serving.{Serving}
 use Rattle.command_words.specs.declared.asked.ListAsked.{ListAsked}
 use Rattle.command_words.specs.declared.asked.Command.{Command}
-use Rattle.command_words.specs.declared.asked.Command.TheVariants.{Free, Session, Serve, Import, Export, Report, PrefixList, PrefixCheck, Reverse, ReverseRead, Load}
-use Rattle.command_grammar.specs.Grammar.{Takes, given, free_app, session_app, serve_app, import_app, export_app, report_app, prefix_list_app, prefix_check_app, reverse_app, reverse_read_app, load_app}
-use Rattle.command_words.specs.Values.{most_workers, most_connections, most_claims, most_id, IsBlockValue, IsNumberValue, IsNumberOr, IsTextValue, IsTextOrNone, IsYesValue, IsKindValue, IsReportValue, IsTableValue, IsFamilyValue, IsStyleValue, IsNameValue}
+use Rattle.command_words.specs.declared.asked.Command.TheVariants.{Free, Session, Serve, Import, Export, Report, PrefixList, PrefixCheck, Reverse, ReverseRead, Migrate, Load}
+use Rattle.command_grammar.specs.Grammar.{Takes, given, free_app, session_app, serve_app, import_app, export_app, report_app, prefix_list_app, prefix_check_app, reverse_app, reverse_read_app, migrate_app, load_app}
+use Rattle.command_words.specs.Values.{most_workers, most_connections, most_claims, most_id, IsBlockValue, IsNumberValue, IsNumberOr, IsTextValue, IsTextOrNone, IsYesValue, IsAnswerValue, IsKindValue, IsReportValue, IsTableValue, IsFamilyValue, IsStyleValue, IsNameValue}
 
 -- the first word
 abbrev pub name_of : Command → List ℕ
@@ -23,6 +23,7 @@ name_of (PrefixList asked) = codes "prefix-list"
 name_of (PrefixCheck asked) = codes "prefix-check"
 name_of (Reverse prefix store) = codes "reverse"
 name_of ReverseRead = codes "reverse-read"
+name_of (Migrate db populated) = codes "migrate"
 name_of (Load count workers) = codes "load"
 
 -- the words behind it that are taken
@@ -37,6 +38,7 @@ app_for (PrefixList asked) = prefix_list_app
 app_for (PrefixCheck asked) = prefix_check_app
 app_for (Reverse prefix store) = reverse_app
 app_for ReverseRead = reverse_read_app
+app_for (Migrate db populated) = migrate_app
 app_for (Load count workers) = load_app
 
 -- what was given to the options of a store
@@ -71,6 +73,7 @@ HasValues rows (PrefixList asked) = IsListAsked rows asked
 HasValues rows (PrefixCheck asked) = IsListAsked rows asked
 HasValues rows (Reverse prefix store) = IsNumberValue most_id (first_of (codes "prefix") rows) prefix × IsStore rows store
 HasValues rows ReverseRead = Unit {0}
+HasValues rows (Migrate db populated) = IsTextValue (first_of (codes "db") rows) db × IsAnswerValue (first_of (codes "populated") rows) populated
 HasValues rows (Load count workers) = IsNumberValue most_claims (first_of (codes "count") rows) count × IsNumberOr 1 most_workers (first_of (codes "workers") rows) workers
 
 -- the words ask for the command

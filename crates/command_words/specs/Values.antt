@@ -5,6 +5,7 @@ use Rattle.inet_num.specs.declared.Family.TheVariants.{V4, V6}
 use Rattle.inet_num.specs.Net.{Cidr}
 use Rattle.inet_num.specs.Text.{IsBlockText}
 use Rattle.list_name.specs.Names.{IsListName}
+pub use Rattle.word_values.specs.Values.{IsNumberOr, IsNumberValue, IsTextOrNone, IsTextValue, most_connections, most_workers}
 use Rattle.command_words.specs.declared.asked.KindName.{KindName}
 use Rattle.command_words.specs.declared.asked.KindName.TheVariants.{Vrfs, Rirs, Roles, Aggregates, Prefixes, Ranges, Addresses}
 use Rattle.command_words.specs.declared.asked.Report.{Report}
@@ -14,13 +15,7 @@ use Rattle.command_words.specs.declared.asked.TableName.TheVariants.{Global, Vrf
 use Rattle.command_words.specs.declared.asked.StyleName.{StyleName}
 use Rattle.command_words.specs.declared.asked.StyleName.TheVariants.{Plain, Ios, Junos}
 
--- the most workers, the most connections of a worker, the most claims of a load, the greatest id
-abbrev pub most_workers : ℕ
-most_workers = 32
-
-abbrev pub most_connections : ℕ
-most_connections = 1000000000
-
+-- the most claims of a load, and the greatest id
 abbrev pub most_claims : ℕ
 most_claims = 100000
 
@@ -32,30 +27,16 @@ abbrev pub IsBlockValue : Option (List ℕ) → Cidr → Type 0
 IsBlockValue None block = ⊥
 IsBlockValue (Some text) block = IsBlockText text block × (1 ≤ block.len)
 
--- a number from 1 to the most, in decimal without a leading zero
-abbrev pub IsNumberValue : ℕ → Option (List ℕ) → ℕ → Type 0
-IsNumberValue most None n = ⊥
-IsNumberValue most (Some text) n = (text ≡ decimal n) × (1 ≤ n) × (n ≤ most)
-
--- such a number, or the usual one where there is none
-abbrev pub IsNumberOr : ℕ → ℕ → Option (List ℕ) → ℕ → Type 0
-IsNumberOr usual most None n = n ≡ usual
-IsNumberOr usual most (Some text) n = IsNumberValue most (Some text) n
-
--- any text but the empty one
-abbrev pub IsTextValue : Option (List ℕ) → List ℕ → Type 0
-IsTextValue None found = ⊥
-IsTextValue (Some text) found = (found ≡ text) × (text ≢ [])
-
--- such a text, or none where there is none
-abbrev pub IsTextOrNone : Option (List ℕ) → Option (List ℕ) → Type 0
-IsTextOrNone text found = (found ≡ text) × (text ≢ Some [])
-
 -- `yes`, as nothing too, or `no`
 abbrev pub IsYesValue : Option (List ℕ) → Bool → Type 0
 IsYesValue None flag = flag ≡ true
 IsYesValue (Some text) true = text ≡ codes "yes"
 IsYesValue (Some text) false = text ≡ codes "no"
+
+-- `yes` or `no`, which has to be given
+abbrev pub IsAnswerValue : Option (List ℕ) → Bool → Type 0
+IsAnswerValue None flag = ⊥
+IsAnswerValue (Some text) flag = IsYesValue (Some text) flag
 
 -- the name of a kind, as its paths have it
 abbrev pub kind_word : KindName → List ℕ

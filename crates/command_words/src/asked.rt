@@ -1,42 +1,7 @@
 //! What the program can be asked for.
 
 use inet_num::{Block, Family};
-use std::alloc::{AllocError, Global};
-use std::marker::Model;
-
-/// A text that was given, as the name of a file or of a place. A contract sees its bytes.
-#[derive(Debug, Drop)]
-pub struct WordText {
-    string: String,
-}
-
-impl Model for WordText {
-    ghost use Rattle.std.specs.Prelude.{List, ℕ, string_bytes};
-
-    ghost Value = { List ℕ };
-
-    ghost view = { λ n. string_bytes n.string };
-}
-
-impl WordText {
-    ghost use Rattle.std.specs.Prelude.{◌≡◌, IfOk};
-
-    /// A copy of the text. `Err` means out of memory.
-    pub(crate) fn of(alloc: Global, text: &str) -> Result<WordText, AllocError>
-        ensures { IfOk result (λ n. n ≡ text.now) }
-    {
-        Ok(WordText {
-            string: String::from_str(alloc, text)?,
-        })
-    }
-
-    /// The text as it was given.
-    pub fn as_str(&self) -> &str
-        ensures { result.now ≡ self.now }
-    {
-        self.string.as_str()
-    }
-}
+use word_values::WordText;
 
 /// A kind of record, by the name that its paths have.
 #[derive(Clone, Copy, Debug)]
@@ -123,6 +88,8 @@ pub enum Command {
     Reverse(u32, Store),
     /// PTR lines on the input, as a file that `import ip-addresses` takes.
     ReverseRead,
+    /// The file with tables of version 1 into one of this program's version, with every range marked as populated or none.
+    Migrate { db: WordText, populated: bool },
     /// So many claims by so many workers.
     Load { count: u32, workers: u32 },
 }

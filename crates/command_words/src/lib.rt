@@ -1,35 +1,26 @@
 //! The words behind the program's name: which command they ask for, with its values.
 #![tactic(auto)]
 
-ghost use Rattle.std.specs.Prelude.{◌≡◌, ◌↔◌, ◌∷◌, [], ℕ, List, map, IfOk, IsTrue, MatchOption};
+ghost use Rattle.std.specs.Prelude.{map, IfOk, MatchOption};
 ghost use Rattle.command_words.specs.Asked.{Asks, IsNoCommand, WordsAskForOne};
 
 mod asked;
 mod lists;
+mod migrating;
 mod readers;
 mod values;
 mod zones;
 
-pub use asked::{
-    Command, KindName, ListAsked, Report, Serving, Store, StyleName, TableName, WordText,
-};
+pub use asked::{Command, KindName, ListAsked, Report, Serving, Store, StyleName, TableName};
 use lists::{read_prefix_check, read_prefix_list};
+use migrating::read_migrate;
 use readers::{
     read_export, read_free, read_import, read_load, read_report, read_serve, read_session,
 };
 use std::alloc::{AllocError, Global};
-use values::is_word;
+pub use word_values::WordText;
+use word_values::{first_word, is_word};
 use zones::{read_reverse, read_reverse_read};
-
-/// The first word.
-fn first_word<'a>(words: &'a [&'a str]) -> Option<&'a str>
-    ensures { MatchOption result (map (λ w. w.now) words.entry.now ≡ []) (λ name. (rest : List (List ℕ)) × (map (λ w. w.now) words.entry.now ≡ name.now ∷ rest)) }
-{
-    match words {
-        [name, ..] => Some(*name),
-        [] => None,
-    }
-}
 
 /// The command that the words ask for, or none where they are no command. `Err` means out of memory.
 pub fn read_words<'a>(alloc: Global, words: &'a [&'a str]) -> Result<Option<Command>, AllocError>
@@ -49,6 +40,7 @@ pub fn read_words<'a>(alloc: Global, words: &'a [&'a str]) -> Result<Option<Comm
         name if is_word(name, "prefix-check") => read_prefix_check(alloc, words),
         name if is_word(name, "reverse") => read_reverse(alloc, words),
         name if is_word(name, "reverse-read") => read_reverse_read(alloc, words),
+        name if is_word(name, "migrate") => read_migrate(alloc, words),
         name if is_word(name, "load") => read_load(alloc, words),
         _ => Ok(None),
     }

@@ -5,13 +5,14 @@ ghost use Rattle.clap.specs.Words.{found_of, rows_of};
 ghost use Rattle.command_words.specs.Values.{IsTableValue, IsFamilyValue, IsStyleValue, IsNameValue, family_word, style_word};
 ghost use Rattle.command_words.specs.Asked.{IsListAsked, IsReadAs};
 
-use crate::asked::{Command, ListAsked, StyleName, TableName, WordText};
-use crate::values::{MOST_ID, is_word, number_of, store_value};
+use crate::asked::{Command, ListAsked, StyleName, TableName};
+use crate::values::{MOST_ID, store_value};
 use clap::ArgMatches;
 use command_grammar::{parse, prefix_check_command, prefix_list_command, value};
 use inet_num::Family;
 use list_name::is_list_name;
 use std::alloc::{AllocError, Global};
+use word_values::{WordText, is_word, number_of};
 
 /// The table that the text names.
 fn table_named(text: &str) -> Option<TableName>

@@ -5,20 +5,15 @@ ghost use Rattle.clap.specs.Words.{found_of, rows_of};
 ghost use Rattle.command_words.specs.Asked.{IsReadAs, IsServing};
 
 use crate::asked::{Command, Serving};
-use crate::values::{
-    block_value, kind_value, number_or, number_value, report_value, store_value, text_value,
-};
+use crate::values::{block_value, kind_value, report_value, store_value};
 use clap::ArgMatches;
 use command_grammar::{
     export_command, free_command, import_command, load_command, parse, report_command,
     serve_command, session_command, value,
 };
 use std::alloc::{AllocError, Global};
+use word_values::{MOST_CONNECTIONS, MOST_WORKERS, number_or, number_value, text_value};
 
-/// The most workers.
-const MOST_WORKERS: u32 = 32;
-/// The most connections of a worker.
-const MOST_CONNECTIONS: u32 = 1_000_000_000;
 /// The most claims of a load.
 const MOST_CLAIMS: u32 = 100_000;
 

@@ -1,27 +1,20 @@
 //! What a text says, where one was given: a block, a number, a kind, a report, a store.
 
-ghost use Rattle.std.specs.Prelude.{◌≡◌, ◌≢◌, ◌≤◌, ◌<◌, ◌^◌, ◌↔◌, ℕ, Option, List, [], Some, Bool, option_map, decimal, IfOk, IsTrue, MatchOption};
+ghost use Rattle.std.specs.Prelude.{◌≡◌, ◌≢◌, Option, List, Some, Bool, option_map, IfOk, MatchOption};
 ghost use Rattle.inet_num.specs.Net.{Cidr};
 ghost use Rattle.clap.specs.Words.{found_of, rows_of};
-ghost use Rattle.command_words.specs.Values.{IsBlockValue, IsNumberValue, IsNumberOr, IsTextValue, IsTextOrNone, IsYesValue, IsKindValue, IsReportValue, kind_word};
+ghost use Rattle.command_words.specs.Values.{IsBlockValue, IsYesValue, IsAnswerValue, IsKindValue, IsReportValue, kind_word};
 ghost use Rattle.command_words.specs.Asked.{IsStore};
 
-use crate::asked::{KindName, Report, Store, WordText};
+use crate::asked::{KindName, Report, Store};
 use clap::ArgMatches;
 use command_grammar::value;
 use inet_num::{Block, read_block};
-use itoa::Buffer;
 use std::alloc::{AllocError, Global};
+use word_values::{is_empty_text, is_word, number_value, text_or_none};
 
 /// The greatest id of a record.
 pub(crate) const MOST_ID: u32 = 4_294_967_295;
-
-/// Whether the word is this one.
-pub(crate) fn is_word(word: &str, name: &str) -> bool
-    ensures { IsTrue result ↔ (word.now ≡ name.now) }
-{
-    word == name
-}
 
 /// The block of a length of at least 1 whose text this is.
 fn block_of(text: &str) -> Option<Block>
@@ -43,87 +36,6 @@ pub(crate) fn block_value(text: Option<&str>) -> Option<Block>
     }
 }
 
-/// The number that the text is read as: at least every decimal text of one is.
-fn number_read(text: &str) -> Option<u32>
-    ensures { (n : ℕ) → n < 2 ^ 32 → text.now ≡ decimal n → result ≡ Some n }
-{
-    match text.parse::<u32>() {
-        Ok(n) => Some(n),
-        Err(_) => None,
-    }
-}
-
-/// Whether the text is the decimal one of this number, without a sign or a leading zero.
-fn is_decimal(text: &str, n: u32) -> bool
-    ensures { IsTrue result ↔ (text.now ≡ decimal n) }
-{
-    let mut room = Buffer::new();
-    text.as_bytes() == room.format(n).as_bytes()
-}
-
-/// The number from 1 to the most that the text is in decimal.
-pub(crate) fn number_of(text: &str, most: u32) -> Option<u32>
-    ensures { MatchOption result ((n : ℕ) → ¬ IsNumberValue most (Some text.now) n) (λ n. IsNumberValue most (Some text.now) n) }
-{
-    match number_read(text) {
-        Some(n) if n > 0 && n <= most && is_decimal(text, n) => Some(n),
-        _ => None,
-    }
-}
-
-/// The number from 1 to the most that was given.
-pub(crate) fn number_value(text: Option<&str>, most: u32) -> Option<u32>
-    ensures { MatchOption result ((n : ℕ) → ¬ IsNumberValue most (option_map (λ t. t.now) text.entry) n) (λ n. IsNumberValue most (option_map (λ t. t.now) text.entry) n) }
-{
-    match text {
-        Some(text) => number_of(text, most),
-        None => None,
-    }
-}
-
-/// The number that was given, or the usual one.
-pub(crate) fn number_or(text: Option<&str>, usual: u32, most: u32) -> Option<u32>
-    ensures { MatchOption result ((n : ℕ) → ¬ IsNumberOr usual most (option_map (λ t. t.now) text.entry) n) (λ n. IsNumberOr usual most (option_map (λ t. t.now) text.entry) n) }
-{
-    match text {
-        Some(text) => number_of(text, most),
-        None => Some(usual),
-    }
-}
-
-/// The text that was given, if it is not empty. `Err` means out of memory.
-pub(crate) fn text_value(alloc: Global, text: Option<&str>) -> Result<Option<WordText>, AllocError>
-    ensures { IfOk result (λ found. MatchOption found ((t : List ℕ) → ¬ IsTextValue (option_map (λ t. t.now) text.entry) t) (λ t. IsTextValue (option_map (λ t. t.now) text.entry) t)) }
-{
-    let Some(text) = text else {
-        return Ok(None);
-    };
-    if is_word(text, "") {
-        return Ok(None);
-    }
-    Ok(Some(WordText::of(alloc, text)?))
-}
-
-/// Whether an empty text was given.
-fn is_empty_text(text: Option<&str>) -> bool
-    ensures { IsTrue result ↔ (option_map (λ t. t.now) text.entry ≡ Some []) }
-{
-    match text {
-        Some(text) => text.is_empty(),
-        None => false,
-    }
-}
-
-/// The text that was given, if any. `Err` means out of memory.
-fn text_or_none(alloc: Global, text: Option<&str>) -> Result<Option<WordText>, AllocError>
-    ensures { IfOk result (λ found. found ≡ option_map (λ t. t.now) text.entry) }
-{
-    match text {
-        Some(text) => Ok(Some(WordText::of(alloc, text)?)),
-        None => Ok(None),
-    }
-}
-
 /// Whether `yes` or nothing was given, or `no`.
 fn yes_value(text: Option<&str>) -> Option<bool>
     ensures { MatchOption result ((b : Bool) → ¬ IsYesValue (option_map (λ t. t.now) text.entry) b) (λ b. IsYesValue (option_map (λ t. t.now) text.entry) b) }
@@ -137,6 +49,16 @@ fn yes_value(text: Option<&str>) -> Option<bool>
             None
         },
         None => Some(true),
+    }
+}
+
+/// Whether `yes` was given, or `no`.
+pub(crate) fn answer_value(text: Option<&str>) -> Option<bool>
+    ensures { MatchOption result ((b : Bool) → ¬ IsAnswerValue (option_map (λ t. t.now) text.entry) b) (λ b. IsAnswerValue (option_map (λ t. t.now) text.entry) b) }
+{
+    match text {
+        Some(text) => yes_value(Some(text)),
+        None => None,
     }
 }
 

@@ -4,9 +4,10 @@ ghost use Rattle.std.specs.Prelude.{IfOk, map, codes};
 ghost use Rattle.command_words.specs.Asked.{IsReadAs};
 
 use crate::asked::Command;
-use crate::values::{MOST_ID, number_value, store_value};
+use crate::values::{MOST_ID, store_value};
 use command_grammar::{parse, reverse_command, reverse_read_command, value};
 use std::alloc::{AllocError, Global};
+use word_values::number_value;
 
 /// Reads the words of `reverse`. `Err` means out of memory.
 #[tactic(auto, using(command_grammar::proofs::Plain::reverse_is_plain))]

@@ -25,7 +25,7 @@ columns_of Prefixes =
     ∷ optional column.MarkUtilized ∷ optional column.Description ∷ []
 columns_of Ranges =
     wanted column.StartAddress ∷ wanted column.EndAddress ∷ optional column.Vrf ∷ optional column.Status ∷ optional column.Role
-    ∷ optional column.MarkUtilized ∷ optional column.Description ∷ []
+    ∷ optional column.MarkUtilized ∷ optional column.MarkPopulated ∷ optional column.Description ∷ []
 columns_of Addresses =
     wanted column.Address ∷ optional column.Vrf ∷ optional column.Status ∷ optional column.Role ∷ optional column.DnsName
     ∷ optional column.Description ∷ []

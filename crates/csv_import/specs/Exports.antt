@@ -26,9 +26,9 @@ fields_of_row (AggregateRow block rir description) = block_text_of block ∷ rir
 fields_of_row (PrefixRow block vrf status role is_pool mark_utilized description) =
     block_text_of block ∷ optional_text vrf ∷ prefix_status_value status ∷ optional_text role ∷ flag_text is_pool
     ∷ flag_text mark_utilized ∷ description ∷ []
-fields_of_row (RangeRow start end vrf status role mark_utilized description) =
+fields_of_row (RangeRow start end vrf status role mark_utilized mark_populated description) =
     host_text start.addr start.len ∷ host_text end.addr end.len ∷ optional_text vrf ∷ range_status_value status ∷ optional_text role
-    ∷ flag_text mark_utilized ∷ description ∷ []
+    ∷ flag_text mark_utilized ∷ flag_text mark_populated ∷ description ∷ []
 fields_of_row (AddressRow host vrf status role dns_name description) =
     host_text host.addr host.len ∷ optional_text vrf ∷ address_status_value status ∷ role_text role ∷ dns_name ∷ description ∷ []
 

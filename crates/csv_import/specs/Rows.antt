@@ -6,7 +6,7 @@ use Rattle.ipam_data.specs.Hosts.{Masked}
 use Rattle.ipam_data.specs.declared.kinds.Kind.{Kind}
 use Rattle.ipam_data.specs.declared.kinds.Kind.TheVariants.{Vrfs, Rirs, Roles, Aggregates, Prefixes, Ranges, Addresses}
 use Rattle.ipam_data.specs.declared.replies.FieldName.{FieldName}
-use Rattle.ipam_data.specs.declared.replies.FieldName.TheVariants.{Address, Description, DnsName, EndAddress, EnforceUnique, IsPool, IsPrivate, MarkUtilized, Name, Prefix as PrefixField, Rd, Rir as RirField, Role as RoleField, Row as RowField, Slug, StartAddress, Status, Vrf as VrfField, Weight}
+use Rattle.ipam_data.specs.declared.replies.FieldName.TheVariants.{Address, Description, DnsName, EndAddress, EnforceUnique, IsPool, IsPrivate, MarkPopulated, MarkUtilized, Name, Prefix as PrefixField, Rd, Rir as RirField, Role as RoleField, Row as RowField, Slug, StartAddress, Status, Vrf as VrfField, Weight}
 use Rattle.ipam_data.specs.declared.replies.RowFault.{RowFault}
 use Rattle.ipam_data.specs.declared.replies.RowFault.TheVariants.{Field}
 use Rattle.ipam_data.specs.declared.imports.ImportRow.{ImportRow}
@@ -76,8 +76,9 @@ range_row start end header fields =
     then (read Status range_status_of header fields) λ status.
     then (read RoleField (within_or_none 100) header fields) λ role.
     then (read MarkUtilized (flag_of false) header fields) λ mark_utilized.
+    then (read MarkPopulated (flag_of false) header fields) λ mark_populated.
     then (read Description (within 0 200) header fields) λ description.
-    Ok (RangeRow start end vrf status role mark_utilized description)
+    Ok (RangeRow start end vrf status role mark_utilized mark_populated description)
 
 abbrev pub address_row : Result Masked RowFault → List (List ℕ) → List (List ℕ) → Result ImportRow RowFault
 address_row host header fields =

@@ -171,6 +171,10 @@ fn range_columns() -> &'static [Column]
             required: false,
         },
         Column {
+            name: FieldName::MarkPopulated,
+            required: false,
+        },
+        Column {
             name: FieldName::Description,
             required: false,
         },

@@ -34,6 +34,7 @@ pub(crate) fn read_range(
     let status = range_status(header, line)?;
     let role = name_or_none(alloc, header, line, FieldName::Role)?;
     let mark_utilized = flag(header, line, FieldName::MarkUtilized, false)?;
+    let mark_populated = flag(header, line, FieldName::MarkPopulated, false)?;
     let description = description(alloc, header, line)?;
     Ok(ImportRow::IpRange {
         start,
@@ -42,6 +43,7 @@ pub(crate) fn read_range(
         status,
         role,
         mark_utilized,
+        mark_populated,
         description,
     })
 }
@@ -58,6 +60,7 @@ pub(crate) fn range_fields(alloc: Global, row: &ImportRow) -> Result<StringRecor
         status,
         role,
         mark_utilized,
+        mark_populated,
         description,
     } = row
     else {
@@ -72,6 +75,7 @@ pub(crate) fn range_fields(alloc: Global, row: &ImportRow) -> Result<StringRecor
     fields.push_field(range_status_value(*status))?;
     fields.push_field(name_text(role))?;
     fields.push_field(flag_name(*mark_utilized))?;
+    fields.push_field(flag_name(*mark_populated))?;
     fields.push_field(description.as_str())?;
     Ok(fields)
 }

@@ -19,8 +19,8 @@ row 1: host_bits: host bits are set, the prefix is 10.0.0.0/24
 prefix,vrf,status,role,is_pool,mark_utilized,description
 10.0.0.0/24,,active,,false,false,\"a \"\"b\"\", c\"
 row 2: field: row is missing or malformed
-start_address,end_address,vrf,status,role,mark_utilized,description
-10.0.0.2/24,10.0.0.9/24,,active,,true,
+start_address,end_address,vrf,status,role,mark_utilized,mark_populated,description
+10.0.0.2/24,10.0.0.9/24,,active,,true,false,
 address,vrf,status,role,dns_name,description
 10.0.0.1/24,,active,vip,,
 2001:db8::1/128,red,active,,Host.,

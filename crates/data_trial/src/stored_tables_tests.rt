@@ -35,11 +35,14 @@ yes prefixes 6 ::/0 - deprecated - true false note
 no prefixes 6 10.0.0.0/8 007 container 2 false true -
 no prefixes 6 10.0.0.0/8 1 Container - false true -
 no prefixes 6 10.0.0.0/8 1 dhcp - false true -
-yes ranges 7 10.0.0.1/24 10.0.0.9/24 - active - false -
-yes ranges 7 10.0.0.9/24 2001:db8::1/24 1 reserved 2 true -
-no ranges 7 10.0.0.1/24 10.0.0.9/25 - active - false -
-no ranges 7 10.0.0.1 10.0.0.9/24 - active - false -
-no ranges 7 10.0.0.1/24 10.0.0.9/24 - container - false -
+yes ranges 7 10.0.0.1/24 10.0.0.9/24 - active - false false -
+yes ranges 7 10.0.0.1/24 10.0.0.9/24 - active - false true note
+yes ranges 7 10.0.0.9/24 2001:db8::1/24 1 reserved 2 true false -
+no ranges 7 10.0.0.1/24 10.0.0.9/24 - active - false -
+no ranges 7 10.0.0.1/24 10.0.0.9/24 - active - false yes -
+no ranges 7 10.0.0.1/24 10.0.0.9/25 - active - false false -
+no ranges 7 10.0.0.1 10.0.0.9/24 - active - false false -
+no ranges 7 10.0.0.1/24 10.0.0.9/24 - container - false false -
 yes addresses 8 192.0.2.1/24 - slaac vip a.example -
 yes addresses 8 2001:db8::1/64 3 dhcp - - host
 no addresses 8 192.0.2.1/33 - active - - -

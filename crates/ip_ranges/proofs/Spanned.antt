@@ -5,6 +5,7 @@ use Rattle.std.specs.List.Sorted.{IsNonDecreasingBy}
 use Rattle.std.proofs.lemmas.Bool.Decides.{nat_tests}
 use Rattle.inet_num.specs.declared.Family.{Family}
 use Rattle.inet_num.specs.declared.Span.{Span}
+use Rattle.inet_num.specs.Net.{Address}
 use Rattle.inet_num.specs.Blocks.{same_family}
 use Rattle.inet_num.proofs.Insides.{both, one_family}
 use Rattle.block_space.specs.Usable.{AreApart, is_in_span}
@@ -13,14 +14,14 @@ use Rattle.ipam_data.specs.declared.kinds.Table.TheVariants.{Global, Of}
 use Rattle.ipam_data.specs.declared.range.IpRange.{IpRange}
 use Rattle.ipam_data.specs.Rows.{range_id}
 use Rattle.ipam_data.specs.Tables.{table_of, same_table}
-use Rattle.ipam_data.specs.RowList.{AllAre, IsApart, Rises, is_rival, least_rival, row_at, with_row, without}
-use Rattle.ipam_data.specs.Ranges.{crosses, ShareAddress}
+use Rattle.ipam_data.specs.RowList.{AllAre, IsApart, Rises, is_rival, least, least_rival, row_at, with_row, without}
+use Rattle.ipam_data.specs.Ranges.{crosses, is_populated_at, ShareAddress}
 use Rattle.ipam_data.specs.Lawful.{IsRange}
-use Rattle.ip_ranges.specs.declared.Which.{Which}
-use Rattle.ip_ranges.specs.declared.Which.TheVariants.{All}
+use Rattle.ip_ranges.specs.declared.SpanKind.{SpanKind}
+use Rattle.ip_ranges.specs.declared.SpanKind.TheVariants.{All, Populated}
 use Rattle.ip_ranges.specs.declared.tracks.Entry.{Entry}
 use Rattle.ip_ranges.specs.Spans.{is_meant, is_spanned, span_of, spans_of_rows, AreSpansOf}
-use Rattle.ip_ranges.specs.Tracks.{lane_of, entry_of, is_in_lane, is_met, is_same, lane_spans, passes, one, one_of, IsKept, IsTrackOf}
+use Rattle.ip_ranges.specs.Tracks.{lane_of, entry_of, spot_of, is_in_lane, is_met, is_same, lane_spans, passes, one, one_of, IsKept, IsTrackOf}
 use Rattle.ip_ranges.proofs.Counts.{count_cons, count_yes, count_same, count_picked, none_contained, none_found, by_counts}
 use Rattle.ip_ranges.proofs.Rows.{count_without, count_with, at_least_once, at_most_once}
 use Rattle.ip_ranges.proofs.Lanes.{lane_same}
@@ -39,10 +40,34 @@ no_rival rows entries row e t is n =
     (λ x a. ap (λ (f : Entry). is_met f (entry_of x)) is ∙ met_is row x ∙ (both (not (range_id x == range_id row)) (crosses row x) a).1) rows (sym (t (is_met e)) ∙ n) in
     ap (option_map range_id) none
 
+-- ---- one address
+
+shuffle : (m s f l h : Bool) → (m && (s && f && l && h)) ≡ (m && s && (f && l && h))
+shuffle true true true l h = refl
+shuffle true true false l h = refl
+shuffle true false f l h = refl
+shuffle false s f l h = refl
+
+-- a range is populated and has the address just where its entry is meant and meets the address
+pub filled_is : (table : Table) (a : Address) (row : IpRange) → passes Populated (is_met (spot_of table a)) row ≡ is_populated_at table a row
+filled_is table a row =
+    let low = nat_le row.ends.start.value a.value in
+    let high = nat_le a.value row.ends.end.value in
+    ap (λ (b : Bool). row.mark_populated && (b && low && high)) (lane_same (table_of row.vrf) table row.ends.start.family a.family)
+    ∙ shuffle row.mark_populated (same_table (table_of row.vrf) table) (same_family row.ends.start.family a.family) low high
+
+-- where no entry is met, no populated range has the address
+pub none_populated : (rows : List IpRange) (entries : List Entry) (table : Table) (a : Address) (e : Entry) → IsTrackOf Populated rows entries → e ≡ spot_of table a → count_by (is_met e) entries ≡ 0
+    → least range_id (is_populated_at table a) rows ≡ None
+none_populated rows entries table a e t is n =
+    let none = none_found (is_populated_at table a) (passes Populated (is_met e))
+    (λ x p. ap (λ (f : Entry). passes Populated (is_met f) x) is ∙ filled_is table a x ∙ p) rows (sym (t (is_met e)) ∙ n) in
+    ap (option_map range_id) none
+
 -- ---- the tracks of rows that change
 
 -- the entry of a row that is there and meant
-pub is_noted : (which : Which) (rows : List IpRange) (entries : List Entry) (n : ℕ) (row : IpRange) (e : Entry) → IsTrackOf which rows entries → row_at range_id rows n ≡ Some row → is_meant which row ≡ true
+pub is_noted : (which : SpanKind) (rows : List IpRange) (entries : List Entry) (n : ℕ) (row : IpRange) (e : Entry) → IsTrackOf which rows entries → row_at range_id rows n ≡ Some row → is_meant which row ≡ true
     → e ≡ entry_of row → 1 ≤ count_by (is_same e) entries
 is_noted which rows entries n row e t at meant is =
     let itself : is_same e (entry_of row) ≡ true = ap (is_same e) (sym is) ∙ is_same-refl e in
@@ -50,7 +75,7 @@ is_noted which rows entries n row e t at meant is =
     let as_many = t (is_same e) in
     omega arith
 
-pub cut_track : (which : Which) (rows new : List IpRange) (old kept : List Entry) (n : ℕ) → Rises range_id 0 rows → IsTrackOf which rows old
+pub cut_track : (which : SpanKind) (rows new : List IpRange) (old kept : List Entry) (n : ℕ) → Rises range_id 0 rows → IsTrackOf which rows old
     → ((p : Entry → Bool) → count_by p kept + one_of (passes which p) (row_at range_id rows n) ≡ count_by p old) → new ≡ without range_id rows n → IsTrackOf which new kept
 cut_track which rows new old kept n r t gone is = λ p. (
     let a = t p in
@@ -60,7 +85,7 @@ cut_track which rows new old kept n r t gone is = λ p. (
     omega arith
     )
 
-pub put_track : (which : Which) (rows new : List IpRange) (old kept noted : List Entry) (row : IpRange) (n : ℕ) → n ≡ row.id → IsTrackOf which rows old
+pub put_track : (which : SpanKind) (rows new : List IpRange) (old kept noted : List Entry) (row : IpRange) (n : ℕ) → n ≡ row.id → IsTrackOf which rows old
     → ((p : Entry → Bool) → count_by p kept + one_of (passes which p) (row_at range_id rows n) ≡ count_by p old)
     → ((p : Entry → Bool) → count_by p noted ≡ count_by p kept + one (passes which p row)) → new ≡ with_row range_id rows row → IsTrackOf which new noted
 put_track which rows new old kept noted row n id t gone more is = λ p. (
@@ -73,7 +98,7 @@ put_track which rows new old kept noted row n id t gone more is = λ p. (
     omega arith
     )
 
-pub kept_track : (which : Which) (rows new : List IpRange) (entries : List Entry) (row : IpRange) → IsTrackOf which rows entries → IsKept rows row → new ≡ with_row range_id rows row → IsTrackOf which new entries
+pub kept_track : (which : SpanKind) (rows new : List IpRange) (entries : List Entry) (row : IpRange) → IsTrackOf which rows entries → IsKept rows row → new ≡ with_row range_id rows row → IsTrackOf which new entries
 kept_track which rows new entries row t kept is = λ p. (
     let a = t p in
     let b = kept which p in
@@ -84,7 +109,7 @@ kept_track which rows new entries row t kept is = λ p. (
 
 -- ---- spans
 
-spanned_is : (table : Table) (family : Family) (which : Which) (p : Span → Bool) (row : IpRange)
+spanned_is : (table : Table) (family : Family) (which : SpanKind) (p : Span → Bool) (row : IpRange)
     → passes which (λ e. is_in_lane (lane_of table family) e && p e.span) row ≡ (is_spanned table family which row && p (span_of row))
 spanned_is table family which p row =
     ap (λ (b : Bool). is_meant which row && (b && p (span_of row))) (lane_same (table_of row.vrf) table row.ends.start.family family)
@@ -97,7 +122,7 @@ spanned_is table family which p row =
     turned false false c = refl
 
 -- each test passes as many spans of the lane as of the ranges
-pub lane_counts : (rows : List IpRange) (entries : List Entry) (table : Table) (family : Family) (which : Which) → IsTrackOf which rows entries
+pub lane_counts : (rows : List IpRange) (entries : List Entry) (table : Table) (family : Family) (which : SpanKind) → IsTrackOf which rows entries
     → (p : Span → Bool) → count_by p (lane_spans (lane_of table family) entries) ≡ count_by p (spans_of_rows rows table family which)
 lane_counts rows entries table family which t p =
     count_picked (λ e. e.span) (is_in_lane (lane_of table family)) p entries
@@ -158,7 +183,7 @@ pub record IsHolder (table : Table) (family : Family) (a : ℕ) (row : IpRange) 
   pub from : row.ends.start.value ≤ a
   pub to : a ≤ row.ends.end.value
 
-holder : (table : Table) (family : Family) (which : Which) (a : ℕ) (row : IpRange) → (is_spanned table family which row && is_in_span a (span_of row)) ≡ true → IsHolder table family a row
+holder : (table : Table) (family : Family) (which : SpanKind) (a : ℕ) (row : IpRange) → (is_spanned table family which row && is_in_span a (span_of row)) ≡ true → IsHolder table family a row
 holder table family which a row e =
     let h = both (is_spanned table family which row) (is_in_span a (span_of row)) e in
     let k = both (same_table (table_of row.vrf) table && same_family row.ends.start.family family) (is_meant which row) h.0 in
@@ -177,7 +202,7 @@ share table family a x y h k = record {
 }
 
 -- each address is in one of the spans at most
-once : (rows : List IpRange) (table : Table) (family : Family) (which : Which) → Rises range_id 0 rows → IsApart range_id ShareAddress rows
+once : (rows : List IpRange) (table : Table) (family : Family) (which : SpanKind) → Rises range_id 0 rows → IsApart range_id ShareAddress rows
     → (a : ℕ) → count_by (is_in_span a) (spans_of_rows rows table family which) ≤ 1
 once rows table family which r apart a =
     let test : IpRange → Bool = λ row. is_spanned table family which row && is_in_span a (span_of row) in
@@ -186,7 +211,7 @@ once rows table family which r apart a =
     omega arith
 
 -- none ends before it begins
-none_backward : (rows : List IpRange) (table : Table) (family : Family) (which : Which) → AllAre IsRange rows → count_by backward (spans_of_rows rows table family which) ≡ 0
+none_backward : (rows : List IpRange) (table : Table) (family : Family) (which : SpanKind) → AllAre IsRange rows → count_by backward (spans_of_rows rows table family which) ≡ 0
 none_backward rows table family which each =
     let test : IpRange → Bool = λ row. is_spanned table family which row && backward (span_of row) in
     count_picked span_of (is_spanned table family which) backward rows ∙ none_contained test rows (λ y c. go y (each y c) (test y) refl)
@@ -199,7 +224,7 @@ none_backward rows table family which each =
         absurd (omega arith)
     go y h false t = t
 
-pub are_spans : (rows : List IpRange) (entries : List Entry) (spans : List Span) (table : Table) (family : Family) (which : Which) → Rises range_id 0 rows → AllAre IsRange rows
+pub are_spans : (rows : List IpRange) (entries : List Entry) (spans : List Span) (table : Table) (family : Family) (which : SpanKind) → Rises range_id 0 rows → AllAre IsRange rows
     → IsApart range_id ShareAddress rows → IsTrackOf which rows entries → spans ≡ lane_spans (lane_of table family) entries → IsNonDecreasingBy (λ s. s.first.value) spans → AreSpansOf rows table family which spans
 are_spans rows entries spans table family which r each apart t e rises =
     let counts : (p : Span → Bool) → count_by p spans ≡ count_by p (spans_of_rows rows table family which) = λ p. ap (count_by p) e ∙ lane_counts rows entries table family which t p in (

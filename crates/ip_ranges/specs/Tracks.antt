@@ -4,6 +4,7 @@ use Rattle.std.specs.List.Sorted.{IsPartitionPoint}
 use Rattle.inet_num.specs.declared.Family.{Family}
 use Rattle.inet_num.specs.declared.Family.TheVariants.{V4, V6}
 use Rattle.inet_num.specs.declared.Span.{Span}
+use Rattle.inet_num.specs.Net.{Address}
 use Rattle.inet_num.specs.Blocks.{same_address}
 use Rattle.ipam_data.specs.declared.kinds.Table.{Table}
 use Rattle.ipam_data.specs.declared.kinds.Table.TheVariants.{Global, Of}
@@ -11,7 +12,7 @@ use Rattle.ipam_data.specs.declared.range.IpRange.{IpRange}
 use Rattle.ipam_data.specs.Tables.{table_of}
 use Rattle.ipam_data.specs.Rows.{range_id}
 use Rattle.ipam_data.specs.RowList.{row_at}
-use Rattle.ip_ranges.specs.declared.Which.{Which}
+use Rattle.ip_ranges.specs.declared.SpanKind.{SpanKind}
 use Rattle.ip_ranges.specs.declared.tracks.Entry.{Entry}
 use Rattle.ip_ranges.specs.Spans.{is_meant, span_of}
 
@@ -25,6 +26,10 @@ lane_of (Of n) V6 = 2 * (n + 1) + 1
 -- the span of a range in its lane
 abbrev pub entry_of : IpRange → Entry
 entry_of row = record { lane = lane_of (table_of row.vrf) row.ends.start.family; span = span_of row }
+
+-- the entry of one address of a table
+abbrev pub spot_of : Table → Address → Entry
+spot_of table a = record { lane = lane_of table a.family; span = record { first = a; last = a } }
 
 -- where an address of a lane stands among those of all lanes
 abbrev pub number : ℕ → ℕ → ℕ
@@ -89,11 +94,11 @@ abbrev pub one : Bool → ℕ
 one t = cond t 1 0
 
 -- the range is meant, and its entry passes
-abbrev pub passes : Which → (Entry → Bool) → IpRange → Bool
+abbrev pub passes : SpanKind → (Entry → Bool) → IpRange → Bool
 passes which p row = is_meant which row && p (entry_of row)
 
 -- the entries of just the ranges that are meant: each test passes as many of the one as of the other
-abbrev pub IsTrackOf : Which → List IpRange → List Entry → Type 0
+abbrev pub IsTrackOf : SpanKind → List IpRange → List Entry → Type 0
 IsTrackOf which rows entries = (p : Entry → Bool) → count_by p entries ≡ count_by (passes which p) rows
 
 -- 1 where there is a row, and it passes
@@ -103,4 +108,4 @@ one_of t (Some row) = one (t row)
 
 -- where the row is put, no track changes: one of its id is there, and the two pass the same tests
 abbrev pub IsKept : List IpRange → IpRange → Type 0
-IsKept rows row = (which : Which) (p : Entry → Bool) → one_of (passes which p) (row_at range_id rows row.id) ≡ one (passes which p row)
+IsKept rows row = (which : SpanKind) (p : Entry → Bool) → one_of (passes which p) (row_at range_id rows row.id) ≡ one (passes which p row)

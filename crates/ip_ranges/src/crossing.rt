@@ -1,13 +1,13 @@
 //! Rules of one range, and the pass over all for those that it crosses.
 
 ghost use Rattle.std.specs.Prelude.{◌≡◌, ◌∷◌, [], find, option_copied};
-ghost use Rattle.ipam_data.specs.RowList.{is_rival, least_rival};
+ghost use Rattle.ipam_data.specs.RowList.{is_rival, least, least_rival};
 ghost use Rattle.ipam_data.specs.Rows.{range_id};
 ghost use Rattle.ipam_data.specs.Checks.{first};
-ghost use Rattle.ipam_data.specs.Ranges.{crosses};
+ghost use Rattle.ipam_data.specs.Ranges.{crosses, is_populated_at};
 ghost use Rattle.ip_ranges.specs.Spans.{own_rules};
 
-use inet_num::is_one_family;
+use inet_num::{Addr, is_one_family};
 use ipam_data::kinds::{Table, is_one_table};
 use ipam_data::range::IpRange;
 use ipam_data::replies::Rule;
@@ -63,6 +63,34 @@ pub fn least_crossing(rows: &[IpRange], row: &IpRange) -> Option<u32>
 {
     match first_crossing(rows, row) {
         Some(other) => Some(other.id),
+        None => None,
+    }
+}
+
+/// Whether somebody else fills the range, it is of the table and it has the address.
+fn is_filled(row: &IpRange, table: Table, host: Addr) -> bool
+    ensures { result ≡ is_populated_at table host row.now }
+{
+    row.mark_populated
+        && is_one_table(Table::of(row.vrf), table)
+        && is_one_family(row.ends.start().family(), host.family())
+        && row.ends.start().value() <= host.value()
+        && host.value() <= row.ends.end().value()
+}
+
+/// The first such range.
+fn first_populated(rows: &[IpRange], table: Table, host: Addr) -> Option<&IpRange>
+    ensures { option_copied result ≡ find (is_populated_at table host) rows.now }
+{
+    rows.iter().find(|row| is_filled(row, table, host))
+}
+
+/// The least id of such a range, by a pass over all.
+pub fn least_populated(rows: &[IpRange], table: Table, host: Addr) -> Option<u32>
+    ensures { result ≡ least range_id (is_populated_at table host) rows.now }
+{
+    match first_populated(rows, table, host) {
+        Some(row) => Some(row.id),
         None => None,
     }
 }

@@ -4,14 +4,14 @@
 ghost use Rattle.std.specs.Prelude.{◌≡◌, ℕ, ◌+◌, ◌≤◌, ◌&&◌, [], Bool, Some, IfOk, IsSome, IsTrue, count_by};
 ghost use Rattle.ipam_data.specs.RowList.{AllAre, IsApart, IsFitting, Rises, least_rival, row_at, with_row};
 ghost use Rattle.ipam_data.specs.Rows.{range_id};
-ghost use Rattle.ipam_data.specs.Ranges.{crosses, range_fault, ShareAddress};
+ghost use Rattle.ipam_data.specs.Ranges.{crosses, populated_at, range_fault, ShareAddress};
 ghost use Rattle.ipam_data.specs.Lawful.{IsRange};
-ghost use Rattle.ip_ranges.specs.declared.Which.TheVariants.{All as EachOne, Marked as MarkedOnes};
+ghost use Rattle.ip_ranges.specs.declared.SpanKind.TheVariants.{All as EachOne, Utilized as UtilizedOnes, Populated as PopulatedOnes};
 ghost use Rattle.ip_ranges.specs.declared.tracks.Entry.{Entry as SeenEntry};
 ghost use Rattle.ipam_data.specs.declared.range.IpRange.{IpRange as SeenRange};
 ghost use Rattle.ip_ranges.specs.Pieces.{ArePieces};
 ghost use Rattle.ip_ranges.specs.Spans.{AreSpansOf, is_meant};
-ghost use Rattle.ip_ranges.specs.Tracks.{entry_of, passes, one, one_of, IsKept, IsTrackOf};
+ghost use Rattle.ip_ranges.specs.Tracks.{entry_of, spot_of, passes, one, one_of, IsKept, IsTrackOf};
 
 mod crossing;
 mod pieces;
@@ -19,10 +19,10 @@ mod pieces;
 mod tests;
 mod tracks;
 
-use crate::crossing::{least_crossing, own_fault};
+use crate::crossing::{least_crossing, least_populated, own_fault};
 use crate::pieces::pieces_of;
 use crate::tracks::{Entry, Track, is_same, lane_of};
-use inet_num::{Block, Family, Span};
+use inet_num::{Addr, Block, Family, Span};
 use ipam_data::kinds::Table;
 use ipam_data::range::IpRange;
 use ipam_data::replies::Rule;
@@ -30,11 +30,12 @@ use placed_book::{Book, RowBook, in_order};
 use std::alloc::{AllocError, Global};
 use std::marker::Model;
 
-/// Which ranges are meant: all, or those that count as full.
+/// Which ranges are meant: all, those that count as full, or those that somebody else fills.
 #[derive(Clone, Copy, Debug)]
-pub enum Which {
+pub enum SpanKind {
     All,
-    Marked,
+    Utilized,
+    Populated,
 }
 
 /// The entry of a range in a track.
@@ -50,8 +51,21 @@ fn entry(row: &IpRange) -> Entry
     }
 }
 
+/// The entry of a range of one address.
+fn spot(table: Table, host: Addr) -> Entry
+    ensures { result ≡ spot_of table host }
+{
+    Entry {
+        lane: lane_of(table, host.family()),
+        span: Span {
+            first: host,
+            last: host,
+        },
+    }
+}
+
 /// Takes the entry of the row of an id out of a track, where there is such a row and it is meant.
-fn forget(rows: &RowBook<IpRange>, which: Which, track: &mut Track, id: u32)
+fn forget(rows: &RowBook<IpRange>, which: SpanKind, track: &mut Track, id: u32)
     requires { IsTrackOf which rows.now.rows track.old.entries }
     ensures counts { (p : SeenEntry → Bool) → count_by p track.new.entries + one_of (passes which p) (row_at range_id rows.now.rows id) ≡ count_by p track.old.entries }
     ensures spare { track.new.spare ≡ track.old.spare }
@@ -67,17 +81,18 @@ fn forget(rows: &RowBook<IpRange>, which: Which, track: &mut Track, id: u32)
 }
 
 /// Whether the range is one of those that are meant.
-fn is_meant(which: Which, row: &IpRange) -> bool
+fn is_meant(which: SpanKind, row: &IpRange) -> bool
     ensures { result ≡ is_meant which row.now }
 {
     match which {
-        Which::All => true,
-        Which::Marked => row.mark_utilized,
+        SpanKind::All => true,
+        SpanKind::Utilized => row.mark_utilized,
+        SpanKind::Populated => row.mark_populated,
     }
 }
 
 /// Puts the entry of a row into a track, where it is meant.
-fn note(which: Which, track: &mut Track, row: &IpRange)
+fn note(which: SpanKind, track: &mut Track, row: &IpRange)
     requires { 1 ≤ track.old.spare }
     ensures counts { (p : SeenEntry → Bool) → count_by p track.new.entries ≡ count_by p track.old.entries + one (passes which p row.now) }
     ensures spare { track.old.spare ≤ track.new.spare + 1 }
@@ -87,19 +102,20 @@ fn note(which: Which, track: &mut Track, row: &IpRange)
     }
 }
 
-/// Whether the row of the row's id is there, with its span, its table and its mark.
+/// Whether the row of the row's id is there, with its span, its table and its marks.
 fn is_kept(rows: &RowBook<IpRange>, row: &IpRange) -> bool
     ensures { IsTrue result → IsKept rows.now.rows row.now }
 {
     match rows.get(row.id) {
         Some(old) => is_same(&entry(old), &entry(row))
-            && is_meant(Which::Marked, old) == is_meant(Which::Marked, row),
+            && is_meant(SpanKind::Utilized, old) == is_meant(SpanKind::Utilized, row)
+            && is_meant(SpanKind::Populated, old) == is_meant(SpanKind::Populated, row),
         None => false,
     }
 }
 
-/// Ranges in the order of their ids, each id once, with room for more, and their spans in address order: those of all, and those of the
-/// ranges that count as full.
+/// Ranges in the order of their ids, each id once, with room for more, and their spans in address order: those of all, those of the
+/// ranges that count as full, and those of the ranges that somebody else fills.
 ///
 /// A contract sees the rows and the spare: how many more rows can be put without taking memory.
 #[derive(Drop)]
@@ -107,7 +123,8 @@ pub struct RangeBook {
     alloc: Global,
     rows: RowBook<IpRange>,
     all: Track,
-    marked: Track,
+    utilized: Track,
+    populated: Track,
     spare: u32,
 }
 
@@ -115,14 +132,14 @@ impl Model for RangeBook {
     ghost use Rattle.std.specs.Prelude.{◌≤◌};
     ghost use Rattle.ipam_data.specs.declared.range.IpRange.{IpRange};
     ghost use Rattle.placed_book.specs.RowBook.{Book};
-    ghost use Rattle.ip_ranges.specs.declared.Which.TheVariants.{All as EachOne, Marked as MarkedOnes};
+    ghost use Rattle.ip_ranges.specs.declared.SpanKind.TheVariants.{All as EachOne, Utilized as UtilizedOnes, Populated as PopulatedOnes};
     ghost use Rattle.ip_ranges.specs.Tracks.{IsTrackOf};
 
     ghost Value = { Book IpRange };
 
     ghost view = { λ b. record { rows = b.rows.rows; spare = b.spare } };
 
-    ghost invariant = { λ b. (b.spare ≤ b.rows.spare) × (b.spare ≤ b.all.spare) × (b.spare ≤ b.marked.spare) × IsTrackOf EachOne b.rows.rows b.all.entries × IsTrackOf MarkedOnes b.rows.rows b.marked.entries };
+    ghost invariant = { λ b. (b.spare ≤ b.rows.spare) × (b.spare ≤ b.all.spare) × (b.spare ≤ b.utilized.spare) × (b.spare ≤ b.populated.spare) × IsTrackOf EachOne b.rows.rows b.all.entries × IsTrackOf UtilizedOnes b.rows.rows b.utilized.entries × IsTrackOf PopulatedOnes b.rows.rows b.populated.entries };
 }
 
 impl RangeBook {
@@ -134,7 +151,8 @@ impl RangeBook {
             alloc,
             rows: RowBook::new(alloc),
             all: Track::new(alloc),
-            marked: Track::new(alloc),
+            utilized: Track::new(alloc),
+            populated: Track::new(alloc),
             spare: 0,
         }
     }
@@ -147,9 +165,9 @@ impl RangeBook {
         self.rows.rows()
     }
 
-    /// The spans of a table's ranges of one family, in address order: of all, or of those that count as full. No two ranges of a table
-    /// share an address. It takes no memory.
-    pub fn spans(&self, table: Table, family: Family, which: Which) -> &[Span]
+    /// The spans of a table's ranges of one family, in address order: of all, of those that count as full, or of those that somebody
+    /// else fills. No two ranges of a table share an address. It takes no memory.
+    pub fn spans(&self, table: Table, family: Family, which: SpanKind) -> &[Span]
         requires each { AllAre IsRange self.now.rows }
         requires apart { IsApart range_id ShareAddress self.now.rows }
         ensures { AreSpansOf self.now.rows table family which result.now }
@@ -157,8 +175,9 @@ impl RangeBook {
         in_order(&self.rows);
         let lane = lane_of(table, family);
         match which {
-            Which::All => self.all.lane(lane),
-            Which::Marked => self.marked.lane(lane),
+            SpanKind::All => self.all.lane(lane),
+            SpanKind::Utilized => self.utilized.lane(lane),
+            SpanKind::Populated => self.populated.lane(lane),
         }
     }
 
@@ -191,6 +210,18 @@ impl RangeBook {
         }
     }
 
+    /// The least id of a range of a table that somebody else fills and that has the address. It takes no memory. That none has it is
+    /// found by halving, as long as no two of them share an address; else it looks at all rows.
+    #[tactic(auto, unfolding(ipam_data::specs::Ranges::populated_at))]
+    pub fn populated(&self, table: Table, host: Addr) -> Option<u32>
+        ensures { result ≡ populated_at self.now.rows table host }
+    {
+        if self.populated.may_meet(&spot(table, host)) {
+            return least_populated(self.rows.rows(), table, host);
+        }
+        None
+    }
+
     /// The least id of another range that crosses this one.
     fn rival(&self, row: &IpRange) -> Option<u32>
         ensures { result ≡ least_rival range_id crosses self.now.rows row.now }
@@ -201,7 +232,7 @@ impl RangeBook {
         None
     }
 
-    /// Puts a row where its span, its table and its mark stay: the tracks stay as they are.
+    /// Puts a row where its span, its table and its marks stay: the tracks stay as they are.
     fn put_in_place(&mut self, row: IpRange)
         requires room { 1 ≤ self.old.spare }
         requires id { 1 ≤ row.id }
@@ -223,10 +254,12 @@ impl RangeBook {
         ensures spare { self.old.spare ≤ self.new.spare + 1 }
     {
         in_order(&self.rows);
-        forget(&self.rows, Which::All, &mut self.all, row.id);
-        forget(&self.rows, Which::Marked, &mut self.marked, row.id);
-        note(Which::All, &mut self.all, &row);
-        note(Which::Marked, &mut self.marked, &row);
+        forget(&self.rows, SpanKind::All, &mut self.all, row.id);
+        forget(&self.rows, SpanKind::Utilized, &mut self.utilized, row.id);
+        forget(&self.rows, SpanKind::Populated, &mut self.populated, row.id);
+        note(SpanKind::All, &mut self.all, &row);
+        note(SpanKind::Utilized, &mut self.utilized, &row);
+        note(SpanKind::Populated, &mut self.populated, &row);
         self.rows.put(row);
         self.spare -= 1;
     }
@@ -259,7 +292,8 @@ impl Book for RangeBook {
     fn reserve(&mut self, n: u32) -> Result<(), AllocError> {
         self.rows.reserve(n)?;
         self.all.reserve(n)?;
-        self.marked.reserve(n)?;
+        self.utilized.reserve(n)?;
+        self.populated.reserve(n)?;
         if self.spare < n {
             self.spare = n;
         }
@@ -276,8 +310,9 @@ impl Book for RangeBook {
 
     fn cut(&mut self, id: u32) -> Option<IpRange> {
         in_order(&self.rows);
-        forget(&self.rows, Which::All, &mut self.all, id);
-        forget(&self.rows, Which::Marked, &mut self.marked, id);
+        forget(&self.rows, SpanKind::All, &mut self.all, id);
+        forget(&self.rows, SpanKind::Utilized, &mut self.utilized, id);
+        forget(&self.rows, SpanKind::Populated, &mut self.populated, id);
         self.rows.cut(id)
     }
 }

@@ -7,7 +7,7 @@ ghost use Rattle.ipam_data.specs.RowList.{AllBelow};
 ghost use Rattle.ipam_data.specs.Rows.{range_id};
 ghost use Rattle.ipam_data.specs.Lawful.{IsRange};
 
-use crate::{RangeBook, Which};
+use crate::{RangeBook, SpanKind};
 use inet_num::{Addr, Family};
 use ipam_data::host::Ends;
 use ipam_data::kinds::Table;
@@ -27,6 +27,7 @@ fn range(
     last: u8,
     vrf: Option<u32>,
     mark_utilized: bool,
+    mark_populated: bool,
 ) -> Option<IpRange>
     requires { first < last }
     ensures id { IfSome result (λ row. row.id ≡ id) }
@@ -43,6 +44,7 @@ fn range(
         status: RangeStatus::Active,
         role: None,
         mark_utilized,
+        mark_populated,
         description,
     };
     row.bounds();
@@ -71,6 +73,14 @@ fn overlap_of(fault: Option<Rule>) -> u32 {
     }
 }
 
+/// The id of the populated range that has an address of 10.0.0.0/24, or 0.
+fn populated_of(book: &RangeBook, table: Table, last: u8) -> u32 {
+    match Addr::of(Family::V4, 0x0a000000 + u128::from(last)) {
+        Some(host) => book.populated(table, host).unwrap_or(0),
+        None => 0,
+    }
+}
+
 /// Two ranges of the global table and one of another, and what further ones may do beside them.
 fn check_book(
     rt: &impl Abort,
@@ -94,6 +104,19 @@ fn check_book(
     );
     assert!(rt; book.fault(beside).is_none(), "none between the two");
     assert!(rt; overlap_of(book.fault(across)) == 1, "the least id");
+    assert!(rt;
+        populated_of(&book, Table::Of(7), 19) == 2,
+        "the last address"
+    );
+    assert!(rt;
+        populated_of(&book, Table::Of(7), 20) == 0,
+        "none behind it"
+    );
+    assert!(rt; populated_of(&book, Table::Global, 19) == 0, "no mark");
+    assert!(rt;
+        populated_of(&book, Table::Global, 30) == 3,
+        "the first address"
+    );
     assert!(rt; book.cut(1).is_some(), "it is there");
     assert!(rt; overlap_of(book.fault(across)) == 3, "the other one");
     Ok(())
@@ -101,12 +124,12 @@ fn check_book(
 
 #[test]
 fn three_ranges_in_two_tables(rt: HostRuntime) -> Result<(), Fail> {
-    let first = range(rt.alloc(), 1, 10, 19, None, false).ok_or("no row")?;
-    let second = range(rt.alloc(), 2, 10, 19, Some(7), false).ok_or("no row")?;
-    let third = range(rt.alloc(), 3, 30, 39, None, true).ok_or("no row")?;
-    let touching = range(rt.alloc(), 4, 39, 40, None, false).ok_or("no row")?;
-    let beside = range(rt.alloc(), 4, 20, 29, None, false).ok_or("no row")?;
-    let across = range(rt.alloc(), 4, 0, 255, None, false).ok_or("no row")?;
+    let first = range(rt.alloc(), 1, 10, 19, None, false, false).ok_or("no row")?;
+    let second = range(rt.alloc(), 2, 10, 19, Some(7), false, true).ok_or("no row")?;
+    let third = range(rt.alloc(), 3, 30, 39, None, true, true).ok_or("no row")?;
+    let touching = range(rt.alloc(), 4, 39, 40, None, false, false).ok_or("no row")?;
+    let beside = range(rt.alloc(), 4, 20, 29, None, false, false).ok_or("no row")?;
+    let across = range(rt.alloc(), 4, 0, 255, None, false, false).ok_or("no row")?;
     check_book(
         &rt,
         rt.alloc(),
@@ -138,7 +161,7 @@ fn pieces_in_book(alloc: Global, row: IpRange) -> Result<Vec<inet_num::Block>, A
 
 #[test]
 fn pieces_of_ten_addresses(rt: HostRuntime) -> Result<(), Fail> {
-    let row = range(rt.alloc(), 1, 10, 19, None, false).ok_or("no row")?;
+    let row = range(rt.alloc(), 1, 10, 19, None, false, false).ok_or("no row")?;
     let pieces = pieces_in_book(rt.alloc(), row)?;
     assert!(rt;
         pieces.len() == 3

@@ -1,12 +1,12 @@
 -- Words ask for one command, so a promise on another one is none; and what a command leaves that uses no opener or no listener.
-use Rattle.std.proofs.Common.{◌≡◌, ℕ, ◌+◌, ◌≤◌, length, refl, sym, ap, subst, arith, inl, List}
+use Rattle.std.proofs.Common.{◌≡◌, ℕ, ◌+◌, ◌≤◌, length, refl, sym, ap, subst, arith, inl, Bool, List}
 use Rattle.inet_num.specs.Net.{Cidr}
 use Rattle.command_words.specs.declared.asked.KindName.{KindName}
 use Rattle.command_words.specs.declared.asked.Report.{Report as ReportName}
 use Rattle.command_words.specs.declared.asked.Store.{Store}
 use Rattle.command_words.specs.declared.asked.Serving.{Serving}
 use Rattle.command_words.specs.declared.asked.Command.{Command}
-use Rattle.command_words.specs.declared.asked.Command.TheVariants.{Free, Session, Serve, Import, Export, Report, Load}
+use Rattle.command_words.specs.declared.asked.Command.TheVariants.{Free, Session, Serve, Import, Export, Report, Migrate, Load}
 use Rattle.command_words.specs.Asked.{Asks}
 use Rattle.command_words.proofs.Unique.{words_ask_for_one}
 use Rattle.command_streams.specs.Streams.{Streams, NeverRises}
@@ -97,6 +97,15 @@ same_report words report other_report store other_store P a b h =
     let first : report ≡ other_report = cc in
     let second : store ≡ other_store = cc in
     subst (λ (s : Store). P other_report s) second (subst (λ (r : ReportName). P r store) first h)
+
+-- a promise on a migration, by the file and the mark that the words have
+pub same_migrate : (words : List (List ℕ)) (db other : List ℕ) (populated mark : Bool) (P : List ℕ → Bool → Type 0)
+    → Asks words (Migrate db populated) → Asks words (Migrate other mark) → P db populated → P other mark
+same_migrate words db other populated mark P a b h =
+    let e = words_ask_for_one words (Migrate db populated) (Migrate other mark) a b in
+    let first : db ≡ other = cc in
+    let second : populated ≡ mark = cc in
+    subst (P other) second (subst (λ (d : List ℕ). P d populated) first h)
 
 -- no count rose where nothing was used
 pub none_rose : (old new : Outside) → new ≡ old → NoCountRises old new

@@ -1,17 +1,19 @@
 -- Where nothing fails, a cause of status 1 gives it: with status 0 the state was loaded and the file was read, and both have no fault.
-use Rattle.std.proofs.Common.{◌≡◌, ℕ, ◌⊎◌, inl, inr, List, [], Option, Some, None, Result, Ok, Err, IfSome, refl, sym, ◌∙◌, ap, subst, arith}
+use Rattle.std.proofs.Common.{◌≡◌, ℕ, ◌⊎◌, inl, inr, Bool, List, [], Option, Some, None, Result, Ok, Err, IfSome, refl, sym, ◌∙◌, ap, subst, arith}
 use Rattle.ipam_data.specs.declared.kinds.Kind.{Kind}
 use Rattle.ipam_data.specs.declared.replies.Refusal.{Refusal}
 use Rattle.ipam_data.specs.State.{State, verdict_of}
 use Rattle.stored_tables.specs.declared.tables.Tables.{Tables}
 use Rattle.stored_tables.specs.Opening.{IsOpening}
+use Rattle.stored_tables.specs.declared.migration.MigrateFault.{MigrateFault}
+use Rattle.stored_tables.specs.Migration.{unmigrated}
 use Rattle.ipam_keeper.specs.Keeping.{IsTold}
 use Rattle.ipam_data.specs.declared.imports.ImportRow.{ImportRow}
 use Rattle.ipam_data.specs.Imports.{import_plan}
 use Rattle.csv_import.specs.Files.{IsFileOf}
 use Rattle.csv_import.proofs.OneFile.{file_is_one}
 use Rattle.command_words.specs.declared.asked.Command.{Command}
-use Rattle.command_words.specs.declared.asked.Command.TheVariants.{Session, Serve, Import, Export, Report, PrefixList, PrefixCheck, Reverse}
+use Rattle.command_words.specs.declared.asked.Command.TheVariants.{Session, Serve, Import, Export, Report, PrefixList, PrefixCheck, Reverse, Migrate}
 use Rattle.command_words.specs.declared.asked.KindName.{KindName}
 use Rattle.command_words.specs.declared.asked.Report.{Report as ReportName}
 use Rattle.command_words.specs.declared.asked.Store.{Store}
@@ -23,9 +25,10 @@ use Rattle.command_serve.specs.Serve.{ListenerView}
 use Rattle.command_files.specs.Files.{kind_named, GivesRows}
 use Rattle.command_files.specs.Import.{IsImportOf, IsStored}
 use Rattle.command_files.specs.Report.{IsReportText, report_text}
+use Rattle.command_migrate.specs.Migrate.{AreFit, tables_of_file}
 use Rattle.ipam_command.specs.Runs.{Runs}
-use Rattle.ipam_command.specs.Clauses.{HasClauses, AsksImport, AsksReport, ListenerFailed}
-use Rattle.ipam_command.specs.Exact.{Opens, HasBadTables, IsToldState, HasBadFile, HasBadRows, LacksPrefix, HasCause, RunsAreExact}
+use Rattle.ipam_command.specs.Clauses.{HasClauses, AsksImport, AsksReport, AsksMigrate, ListenerFailed}
+use Rattle.ipam_command.specs.Exact.{Opens, HasBadTables, IsToldState, HasBadFile, HasBadRows, LacksPrefix, HasUnmigrated, HasCause, RunsAreExact}
 use Rattle.ipam_command.proofs.OpenedLaws.{opened_have_no_fault, opened_to_one_state}
 use Rattle.ipam_command.proofs.RunLaws.{runs_have_clauses}
 
@@ -71,6 +74,13 @@ no_absent report store old text lacks has =
     let state : lacks.state ≡ has.0 = one_loaded store old lacks.state has.0 lacks.opened has.1 in
     let none : report_text has.0 report ≡ None = subst (λ (s : State). report_text s report ≡ None) state lacks.absent.0 in
     let some = has.2 in cc
+
+-- told tables that can't be migrated were not
+not_fit : (db : List ℕ) (old : Outside) → HasUnmigrated db old → AreFit (tables_of_file db old.stores) → ⊥
+not_fit db old bad fits =
+    let is : IsTold (Some bad.tables) fits.tables = subst (λ (t : Option Tables). IsTold t fits.tables) bad.told fits.found in
+    let refused : unmigrated fits.tables ≡ Some bad.fault = subst (λ (t : Tables). unmigrated t ≡ Some bad.fault) is bad.refused in
+    let none = fits.fit in cc
 
 module _ (words : List (List ℕ)) (old new : Outside) (before after : ListenerView) (status : ℕ) (h : HasClauses words old new before after status)
     (well : ¬ AnyFailed old new) (heard : (command : Command) → Asks words command → ¬ ListenerFailed command before after) where
@@ -128,6 +138,10 @@ module _ (words : List (List ℕ)) (old new : Outside) (before after : ListenerV
   of_absent report store asks lacks = not_done (Report report store) asks (λ z. (
       let s = (h.report report store asks).0.done z in no_absent report store old s.0 lacks s.1))
 
+  of_unmigrated : (db : List ℕ) (populated : Bool) → AsksMigrate words db populated → HasUnmigrated db old → (status ≡ 1) ⊎ (status ≡ 5)
+  of_unmigrated db populated asks bad = not_done (Migrate db populated) asks (λ z. (
+      let done = ((h.answers (Migrate db populated) asks).0.done z).done in not_fit db old bad done.1.of))
+
 pub runs_are_exact : RunsAreExact
 runs_are_exact words old new before after status runs well heard cause =
     let h = runs_have_clauses words old new before after status runs in
@@ -135,6 +149,9 @@ runs_are_exact words old new before after status runs well heard cause =
       | inl tables ↦ of_bad_tables words old new before after status h well heard tables.0 tables.1 tables.2
       | inr a ↦ elim a [
         | inl imports ↦ of_bad_import words old new before after status h well heard imports.0 imports.1 imports.2 imports.3
-        | inr reports ↦ of_absent words old new before after status h well heard reports.0 reports.1 reports.2 reports.3
+        | inr b ↦ elim b [
+          | inl reports ↦ of_absent words old new before after status h well heard reports.0 reports.1 reports.2 reports.3
+          | inr files ↦ of_unmigrated words old new before after status h well heard files.0 files.1 files.2 files.3
+        ]
       ]
     ]

@@ -51,6 +51,8 @@ limits_hold = record {
     rows = refl;
     spent = refl;
     last_id = refl;
+    version = refl;
+    migrated_version = refl;
   };
   commands = record {
     workers = refl;

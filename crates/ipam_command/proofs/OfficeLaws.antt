@@ -4,7 +4,7 @@ use Rattle.inet_num.specs.Net.{Cidr}
 use Rattle.command_words.specs.declared.asked.KindName.{KindName}
 use Rattle.command_words.specs.declared.asked.Report.{Report as ReportName}
 use Rattle.command_words.specs.declared.asked.Store.{Store}
-use Rattle.command_words.specs.declared.asked.Command.TheVariants.{Free, Session, Serve, Import, Export, Report, Load}
+use Rattle.command_words.specs.declared.asked.Command.TheVariants.{Free, Session, Serve, Import, Export, Report, Migrate, Load}
 use Rattle.command_words.specs.Asked.{Asks}
 use Rattle.command_words.proofs.Unique.{words_ask_for_one}
 use Rattle.command_streams.specs.Streams.{Failed}
@@ -139,7 +139,7 @@ of_import words old new before after status kind store asks s same_listener = re
   fault = λ z. elim (s.fault z) [ inl h ↦ inl h.failed | inr more ↦ elim more [ inl h ↦ inr (inl h.failed) | inr h ↦ inr (inr (inl h.failed)) ] ];
   free_fault = λ within a z. absurd (let e = words_ask_for_one words (Free within) (Import kind store) a asks in cc);
   starved = λ other a z output errors. absurd (let e = words_ask_for_one words (Session other) (Import kind store) a asks in cc);
-  store_fault = λ z. (nobody before after same_listener, inr (kind, store, asks, s.store_fault z));
+  store_fault = λ z. (nobody before after same_listener, inr (inl (kind, store, asks, s.store_fault z)));
   memory = λ z. ((s.memory z).1, inr (s.memory z).0.output);
   nothing_else = λ within a. absurd (let e = words_ask_for_one words (Free within) (Import kind store) a asks in cc);
   refuses = λ within number fault a. absurd (let e = words_ask_for_one words (Free within) (Import kind store) a asks in cc);
@@ -156,6 +156,7 @@ of_import words old new before after status kind store asks s same_listener = re
   export_keeps = λ other_kind other a. absurd (let e = words_ask_for_one words (Export other_kind other) (Import kind store) a asks in cc);
   report = λ report other a. absurd (let e = words_ask_for_one words (Report report other) (Import kind store) a asks in cc);
   report_keeps = λ report other a. absurd (let e = words_ask_for_one words (Report report other) (Import kind store) a asks in cc);
+  migrate_whole = λ db populated a. absurd (let e = words_ask_for_one words (Migrate db populated) (Import kind store) a asks in cc);
   answers = λ one a. answers_of words (Import kind store) one old new before after status asks a (s, same_listener);
   empty = λ unique a well z. absurd (let e = words_ask_for_one words (Session (record { db = None; global_unique = unique })) (Import kind store) a asks in cc);
   complete = λ command a well heard. elim s.statuses [
@@ -203,6 +204,7 @@ of_export words old new before after status kind store asks s same_listener = re
   report_keeps = λ report other a. absurd (let e = words_ask_for_one words (Report report other) (Export kind store) a asks in cc);
   import = λ other_kind other a. absurd (let e = words_ask_for_one words (Import other_kind other) (Export kind store) a asks in cc);
   import_whole = λ other_kind other a. absurd (let e = words_ask_for_one words (Import other_kind other) (Export kind store) a asks in cc);
+  migrate_whole = λ db populated a. absurd (let e = words_ask_for_one words (Migrate db populated) (Export kind store) a asks in cc);
   answers = λ one a. answers_of words (Export kind store) one old new before after status asks a (s, same_listener);
   empty = λ unique a well z. absurd (let e = words_ask_for_one words (Session (record { db = None; global_unique = unique })) (Export kind store) a asks in cc);
   complete = λ command a well heard. elim s.statuses [
@@ -250,6 +252,7 @@ of_report words old new before after status report store asks s same_listener = 
   export_keeps = λ other_kind other a. absurd (let e = words_ask_for_one words (Export other_kind other) (Report report store) a asks in cc);
   import = λ other_kind other a. absurd (let e = words_ask_for_one words (Import other_kind other) (Report report store) a asks in cc);
   import_whole = λ other_kind other a. absurd (let e = words_ask_for_one words (Import other_kind other) (Report report store) a asks in cc);
+  migrate_whole = λ db populated a. absurd (let e = words_ask_for_one words (Migrate db populated) (Report report store) a asks in cc);
   answers = λ one a. answers_of words (Report report store) one old new before after status asks a (s, same_listener);
   empty = λ unique a well z. absurd (let e = words_ask_for_one words (Session (record { db = None; global_unique = unique })) (Report report store) a asks in cc);
   complete = λ command a well heard. elim s.statuses [

@@ -1,10 +1,10 @@
--- A run of a command on prefix lists or reverse zones gives each promise.
-use Rattle.std.proofs.Common.{◌≡◌, ℕ, ◌⊎◌, inl, inr, sym, ap, subst, arith, List, None}
+-- A run of a command on prefix lists, reverse zones or files of version 1 gives each promise.
+use Rattle.std.proofs.Common.{◌≡◌, ℕ, ◌⊎◌, inl, inr, sym, ap, subst, arith, Bool, List, None}
 use Rattle.inet_num.specs.Net.{Cidr}
 use Rattle.command_words.specs.declared.asked.ListAsked.{ListAsked}
 use Rattle.command_words.specs.declared.asked.Store.{Store}
 use Rattle.command_words.specs.declared.asked.Command.{Command}
-use Rattle.command_words.specs.declared.asked.Command.TheVariants.{Free, Session, Serve, Import, Export, Report, PrefixList, PrefixCheck, Reverse, ReverseRead, Load}
+use Rattle.command_words.specs.declared.asked.Command.TheVariants.{Free, Session, Serve, Import, Export, Report, PrefixList, PrefixCheck, Reverse, ReverseRead, Migrate, Load}
 use Rattle.command_words.specs.Asked.{Asks}
 use Rattle.command_words.proofs.Unique.{words_ask_for_one}
 use Rattle.command_streams.specs.Streams.{Streams, Failed, NeverFalls}
@@ -13,14 +13,15 @@ use Rattle.command_store.specs.Opening.{NamesFailure}
 use Rattle.command_serve.specs.Serve.{ListenerView}
 use Rattle.command_lists.specs.PrefixList.{IsPrefixList}
 use Rattle.command_lists.specs.PrefixCheck.{IsPrefixCheck}
+use Rattle.command_migrate.specs.Migrate.{NamesUnwritten, IsWhole, IsMigrate}
 use Rattle.command_zones.specs.Reverse.{IsReverse}
 use Rattle.command_zones.specs.Pairs.{IsReverseRead}
 use Rattle.ipam_command.specs.Runs.{Answers}
-use Rattle.ipam_command.specs.Clauses.{AsksRegister, IsDone, IsNamed, HasClauses}
-use Rattle.ipam_command.proofs.Apart.{unused, lanes_kept, count_kept, nobody, answers_of, none_rose, quiet_beside, streams_same}
+use Rattle.ipam_command.specs.Clauses.{AsksRegister, AsksMigrate, IsDone, IsNamed, HasClauses}
+use Rattle.ipam_command.proofs.Apart.{unused, lanes_kept, count_kept, nobody, same_migrate, answers_of, none_rose, quiet_beside, streams_same}
 use Rattle.ipam_command.proofs.OfficeLaws.{tables_stay, none_fell}
 
--- the command has no promise of its own beside its record
+-- the command has no promise of its own beside its record, but what a migration leaves
 abbrev pub IsOther : Command → Type 0
 IsOther (Free within) = ⊥
 IsOther (Session store) = ⊥
@@ -32,6 +33,7 @@ IsOther (PrefixList asked) = Unit {0}
 IsOther (PrefixCheck asked) = Unit {0}
 IsOther (Reverse prefix store) = Unit {0}
 IsOther ReverseRead = Unit {0}
+IsOther (Migrate db populated) = Unit {0}
 IsOther (Load count workers) = ⊥
 
 -- what its record gives
@@ -42,9 +44,11 @@ record IsOtherRun (words : List (List ℕ)) (command : Command) (old new : Outsi
   done : status ≡ 0 → IsDone words old new before after × (new.streams.errors ≡ old.streams.errors)
   refused : status ≡ 1 → IsNamed words old new
   fault : status ≡ 3 → Failed old.streams.input new.streams.input ⊎ Failed old.streams.output new.streams.output ⊎ Failed old.streams.errors new.streams.errors
-  store_fault : status ≡ 4 → AsksRegister words × NamesFailure old new
+  store_fault : status ≡ 4 → (AsksRegister words × NamesFailure old new)
+      ⊎ ((db : List ℕ) × (populated : Bool) × AsksMigrate words db populated × (NamesFailure old new ⊎ NamesUnwritten db old new))
   memory : status ≡ 5 → (new.streams.errors ≡ old.streams.errors) × (new.streams.output ≡ old.streams.output)
   same_listener : after ≡ before
+  migrate_whole : (db : List ℕ) (populated : Bool) → AsksMigrate words db populated → IsWhole db populated old new status
   answers : Answers command old new before after status
   later : NoCountFalls old new
   quiet : status ≡ 5 → NoCountRises old new
@@ -64,7 +68,7 @@ of_other words command old new before after status r = record {
   fault = λ z. elim (r.fault z) [ inl h ↦ inl h | inr more ↦ elim more [ inl h ↦ inr (inl h) | inr h ↦ inr (inr (inl h)) ] ];
   free_fault = λ within a z. absurd (apart words command (Free within) r.other r.asks a);
   starved = λ store a z output errors. absurd (apart words command (Session store) r.other r.asks a);
-  store_fault = λ z. (nobody before after r.same_listener, inl (r.store_fault z));
+  store_fault = λ z. (nobody before after r.same_listener, elim (r.store_fault z) [ inl h ↦ inl h | inr h ↦ inr (inr h) ]);
   memory = λ z. ((r.memory z).0, inr (r.memory z).1);
   nothing_else = λ within a. absurd (apart words command (Free within) r.other r.asks a);
   refuses = λ within number fault a. absurd (apart words command (Free within) r.other r.asks a);
@@ -80,6 +84,7 @@ of_other words command old new before after status r = record {
   export_keeps = λ kind store a. absurd (apart words command (Export kind store) r.other r.asks a);
   report = λ report store a. absurd (apart words command (Report report store) r.other r.asks a);
   report_keeps = λ report store a. absurd (apart words command (Report report store) r.other r.asks a);
+  migrate_whole = r.migrate_whole;
   answers = λ one a. answers_of words command one old new before after status r.asks a r.answers;
   empty = λ unique a well z. absurd (apart words command (Session (record { db = None; global_unique = unique })) r.other r.asks a);
   complete = λ one a well heard. elim r.statuses [
@@ -88,7 +93,10 @@ of_other words command old new before after status r = record {
       | inl e ↦ inr (inl e)
       | inr b ↦ elim b [
         | inl e ↦ absurd (well (inl (r.fault e)))
-        | inr c ↦ elim c [ inl e ↦ absurd (well (inr (r.store_fault e).1.failed)) | inr e ↦ inr (inr e) ]
+        | inr c ↦ elim c [
+          | inl e ↦ absurd (well (inr (elim (r.store_fault e) [ inl h ↦ h.1.failed | inr h ↦ elim h.3 [ inl n ↦ n.failed | inr n ↦ n.failed ] ])))
+          | inr e ↦ inr (inr e)
+        ]
       ]
     ]
   ];
@@ -109,9 +117,10 @@ of_prefix_list words old new before after status asked asks s same_listener = of
   done = λ z. (let t = s.done z in (inr (inr (inr (inr (inr (inr (inr (inl (asked, asks, t)))))))), t.silent));
   refused = λ z. inr (inr (inr (inr (inr (inr (inl (asked, asks, s.refused z)))))));
   fault = λ z. elim (s.fault z) [ inl h ↦ inr (inl h.failed) | inr more ↦ elim more [ inl h ↦ inr (inr h.failed) | inr h ↦ inr (inr h.failed) ] ];
-  store_fault = λ z. (inr (inr (inr (inr (inl (asked, inl asks))))), s.store_fault z);
+  store_fault = λ z. inl (inr (inr (inr (inr (inl (asked, inl asks))))), s.store_fault z);
   memory = λ z. ((s.memory z).1, (s.memory z).0.output);
   same_listener = same_listener;
+  migrate_whole = λ db populated a. absurd (let e = words_ask_for_one words (Migrate db populated) (PrefixList asked) a asks in cc);
   answers = (s, same_listener);
   later = s.later;
   quiet = s.quiet;
@@ -155,9 +164,10 @@ of_prefix_check words old new before after status asked asks s same_listener = o
       | inr b ↦ elim b [ inl h ↦ inr (inr h.failed) | inr c ↦ elim c [ inl h ↦ inr (inr h.failed) | inr h ↦ inr (inr h.failed) ] ]
     ]
   ];
-  store_fault = λ z. (inr (inr (inr (inr (inl (asked, inr asks))))), s.store_fault z);
+  store_fault = λ z. inl (inr (inr (inr (inr (inl (asked, inr asks))))), s.store_fault z);
   memory = λ z. ((s.memory z).1, (s.memory z).0);
   same_listener = same_listener;
+  migrate_whole = λ db populated a. absurd (let e = words_ask_for_one words (Migrate db populated) (PrefixCheck asked) a asks in cc);
   answers = (s, same_listener);
   later = s.later;
   quiet = s.quiet;
@@ -188,9 +198,10 @@ of_reverse words old new before after status prefix store asks s same_listener =
   done = λ z. (let t = s.done z in (inr (inr (inr (inr (inr (inr (inr (inr (inr (inl (prefix, store, asks, t)))))))))), t.3));
   refused = λ z. inr (inr (inr (inr (inr (inr (inr (inr (inl (prefix, store, asks, s.refused z)))))))));
   fault = λ z. elim (s.fault z) [ inl h ↦ inr (inl h.2) | inr more ↦ elim more [ inl h ↦ inr (inr h.failed) | inr h ↦ inr (inr h.failed) ] ];
-  store_fault = λ z. (inr (inr (inr (inr (inr (prefix, store, asks))))), s.store_fault z);
+  store_fault = λ z. inl (inr (inr (inr (inr (inr (prefix, store, asks))))), s.store_fault z);
   memory = λ z. ((s.memory z).1, (s.memory z).0);
   same_listener = same_listener;
+  migrate_whole = λ db populated a. absurd (let e = words_ask_for_one words (Migrate db populated) (Reverse prefix store) a asks in cc);
   answers = (s, same_listener);
   later = s.later;
   quiet = s.quiet;
@@ -231,12 +242,13 @@ of_reverse_read words old new before after status asks s same_stores same_listen
   asks = asks;
   other = tt;
   statuses = read_statuses status s.statuses;
-  done = λ z. (let t = s.done z in (inr (inr (inr (inr (inr (inr (inr (inr (inr (inr (asks, t)))))))))), t.3));
-  refused = λ z. inr (inr (inr (inr (inr (inr (inr (inr (inr (asks, s.refused z)))))))));
+  done = λ z. (let t = s.done z in (inr (inr (inr (inr (inr (inr (inr (inr (inr (inr (inl (asks, t))))))))))), t.3));
+  refused = λ z. inr (inr (inr (inr (inr (inr (inr (inr (inr (inl (asks, s.refused z))))))))));
   fault = λ z. elim (s.fault z) [ inl h ↦ inl h.failed | inr more ↦ elim more [ inl h ↦ inr (inl h.failed) | inr h ↦ inr (inr h.failed) ] ];
   store_fault = λ z. absurd (not_four status s.statuses z);
   memory = λ z. ((s.memory z).1, (s.memory z).0);
   same_listener = same_listener;
+  migrate_whole = λ db populated a. absurd (let e = words_ask_for_one words (Migrate db populated) ReverseRead a asks in cc);
   answers = (s, same_stores, same_listener);
   later = record { streams = s.later; stores = unused old new same_stores };
   quiet = λ z. record { streams = s.quiet z; stores = ap (λ (t : Stores). t.faults) same_stores };
@@ -252,3 +264,40 @@ read_not_begun old new status five same = record {
   later = subst (λ (t : Streams). NeverFalls old t) (sym same) (record { input = omega arith; output = omega arith; errors = omega arith });
   quiet = λ z. streams_same old new same;
 }
+
+-- ---- `migrate`
+
+pub of_migrate : (words : List (List ℕ)) (old new : Outside) (before after : ListenerView) (status : ℕ) (db : List ℕ) (populated : Bool) → Asks words (Migrate db populated)
+    → IsMigrate db populated old new status → after ≡ before → HasClauses words old new before after status
+of_migrate words old new before after status db populated asks s same_listener = of_other words (Migrate db populated) old new before after status (record {
+  asks = asks;
+  other = tt;
+  statuses = s.statuses;
+  done = λ z. (let t = s.done z in (inr (inr (inr (inr (inr (inr (inr (inr (inr (inr (inr (db, populated, asks, t))))))))))), t.silent));
+  refused = λ z. inr (inr (inr (inr (inr (inr (inr (inr (inr (inr (db, populated, asks, s.refused z))))))))));
+  fault = λ z. elim (s.fault z) [ inl h ↦ inr (inl h.failed) | inr h ↦ inr (inr h.failed) ];
+  store_fault = λ z. inr (db, populated, asks, s.store_fault z);
+  memory = λ z. ((s.memory z).1, (s.memory z).0.output);
+  same_listener = same_listener;
+  migrate_whole = λ other mark a. same_migrate words db other populated mark (λ d p. IsWhole d p old new status) asks a s.whole;
+  answers = (s, same_listener);
+  later = s.later;
+  quiet = s.quiet;
+})
+
+pub migrate_not_begun : (db : List ℕ) (populated : Bool) (old new : Outside) (status : ℕ) → status ≡ 5 → new ≡ old → IsMigrate db populated old new status
+migrate_not_begun db populated old new status five same =
+    let stored = tables_stay old new (ap (λ (t : Outside). t.stores) same) in
+    let input = ap (λ (t : Outside). t.streams.input) same in
+    record {
+      statuses = inr (inr (inr (inr five)));
+      done = λ z. absurd (omega arith);
+      refused = λ z. absurd (omega arith);
+      fault = λ z. absurd (omega arith);
+      store_fault = λ z. absurd (omega arith);
+      memory = λ z. (record { input = input; output = ap (λ (t : Outside). t.streams.output) same; stored = stored }, ap (λ (t : Outside). t.streams.errors) same);
+      input = input;
+      whole = inl (stored, (λ z. omega arith));
+      later = none_fell old new same;
+      quiet = λ z. none_rose old new same;
+    }

@@ -5,7 +5,7 @@ use Rattle.http_session.specs.declared.session.SessionEnd.TheVariants.{SourceFau
 use Rattle.command_words.specs.declared.asked.Store.{Store}
 use Rattle.command_words.specs.declared.asked.Serving.{Serving}
 use Rattle.command_words.specs.declared.asked.Command.{Command}
-use Rattle.command_words.specs.declared.asked.Command.TheVariants.{Free, Session, Serve, Import, Export, Report, PrefixList, PrefixCheck, Reverse, ReverseRead, Load}
+use Rattle.command_words.specs.declared.asked.Command.TheVariants.{Free, Session, Serve, Import, Export, Report, PrefixList, PrefixCheck, Reverse, ReverseRead, Migrate, Load}
 use Rattle.command_words.specs.Asked.{Asks, IsNoCommand}
 use Rattle.command_words.proofs.Unique.{words_ask_for_one}
 use Rattle.command_streams.specs.Streams.{Streams, Told, Gains, Failed, NeverFalls}
@@ -15,8 +15,7 @@ use Rattle.command_free.specs.Run.{IsFree}
 use Rattle.command_free.proofs.OneAnswer.{one_answer}
 use Rattle.command_free.proofs.Runs.{always}
 use Rattle.ipam_data.specs.State.{State, empty_state}
-use Rattle.rest_ipam.specs.Answered.{answers_plainly}
-use Rattle.kept_session.specs.Answered.{fresh}
+use Rattle.rest_ipam.specs.Answered.{answers_plainly, opened}
 use Rattle.command_store.specs.Outside.{Stores, Outside, StoreFailed, AnyFailed, NoCountFalls}
 use Rattle.command_session.specs.Session.{Prints, Serves, IsSession}
 use Rattle.command_serve.specs.Serve.{ListenerView, ListeningFailed, IsServe}
@@ -28,7 +27,7 @@ use Rattle.command_files.specs.Files.{kind_named}
 use Rattle.ipam_command.proofs.Empty.{empty_opened}
 use Rattle.ipam_command.proofs.Apart.{free_apart, serve_not_free, serve_not_session, load_not_free, load_not_session, load_not_serve, same_serving, same_load, same_block, same_store, unused, lanes_kept, count_kept, nobody, answers_of, none_rose, quiet_beside, streams_same}
 use Rattle.ipam_command.proofs.OfficeLaws.{import_not_begun, export_not_begun, report_not_begun, tables_stay, none_fell, of_import, of_export, of_report}
-use Rattle.ipam_command.proofs.OtherLaws.{of_prefix_list, of_prefix_check, of_reverse, of_reverse_read, list_not_begun, check_not_begun, reverse_not_begun, read_not_begun}
+use Rattle.ipam_command.proofs.OtherLaws.{of_prefix_list, of_prefix_check, of_reverse, of_reverse_read, of_migrate, list_not_begun, check_not_begun, reverse_not_begun, read_not_begun, migrate_not_begun}
 use Rattle.command_session.proofs.Refused.{not_begun}
 use Rattle.command_serve.proofs.Unserved.{not_begun as none_served}
 
@@ -76,6 +75,7 @@ of_free words old new before after status within asks f same_stores same_listene
   session = λ store a. absurd (free_apart words within _ asks a);
   serve = λ serving a. absurd (serve_not_free words serving within a asks);
   load = λ count workers a. absurd (load_not_free words count workers within a asks);
+  migrate_whole = λ db populated a. absurd (let e = words_ask_for_one words (Migrate db populated) (Free within) a asks in cc);
   answers = λ one a. answers_of words (Free within) one old new before after status asks a (f, same_stores, same_listener);
   empty = λ unique a well z. absurd (free_apart words within _ asks a);
   import = λ kind kept a. absurd (let e = words_ask_for_one words (Import kind kept) (Free within) a asks in cc);
@@ -114,12 +114,12 @@ of_free words old new before after status within asks f same_stores same_listene
 -- ---- a run of `session`
 
 -- what is on the output, where a session from a loaded state is done, is what an empty register answers, where the state is empty
-from_empty : (old new : Outside) (state : State) (unique : Bool) → state ≡ empty_state unique → Prints answers_plainly (fresh state).seen old new
-    → Prints answers_plainly (fresh (empty_state unique)).seen old new
-from_empty old new state unique is printed = subst (λ (s : State). Prints answers_plainly (fresh s).seen old new) is printed
+from_empty : (old new : Outside) (state : State) (unique : Bool) → state ≡ empty_state unique → Prints answers_plainly (opened state) old new
+    → Prints answers_plainly (opened (empty_state unique)) old new
+from_empty old new state unique is printed = subst (λ (s : State). Prints answers_plainly (opened s) old new) is printed
 
 done_empty : (store : Store) (old new : Outside) (status : ℕ) (unique : Bool) → store ≡ record { db = None; global_unique = unique }
-    → IsSession store old new status → (¬ StoreFailed old new) → status ≡ 0 → Prints answers_plainly (fresh (empty_state unique)).seen old new
+    → IsSession store old new status → (¬ StoreFailed old new) → status ≡ 0 → Prints answers_plainly (opened (empty_state unique)) old new
 done_empty store old new status unique same s well z =
     let t = subst (λ (r : Store). IsSession r old new status) same s in
     let done = t.done z in
@@ -155,6 +155,7 @@ of_session words old new before after status store asks s same_listener = record
   serve = λ serving a. absurd (serve_not_session words serving store a asks);
   load = λ count workers a. absurd (load_not_session words count workers store a asks);
   session = λ other a. subst (λ (t : Store). IsSession t old new status) (same_store words store other asks a) s;
+  migrate_whole = λ db populated a. absurd (let e = words_ask_for_one words (Migrate db populated) (Session store) a asks in cc);
   answers = λ one a. answers_of words (Session store) one old new before after status asks a (s, same_listener);
   empty = λ unique a well z. done_empty store old new status unique (same_store words store _ asks a) s well z;
   import = λ kind kept a. absurd (let e = words_ask_for_one words (Import kind kept) (Session store) a asks in cc);
@@ -235,6 +236,7 @@ of_serve words old new before after status serving asks s = record {
   session = λ store a. absurd (serve_not_session words serving store asks a);
   serve = λ other a. subst (λ (t : Serving). IsServe t old new before after status) (same_serving words serving other asks a) s;
   load = λ count workers a. absurd (load_not_serve words count workers serving a asks);
+  migrate_whole = λ db populated a. absurd (let e = words_ask_for_one words (Migrate db populated) (Serve serving) a asks in cc);
   answers = λ one a. answers_of words (Serve serving) one old new before after status asks a s;
   empty = λ unique a well z. absurd (serve_not_session words serving _ asks a);
   import = λ kind kept a. absurd (let e = words_ask_for_one words (Import kind kept) (Serve serving) a asks in cc);
@@ -280,6 +282,7 @@ of_load words old new before after status count workers asks l same_input same_e
     same_stores,
     same_listener,
   );
+  migrate_whole = λ db populated a. absurd (let e = words_ask_for_one words (Migrate db populated) (Load count workers) a asks in cc);
   answers = λ one a. answers_of words (Load count workers) one old new before after status asks a (l, same_input, same_errors, same_stores, same_listener);
   empty = λ unique a well z. absurd (load_not_session words count workers _ asks a);
   import = λ kind kept a. absurd (let e = words_ask_for_one words (Import kind kept) (Load count workers) a asks in cc);
@@ -331,6 +334,7 @@ of_none words old new before after status none (u, same_stores, same_listener) =
   serve = λ serving a. absurd (none (Serve serving) a);
   load = λ count workers a. absurd (none (Load count workers) a);
   session = λ store a. absurd (none (Session store) a);
+  migrate_whole = λ db populated a. absurd (none (Migrate db populated) a);
   answers = λ one a. absurd (none one a);
   empty = λ unique a well z. absurd (none (Session (record { db = None; global_unique = unique })) a);
   import = λ kind store a. absurd (none (Import kind store) a);
@@ -374,6 +378,7 @@ not_begun_of (PrefixCheck asked) old new before after status five same same_list
 not_begun_of (Reverse prefix store) old new before after status five same same_listener = (reverse_not_begun prefix store old new status five same, same_listener)
 not_begun_of ReverseRead old new before after status five same same_listener =
     (read_not_begun old.streams new.streams status five (ap (λ (t : Outside). t.streams) same), ap (λ (t : Outside). t.stores) same, same_listener)
+not_begun_of (Migrate db populated) old new before after status five same same_listener = (migrate_not_begun db populated old new status five same, same_listener)
 not_begun_of (Load count workers) old new before after status five same same_listener = (
   unprinted count workers old.streams.output new.streams.output status five (ap (λ (t : Outside). t.streams.output) same),
   ap (λ (t : Outside). t.streams.input) same,
@@ -410,6 +415,7 @@ of_memory words old new before after status five same same_listener =
       load = λ count workers a. (unprinted count workers old.streams.output new.streams.output status five output, input, errors, same_stores, same_listener);
       serve = λ serving a. none_served serving old new before after status five same same_listener;
       session = λ store a. not_begun store old new status five same;
+      migrate_whole = λ db populated a. inl (tables_stay old new same_stores, (λ z. omega arith));
       answers = λ one a. not_begun_of one old new before after status five same same_listener;
       empty = λ unique a well z. absurd (omega arith);
       import = λ kind store a. (import_not_begun (kind_named kind) store old new status five same, same_listener);
@@ -437,6 +443,7 @@ runs_have_clauses words old new before after status (inl (PrefixList asked, asks
 runs_have_clauses words old new before after status (inl (PrefixCheck asked, asks, s)) = of_prefix_check words old new before after status asked asks s.0 s.1
 runs_have_clauses words old new before after status (inl (Reverse prefix store, asks, s)) = of_reverse words old new before after status prefix store asks s.0 s.1
 runs_have_clauses words old new before after status (inl (ReverseRead, asks, s)) = of_reverse_read words old new before after status asks s.0 s.1 s.2
+runs_have_clauses words old new before after status (inl (Migrate db populated, asks, s)) = of_migrate words old new before after status db populated asks s.0 s.1
 runs_have_clauses words old new before after status (inl (Load count workers, asks, s)) = of_load words old new before after status count workers asks s.0 s.1 s.2 s.3 s.4
 runs_have_clauses words old new before after status (inr (inl (none, u))) = of_none words old new before after status none u
 runs_have_clauses words old new before after status (inr (inr (five, same, same_listener))) = of_memory words old new before after status five same same_listener

@@ -2,11 +2,10 @@
 use Rattle.std.specs.Prelude.{◌≡◌, ℕ, ◌+◌, ◌≤◌, ◌⊎◌, Bool, List, length, None, IfSome}
 use Rattle.inet_num.specs.Net.{Cidr}
 use Rattle.http_session.specs.declared.session.SessionEnd.TheVariants.{SourceFault, Memory}
-use Rattle.ipam_data.specs.State.{State}
-use Rattle.rest_ipam.specs.Answered.{opened, answers_plainly}
-use Rattle.kept_session.specs.Answered.{fresh, answers_kept}
+use Rattle.ipam_data.specs.State.{State, empty_state}
+use Rattle.rest_ipam.specs.Answered.{answers_kept, answers_plainly, fresh, opened}
 use Rattle.command_words.specs.declared.asked.Command.{Command}
-use Rattle.command_words.specs.declared.asked.Command.TheVariants.{Free, Session, Serve, Import, Export, Report, PrefixList, PrefixCheck, Reverse, ReverseRead, Load}
+use Rattle.command_words.specs.declared.asked.Command.TheVariants.{Free, Session, Serve, Import, Export, Report, PrefixList, PrefixCheck, Reverse, ReverseRead, Migrate, Load}
 use Rattle.command_words.specs.declared.asked.KindName.{KindName}
 use Rattle.command_words.specs.declared.asked.Report.{Report as ReportName}
 use Rattle.command_words.specs.declared.asked.Store.{Store}
@@ -29,6 +28,7 @@ use Rattle.command_files.specs.Export.{IsExportText, Prints as PrintsText, IsExp
 use Rattle.command_files.specs.Report.{IsReportText, NamesAbsent, IsReport}
 use Rattle.command_lists.specs.PrefixList.{PrintsList, NamesAbsent as NamesAbsentTable}
 use Rattle.command_lists.specs.PrefixCheck.{PrintsDifference, NamesInput}
+use Rattle.command_migrate.specs.Migrate.{PrintsMigrated, NamesUnfit, NamesUnwritten as NamesUnwrittenFile, IsWhole}
 use Rattle.command_zones.specs.Reverse.{PrintsZone, NamesZoneRefusal}
 use Rattle.command_zones.specs.Pairs.{PrintsPairs, NamesRead}
 use Rattle.ipam_command.specs.Runs.{Answers, Runs}
@@ -79,6 +79,10 @@ AsksReverse words prefix store = Asks words (Reverse prefix store)
 abbrev pub AsksReverseRead : List (List ℕ) → Type 0
 AsksReverseRead words = Asks words ReverseRead
 
+-- the words ask for a file of version 1 to be migrated
+abbrev pub AsksMigrate : List (List ℕ) → List ℕ → Bool → Type 0
+AsksMigrate words db populated = Asks words (Migrate db populated)
+
 -- they ask for a command that opens a register of a store and has the store written at most by requests
 abbrev pub AsksRegister : List (List ℕ) → Type 0
 AsksRegister words =
@@ -99,12 +103,13 @@ ListenerFailed (PrefixList asked) before after = ⊥
 ListenerFailed (PrefixCheck asked) before after = ⊥
 ListenerFailed (Reverse prefix store) before after = ⊥
 ListenerFailed ReverseRead before after = ⊥
+ListenerFailed (Migrate db populated) before after = ⊥
 ListenerFailed (Load count workers) before after = ⊥
 
 -- the answers of the register that was loaded are on the output
 abbrev pub IsServed : Store → Outside → Outside → Type 0
 IsServed store old new = (state : State) × IsLoaded store old state × Prints answers_kept (fresh state) old new
-    × ((¬ StoreFailed old new) → Prints answers_plainly (fresh state).seen old new)
+    × ((¬ StoreFailed old new) → Prints answers_plainly (opened state) old new)
 
 -- what the words ask for is on the output; of `serve` that is the count of the changes, once all that connect were served
 abbrev pub IsDone : List (List ℕ) → Outside → Outside → ListenerView → ListenerView → Type 0
@@ -120,6 +125,7 @@ IsDone words old new before after =
     ⊎ ((asked : ListAsked) × AsksPrefixCheck words asked × PrintsDifference asked old new)
     ⊎ ((prefix : ℕ) × (store : Store) × AsksReverse words prefix store × PrintsZone prefix store old new)
     ⊎ (AsksReverseRead words × PrintsPairs old.streams new.streams)
+    ⊎ ((db : List ℕ) × (populated : Bool) × AsksMigrate words db populated × PrintsMigrated db populated old new)
 
 -- a line of the input is refused, or the tables of the store have a fault; the messages say which, and the output was left alone
 abbrev pub IsNamed : List (List ℕ) → Outside → Outside → Type 0
@@ -134,6 +140,7 @@ IsNamed words old new =
     ⊎ ((asked : ListAsked) × AsksPrefixCheck words asked × (NamesFault asked.store old new ⊎ NamesAbsentTable asked old new ⊎ NamesInput asked old new))
     ⊎ ((prefix : ℕ) × (store : Store) × AsksReverse words prefix store × (NamesFault store old new ⊎ NamesZoneRefusal prefix store old new))
     ⊎ (AsksReverseRead words × NamesRead old.streams new.streams)
+    ⊎ ((db : List ℕ) × (populated : Bool) × AsksMigrate words db populated × NamesUnfit db old new)
 
 -- the status says whether a line of these bytes is refused: 1 where one is, 0 where none is, and 5 for lack of memory
 abbrev pub IsExact : Cidr → ℕ → List ℕ → Type 0
@@ -155,7 +162,8 @@ pub record HasClauses (words : List (List ℕ)) (old new : Outside) (before afte
   -- 0: what the words ask for is on the output, whole, and the messages were left alone
   pub done : status ≡ 0 → IsDone words old new before after × (new.streams.errors ≡ old.streams.errors)
   -- 1: the words ask for `free` and a line is refused, or for an import and its file or its rows are, or for a report on a prefix that is
-  -- not there, or for a register of a store whose tables have a fault; the messages gained exactly the text that names it, and the output was left alone
+  -- not there, or for a register of a store whose tables have a fault, or for a file to be migrated whose tables can't be; the messages
+  -- gained exactly the text that names it, and the output was left alone
   pub refused : status ≡ 1 → IsNamed words old new
   -- 2: the words ask for no command, and the usage line is on the messages
   pub usage : status ≡ 2 → IsNoCommand words × Gains old.streams.errors new.streams.errors usage_text
@@ -172,10 +180,11 @@ pub record HasClauses (words : List (List ℕ)) (old new : Outside) (before afte
   -- 3, for `session`: where neither the output nor the messages failed, the input did, and every answer was written
   pub starved : (store : Store) → AsksStore words store → status ≡ 3 → ¬ Failed old.streams.output new.streams.output → ¬ Failed old.streams.errors new.streams.errors
       → Failed old.streams.input new.streams.input × Serves store old new SourceFault
-  -- 4: the words ask for a register of a store, the opener failed, which was said, and nothing else was used; or for an import, and the
-  -- store could not be read or not be written, which was said, and told tables are as they were
+  -- 4: the words ask for a register of a store, the opener failed, which was said, and nothing else was used; or for an import or for a
+  -- file to be migrated, and the store could not be read or not be written, which was said, and told tables are as they were
   pub store_fault : status ≡ 4 → NobodyCame before after
-      × ((AsksRegister words × NamesFailure old new) ⊎ ((kind : KindName) × (store : Store) × AsksImport words kind store × (NamesUnread old new ⊎ NamesUnwritten (kind_named kind) store old new)))
+      × ((AsksRegister words × NamesFailure old new) ⊎ ((kind : KindName) × (store : Store) × AsksImport words kind store × (NamesUnread old new ⊎ NamesUnwritten (kind_named kind) store old new))
+      ⊎ ((db : List ℕ) × (populated : Bool) × AsksMigrate words db populated × (NamesFailure old new ⊎ NamesUnwrittenFile db old new)))
   -- 5: out of memory. Nothing was said, and `free` and `serve` have nothing on the output
   pub memory : status ≡ 5 → (new.streams.errors ≡ old.streams.errors) × (((store : Store) × AsksStore words store) ⊎ (new.streams.output ≡ old.streams.output))
   -- `free` has nothing on the output unless the status is 0 or a write of it failed
@@ -212,10 +221,13 @@ pub record HasClauses (words : List (List ℕ)) (old new : Outside) (before afte
   -- `load`: with each status, what was printed, which is a text of the number of claims alone; nothing else is used
   pub load : (count workers : ℕ) → AsksLoad words count workers → IsLoad count workers old.streams.output new.streams.output status
       × (new.streams.input ≡ old.streams.input) × (new.streams.errors ≡ old.streams.errors) × (new.stores ≡ old.stores) × (after ≡ before)
+  -- `migrate`: with each status told tables are as they were, or those that the migration gives; they are as they were unless the status
+  -- is 0, or the output failed
+  pub migrate_whole : (db : List ℕ) (populated : Bool) → AsksMigrate words db populated → IsWhole db populated old new status
   -- of each command its record: with each status, what was read, printed and said, and what the store holds
   pub answers : (command : Command) → Asks words command → Answers command old new before after status
   -- `session` without a file, where the opener did not fail: the answers are those of an empty register
-  pub empty : (unique : Bool) → AsksSession words unique → (¬ StoreFailed old new) → status ≡ 0 → Prints answers_plainly (opened unique) old new
+  pub empty : (unique : Bool) → AsksSession words unique → (¬ StoreFailed old new) → status ≡ 0 → Prints answers_plainly (opened (empty_state unique)) old new
   -- a command ends by itself where nothing fails: done, refused, or for lack of memory
   pub complete : (command : Command) → Asks words command → (¬ AnyFailed old new) → (¬ ListenerFailed command before after)
       → (status ≡ 0) ⊎ (status ≡ 1) ⊎ (status ≡ 5)

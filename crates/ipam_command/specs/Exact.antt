@@ -1,12 +1,14 @@
 -- The way back from a cause to status 1: where a told input or told tables are refused and nothing fails, a run ends with 1, or for lack of
 -- memory with 5. (The way from status 1 to its cause is `refused` of the clauses of a run; that of `free` is `exact` there.)
-use Rattle.std.specs.Prelude.{◌≡◌, ℕ, ◌⊎◌, List, Option, Some, Ok, Err}
+use Rattle.std.specs.Prelude.{◌≡◌, ℕ, ◌⊎◌, Bool, List, Option, Some, Ok, Err}
 use Rattle.ipam_data.specs.declared.kinds.Kind.{Kind}
 use Rattle.ipam_data.specs.declared.replies.Refusal.{Refusal}
 use Rattle.ipam_data.specs.State.{State, verdict_of}
 use Rattle.stored_tables.specs.declared.opening.OpenFault.{OpenFault}
 use Rattle.stored_tables.specs.declared.tables.Tables.{Tables}
 use Rattle.stored_tables.specs.Opening.{IsOfTables, IsOpening, IsRefused}
+use Rattle.stored_tables.specs.declared.migration.MigrateFault.{MigrateFault}
+use Rattle.stored_tables.specs.Migration.{unmigrated}
 use Rattle.ipam_data.specs.declared.imports.ImportRow.{ImportRow}
 use Rattle.ipam_data.specs.Imports.{import_plan}
 use Rattle.csv_import.specs.Files.{IsFileOf}
@@ -22,8 +24,9 @@ use Rattle.command_store.specs.Opening.{found_tables}
 use Rattle.command_serve.specs.Serve.{ListenerView}
 use Rattle.command_files.specs.Files.{kind_named}
 use Rattle.command_files.specs.Report.{IsAbsentIn}
+use Rattle.command_migrate.specs.Migrate.{tables_of_file}
 use Rattle.ipam_command.specs.Runs.{Runs}
-use Rattle.ipam_command.specs.Clauses.{AsksStore, AsksServe, AsksImport, AsksExport, AsksReport, AsksPrefixList, AsksPrefixCheck, AsksReverse, ListenerFailed}
+use Rattle.ipam_command.specs.Clauses.{AsksStore, AsksServe, AsksImport, AsksExport, AsksReport, AsksPrefixList, AsksPrefixCheck, AsksReverse, AsksMigrate, ListenerFailed}
 
 -- the words ask for a command that opens the register of this store
 abbrev pub Opens : List (List ℕ) → Store → Type 0
@@ -71,12 +74,20 @@ pub record LacksPrefix (report : ReportName) (store : Store) (old : Outside) : T
   pub refusal : Refusal
   pub absent : IsAbsentIn state report refusal
 
+-- the tables that the file tells can't be migrated
+pub record HasUnmigrated (db : List ℕ) (old : Outside) : Type 0 where
+  pub tables : Tables
+  pub told : tables_of_file db old.stores ≡ Some tables
+  pub fault : MigrateFault
+  pub refused : unmigrated tables ≡ Some fault
+
 -- what status 1 is for
 abbrev pub HasCause : List (List ℕ) → Outside → Type 0
 HasCause words old =
     ((store : Store) × Opens words store × HasBadTables store old)
     ⊎ ((kind : KindName) × (store : Store) × AsksImport words kind store × (HasBadFile (kind_named kind) old ⊎ HasBadRows (kind_named kind) store old))
     ⊎ ((report : ReportName) × (store : Store) × AsksReport words report store × LacksPrefix report store old)
+    ⊎ ((db : List ℕ) × (populated : Bool) × AsksMigrate words db populated × HasUnmigrated db old)
 
 -- where nothing fails, a cause of status 1 gives it, memory apart
 abbrev pub RunsAreExact : Type 0

@@ -12,14 +12,16 @@ use Rattle.ipam_data.specs.Ranges.{most_of_range}
 use Rattle.ipam_data.specs.Checks.{most_spent}
 use Rattle.ipam_data.specs.Claims.{most_items}
 use Rattle.ipam_data.specs.Imports.{most_rows}
+use Rattle.stored_tables.specs.Stored.{stored_version}
+use Rattle.stored_tables.specs.Migration.{first_version}
 use Rattle.csv_import.specs.Files.{most_bytes}
 use Rattle.rest_query.specs.Readings.{most_listed}
 use Rattle.command_words.specs.Values.{most_workers, most_connections, most_claims, most_id}
 use Rattle.command_free.specs.Free.{most_lines}
 use Rattle.command_files.specs.Report.{most_blocks}
 
--- what a register holds at most: rows of each kind, addresses of a range, items of a claim, rows of an import, and items of its log; and the
--- greatest id of a row
+-- what a register holds at most: rows of each kind, addresses of a range, items of a claim, rows of an import, and items of its log; the
+-- greatest id of a row; and the version of the tables that it reads and writes, and that of those which are migrated
 pub record HasRegisterLimits : Type 0 where
   pub vrfs : most_vrfs ≡ 1000
   pub rirs : most_rirs ≡ 1000
@@ -33,6 +35,8 @@ pub record HasRegisterLimits : Type 0 where
   pub rows : most_rows ≡ 10000
   pub spent : most_spent ≡ 1000000
   pub last_id : LAST_ID ≡ 4294967294
+  pub version : stored_version ≡ 2
+  pub migrated_version : first_version ≡ 1
 
 -- what words, lines, files, lists and reports have at most
 pub record HasCommandLimits : Type 0 where

@@ -1,7 +1,7 @@
 -- What a run of the program promises: by what its words ask for, one relation for each command.
 use Rattle.std.specs.Prelude.{◌≡◌, ℕ, ◌⊎◌, ◌++◌, List, [], ◌∷◌, codes}
 use Rattle.command_words.specs.declared.asked.Command.{Command}
-use Rattle.command_words.specs.declared.asked.Command.TheVariants.{Free, Session, Serve, Import, Export, Report, PrefixList, PrefixCheck, Reverse, ReverseRead, Load}
+use Rattle.command_words.specs.declared.asked.Command.TheVariants.{Free, Session, Serve, Import, Export, Report, PrefixList, PrefixCheck, Reverse, ReverseRead, Migrate, Load}
 use Rattle.command_words.specs.Asked.{Asks, IsNoCommand}
 use Rattle.command_streams.specs.Streams.{Streams, IsUsage}
 use Rattle.command_free.specs.Run.{IsFree}
@@ -15,6 +15,7 @@ use Rattle.command_files.specs.Export.{IsExport}
 use Rattle.command_files.specs.Report.{IsReport}
 use Rattle.command_lists.specs.PrefixList.{IsPrefixList}
 use Rattle.command_lists.specs.PrefixCheck.{IsPrefixCheck}
+use Rattle.command_migrate.specs.Migrate.{IsMigrate}
 use Rattle.command_zones.specs.Reverse.{IsReverse}
 use Rattle.command_zones.specs.Pairs.{IsReverseRead}
 
@@ -30,6 +31,7 @@ Answers (PrefixList asked) old new before after status = IsPrefixList asked old 
 Answers (PrefixCheck asked) old new before after status = IsPrefixCheck asked old new status × (after ≡ before)
 Answers (Reverse prefix store) old new before after status = IsReverse prefix store old new status × (after ≡ before)
 Answers ReverseRead old new before after status = IsReverseRead old.streams new.streams status × (new.stores ≡ old.stores) × (after ≡ before)
+Answers (Migrate db populated) old new before after status = IsMigrate db populated old new status × (after ≡ before)
 Answers (Load count workers) old new before after status =
     IsLoad count workers old.streams.output new.streams.output status × (new.streams.input ≡ old.streams.input) × (new.streams.errors ≡ old.streams.errors) × (new.stores ≡ old.stores) × (after ≡ before)
 

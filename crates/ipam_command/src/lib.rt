@@ -17,6 +17,7 @@ use command_files::{kind_named, run_export, run_import, run_report};
 use command_free::run_free;
 use command_lists::{run_prefix_check, run_prefix_list};
 use command_load::run_load;
+use command_migrate::run_migrate;
 use command_serve::run_serve;
 use command_session::run_session;
 use command_streams::{MEMORY, say_usage};
@@ -83,6 +84,9 @@ fn run_command<
             run_reverse(alloc, *prefix, store, output, errors, opener)
         }
         Command::ReverseRead => run_reverse_read(alloc, input, output, errors),
+        Command::Migrate { db, populated } => {
+            run_migrate(alloc, db, *populated, output, errors, opener)
+        }
         Command::Load { count, workers } => run_load(rt, alloc, *count, *workers, output),
         Command::Report(report, store) => {
             run_report(alloc, *report, store, output, errors, opener)

@@ -33,7 +33,7 @@ use Rattle.ipam_data.specs.declared.range.IpRange.{IpRange}
 use Rattle.ipam_data.specs.declared.replies.Refusal.{Refusal}
 use Rattle.ipam_data.specs.declared.replies.Which.TheVariants.{Claims}
 use Rattle.ipam_data.specs.Addresses.{clashes, clash, is_shared, is_slaac_of_v4, address_fault, address_rules}
-use Rattle.ipam_data.specs.Claims.{claimed_addresses, sees_all, is_child_address, is_hosted, is_ranged, usable_in, usable_of_range, is_host_beside, told_of_address, HasAddrItemBounds, most_items, no_space, claim_addresses_of, claim_prefix_addrs_plan, claim_range_addrs_plan}
+use Rattle.ipam_data.specs.Claims.{claimed_addresses, sees_all, is_child_address, is_hosted, is_withheld, usable_in, usable_of_range, is_host_beside, told_of_address, HasAddrItemBounds, most_items, no_space, claim_addresses_of, claim_prefix_addrs_plan, claim_range_addrs_plan}
 use Rattle.ipam_data.specs.Lawful.{IsRange, IsLawful}
 use Rattle.ipam_data.proofs.RowLists.{row_list-appended, with_row_above}
 use Rattle.ipam_data.proofs.Kept.{none_above, found_there}
@@ -207,9 +207,9 @@ pub prefix_addresses_keep : (p : Prefix) (items : List AddrItem) (s : State) →
 unfolding usable_of addresses_of
 prefix_addresses_keep p items s hp long fine h there few ids =
     addresses_keep (is_child_address p) (HasAddress p.block) p.vrf p.block.family p.block.len (covers_prefix p) items (usable_in s p) p.block.first s long hp.short fine
-    (rising (is_usable (is_hosted s.addresses.rows p) (is_ranged s.ranges.rows p) p.block p.is_pool) p.block.first (size_of p.block)) h there
-    (each_of (IsFree (is_child_address p) (HasAddress p.block) p.vrf p.block.family p.block.len (covers_prefix p) s.addresses.rows) (is_usable (is_hosted s.addresses.rows p) (is_ranged s.ranges.rows p) p.block p.is_pool) p.block.first (size_of p.block)
-    (λ x low high e. record { address = (let fits = block_fits p.block hp in omega arith); within = (low, high); free = not_first (is_hosted s.addresses.rows p x) (not (is_ranged s.ranges.rows p x)) (not (is_omitted p.block p.is_pool x)) e }))
+    (rising (is_usable (is_hosted s.addresses.rows p) (is_withheld s.ranges.rows p) p.block p.is_pool) p.block.first (size_of p.block)) h there
+    (each_of (IsFree (is_child_address p) (HasAddress p.block) p.vrf p.block.family p.block.len (covers_prefix p) s.addresses.rows) (is_usable (is_hosted s.addresses.rows p) (is_withheld s.ranges.rows p) p.block p.is_pool) p.block.first (size_of p.block)
+    (λ x low high e. record { address = (let fits = block_fits p.block hp in omega arith); within = (low, high); free = not_first (is_hosted s.addresses.rows p x) (not (is_withheld s.ranges.rows p x)) (not (is_omitted p.block p.is_pool x)) e }))
     few ids
 
 -- ---- the addresses of a range that none has
@@ -227,18 +227,25 @@ not_that : (t : Bool) → not t ≡ true → t ≡ false
 not_that true e = cc
 not_that false e = refl
 
+-- what holds of no numbers and of these holds of those that are given out
+given_out : (Q : List ℕ → Type 0) (mark : Bool) (us : List ℕ) → Q [] → Q us → Q (if mark then [] else us)
+given_out Q true us none some = none
+given_out Q false us none some = some
+
 pub range_addresses_keep : (row : IpRange) (items : List AddrItem) (s : State) → IsRange row → AreFineAddresses row.ends.start.family items → IsLawful s → ((n : ℕ) → row.vrf ≡ Some n → IsSome (row_at vrf_id s.vrfs.rows n))
     → length s.addresses.rows + length items ≤ most_addresses → s.addresses.next + length items ≤ last_next
     → IsLawful (add_all address_rules s (claimed_addresses row.vrf row.ends.len s.addresses.next items (addressed row.ends.start.family (usable_of_range s row))))
 range_addresses_keep row items s hr fine h there few ids =
     let from = row.ends.start.value in
     let many = row.ends.end.value + 1 - row.ends.start.value in
+    let free_ones : List ℕ = filter (λ a. not (is_host_beside s.addresses.rows row a)) (numbers_from from many) in
     let order = hr.order in
     let top : row.ends.end.value < 2 ^ width_of row.ends.start.family = subst (λ (f : Family). row.ends.end.value < 2 ^ width_of f) (sym hr.family) hr.bounds.ends.end in
     addresses_keep (beside_range row) (λ a. Unit {0}) row.vrf row.ends.start.family row.ends.len (covers_range row) items (usable_of_range s row) from s hr.mask hr.bounds.ends.start_short fine
-    (rising (λ a. not (is_host_beside s.addresses.rows row a)) from many) h there
+    (given_out (Ups from) row.mark_populated free_ones tt (rising (λ a. not (is_host_beside s.addresses.rows row a)) from many)) h there
+    (given_out (AllByRecursion (IsFree (beside_range row) (λ a. Unit {0}) row.vrf row.ends.start.family row.ends.len (covers_range row) s.addresses.rows)) row.mark_populated free_ones tt
     (each_of (IsFree (beside_range row) (λ a. Unit {0}) row.vrf row.ends.start.family row.ends.len (covers_range row) s.addresses.rows) (λ a. not (is_host_beside s.addresses.rows row a)) from many
-    (λ x low high e. record { address = (let le : x ≤ row.ends.end.value = omega arith in omega arith); within = tt; free = not_that (is_host_beside s.addresses.rows row x) e }))
+    (λ x low high e. record { address = (let le : x ≤ row.ends.end.value = omega arith in omega arith); within = tt; free = not_that (is_host_beside s.addresses.rows row x) e })))
     few ids
 
 -- ---- from the verdict of the call

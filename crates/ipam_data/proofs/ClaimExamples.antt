@@ -11,18 +11,19 @@ use Rattle.ipam_data.specs.declared.address.AddressStatus.TheVariants.{Active as
 use Rattle.ipam_data.specs.declared.calls.BlockItem.{BlockItem}
 use Rattle.ipam_data.specs.declared.calls.AddrItem.{AddrItem}
 use Rattle.ipam_data.specs.declared.calls.Answered.TheVariants.{AsOne, AsList}
-use Rattle.ipam_data.specs.declared.calls.Call.TheVariants.{Create, Blocks as BlocksOf, PrefixAddrs, RangeAddrs, ClaimBlocks, ClaimPrefixAddrs, Utilization}
+use Rattle.ipam_data.specs.declared.calls.Call.TheVariants.{Create, Change, Blocks as BlocksOf, PrefixAddrs, RangeAddrs, ClaimBlocks, ClaimPrefixAddrs, ClaimRangeAddrs, Utilization}
 use Rattle.ipam_data.specs.declared.calls.Draft.TheVariants.{Prefix as PrefixDraft}
-use Rattle.ipam_data.specs.declared.replies.Reply.TheVariants.{Made, MadeMany, Blocks, Addrs, Percent, Refused}
+use Rattle.ipam_data.specs.declared.replies.Reply.TheVariants.{Made, MadeMany, Changed, Blocks, Addrs, Percent, Refused}
 use Rattle.ipam_data.specs.declared.replies.Refusal.TheVariants.{Rule as Breaks, NotFound, NoSpace}
-use Rattle.ipam_data.specs.declared.replies.Rule.TheVariants.{WantedLength, SlaacFamily}
+use Rattle.ipam_data.specs.declared.replies.Rule.TheVariants.{WantedLength, SlaacFamily, Duplicate, Populated}
 use Rattle.ipam_data.specs.HostNames.{is_dns_name}
+use Rattle.ipam_data.specs.Fields.{range_marked, address_to}
 use Rattle.ipam_data.specs.State.{State, empty_state}
 use Rattle.ipam_data.specs.Steps.{plain_step}
 use Rattle.ipam_data.specs.Vrfs.{vrf_fault}
 use Rattle.ipam_data.specs.Prefixes.{prefix_fault, depth_of, children_of}
-use Rattle.ipam_data.specs.Ranges.{range_fault}
-use Rattle.ipam_data.specs.Addresses.{address_fault}
+use Rattle.ipam_data.specs.Ranges.{range_fault, populated_at}
+use Rattle.ipam_data.specs.Addresses.{address_fault, address_barred}
 use Rattle.ipam_data.proofs.Samples.{after, vrf, prefix, range, address, ten, v4, host, seen, seen_address}
 
 abbrev empty : State
@@ -115,17 +116,52 @@ slaac_first : (plain_step hosts (ClaimPrefixAddrs 1 AsList (addr ∷ addr ∷ ad
 unfolding prefix_fault usable_of addresses_of numbers_from is_dns_name
 slaac_first = refl
 
--- a range withholds its addresses from the prefix, and gives out those that none has
+-- a range gives out those of its addresses that none has, and withholds none of them from the prefix
 abbrev pooled : State
 pooled = after empty (prefix 16 28 None None ∷ range (host 18 28) (host 29 28) None ∷ address (host 19 28) None None ∷ [])
 
-beside_range : (plain_step pooled (PrefixAddrs 1 9)).1 ≡ Addrs None 28 (record { family = V4; value = 17 } ∷ record { family = V4; value = 30 } ∷ [])
-unfolding prefix_fault range_fault address_fault usable_of addresses_of numbers_from is_dns_name
-beside_range = refl
+within_range : (plain_step pooled (PrefixAddrs 1 3)).1 ≡ Addrs None 28 (record { family = V4; value = 17 } ∷ record { family = V4; value = 18 } ∷ record { family = V4; value = 20 } ∷ [])
+unfolding prefix_fault range_fault address_fault address_barred populated_at usable_of addresses_of numbers_from is_dns_name
+within_range = refl
 
 out_of_range : (plain_step pooled (RangeAddrs 1 3)).1 ≡ Addrs None 28 (record { family = V4; value = 18 } ∷ record { family = V4; value = 20 } ∷ record { family = V4; value = 21 } ∷ [])
-unfolding prefix_fault range_fault address_fault numbers_from is_dns_name
+unfolding prefix_fault range_fault address_fault address_barred populated_at numbers_from is_dns_name
 out_of_range = refl
+
+-- once it is populated it withholds all of them, and gives out none; the address that was there before stays
+abbrev filled : State
+filled = after pooled (Change 1 (range_marked true) ∷ [])
+
+beside_range : (plain_step filled (PrefixAddrs 1 9)).1 ≡ Addrs None 28 (record { family = V4; value = 17 } ∷ record { family = V4; value = 30 } ∷ [])
+unfolding prefix_fault range_fault address_fault address_barred populated_at usable_of addresses_of numbers_from is_dns_name
+beside_range = refl
+
+none_of_range : (plain_step filled (RangeAddrs 1 3)).1 ≡ Addrs None 28 []
+unfolding prefix_fault range_fault address_fault address_barred populated_at numbers_from is_dns_name
+none_of_range = refl
+
+none_claimed : (plain_step filled (ClaimRangeAddrs 1 AsOne (addr ∷ []))).1 ≡ Refused (NoSpace 0)
+unfolding prefix_fault range_fault address_fault address_barred populated_at numbers_from is_dns_name
+none_claimed = refl
+
+-- no address is made inside it, and none comes into it from outside
+made_inside : (plain_step filled (address (host 20 28) None None)).1 ≡ Refused (Breaks (Populated 1))
+unfolding prefix_fault range_fault address_fault address_barred populated_at is_dns_name
+made_inside = refl
+
+moved_inside : (plain_step filled (Change 1 (address_to (host 20 28)))).1 ≡ Refused (Breaks (Populated 1))
+unfolding prefix_fault range_fault address_fault address_barred populated_at is_dns_name
+moved_inside = refl
+
+-- the mask alone is no move
+masked_inside : (plain_step filled (Change 1 (address_to (host 19 32)))).1 ≡ Changed (seen_address 1 (host 19 32) None)
+unfolding prefix_fault range_fault address_fault address_barred populated_at is_dns_name
+masked_inside = refl
+
+-- that the host has an address comes first
+held_inside : (plain_step filled (address (host 19 28) None None)).1 ≡ Refused (Breaks (Duplicate 1))
+unfolding prefix_fault range_fault address_fault address_barred populated_at is_dns_name
+held_inside = refl
 
 -- ---- how much is used
 

@@ -76,7 +76,7 @@ pub drafted_bounds : (n : ℕ) (draft : Draft) → HasDraftBounds draft → firs
 drafted_bounds n (VrfDraft name rd enforce_unique description) b t = record { name = b.0; rd = b.1; description = b.2 }
 drafted_bounds n (RirDraft name slug is_private description) b t = record { name = b.0; slug = b.1; description = b.2 }
 drafted_bounds n (RoleDraft name slug weight description) b t = record { name = b.0; slug = b.1; weight = b.2; description = b.3 }
-drafted_bounds n (RangeDraft start end _ _ _ _ description) b t = record { ends = ends start end b.0 b.1 t; description = b.2 }
+drafted_bounds n (RangeDraft start end _ _ _ _ _ description) b t = record { ends = ends start end b.0 b.1 t; description = b.2 }
 drafted_bounds n (AddressDraft host vrf status role dns_name description) b t = record { host = b.0; dns_name = lowered dns_name b.1; description = b.2 }
 drafted_bounds n draft b t = record { block = b.0; description = b.1 }
 
@@ -154,7 +154,7 @@ prefix_edited (VrfEdit name rd enforce_unique description) old b o = o
 prefix_edited (RirEdit name slug is_private description) old b o = o
 prefix_edited (RoleEdit name slug weight description) old b o = o
 prefix_edited (AggregateEdit block rir description) old b o = o
-prefix_edited (RangeEdit _ _ _ _ _ _ _) old b o = o
+prefix_edited (RangeEdit _ _ _ _ _ _ _ _) old b o = o
 prefix_edited (AddressEdit host vrf status role dns_name description) old b o = o
 prefix_edited edit old b o = record {
   block = given IsBlock _ old.block b.0 o.block;
@@ -162,7 +162,7 @@ prefix_edited edit old b o = record {
 }
 
 pub range_edited : (edit : Edit) (old : IpRange) → HasEditBounds edit → HasRangeBounds old → first (told_of_change edit old) ≡ None → HasRangeBounds (edited_range edit old)
-range_edited (RangeEdit start end _ _ _ _ description) old b o t = record {
+range_edited (RangeEdit start end _ _ _ _ _ description) old b o t = record {
   ends = ends (edited start (start_of old)) (edited end (end_of old))
       (given IsMasked start (start_of old) b.0 (record { address = o.ends.start; short = o.ends.start_short }))
       (given IsMasked end (end_of old) b.1 (record { address = o.ends.end; short = o.ends.end_short })) t;

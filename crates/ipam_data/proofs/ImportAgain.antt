@@ -148,7 +148,7 @@ reads_of s t (RirRow name slug is_private description) h = record { draft = refl
 reads_of s t (RoleRow name slug weight description) h = record { draft = refl; names = refl }
 reads_of s t (AggregateRow block rir description) h = record { draft = rw h refl; names = rw h refl }
 reads_of s t (PrefixRow block vrf status role is_pool mark_utilized description) h = record { draft = rw (h.0, h.1) refl; names = rw (h.0, h.1) refl }
-reads_of s t (RangeRow start end vrf status role mark_utilized description) h = record { draft = rw (h.0, h.1) refl; names = rw (h.0, h.1) refl }
+reads_of s t (RangeRow start end vrf status role mark_utilized mark_populated description) h = record { draft = rw (h.0, h.1) refl; names = rw (h.0, h.1) refl }
 reads_of s t (AddressRow host vrf status role dns_name description) h = record { draft = rw h refl; names = rw h refl }
 
 reads : (kind : Kind) (s t : State) (row : ImportRow) → kind_of_row row ≡ kind → IsRead kind s t → ReadsSame s t row
@@ -180,7 +180,7 @@ draft_made s (RirDraft name slug is_private description) = refl
 draft_made s (RoleDraft name slug weight description) = refl
 draft_made s (AggregateDraft block rir description) = refl
 draft_made s (PrefixDraft block vrf status role is_pool mark_utilized description) = refl
-draft_made s (RangeDraft start end vrf status role mark_utilized description) = refl
+draft_made s (RangeDraft start end vrf status role mark_utilized mark_populated description) = refl
 draft_made s (AddressDraft host vrf status role dns_name description) = refl
 
 grows_of : (old s : State) (row : ImportRow) → IsFresh s (kind_of_row row) → Grows (kind_of_row row) s (with_record s (draft_of old row)) (recorded (record_of s (draft_of old row)))
@@ -190,7 +190,7 @@ grows_of old s (RirRow name slug is_private description) f = record { records = 
 grows_of old s (RoleRow name slug weight description) f = record { records = grown role_rules s.roles.rows _ f; fresh = fresher role_id s.roles.rows _ f; read = tt }
 grows_of old s (AggregateRow block rir description) f = record { records = grown aggregate_rules s.aggregates.rows _ f; fresh = fresher aggregate_id s.aggregates.rows _ f; read = refl }
 grows_of old s (PrefixRow block vrf status role is_pool mark_utilized description) f = record { records = grown prefix_rules s.prefixes.rows _ f; fresh = fresher prefix_id s.prefixes.rows _ f; read = (refl, refl) }
-grows_of old s (RangeRow start end vrf status role mark_utilized description) f = record { records = grown range_rules s.ranges.rows _ f; fresh = fresher range_id s.ranges.rows _ f; read = (refl, refl) }
+grows_of old s (RangeRow start end vrf status role mark_utilized mark_populated description) f = record { records = grown range_rules s.ranges.rows _ f; fresh = fresher range_id s.ranges.rows _ f; read = (refl, refl) }
 grows_of old s (AddressRow host vrf status role dns_name description) f = record { records = grown address_rules s.addresses.rows _ f; fresh = fresher address_id s.addresses.rows _ f; read = refl }
 
 grows : (kind : Kind) (old s : State) (row : ImportRow) → kind_of_row row ≡ kind → IsFresh s kind → Grows kind s (with_record s (draft_of old row)) (stored_draft (draft_of old row))

@@ -50,7 +50,7 @@ row_fits old so (RirRow name slug is_private description) h v m f = record_fits 
 row_fits old so (RoleRow name slug weight description) h v m f = record_fits role_rules roles_tied old so [] _ refl h.roles.row_list refl v m f
 row_fits old so (AggregateRow block rir description) h v m f = record_fits aggregate_rules aggregates_tied old so [] _ refl h.aggregates.row_list refl v m f
 row_fits old so (PrefixRow block vrf status role is_pool mark_utilized description) h v m f = record_fits prefix_rules prefixes_tied old so [] _ refl h.prefixes.row_list refl v m f
-row_fits old so (RangeRow start end vrf status role mark_utilized description) h v m f = record_fits range_rules ranges_tied old so (range_told start end) _ refl h.ranges.row_list refl v m f
+row_fits old so (RangeRow start end vrf status role mark_utilized mark_populated description) h v m f = record_fits range_rules ranges_tied old so (range_told start end) _ refl h.ranges.row_list refl v m f
 row_fits old so (AddressRow host vrf status role dns_name description) h v m f = record_fits address_rules addresses_tied old so [] _ refl h.addresses.row_list refl v m f
 
 rows_fit : (old : State) (kind : Kind) (so : Progress) (n : ℕ) (rows : List ImportRow) → AreOfKind kind rows → AllByRecursion HasRowBounds rows → IsLawful so.state → IsMade old kind so → AreFit old so.made

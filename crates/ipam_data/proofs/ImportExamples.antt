@@ -4,7 +4,7 @@ use Rattle.ipam_data.specs.declared.kinds.Kind.{Kind}
 use Rattle.ipam_data.specs.declared.kinds.Kind.TheVariants.{Vrfs, Ranges, Prefixes, Addresses}
 use Rattle.ipam_data.specs.declared.calls.Call.{Call}
 use Rattle.ipam_data.specs.declared.calls.Call.TheVariants.{Create, Import, Export}
-use Rattle.ipam_data.specs.declared.calls.Draft.TheVariants.{Prefix as PrefixDraft}
+use Rattle.ipam_data.specs.declared.calls.Draft.TheVariants.{Prefix as PrefixDraft, IpRange as RangeDraft}
 use Rattle.ipam_data.specs.declared.imports.ImportRow.{ImportRow}
 use Rattle.ipam_data.specs.declared.imports.ImportRow.TheVariants.{Vrf as VrfRow, Prefix as PrefixRow, IpRange as RangeRow, IpAddress as AddressRow}
 use Rattle.ipam_data.specs.declared.prefix.PrefixStatus.TheVariants.{Active}
@@ -17,13 +17,14 @@ use Rattle.ipam_data.specs.declared.replies.Reply.TheVariants.{Imported, Rows, R
 use Rattle.ipam_data.specs.declared.replies.FieldName.TheVariants as member
 use Rattle.ipam_data.specs.declared.replies.Refusal.TheVariants.{Limit, Row}
 use Rattle.ipam_data.specs.declared.replies.RowFault.TheVariants as fault
-use Rattle.ipam_data.specs.declared.replies.Rule.TheVariants.{Ambiguous, Duplicate, NoSuchName, RangeFamily, ZeroMask}
+use Rattle.ipam_data.specs.declared.replies.Rule.TheVariants.{Ambiguous, Duplicate, NoSuchName, RangeFamily, ZeroMask, Populated}
 use Rattle.ipam_data.specs.declared.replies.Which.TheVariants.{Log}
 use Rattle.ipam_data.specs.HostNames.{is_dns_name}
 use Rattle.ipam_data.specs.State.{State, empty_state}
 use Rattle.ipam_data.specs.Vrfs.{vrf_fault, ids_named}
 use Rattle.ipam_data.specs.Prefixes.{prefix_fault}
-use Rattle.ipam_data.specs.Addresses.{address_fault}
+use Rattle.ipam_data.specs.Ranges.{range_fault, populated_at}
+use Rattle.ipam_data.specs.Addresses.{address_fault, address_barred}
 use Rattle.ipam_data.specs.Fields.{stored_draft, same_draft}
 use Rattle.ipam_data.specs.Imports.{times, makes_one}
 use Rattle.ipam_data.specs.Steps.{plain_step}
@@ -64,11 +65,11 @@ no_more = refl
 
 -- names of hosts are compared as records keep them
 lower_case : (imported_after [] Addresses (address_row (Some Vip) (codes "WWW") ∷ [])).1 ≡ Imported 1 0
-unfolding address_fault is_dns_name times makes_one stored_draft same_draft
+unfolding address_fault address_barred populated_at is_dns_name times makes_one stored_draft same_draft
 lower_case = refl
 
 lower_case_again : (imported_after (Import Addresses (address_row None (codes "WWW") ∷ []) ∷ []) Addresses (address_row None (codes "www") ∷ [])).1 ≡ Imported 0 1
-unfolding address_fault is_dns_name times makes_one stored_draft same_draft
+unfolding address_fault address_barred populated_at is_dns_name times makes_one stored_draft same_draft
 lower_case_again = refl
 
 -- a row of another kind is refused
@@ -93,12 +94,21 @@ unfolding prefix_fault times makes_one stored_draft same_draft
 zero_mask = refl
 
 -- ends of two families come before a mask of length 0
-two_families : (imported_after [] Ranges (RangeRow (host 16 0) (host6 16 0) None ActiveRange None false [] ∷ [])).1 ≡ Refused (Row 1 (fault.Rule RangeFamily))
+two_families : (imported_after [] Ranges (RangeRow (host 16 0) (host6 16 0) None ActiveRange None false false [] ∷ [])).1 ≡ Refused (Row 1 (fault.Rule RangeFamily))
 two_families = refl
+
+-- a row that makes an address inside a populated range is refused, and one whose address was there before the mark is not
+barred : (imported_after (Create (RangeDraft (host 16 28) (host 20 28) None ActiveRange None false true []) ∷ []) Addresses (address_row None [] ∷ [])).1 ≡ Refused (Row 1 (fault.Rule (Populated 1)))
+unfolding range_fault address_fault address_barred populated_at is_dns_name times makes_one stored_draft same_draft
+barred = refl
+
+there_before : (imported_after (Import Addresses (address_row None [] ∷ []) ∷ Create (RangeDraft (host 16 28) (host 20 28) None ActiveRange None false true []) ∷ []) Addresses (address_row None [] ∷ [])).1 ≡ Imported 0 1
+unfolding range_fault address_fault address_barred populated_at is_dns_name times makes_one stored_draft same_draft
+there_before = refl
 
 -- a row is checked beside the records of the rows before it, which are taken back with the whole import
 shared_twice : imported_after [] Addresses (address_row (Some Vip) [] ∷ address_row (Some Vip) [] ∷ address_row None [] ∷ []) ≡ (empty, Refused (Row 3 (fault.Rule (Duplicate 1))))
-unfolding address_fault is_dns_name times makes_one stored_draft same_draft
+unfolding address_fault address_barred populated_at is_dns_name times makes_one stored_draft same_draft
 shared_twice = refl
 
 -- an export names the VRF of each record, and its rows make nothing

@@ -93,7 +93,7 @@ made_row old so (RirRow name slug is_private description) h = step rir_rules rir
 made_row old so (RoleRow name slug weight description) h = step role_rules roles_tied old so _ _ refl refl h
 made_row old so (AggregateRow block rir description) h = step aggregate_rules aggregates_tied old so _ _ refl refl h
 made_row old so (PrefixRow block vrf status role is_pool mark_utilized description) h = step prefix_rules prefixes_tied old so _ _ refl refl h
-made_row old so (RangeRow start end vrf status role mark_utilized description) h = step range_rules ranges_tied old so _ _ refl refl h
+made_row old so (RangeRow start end vrf status role mark_utilized mark_populated description) h = step range_rules ranges_tied old so _ _ refl refl h
 made_row old so (AddressRow host vrf status role dns_name description) h = step address_rules addresses_tied old so _ _ refl refl h
 
 pub made_more : (old : State) (kind : Kind) (so : Progress) (row : ImportRow) → kind_of_row row ≡ kind → IsMade old kind so → IsMade old kind (after_row old kind so row)
@@ -124,7 +124,7 @@ record_spent s (RirDraft name slug is_private description) = refl
 record_spent s (RoleDraft name slug weight description) = refl
 record_spent s (AggregateDraft block rir description) = refl
 record_spent s (PrefixDraft block vrf status role is_pool mark_utilized description) = refl
-record_spent s (RangeDraft start end vrf status role mark_utilized description) = refl
+record_spent s (RangeDraft start end vrf status role mark_utilized mark_populated description) = refl
 record_spent s (AddressDraft host vrf status role dns_name description) = refl
 
 spent_more : (old : State) (kind : Kind) (so : Progress) (row : ImportRow) → (after_row old kind so row).state.spent ≡ so.state.spent
@@ -160,7 +160,7 @@ draft_bounds s (RirRow name slug is_private description) b = b
 draft_bounds s (RoleRow name slug weight description) b = b
 draft_bounds s (AggregateRow block rir description) b = b
 draft_bounds s (PrefixRow block vrf status role is_pool mark_utilized description) b = b
-draft_bounds s (RangeRow start end vrf status role mark_utilized description) b = b
+draft_bounds s (RangeRow start end vrf status role mark_utilized mark_populated description) b = b
 draft_bounds s (AddressRow host vrf status role dns_name description) b = b
 
 pub rows_keep : (old : State) (kind : Kind) (so : Progress) (n : ℕ) (rows : List ImportRow) → IsLawful so.state → AllByRecursion HasRowBounds rows

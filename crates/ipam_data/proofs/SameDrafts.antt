@@ -160,10 +160,11 @@ same_decides (PrefixDraft block vrf status role pool used text) (PrefixDraft blo
     let statuses = by_number prefix_status_number prefix_status_back prefix_status_same status status2 in
     let h = more (more (more (more (more (more (blocks block block2) (ids vrf vrf2)) statuses) (ids role role2)) (booleans_Decides pool pool2)) (booleans_Decides used used2)) (bytes_eq-Decides text text2) in
     (λ e. (let f = h.0 e in rw (f.0.0.0.0.0.0, f.0.0.0.0.0.1, f.0.0.0.0.1, f.0.0.0.1, f.0.0.1, f.0.1, f.1) refl), λ e. h.1 ((((((cc, cc), cc), cc), cc), cc), cc))
-same_decides (RangeDraft start end vrf status role used text) (RangeDraft start2 end2 vrf2 status2 role2 used2 text2) =
+same_decides (RangeDraft start end vrf status role used filled text) (RangeDraft start2 end2 vrf2 status2 role2 used2 filled2 text2) =
     let statuses = by_number range_status_number range_status_back range_status_same status status2 in
-    let h = more (more (more (more (more (more (hosts start start2) (hosts end end2)) (ids vrf vrf2)) statuses) (ids role role2)) (booleans_Decides used used2)) (bytes_eq-Decides text text2) in
-    (λ e. (let f = h.0 e in rw (f.0.0.0.0.0.0, f.0.0.0.0.0.1, f.0.0.0.0.1, f.0.0.0.1, f.0.0.1, f.0.1, f.1) refl), λ e. h.1 ((((((cc, cc), cc), cc), cc), cc), cc))
+    let marks = more (more (more (more (more (more (hosts start start2) (hosts end end2)) (ids vrf vrf2)) statuses) (ids role role2)) (booleans_Decides used used2)) (booleans_Decides filled filled2) in
+    let h = more marks (bytes_eq-Decides text text2) in
+    (λ e. (let f = h.0 e in rw (f.0.0.0.0.0.0.0, f.0.0.0.0.0.0.1, f.0.0.0.0.0.1, f.0.0.0.0.1, f.0.0.0.1, f.0.0.1, f.0.1, f.1) refl), λ e. h.1 (((((((cc, cc), cc), cc), cc), cc), cc), cc))
 same_decides (AddressDraft host vrf status role name text) (AddressDraft host2 vrf2 status2 role2 name2 text2) =
     let statuses = by_number address_status_number address_status_back address_status_same status status2 in
     let h = more (more (more (more (more (hosts host host2) (ids vrf vrf2)) statuses) (optional same_address_role roles role role2)) (bytes_eq-Decides name name2)) (bytes_eq-Decides text text2) in

@@ -81,9 +81,9 @@ has_number r a = nat_le r.ends.start.value a && nat_le a r.ends.end.value
 abbrev pub is_beside : Prefix → IpRange → Bool
 is_beside row r = same_table (table_of r.vrf) (table_of row.vrf) && same_family r.ends.start.family row.block.family
 
--- some range of the prefix's table has this number
-abbrev pub is_ranged : List IpRange → Prefix → ℕ → Bool
-is_ranged ranges row a = list_any (λ r. is_beside row r && has_number r a) ranges
+-- some populated range of the prefix's table has this number, so it is withheld
+abbrev pub is_withheld : List IpRange → Prefix → ℕ → Bool
+is_withheld ranges row a = list_any (λ r. r.mark_populated && is_beside row r && has_number r a) ranges
 
 -- the same of the ranges that count as full
 abbrev pub is_marked : List IpRange → Prefix → ℕ → Bool
@@ -91,7 +91,7 @@ is_marked ranges row a = list_any (λ r. r.mark_utilized && is_beside row r && h
 
 -- the addresses of a prefix that can be given out, in order
 abbrev pub usable_in : State → Prefix → List ℕ
-usable_in s row = usable_of (is_hosted s.addresses.rows row) (is_ranged s.ranges.rows row) row.block row.is_pool
+usable_in s row = usable_of (is_hosted s.addresses.rows row) (is_withheld s.ranges.rows row) row.block row.is_pool
 
 -- ---- of a range
 
@@ -103,8 +103,9 @@ is_host_beside addresses row a =
 abbrev pub numbers_in : IpRange → List ℕ
 numbers_in row = numbers_from row.ends.start.value (row.ends.end.value + 1 - row.ends.start.value)
 
+-- the addresses of a range that can be given out, in order: a populated one has none
 abbrev pub usable_of_range : State → IpRange → List ℕ
-usable_of_range s row = filter (λ a. not (is_host_beside s.addresses.rows row a)) (numbers_in row)
+usable_of_range s row = if row.mark_populated then [] else filter (λ a. not (is_host_beside s.addresses.rows row a)) (numbers_in row)
 
 -- ---- what is read
 

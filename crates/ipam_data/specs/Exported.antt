@@ -52,7 +52,8 @@ abbrev pub prefix_line : State → Prefix → ImportRow
 prefix_line s row = PrefixRow row.block (vrf_name s.vrfs.rows row.vrf) row.status (role_name s.roles.rows row.role) row.is_pool row.mark_utilized row.description
 
 abbrev pub range_line : State → IpRange → ImportRow
-range_line s row = RangeRow (start_of row) (end_of row) (vrf_name s.vrfs.rows row.vrf) row.status (role_name s.roles.rows row.role) row.mark_utilized row.description
+range_line s row =
+    RangeRow (start_of row) (end_of row) (vrf_name s.vrfs.rows row.vrf) row.status (role_name s.roles.rows row.role) row.mark_utilized row.mark_populated row.description
 
 abbrev pub address_line : State → IpAddress → ImportRow
 address_line s row = AddressRow row.host (vrf_name s.vrfs.rows row.vrf) row.status row.role row.dns_name row.description

@@ -78,13 +78,14 @@ drafted n (PrefixDraft block vrf status role is_pool mark_utilized description) 
   mark_utilized = mark_utilized;
   description = description;
 }) 0 0
-drafted n (RangeDraft start end vrf status role mark_utilized description) = RangeView (record {
+drafted n (RangeDraft start end vrf status role mark_utilized mark_populated description) = RangeView (record {
   id = n;
   ends = ends_of start end;
   vrf = vrf;
   status = status;
   role = role;
   mark_utilized = mark_utilized;
+  mark_populated = mark_populated;
   description = description;
 })
 drafted n (AddressDraft host vrf status role dns_name description) = AddressView (record {
@@ -107,7 +108,7 @@ next_for s draft = by_view (drafted 0 draft) (λ T rules row. (rules.row_list s)
 
 -- what is told of a draft, beside its row
 abbrev pub told_of_draft : Draft → List (Option Rule)
-told_of_draft (RangeDraft start end vrf status role mark_utilized description) = range_told start end
+told_of_draft (RangeDraft start end vrf status role mark_utilized mark_populated description) = range_told start end
 told_of_draft draft = []
 
 -- ---- drafts of records
@@ -126,7 +127,7 @@ recorded (RirView row) = RirDraft row.name row.slug row.is_private row.descripti
 recorded (RoleView row) = RoleDraft row.name row.slug row.weight row.description
 recorded (AggregateView row) = AggregateDraft row.block row.rir row.description
 recorded (PrefixView row depth children) = PrefixDraft row.block row.vrf row.status row.role row.is_pool row.mark_utilized row.description
-recorded (RangeView row) = RangeDraft (start_of row) (end_of row) row.vrf row.status row.role row.mark_utilized row.description
+recorded (RangeView row) = RangeDraft (start_of row) (end_of row) row.vrf row.status row.role row.mark_utilized row.mark_populated row.description
 recorded (AddressView row) = AddressDraft row.host row.vrf row.status row.role row.dns_name row.description
 
 -- a draft as its record keeps it
@@ -153,9 +154,9 @@ same_draft (AggregateDraft block rir description) (AggregateDraft block2 rir2 de
 same_draft (PrefixDraft block vrf status role is_pool mark_utilized description) (PrefixDraft block2 vrf2 status2 role2 is_pool2 mark_utilized2 description2) =
     same_block block block2 && same_name vrf vrf2 && prefix_status_number status == prefix_status_number status2 && same_name role role2
     && beq is_pool is_pool2 && beq mark_utilized mark_utilized2 && bytes_eq description description2
-same_draft (RangeDraft start end vrf status role mark_utilized description) (RangeDraft start2 end2 vrf2 status2 role2 mark_utilized2 description2) =
+same_draft (RangeDraft start end vrf status role mark_utilized mark_populated description) (RangeDraft start2 end2 vrf2 status2 role2 mark_utilized2 mark_populated2 description2) =
     same_host start start2 && same_host end end2 && same_name vrf vrf2 && range_status_number status == range_status_number status2
-    && same_name role role2 && beq mark_utilized mark_utilized2 && bytes_eq description description2
+    && same_name role role2 && beq mark_utilized mark_utilized2 && beq mark_populated mark_populated2 && bytes_eq description description2
 same_draft (AddressDraft host vrf status role dns_name description) (AddressDraft host2 vrf2 status2 role2 dns_name2 description2) =
     same_host host host2 && same_name vrf vrf2 && address_status_number status == address_status_number status2
     && option_eq same_address_role role role2 && bytes_eq dns_name dns_name2 && bytes_eq description description2
@@ -174,7 +175,7 @@ kind_of_edit (RirEdit name slug is_private description) = Rirs
 kind_of_edit (RoleEdit name slug weight description) = Roles
 kind_of_edit (AggregateEdit block rir description) = Aggregates
 kind_of_edit (PrefixEdit block vrf status role is_pool mark_utilized description) = Prefixes
-kind_of_edit (RangeEdit start end vrf status role mark_utilized description) = Ranges
+kind_of_edit (RangeEdit start end vrf status role mark_utilized mark_populated description) = Ranges
 kind_of_edit (AddressEdit host vrf status role dns_name description) = Addresses
 
 -- the row that an edit leaves of an old one: a field that is not given stays, and so does the row where the edit is of another kind
@@ -232,17 +233,18 @@ edited_prefix edit old = old
 
 -- what is told of the ends of a range of which some are changed; one that is not given keeps the row's mask
 abbrev pub told_of_change : Edit → IpRange → List (Option Rule)
-told_of_change (RangeEdit start end vrf status role mark_utilized description) old = range_told (edited start (start_of old)) (edited end (end_of old))
+told_of_change (RangeEdit start end vrf status role mark_utilized mark_populated description) old = range_told (edited start (start_of old)) (edited end (end_of old))
 told_of_change edit old = []
 
 abbrev pub edited_range : Edit → IpRange → IpRange
-edited_range (RangeEdit start end vrf status role mark_utilized description) old = record {
+edited_range (RangeEdit start end vrf status role mark_utilized mark_populated description) old = record {
   id = old.id;
   ends = ends_of (edited start (start_of old)) (edited end (end_of old));
   vrf = edited vrf old.vrf;
   status = edited status old.status;
   role = edited role old.role;
   mark_utilized = edited mark_utilized old.mark_utilized;
+  mark_populated = edited mark_populated old.mark_populated;
   description = edited description old.description;
 }
 edited_range edit old = old
@@ -272,7 +274,7 @@ HasDraftBounds (RirDraft name slug is_private description) = IsName name × IsSl
 HasDraftBounds (RoleDraft name slug weight description) = IsName name × IsSlug slug × IsWeight weight × IsDescription description
 HasDraftBounds (AggregateDraft block rir description) = IsBlock block × IsDescription description
 HasDraftBounds (PrefixDraft block vrf status role is_pool mark_utilized description) = IsBlock block × IsDescription description
-HasDraftBounds (RangeDraft start end vrf status role mark_utilized description) = IsMasked start × IsMasked end × IsDescription description
+HasDraftBounds (RangeDraft start end vrf status role mark_utilized mark_populated description) = IsMasked start × IsMasked end × IsDescription description
 HasDraftBounds (AddressDraft host vrf status role dns_name description) = IsMasked host × IsDnsText dns_name × IsDescription description
 
 -- a field that is given is so
@@ -285,7 +287,7 @@ HasEditBounds (RirEdit name slug is_private description) = Given IsName name × 
 HasEditBounds (RoleEdit name slug weight description) = Given IsName name × Given IsSlug slug × Given IsWeight weight × Given IsDescription description
 HasEditBounds (AggregateEdit block rir description) = Given IsBlock block × Given IsDescription description
 HasEditBounds (PrefixEdit block vrf status role is_pool mark_utilized description) = Given IsBlock block × Given IsDescription description
-HasEditBounds (RangeEdit start end vrf status role mark_utilized description) = Given IsMasked start × Given IsMasked end × Given IsDescription description
+HasEditBounds (RangeEdit start end vrf status role mark_utilized mark_populated description) = Given IsMasked start × Given IsMasked end × Given IsDescription description
 HasEditBounds (AddressEdit host vrf status role dns_name description) = Given IsMasked host × Given IsDnsText dns_name × Given IsDescription description
 
 -- ---- drafts in short, as worked examples take them: what is not asked for is as in a body that does not name it
@@ -294,7 +296,7 @@ abbrev pub plain_prefix : Cidr → Option ℕ → Option ℕ → Draft
 plain_prefix block vrf role = PrefixDraft block vrf ActivePrefix role false false []
 
 abbrev pub plain_range : Masked → Masked → Option ℕ → Draft
-plain_range start end vrf = RangeDraft start end vrf ActiveRange None false []
+plain_range start end vrf = RangeDraft start end vrf ActiveRange None false false []
 
 abbrev pub plain_address : Masked → Option ℕ → Option AddressRole → Draft
 plain_address host vrf role = AddressDraft host vrf ActiveAddress role [] []
@@ -305,7 +307,15 @@ prefix_into vrf = PrefixEdit None (Some (Some vrf)) None None None None None
 
 -- an edit that gives a range another end
 abbrev pub range_to : Masked → Edit
-range_to end = RangeEdit None (Some end) None None None None None
+range_to end = RangeEdit None (Some end) None None None None None None
+
+-- an edit that marks a range as populated, or takes the mark off it
+abbrev pub range_marked : Bool → Edit
+range_marked mark = RangeEdit None None None None None None (Some mark) None
+
+-- an edit that gives an address another host
+abbrev pub address_to : Masked → Edit
+address_to host = AddressEdit (Some host) None None None None None
 
 -- ---- printed names
 
@@ -323,6 +333,7 @@ field_text member.Family = codes "family"
 field_text member.IsPool = codes "is_pool"
 field_text member.IsPrivate = codes "is_private"
 field_text member.Limit = codes "limit"
+field_text member.MarkPopulated = codes "mark_populated"
 field_text member.MarkUtilized = codes "mark_utilized"
 field_text member.Name = codes "name"
 field_text member.Offset = codes "offset"

@@ -62,7 +62,7 @@ kind_of_row (RirRow name slug is_private description) = Rirs
 kind_of_row (RoleRow name slug weight description) = Roles
 kind_of_row (AggregateRow block rir description) = Aggregates
 kind_of_row (PrefixRow block vrf status role is_pool mark_utilized description) = Prefixes
-kind_of_row (RangeRow start end vrf status role mark_utilized description) = Ranges
+kind_of_row (RangeRow start end vrf status role mark_utilized mark_populated description) = Ranges
 kind_of_row (AddressRow host vrf status role dns_name description) = Addresses
 
 -- the least id of a VRF with the name, the id of the role and that of the RIR with it
@@ -106,7 +106,7 @@ name_rules s (RirRow name slug is_private description) = []
 name_rules s (RoleRow name slug weight description) = []
 name_rules s (AggregateRow block rir description) = named_rule Rirs (rir_named s.rirs.rows rir) ∷ []
 name_rules s (PrefixRow block vrf status role is_pool mark_utilized description) = vrf_rule s.vrfs.rows vrf ∷ role_rule s.roles.rows role ∷ []
-name_rules s (RangeRow start end vrf status role mark_utilized description) = vrf_rule s.vrfs.rows vrf ∷ role_rule s.roles.rows role ∷ []
+name_rules s (RangeRow start end vrf status role mark_utilized mark_populated description) = vrf_rule s.vrfs.rows vrf ∷ role_rule s.roles.rows role ∷ []
 name_rules s (AddressRow host vrf status role dns_name description) = vrf_rule s.vrfs.rows vrf ∷ []
 
 -- the id, or 0, which no row has
@@ -122,8 +122,8 @@ draft_of s (RoleRow name slug weight description) = RoleDraft name slug weight d
 draft_of s (AggregateRow block rir description) = AggregateDraft block (id_or_none (rir_named s.rirs.rows rir)) description
 draft_of s (PrefixRow block vrf status role is_pool mark_utilized description) =
     PrefixDraft block (vrf_named s.vrfs.rows vrf) status (role_named_too s.roles.rows role) is_pool mark_utilized description
-draft_of s (RangeRow start end vrf status role mark_utilized description) =
-    RangeDraft start end (vrf_named s.vrfs.rows vrf) status (role_named_too s.roles.rows role) mark_utilized description
+draft_of s (RangeRow start end vrf status role mark_utilized mark_populated description) =
+    RangeDraft start end (vrf_named s.vrfs.rows vrf) status (role_named_too s.roles.rows role) mark_utilized mark_populated description
 draft_of s (AddressRow host vrf status role dns_name description) = AddressDraft host (vrf_named s.vrfs.rows vrf) status role dns_name description
 
 abbrev pub zero_mask : ℕ → Option Rule
@@ -149,7 +149,7 @@ value_rules (RirRow name slug is_private description) = []
 value_rules (RoleRow name slug weight description) = []
 value_rules (AggregateRow block rir description) = zero_mask block.len ∷ []
 value_rules (PrefixRow block vrf status role is_pool mark_utilized description) = zero_mask block.len ∷ []
-value_rules (RangeRow start end vrf status role mark_utilized description) = ends_rules start end
+value_rules (RangeRow start end vrf status role mark_utilized mark_populated description) = ends_rules start end
 value_rules (AddressRow host vrf status role dns_name description) = host_rules host status dns_name
 
 -- ---- the import
@@ -238,5 +238,5 @@ HasRowBounds (RirRow name slug is_private description) = HasDraftBounds (RirDraf
 HasRowBounds (RoleRow name slug weight description) = HasDraftBounds (RoleDraft name slug weight description)
 HasRowBounds (AggregateRow block rir description) = IsBlock block × IsDescription description
 HasRowBounds (PrefixRow block vrf status role is_pool mark_utilized description) = IsBlock block × IsDescription description
-HasRowBounds (RangeRow start end vrf status role mark_utilized description) = IsMasked start × IsMasked end × IsDescription description
+HasRowBounds (RangeRow start end vrf status role mark_utilized mark_populated description) = IsMasked start × IsMasked end × IsDescription description
 HasRowBounds (AddressRow host vrf status role dns_name description) = IsMasked host × IsDnsText dns_name × IsDescription description

@@ -59,6 +59,7 @@ pub enum ImportRow {
         status: RangeStatus,
         role: Option<Name>,
         mark_utilized: bool,
+        mark_populated: bool,
         description: Description,
     },
     IpAddress {

@@ -39,8 +39,8 @@ impl RangeStatus {
     }
 }
 
-/// A range: all addresses from its start to its end. It is in the table of its VRF, or in the global one, and
-/// `mark_utilized` says that it counts as full.
+/// A range: all addresses from its start to its end. It is in the table of its VRF, or in the global one. `mark_utilized` says
+/// that it counts as full, and `mark_populated` that somebody else fills it: its addresses are not given out.
 #[derive(Debug, Drop)]
 pub struct IpRange {
     pub id: u32,
@@ -49,6 +49,7 @@ pub struct IpRange {
     pub status: RangeStatus,
     pub role: Option<u32>,
     pub mark_utilized: bool,
+    pub mark_populated: bool,
     pub description: Description,
 }
 
@@ -88,6 +89,7 @@ impl IpRange {
                 status,
                 role,
                 mark_utilized,
+                mark_populated,
                 description,
             } => Ok(IpRange {
                 id,
@@ -96,6 +98,7 @@ impl IpRange {
                 status: *status,
                 role: *role,
                 mark_utilized: *mark_utilized,
+                mark_populated: *mark_populated,
                 description: description.copy()?,
             }),
             _ => unreachable!(),
@@ -136,6 +139,7 @@ impl IpRange {
                 status,
                 role,
                 mark_utilized,
+                mark_populated,
                 description,
             } => Ok(IpRange {
                 id: self.id,
@@ -147,6 +151,7 @@ impl IpRange {
                 status: edited_value(*status, self.status),
                 role: edited_value(*role, self.role),
                 mark_utilized: edited_value(*mark_utilized, self.mark_utilized),
+                mark_populated: edited_value(*mark_populated, self.mark_populated),
                 description: edited_description(description, &self.description)?,
             }),
             _ => self.copy(),
@@ -165,6 +170,7 @@ impl IpRange {
             status: self.status,
             role: self.role,
             mark_utilized: self.mark_utilized,
+            mark_populated: self.mark_populated,
             description,
         })
     }

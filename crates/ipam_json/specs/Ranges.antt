@@ -6,7 +6,7 @@ use Rattle.ipam_data.specs.declared.calls.Draft.{Draft}
 use Rattle.ipam_data.specs.declared.calls.Draft.TheVariants.{IpRange as RangeDraft}
 use Rattle.ipam_data.specs.declared.calls.Edit.{Edit}
 use Rattle.ipam_data.specs.declared.calls.Edit.TheVariants.{IpRange as RangeEdit}
-use Rattle.ipam_data.specs.declared.replies.FieldName.TheVariants.{Description, EndAddress, MarkUtilized, Role as RoleField, StartAddress, Status, Vrf as VrfField}
+use Rattle.ipam_data.specs.declared.replies.FieldName.TheVariants.{Description, EndAddress, MarkPopulated, MarkUtilized, Role as RoleField, StartAddress, Status, Vrf as VrfField}
 use Rattle.ipam_data.specs.declared.replies.Refusal.{Refusal}
 use Rattle.ipam_data.specs.Answers.{field_text}
 use Rattle.serde_json.specs.Data.{Data, object}
@@ -25,8 +25,9 @@ range_draft start end d =
     then (read_member Status range_status_of d) λ status.
     then (read_member RoleField id_of d) λ role.
     then (read_member MarkUtilized (flag_of false) d) λ mark_utilized.
+    then (read_member MarkPopulated (flag_of false) d) λ mark_populated.
     then (read_member Description description_of d) λ description.
-    Ok (RangeDraft start end vrf status role mark_utilized description)
+    Ok (RangeDraft start end vrf status role mark_utilized mark_populated description)
 
 -- that of an edit, in the same order: what is absent stays
 abbrev pub range_edit : Result (Option Masked) Refusal → Result (Option Masked) Refusal → Data → Result Edit Refusal
@@ -37,8 +38,9 @@ range_edit start end d =
     then (read_given Status range_status_of d) λ status.
     then (read_given RoleField id_of d) λ role.
     then (read_given MarkUtilized (flag_of false) d) λ mark_utilized.
+    then (read_given MarkPopulated (flag_of false) d) λ mark_populated.
     then (read_given Description description_of d) λ description.
-    Ok (RangeEdit start end vrf status role mark_utilized description)
+    Ok (RangeEdit start end vrf status role mark_utilized mark_populated description)
 
 abbrev pub range_members : IpRange → List Named
 range_members row =
@@ -46,6 +48,7 @@ range_members row =
     ∷ text_named EndAddress (host_text row.ends.end row.ends.len)
     ∷ family_named row.ends.start.family
     ∷ id_named row.id
+    ∷ flag_named MarkPopulated row.mark_populated
     ∷ flag_named MarkUtilized row.mark_utilized
     ∷ reference_named RoleField row.role
     ∷ (codes "size", number_data (range_size row.ends))

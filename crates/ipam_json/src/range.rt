@@ -43,6 +43,7 @@ pub(crate) fn range_draft(alloc: Global, body: &Value) -> Result<Draft, Refusal>
     let status = range_status(body)?;
     let role = id(body, FieldName::Role)?;
     let mark_utilized = flag(body, FieldName::MarkUtilized, false)?;
+    let mark_populated = flag(body, FieldName::MarkPopulated, false)?;
     let description = description(alloc, body)?;
     Ok(Draft::IpRange {
         start,
@@ -51,6 +52,7 @@ pub(crate) fn range_draft(alloc: Global, body: &Value) -> Result<Draft, Refusal>
         status,
         role,
         mark_utilized,
+        mark_populated,
         description,
     })
 }
@@ -67,6 +69,7 @@ pub(crate) fn range_edit(alloc: Global, body: &Value) -> Result<Edit, Refusal>
     let status = given_range_status(body)?;
     let role = given_id(body, FieldName::Role)?;
     let mark_utilized = given_flag(body, FieldName::MarkUtilized)?;
+    let mark_populated = given_flag(body, FieldName::MarkPopulated)?;
     let description = given_description(alloc, body)?;
     Ok(Edit::IpRange {
         start,
@@ -75,6 +78,7 @@ pub(crate) fn range_edit(alloc: Global, body: &Value) -> Result<Edit, Refusal>
         status,
         role,
         mark_utilized,
+        mark_populated,
         description,
     })
 }
@@ -134,6 +138,7 @@ fn put_range_with(
     put_text(writer, FieldName::EndAddress, end)?;
     put_family(writer, row.ends.start().family())?;
     put_id(writer, row.id)?;
+    put_flag(writer, FieldName::MarkPopulated, row.mark_populated)?;
     put_flag(writer, FieldName::MarkUtilized, row.mark_utilized)?;
     put_reference(writer, FieldName::Role, row.role)?;
     put_number(writer, "size", range_size(row.ends))?;

@@ -24,6 +24,10 @@ abbrev pub IsTold : Option Tables → Tables → Type 0
 IsTold None tables = Unit {0}
 IsTold (Some told) tables = told ≡ tables
 
+-- these tables, whichever were kept
+abbrev pub replaced_by : Tables → Tables → Tables
+replaced_by tables kept = tables
+
 -- ---- an opener
 
 -- the entry is one of the path

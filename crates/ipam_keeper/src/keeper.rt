@@ -2,10 +2,10 @@
 
 ghost use Rattle.std.specs.Prelude.{◌≡◌, ℕ, ◌≤◌, ◌⊎◌, List, Option, option_map, option_copied, IfOk, OnOk, OnErr, IsErrOf};
 ghost use Rattle.stored_tables.specs.declared.tables.Tables.{Tables as StoredTables};
-ghost use Rattle.stored_tables.specs.Stored.{changed};
+ghost use Rattle.stored_tables.specs.Stored.{changed, stored_version};
 ghost use Rattle.stored_tables.specs.Order.{AreTables};
 ghost use Rattle.ipam_keeper.specs.declared.keeper.KeepFault.TheVariants.{Memory};
-ghost use Rattle.ipam_keeper.specs.Keeping.{Rose, IsRaised, IsTold, started, IsReturned};
+ghost use Rattle.ipam_keeper.specs.Keeping.{Rose, IsRaised, IsTold, replaced_by, started, IsReturned};
 
 use std::alloc::AllocError;
 use stored_tables::tables::{Change, Tables, Text};
@@ -49,6 +49,18 @@ pub trait Keeper {
     /// leaves the tables.
     fn apply(&mut self, change: &Change) -> Result<(), KeepFault>
         ensures ok { OnOk result (told self.new ≡ option_map (changed change.now) (told self.old)) }
+        ensures err { OnErr result (told self.new ≡ told self.old) }
+        ensures later { faults self.old ≤ faults self.new }
+        ensures failed { IsErrOf result KeepFault.Failed → Rose (faults self.old) (faults self.new) }
+        ensures still { IsErrOf result KeepFault.Failed ⊎ (faults self.new ≡ faults self.old) };
+
+    /// Puts these tables, which are of the register's version and in order, in the place of those that it keeps, whole or not at all.
+    /// They are what those become that it keeps, which are of an older version: all but the rows of ranges and the version are the same.
+    /// `Err` is `Failed` only where the count rose, which it does in no other case, and leaves the tables.
+    fn upgrade(&mut self, tables: &Tables) -> Result<(), KeepFault>
+        requires version { tables.now.version ≡ stored_version }
+        requires order { AreTables tables.now }
+        ensures ok { OnOk result (told self.new ≡ option_map (replaced_by tables.now) (told self.old)) }
         ensures err { OnErr result (told self.new ≡ told self.old) }
         ensures later { faults self.old ≤ faults self.new }
         ensures failed { IsErrOf result KeepFault.Failed → Rose (faults self.old) (faults self.new) }

@@ -3,7 +3,7 @@
 ghost use Rattle.std.specs.Prelude.{◌≡◌, ◌↔◌, ℕ, ◌+◌, ◌<◌, ◌≤◌, ◌==◌, ◌⊎◌, Some, option_map, IfOk, OnOk, OnErr, IsTrue, IsErrOf, MatchResult, fold, vec_len, vec_capacity};
 ghost use Rattle.std.specs.List.{list_any};
 ghost use Rattle.ipam_data.specs.RowList.{Rises, placed};
-ghost use Rattle.stored_tables.specs.Stored.{row_place, next_place, without_stored, changed};
+ghost use Rattle.stored_tables.specs.Stored.{row_place, next_place, without_stored, changed, stored_version};
 ghost use Rattle.stored_tables.specs.Order.{AreTables};
 ghost use Rattle.ipam_keeper.specs.Keeping.{Rose, IsTold};
 ghost use Rattle.ipam_keeper.specs.Memory.{is_failing, counted, holding};
@@ -118,6 +118,19 @@ impl MemoryKeeper {
         fails
     }
 
+    /// Keeps these tables in the place of its own. `Err` means out of memory, and leaves its own.
+    fn keep(&mut self, tables: &Tables) -> Result<(), AllocError>
+        requires { AreTables tables.now }
+        ensures ok { OnOk result (self.new ≡ holding self.old tables.now) }
+        ensures err { OnErr result (self.new ≡ self.old) }
+    {
+        let copy = tables.copy(*self.next.allocator())?;
+        self.version = copy.version;
+        self.next = copy.next.into_vec();
+        self.rows = copy.rows.into_vec();
+        Ok(())
+    }
+
     /// Makes a change. `Err` means out of memory, and leaves the tables.
     fn change(&mut self, change: &Change) -> Result<(), AllocError>
         ensures ok { OnOk result (self.new ≡ holding self.old (changed change.now self.old.tables)) }
@@ -176,6 +189,26 @@ impl Keeper for MemoryKeeper {
             return Err(KeepFault::Failed);
         }
         self.change(change)?;
+        Ok(())
+    }
+
+    /// Keeps these tables in the place of its own, whole or not at all. `Failed` comes exactly where the call's number was given, and
+    /// the count rises in those calls alone, by one.
+    fn upgrade(&mut self, tables: &Tables) -> Result<(), KeepFault>
+        requires version { tables.now.version ≡ stored_version }
+        requires order { AreTables tables.now }
+        ensures ok { OnOk result (Some self.new.tables ≡ Some tables.now) }
+        ensures err { OnErr result (Some self.new.tables ≡ Some self.old.tables) }
+        ensures later { self.old.faults ≤ self.new.faults }
+        ensures failed { IsErrOf result KeepFault.Failed → Rose self.old.faults self.new.faults }
+        ensures still { IsErrOf result KeepFault.Failed ⊎ (self.new.faults ≡ self.old.faults) }
+        ensures fails { IsErrOf result KeepFault.Failed ↔ IsTrue (is_failing self.old) }
+        ensures held { MatchResult result (λ done. self.new ≡ holding (counted self.old) tables.now) (λ fault. self.new ≡ counted self.old) }
+    {
+        if self.begin() {
+            return Err(KeepFault::Failed);
+        }
+        self.keep(tables)?;
         Ok(())
     }
 }

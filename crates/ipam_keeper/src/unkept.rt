@@ -34,4 +34,9 @@ impl Keeper for Unkept {
     fn apply(&mut self, _change: &Change) -> Result<(), KeepFault> {
         Ok(())
     }
+
+    /// The tables are taken, and not kept.
+    fn upgrade(&mut self, _tables: &Tables) -> Result<(), KeepFault> {
+        Ok(())
+    }
 }

@@ -30,6 +30,7 @@ pub fn rule_code(rule: &Rule) -> &'static str
         Rule::NoSuch(_, _) => "no_such",
         Rule::NoSuchName(_) => "no_such_name",
         Rule::Ambiguous(_, _) => "ambiguous",
+        Rule::Populated(_) => "populated",
     }
 }
 

@@ -82,6 +82,7 @@ pub fn rule_detail(alloc: Global, rule: &Rule) -> Result<String, AllocError>
         Rule::Duplicate(id) => return format!(in alloc; "coincides with {id}"),
         Rule::AggregateOverlap(id) => return format!(in alloc; "overlaps aggregate {id}"),
         Rule::RangeOverlap(id) => return format!(in alloc; "overlaps range {id}"),
+        Rule::Populated(id) => return format!(in alloc; "inside populated range {id}"),
         Rule::NameTaken(id) => return format!(in alloc; "the name is that of {id}"),
         Rule::SlugTaken(id) => return format!(in alloc; "the slug is that of {id}"),
         Rule::RdTaken(id) => return format!(in alloc; "the rd is that of {id}"),

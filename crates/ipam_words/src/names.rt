@@ -38,6 +38,7 @@ pub fn field_name(field: FieldName) -> &'static str
         FieldName::IsPool => "is_pool",
         FieldName::IsPrivate => "is_private",
         FieldName::Limit => "limit",
+        FieldName::MarkPopulated => "mark_populated",
         FieldName::MarkUtilized => "mark_utilized",
         FieldName::Name => "name",
         FieldName::Offset => "offset",

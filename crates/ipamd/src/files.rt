@@ -28,6 +28,10 @@ impl Keeper for HostKeeper {
     fn apply(&mut self, change: &Change) -> Result<(), KeepFault> {
         self.inner.apply(change)
     }
+
+    fn upgrade(&mut self, tables: &Tables) -> Result<(), KeepFault> {
+        self.inner.upgrade(tables)
+    }
 }
 
 impl CountedKeeper for HostKeeper {

@@ -44,6 +44,7 @@ fn run_command<So: Source, Si: Sink, Se: Sink>(
         Command::PrefixCheck(_) => say_usage(errors),
         Command::Reverse(_, _) => say_usage(errors),
         Command::ReverseRead => say_usage(errors),
+        Command::Migrate { .. } => say_usage(errors),
         Command::Load {
             count: _,
             workers: _,

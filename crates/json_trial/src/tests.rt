@@ -129,7 +129,7 @@ A{\"rir\":0}
 a{\"prefix\":\"10.0.0.1/8\"}
 = Aggregate { block: None, rir: Some(2), description: None }
 A{\"rir\":2}
-= IpRange { start: Host { addr: Addr { family: V4, value: 167772161 }, len: 24 }, end: Host { addr: Addr { family: V4, value: 167772162 }, len: 32 }, vrf: None, status: Active, role: None, mark_utilized: false, description: \"\" }
+= IpRange { start: Host { addr: Addr { family: V4, value: 167772161 }, len: 24 }, end: Host { addr: Addr { family: V4, value: 167772162 }, len: 32 }, vrf: None, status: Active, role: None, mark_utilized: false, mark_populated: false, description: \"\" }
 g{\"start_address\":\"10.0.0.1/24\",\"end_address\":\"10.0.0.2\"}
 = {\"code\":\"field\",\"detail\":\"start_address is missing or malformed\"}
 g{\"start_address\":5}
@@ -141,7 +141,7 @@ g{\"start_address\":\"10.0.0.1/24\",\"vrf\":0}
 G{\"end_address\":\"10.0.0\"}
 = {\"code\":\"field\",\"detail\":\"status is missing or malformed\"}
 g{\"start_address\":\"10.0.0.1/24\",\"end_address\":\"10.0.0.2/24\",\"status\":\"container\",\"role\":\"\"}
-= IpRange { start: None, end: Some(Host { addr: Addr { family: V4, value: 167772169 }, len: 32 }), vrf: None, status: Some(Reserved), role: Some(None), mark_utilized: None, description: None }
+= IpRange { start: None, end: Some(Host { addr: Addr { family: V4, value: 167772169 }, len: 32 }), vrf: None, status: Some(Reserved), role: Some(None), mark_utilized: None, mark_populated: None, description: None }
 G{\"end_address\":\"10.0.0.9\",\"role\":null,\"status\":\"reserved\"}
 = IpAddress { host: Host { addr: Addr { family: V4, value: 167772161 }, len: 24 }, vrf: None, status: Active, role: None, dns_name: \"\", description: \"\" }
 d{\"address\":\"10.0.0.1/24\"}
@@ -229,9 +229,9 @@ const ROWS: &str =
 {\"description\":\"lab\",\"id\":4294967294,\"name\":\"a\\\"b\\\\\",\"slug\":\"edge\",\"weight\":32767}
 {\"description\":\"lab\",\"family\":6,\"id\":2,\"prefix\":\"2001:db8::/32\",\"rir\":3}
 {\"children\":30,\"depth\":2,\"description\":\"lab\",\"family\":4,\"id\":4,\"is_pool\":false,\"mark_utilized\":true,\"prefix\":\"10.0.0.0/24\",\"role\":null,\"status\":{\"label\":\"Reserved\",\"value\":\"reserved\"},\"vrf\":7}
-{\"description\":\"lab\",\"end_address\":\"10.0.0.9/24\",\"family\":4,\"id\":5,\"mark_utilized\":false,\"role\":4,\"size\":9,\"start_address\":\"10.0.0.1/24\",\"status\":{\"label\":\"Deprecated\",\"value\":\"deprecated\"},\"vrf\":null}
-{\"description\":\"lab\",\"end_address\":\"10.0.0.1/24\",\"family\":4,\"id\":5,\"mark_utilized\":false,\"role\":4,\"size\":0,\"start_address\":\"10.0.0.9/24\",\"status\":{\"label\":\"Deprecated\",\"value\":\"deprecated\"},\"vrf\":null}
-{\"description\":\"lab\",\"end_address\":\"::1:0:0/24\",\"family\":6,\"id\":5,\"mark_utilized\":false,\"role\":4,\"size\":4294967295,\"start_address\":\"::/24\",\"status\":{\"label\":\"Deprecated\",\"value\":\"deprecated\"},\"vrf\":null}
+{\"description\":\"lab\",\"end_address\":\"10.0.0.9/24\",\"family\":4,\"id\":5,\"mark_populated\":true,\"mark_utilized\":false,\"role\":4,\"size\":9,\"start_address\":\"10.0.0.1/24\",\"status\":{\"label\":\"Deprecated\",\"value\":\"deprecated\"},\"vrf\":null}
+{\"description\":\"lab\",\"end_address\":\"10.0.0.1/24\",\"family\":4,\"id\":5,\"mark_populated\":true,\"mark_utilized\":false,\"role\":4,\"size\":0,\"start_address\":\"10.0.0.9/24\",\"status\":{\"label\":\"Deprecated\",\"value\":\"deprecated\"},\"vrf\":null}
+{\"description\":\"lab\",\"end_address\":\"::1:0:0/24\",\"family\":6,\"id\":5,\"mark_populated\":true,\"mark_utilized\":false,\"role\":4,\"size\":4294967295,\"start_address\":\"::/24\",\"status\":{\"label\":\"Deprecated\",\"value\":\"deprecated\"},\"vrf\":null}
 {\"address\":\"2001:db8::1/64\",\"description\":\"lab\",\"dns_name\":\"a.example\",\"family\":6,\"id\":6,\"role\":{\"label\":\"VIP\",\"value\":\"vip\"},\"status\":{\"label\":\"SLAAC\",\"value\":\"slaac\"},\"vrf\":null}";
 
 fn name(rt: &impl Abort, alloc: Global) -> Result<Name, AllocError> {
@@ -314,6 +314,7 @@ fn range(rt: &impl Abort, alloc: Global, start: &[u8], end: &[u8]) -> Result<Vie
         status: RangeStatus::Deprecated,
         role: Some(4),
         mark_utilized: false,
+        mark_populated: true,
         description: description(rt, alloc)?,
     }))
 }
@@ -432,7 +433,8 @@ wanted_length the length does not fit the prefix
 dns_name not a DNS name
 no_such rirs 8 is not there
 no_such_name no roles has this name
-ambiguous vrfs 1 and 2 have this name";
+ambiguous vrfs 1 and 2 have this name
+populated inside populated range 9";
 
 /// The rule of a line past the refusals.
 fn rule(number: u32) -> Rule {
@@ -453,7 +455,8 @@ fn rule(number: u32) -> Rule {
         13 => Rule::DnsName,
         14 => Rule::NoSuch(Kind::Rirs, 8),
         15 => Rule::NoSuchName(Kind::Roles),
-        _ => Rule::Ambiguous(1, 2),
+        16 => Rule::Ambiguous(1, 2),
+        _ => Rule::Populated(9),
     }
 }
 

@@ -1,14 +1,16 @@
 -- What a run of the command `session` promises: one connection over the input and the output, with a machine of its own.
-use Rattle.std.specs.Prelude.{◌≡◌, ◌≤◌, ◌⊎◌, ◌+◌, ℕ, List, []}
+use Rattle.std.specs.Prelude.{◌≡◌, ◌≤◌, ◌⊎◌, ◌+◌, ℕ, List, [], IfSome}
 use Rattle.history_lock.specs.Machines.{Reaches}
 use Rattle.history_lock.specs.Replay.{replay}
+use Rattle.http_session.specs.Requests.{AreAllItems, Item}
 use Rattle.http_session.specs.Steps.{Grown}
+use Rattle.http_session.specs.Talk.{Answer, May, Run, texts}
 use Rattle.http_session.specs.Ends.{IsEnd, IsReadAsNeeded}
 use Rattle.http_session.specs.declared.session.SessionEnd.{SessionEnd}
 use Rattle.http_session.specs.declared.session.SessionEnd.TheVariants.{Closed, SourceFault, SinkFault, Memory}
 use Rattle.machine_session.specs.Protocols.{Protocol}
 use Rattle.machine_session.specs.Owned.{Owned, answers_certainly, answers_counted, counted, plain_of_owned}
-use Rattle.command_streams.specs.Streams.{Failed, NeverRises}
+use Rattle.command_streams.specs.Streams.{Failed, Gains, NeverRises, Streams}
 use Rattle.machine_command.specs.Outside.{IsRaised, NoCountFalls, Outside, StoreFailed}
 use Rattle.machine_command.specs.Openers.{OpenerMeaning}
 
@@ -65,6 +67,13 @@ pub record IsRefused {Q T S F : Type 0} (U : OpenerMeaning Q T S F) (asked : Q) 
 abbrev pub IsRun : {S C A B W E Q T F : Type 0} → Protocol S C A B W E → OpenerMeaning Q T S F → Q → Outside T → Outside T → ℕ → Type 0
 IsRun P U asked old new status =
     ((end : SessionEnd) × Serves P U asked old new end × HasCause old new end × (status ≡ end_status end)) ⊎ IsRefused U asked old new status
+
+-- the output gained the texts of the answers that may be given, one after another, to all requests of the input, up to the first that
+-- closes
+abbrev pub Prints : {V : Type 0} → May V → V → Streams → Streams → Type 0
+Prints {V} may first old new =
+    IfSome old.input.bytes (λ bytes. (items : List Item) × (answers : List Answer) × (last : V) × AreAllItems bytes (Unit {0}) items
+    × Run may first items answers last × Gains old.output new.output (texts items answers))
 
 -- a call was answered by a fault
 pub record HasFailedCall {S C A B W E Q T F : Type 0} (P : Protocol S C A B W E) (U : OpenerMeaning Q T S F) (asked : Q) (old new : Outside T) (end : SessionEnd) : Type 0 where

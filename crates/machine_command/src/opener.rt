@@ -21,6 +21,11 @@ pub trait MachineOpener<M: Machine> {
 
     ghost asked: { Self → Asked };
 
+    /// The names of what is lent to it, as contracts see them: one value where nothing is.
+    ghost Loan: { Type 0 };
+
+    ghost loan: { Self → Loan };
+
     /// The tables under each path, where they are known.
     ghost stored: { Self → Stored Tables };
 
@@ -55,13 +60,15 @@ pub trait MachineOpener<M: Machine> {
         ensures kept { IfOk result (λ _. faults self.new ≡ faults self.old) }
         ensures cause { IfErr result (λ fault. fails fault ⊎ (faults self.new ≡ faults self.old)) }
         ensures asked { asked self.new ≡ asked self.old }
+        ensures loan { loan self.new ≡ loan self.old }
         ensures later { faults self.old ≤ faults self.new };
 
     /// Takes the machine back. The count of faults rises by the machine's, or up to its last value.
     fn done(&mut self, machine: M)
         ensures held { (first : Stored Tables) → lends self.old first → holds (asked self.old) first (stored self.new) (M.state machine) }
         ensures raised { IsRaised (faults self.old) (M.faults machine) (faults self.new) }
-        ensures asked { asked self.new ≡ asked self.old };
+        ensures asked { asked self.new ≡ asked self.old }
+        ensures loan { loan self.new ≡ loan self.old };
 
     /// Says why an opening was refused, and gives the status of that, which is 5 where memory ran out: then nothing failed.
     fn say<Se: Sink>(alloc: Global, fault: Self::Fault, errors: &mut Se) -> u8

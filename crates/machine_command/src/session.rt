@@ -36,9 +36,10 @@ pub fn run_session<M: Machine, V: Service<M>, O: MachineOpener<M>, So: Source, S
     errors: &mut Se,
     opener: &mut O,
 ) -> u8
-    ensures { IsSession (protocol M.step M.answer M.kind M.fallible V.asks V.tells V.refuses V.misread) (opener_meaning O.loads O.holds O.refuses O.says) (O.asked opener.old)
+    ensures session { IsSession (protocol M.step M.answer M.kind M.fallible V.asks V.tells V.refuses V.misread) (opener_meaning O.loads O.holds O.refuses O.says) (O.asked opener.old)
         (outside (streams (told So.left So.faults input.old) (told Si.written Si.faults output.old) (told Se.written Se.faults errors.old)) (stores O.stored O.faults opener.old))
         (outside (streams (told So.left So.faults input.new) (told Si.written Si.faults output.new) (told Se.written Se.faults errors.new)) (stores O.stored O.faults opener.new)) result }
+    ensures loan { O.loan opener.new ≡ O.loan opener.old }
 {
     match opener.open(alloc) {
         Ok(machine) => {

@@ -1,3 +1,4 @@
+pub mod Beside
 pub mod Dismissed
 pub mod Popped
 pub mod Hired

@@ -97,7 +97,7 @@ module _ {S C A R W E : Type 0} (P : Protocol S C A R W E) where
       }
 
   -- where no answer tells a fault, they are those of a plain machine that does not fail
-  own_is_certain : (v w : Counted S C) (old new : Option (List ℕ)) (bytes : List ℕ) (left : Option (List ℕ)) (how : SessionEnd)
+  pub own_is_certain : (v w : Counted S C) (old new : Option (List ℕ)) (bytes : List ℕ) (left : Option (List ℕ)) (how : SessionEnd)
       → IsEnd (answers_counted P) v w old new bytes left how → w.told ≡ 0 → IsEnd (answers_certainly P) (plain_of_owned P.step v.now) (plain_of_owned P.step w.now) old new bytes left how
   own_is_certain v w old new bytes left how e none =
       end_carried (answers_counted P) (answers_certainly P) (λ (s : Counted S C). plain_of_owned P.step s.now) (λ s. Unit {0}) (λ s. s.told ≡ 0) certain v w old new bytes left how e tt none

@@ -1,4 +1,5 @@
 pub mod Asked
+pub mod Beside
 pub mod Carried
 pub mod Certainly
 pub mod Counting

@@ -19,6 +19,10 @@ pub record Owned (S C : Type 0) : Type 0 where
 abbrev pub owned : {S C : Type 0} → S → List (ℕ × C) → ℕ → Owned S C
 owned opening log faults = record { opening = opening; log = log; faults = faults }
 
+-- the same with a part of the state
+abbrev pub owned_part : {S T C : Type 0} → (T → S) → Owned T C → Owned S C
+owned_part part v = owned (part v.opening) v.log v.faults
+
 -- the plain machine: its state is the replay of the accepted changes
 abbrev pub plain_of_owned : {S C A : Type 0} → (S → C → S × A) → Owned S C → Plain S C
 plain_of_owned step v = plain_at step v.opening v.log

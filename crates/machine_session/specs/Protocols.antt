@@ -1,5 +1,5 @@
 -- What a machine and its service are to contracts, as one value: which requests ask for which calls, and which answers tell which replies.
-use Rattle.std.specs.Prelude.{ℕ, Bool, Result}
+use Rattle.std.specs.Prelude.{◌≡◌, ℕ, Bool, Result}
 use Rattle.history_lock.specs.Replies.{ReplyKind}
 use Rattle.http_session.specs.Requests.{Framed}
 use Rattle.http_session.specs.Talk.{Answer}
@@ -27,3 +27,21 @@ abbrev pub protocol : {S C A R W E : Type 0} → (S → C → S × A) → (R →
     → (C → R → W → ℕ → Answer) → (Framed → E → Answer → Type 0) → (Fault → Answer → Type 0) → Protocol S C A R W E
 protocol step answer kind fallible asks tells refuses misread =
     record { step = step; answer = answer; kind = kind; fallible = fallible; asks = asks; tells = tells; refuses = refuses; misread = misread }
+
+-- the same service over a machine of which more is seen, by that machine's plain step
+abbrev pub protocol_over : {S T C A R W E : Type 0} → (T → C → T × A) → Protocol S C A R W E → Protocol T C A R W E
+protocol_over step P =
+    record {
+      step = step;
+      answer = P.answer;
+      kind = P.kind;
+      fallible = P.fallible;
+      asks = P.asks;
+      tells = P.tells;
+      refuses = P.refuses;
+      misread = P.misread;
+    }
+
+-- a state of the one machine has a state of the other in it, and the steps of both go side by side
+abbrev pub GoBeside : {S T C A : Type 0} → (S → C → S × A) → (T → C → T × A) → (T → S) → Type 0
+GoBeside {T = T} {C = C} step more_step part = (t : T) (call : C) → step (part t) call ≡ (part (more_step t call).0, (more_step t call).1)

@@ -17,11 +17,11 @@ use Rattle.ipam_data.specs.declared.address.IpAddress.{IpAddress}
 use Rattle.ipam_data.specs.declared.range.IpRange.{IpRange}
 use Rattle.ipam_data.specs.State.{State}
 use Rattle.ipam_data.specs.Tables.{table_of}
-use Rattle.ipam_data.specs.Claims.{is_container, is_hosted, is_ranged, is_marked, is_host_beside, numbers_in, usable_in, usable_of_range, own_blocks, prefix_figure, range_figure}
-use Rattle.ip_ranges.specs.declared.Which.TheVariants.{All, Marked}
-use Rattle.register_claims.specs.Hosts.{HasHosts, HasJust}
+use Rattle.ipam_data.specs.Claims.{is_container, is_hosted, is_withheld, is_marked, is_host_beside, numbers_in, usable_in, usable_of_range, own_blocks, prefix_figure, range_figure}
+use Rattle.ip_ranges.specs.declared.SpanKind.TheVariants.{Utilized, Populated}
+use Rattle.register_claims.specs.Hosts.{HasHosts, HasJust, given_numbers}
 use Rattle.ip_ranges.specs.Spans.{AreSpansOf}
-use Rattle.register_claims.proofs.HostSpans.{ranged_in_spans, marked_in_spans}
+use Rattle.register_claims.proofs.HostSpans.{withheld_in_spans, marked_in_spans}
 use Rattle.free_space.proofs.Passing.{same_between}
 use Rattle.utilisation.proofs.Counted.{counted_same, counted_block}
 
@@ -54,28 +54,33 @@ numbers_same p q first last h = counted_same p q first (last + 1) (λ x low high
 
 -- ---- of rows
 
-pub usable_of_rows : (s : State) (rows : List IpAddress) (row : Prefix) (held : List Cidr) (spans : List Span) → rows ≡ s.addresses.rows → HasHosts row.block (is_hosted rows row) held → AreSpansOf s.ranges.rows (table_of row.vrf) row.block.family All spans
+pub usable_of_rows : (s : State) (rows : List IpAddress) (row : Prefix) (held : List Cidr) (spans : List Span) → rows ≡ s.addresses.rows → HasHosts row.block (is_hosted rows row) held → AreSpansOf s.ranges.rows (table_of row.vrf) row.block.family Populated spans
     → usable_of (is_taken held) (is_in_spans spans) row.block row.is_pool ≡ usable_in s row
 usable_of_rows s rows row held spans same hosts ranges =
-    usable_same (is_taken held) (is_hosted rows row) (is_in_spans spans) (is_ranged s.ranges.rows row) row.block row.is_pool hosts.each (ranged_in_spans s.ranges.rows row spans ranges)
-    ∙ ap (λ (xs : List IpAddress). usable_of (is_hosted xs row) (is_ranged s.ranges.rows row) row.block row.is_pool) same
+    usable_same (is_taken held) (is_hosted rows row) (is_in_spans spans) (is_withheld s.ranges.rows row) row.block row.is_pool hosts.each (withheld_in_spans s.ranges.rows row spans ranges)
+    ∙ ap (λ (xs : List IpAddress). usable_of (is_hosted xs row) (is_withheld s.ranges.rows row) row.block row.is_pool) same
 
-pub untaken_of_rows : (s : State) (rows : List IpAddress) (row : IpRange) (held pieces : List Cidr) → rows ≡ s.addresses.rows → HasJust (is_host_beside rows row) held → flat_map addresses_of pieces ≡ numbers_in row
+given_filtered : (p : ℕ → Bool) (populated : Bool) (xs : List ℕ) → filter p (if populated then [] else xs) ≡ (if populated then [] else filter p xs)
+given_filtered p true xs = refl
+given_filtered p false xs = refl
+
+pub untaken_of_rows : (s : State) (rows : List IpAddress) (row : IpRange) (held pieces : List Cidr) → rows ≡ s.addresses.rows → HasJust (is_host_beside rows row) held → flat_map addresses_of pieces ≡ given_numbers row
     → untaken_of (is_taken held) pieces ≡ usable_of_range s row
 untaken_of_rows s rows row held pieces same hosts numbers =
-    untaken_same (is_taken held) (is_host_beside rows row) pieces (numbers_in row) numbers hosts.each
-    ∙ ap (λ (xs : List IpAddress). filter (λ a. not (is_host_beside xs row a)) (numbers_in row)) same
+    untaken_same (is_taken held) (is_host_beside rows row) pieces (given_numbers row) numbers hosts.each
+    ∙ ap (λ (xs : List IpAddress). filter (λ a. not (is_host_beside xs row a)) (given_numbers row)) same
+    ∙ given_filtered (λ a. not (is_host_beside s.addresses.rows row a)) row.mark_populated (numbers_in row)
 
 -- as the functions say it: the space says its family
 pub listed_in_range : (s : State) (rows : List IpAddress) (row : IpRange) (held pieces : List Cidr) (f : Family) (limit : ℕ) (r : Result (Vec Address Global) AllocError) → rows ≡ s.addresses.rows → HasJust (is_host_beside rows row) held
-    → flat_map addresses_of pieces ≡ numbers_in row → f ≡ row.ends.start.family
+    → flat_map addresses_of pieces ≡ given_numbers row → f ≡ row.ends.start.family
     → IfOk r (λ v. v.items ≡ take limit (addressed f (untaken_of (is_taken held) pieces))) → IfOk r (λ v. v.items ≡ take limit (addressed row.ends.start.family (usable_of_range s row)))
 listed_in_range s rows row held pieces f limit (Ok v) same hosts numbers e is =
     is ∙ ap (λ (xs : List ℕ). take limit (addressed f xs)) (untaken_of_rows s rows row held pieces same hosts numbers) ∙ ap (λ (x : Family). take limit (addressed x (usable_of_range s row))) e
 listed_in_range s rows row held pieces f limit (Err x) same hosts numbers e is = is
 
 pub served_in_range : (s : State) (rows : List IpAddress) (row : IpRange) (held pieces : List Cidr) (f : Family) (n : ℕ) (r : Result (Vec Address Global) ClaimFault) → rows ≡ s.addresses.rows → HasJust (is_host_beside rows row) held
-    → flat_map addresses_of pieces ≡ numbers_in row → f ≡ row.ends.start.family
+    → flat_map addresses_of pieces ≡ given_numbers row → f ≡ row.ends.start.family
     → IfOk r (λ v. IsServed n (addressed f (untaken_of (is_taken held) pieces)) v.items) → IfOk r (λ v. IsServed n (addressed row.ends.start.family (usable_of_range s row)) v.items)
 served_in_range s rows row held pieces f n (Ok v) same hosts numbers e is =
     subst (λ (xs : List Address). IsServed n xs v.items)
@@ -85,7 +90,7 @@ served_in_range s rows row held pieces f n (Err x) same hosts numbers e is = is
 either_same : (t u v w : Bool) → t ≡ u → v ≡ w → (t || v) ≡ (u || w)
 either_same t u v w e f = ap (λ (x : Bool). x || v) e ∙ ap (λ (x : Bool). u || x) f
 
-pub hosts_percent : (s : State) (rows : List IpAddress) (row : Prefix) (held : List Cidr) (spans : List Span) (n : ℕ) → rows ≡ s.addresses.rows → HasHosts row.block (is_hosted rows row) held → AreSpansOf s.ranges.rows (table_of row.vrf) row.block.family Marked spans
+pub hosts_percent : (s : State) (rows : List IpAddress) (row : Prefix) (held : List Cidr) (spans : List Span) (n : ℕ) → rows ≡ s.addresses.rows → HasHosts row.block (is_hosted rows row) held → AreSpansOf s.ranges.rows (table_of row.vrf) row.block.family Utilized spans
     → row.mark_utilized ≡ false → is_container row.status ≡ false
     → n ≡ percent_of (count_of (λ a. is_taken held a || is_in_spans spans a) row.block) (host_room row.block row.is_pool) → n ≡ prefix_figure s row
 hosts_percent s rows row held spans n same hosts marked unmarked plain is =

@@ -10,23 +10,18 @@ use Rattle.ipam_data.specs.declared.kinds.Table.{Table}
 use Rattle.ipam_data.specs.declared.prefix.Prefix.{Prefix}
 use Rattle.ipam_data.specs.declared.range.IpRange.{IpRange}
 use Rattle.ipam_data.specs.Tables.{table_of, same_table}
-use Rattle.ip_ranges.specs.declared.Which.{Which}
-use Rattle.ip_ranges.specs.declared.Which.TheVariants.{All, Marked}
-use Rattle.ipam_data.specs.Claims.{has_number, is_beside, is_ranged, is_marked}
+use Rattle.ip_ranges.specs.declared.SpanKind.{SpanKind}
+use Rattle.ip_ranges.specs.declared.SpanKind.TheVariants.{Utilized, Populated}
+use Rattle.ipam_data.specs.Claims.{has_number, is_beside, is_withheld, is_marked}
 use Rattle.ip_ranges.specs.Spans.{is_spanned, span_of, spans_of_rows, AreSpansOf}
 use Rattle.register_claims.proofs.HostTests.{any_same, any_made}
 
 -- some span has the number where some row that the spans are of has it
-in_spans : (rows : List IpRange) (table : Table) (family : Family) (which : Which) (spans : List Span) (a : ℕ) → AreSpansOf rows table family which spans
+in_spans : (rows : List IpRange) (table : Table) (family : Family) (which : SpanKind) (spans : List Span) (a : ℕ) → AreSpansOf rows table family which spans
     → is_in_spans spans a ≡ list_any (λ r. is_spanned table family which r && has_number r a) rows
 in_spans rows table family which spans a h =
     list_any-IsPermutation (is_in_span a) spans (spans_of_rows rows table family which) h.0
     ∙ any_made span_of (is_spanned table family which) (is_in_span a) rows
-
-all_same : (u t s : Bool) → ((u && t && true) && s) ≡ ((u && t) && s)
-all_same true true s = refl
-all_same true false s = refl
-all_same false t s = refl
 
 marked_same : (u t m s : Bool) → ((u && t && m) && s) ≡ (m && (u && t) && s)
 marked_same true true true s = refl
@@ -38,14 +33,14 @@ marked_same false true false s = refl
 marked_same false false true s = refl
 marked_same false false false s = refl
 
-pub ranged_in_spans : (rows : List IpRange) (row : Prefix) (spans : List Span) → AreSpansOf rows (table_of row.vrf) row.block.family All spans → (a : ℕ) → is_in_spans spans a ≡ is_ranged rows row a
-ranged_in_spans rows row spans h a =
-    in_spans rows (table_of row.vrf) row.block.family All spans a h
-    ∙ any_same (λ r. is_spanned (table_of row.vrf) row.block.family All r && has_number r a) (λ r. is_beside row r && has_number r a) rows
-    (λ r. all_same (same_table (table_of r.vrf) (table_of row.vrf)) (same_family r.ends.start.family row.block.family) (has_number r a))
+pub withheld_in_spans : (rows : List IpRange) (row : Prefix) (spans : List Span) → AreSpansOf rows (table_of row.vrf) row.block.family Populated spans → (a : ℕ) → is_in_spans spans a ≡ is_withheld rows row a
+withheld_in_spans rows row spans h a =
+    in_spans rows (table_of row.vrf) row.block.family Populated spans a h
+    ∙ any_same (λ r. is_spanned (table_of row.vrf) row.block.family Populated r && has_number r a) (λ r. r.mark_populated && is_beside row r && has_number r a) rows
+    (λ r. marked_same (same_table (table_of r.vrf) (table_of row.vrf)) (same_family r.ends.start.family row.block.family) r.mark_populated (has_number r a))
 
-pub marked_in_spans : (rows : List IpRange) (row : Prefix) (spans : List Span) → AreSpansOf rows (table_of row.vrf) row.block.family Marked spans → (a : ℕ) → is_in_spans spans a ≡ is_marked rows row a
+pub marked_in_spans : (rows : List IpRange) (row : Prefix) (spans : List Span) → AreSpansOf rows (table_of row.vrf) row.block.family Utilized spans → (a : ℕ) → is_in_spans spans a ≡ is_marked rows row a
 marked_in_spans rows row spans h a =
-    in_spans rows (table_of row.vrf) row.block.family Marked spans a h
-    ∙ any_same (λ r. is_spanned (table_of row.vrf) row.block.family Marked r && has_number r a) (λ r. r.mark_utilized && is_beside row r && has_number r a) rows
+    in_spans rows (table_of row.vrf) row.block.family Utilized spans a h
+    ∙ any_same (λ r. is_spanned (table_of row.vrf) row.block.family Utilized r && has_number r a) (λ r. r.mark_utilized && is_beside row r && has_number r a) rows
     (λ r. marked_same (same_table (table_of r.vrf) (table_of row.vrf)) (same_family r.ends.start.family row.block.family) r.mark_utilized (has_number r a))

@@ -18,16 +18,17 @@ ghost use Rattle.ipam_data.specs.Addresses.{address_rules, is_slaac_of_v4};
 ghost use Rattle.ipam_data.specs.Lawful.{IsLawful};
 ghost use Rattle.register_tables.specs.Held.{state_of};
 ghost use Rattle.register_tables.specs.Planned.{IsPlanned};
-ghost use Rattle.ipam_data.specs.Claims.{most_items, told_of_address, claimed_addresses, served, numbers_in, usable_in, usable_of_range, claim_addresses_of, claim_prefix_addrs_plan, claim_range_addrs_plan};
-ghost use Rattle.ip_ranges.specs.declared.Which.TheVariants.{All as AllRanges};
+ghost use Rattle.ipam_data.specs.Claims.{most_items, told_of_address, claimed_addresses, served, usable_in, usable_of_range, claim_addresses_of, claim_prefix_addrs_plan, claim_range_addrs_plan};
+ghost use Rattle.ip_ranges.specs.declared.SpanKind.TheVariants.{Populated as PopulatedRanges};
 ghost use Rattle.ip_ranges.specs.Spans.{AreSpansOf};
+ghost use Rattle.register_claims.specs.Hosts.{given_numbers};
 
 use crate::checks::{changed, no_place, served, stopped, too_many_items};
 use crate::hosts::{claimed_of_prefix, claimed_of_range};
-use crate::ranges::{pieces_of, spans_of};
+use crate::ranges::{given_pieces, spans_of};
 use block_claim::ClaimFault;
 use inet_num::{Addr, Block, Family, Span};
-use ip_ranges::Which as Wanted;
+use ip_ranges::SpanKind;
 use ipam_data::address::{AddressStatus, IpAddress, MOST_ADDRESSES};
 use ipam_data::calls::{AddrItem, Answered};
 use ipam_data::host::Host;
@@ -204,7 +205,7 @@ fn plan_served(
 
 // ---- the calls
 
-/// Plans a claim in a prefix that is there, beside the spans of the ranges of its table. `Err` means out of memory.
+/// Plans a claim in a prefix that is there, beside the spans of the populated ranges of its table. `Err` means out of memory.
 fn claim_in_prefix(
     row_tables: &RowTables,
     answered: Answered,
@@ -212,7 +213,7 @@ fn claim_in_prefix(
     held: &[Span],
     row: &Prefix,
 ) -> Result<Planned, AllocError>
-    requires { AreSpansOf row_tables.now.ranges.rows (table_of row.now.vrf) row.now.block.family AllRanges held.now }
+    requires { AreSpansOf row_tables.now.ranges.rows (table_of row.now.vrf) row.now.block.family PopulatedRanges held.now }
     ensures { IfOk result (λ p. IsPlanned (claim_addresses_of (state_of row_tables.now) answered items.now row.now.vrf row.now.block.len row.now.block.family (usable_in (state_of row_tables.now) row.now)) p) }
 {
     let family = row.block.family();
@@ -244,7 +245,7 @@ fn claim_in_range(
     pieces: &[Block],
     row: &IpRange,
 ) -> Result<Planned, AllocError>
-    requires numbers { flat_map addresses_of pieces.now ≡ numbers_in row.now }
+    requires numbers { flat_map addresses_of pieces.now ≡ given_numbers row.now }
     requires family { AllByRecursion (λ b. b.family ≡ row.now.ends.start.family) pieces.now }
     ensures { IfOk result (λ p. IsPlanned (claim_addresses_of (state_of row_tables.now) answered items.now row.now.vrf row.now.ends.len row.now.ends.start.family (usable_of_range (state_of row_tables.now) row.now)) p) }
 {
@@ -285,7 +286,7 @@ pub fn plan_claim_prefix_addrs(
         return Ok(Planned::Refused(Refusal::NotFound(Kind::Prefixes, id)));
     };
     let family = row.block.family();
-    let held = spans_of(row_tables, Table::of(row.vrf), family, Wanted::All);
+    let held = spans_of(row_tables, Table::of(row.vrf), family, SpanKind::Populated);
     claim_in_prefix(row_tables, answered, items, held, row)
 }
 
@@ -302,6 +303,6 @@ pub fn plan_claim_range_addrs(
     let Some(row) = row_tables.ranges().get(id) else {
         return Ok(Planned::Refused(Refusal::NotFound(Kind::Ranges, id)));
     };
-    let pieces = pieces_of(row_tables, id, row)?;
+    let pieces = given_pieces(row_tables, id, row)?;
     claim_in_range(row_tables, answered, items, pieces.as_slice(), row)
 }

@@ -15,17 +15,18 @@ ghost use Rattle.ipam_data.specs.Prefixes.{prefix_rules};
 ghost use Rattle.ipam_data.specs.Ranges.{range_rules};
 ghost use Rattle.register_tables.specs.Held.{state_of};
 ghost use Rattle.register_tables.specs.Planned.{IsPlanned};
-ghost use Rattle.ip_ranges.specs.declared.Which.TheVariants.{All as AllRanges, Marked as MarkedRanges};
-ghost use Rattle.ipam_data.specs.Claims.{is_container, usable_in, usable_of_range, numbers_in, prefix_figure, range_figure, prefix_addrs_plan, range_addrs_plan, figure_plan};
+ghost use Rattle.ip_ranges.specs.declared.SpanKind.TheVariants.{Utilized as UtilizedRanges, Populated as PopulatedRanges};
+ghost use Rattle.ipam_data.specs.Claims.{is_container, usable_in, usable_of_range, prefix_figure, range_figure, prefix_addrs_plan, range_addrs_plan, figure_plan};
 ghost use Rattle.ip_ranges.specs.Spans.{AreSpansOf};
+ghost use Rattle.register_claims.specs.Hosts.{given_numbers};
 
 use crate::host_spaces::{hosts_of_prefix, hosts_of_range};
-use crate::ranges::{pieces_of, spans_of};
+use crate::ranges::{given_pieces, spans_of};
 use block_claim::{ClaimFault, plan_addrs, plan_range};
 use block_space::Space;
 use free_space::{available_addrs, range_addrs};
 use inet_num::{Addr, Block, Span};
-use ip_ranges::Which;
+use ip_ranges::SpanKind;
 use ipam_data::kinds::{Kind, Table};
 use ipam_data::prefix::Prefix;
 use ipam_data::range::IpRange;
@@ -36,14 +37,14 @@ use register_tables::{Planned, RowTables};
 use std::alloc::AllocError;
 use utilisation::{of_hosts, of_range};
 
-/// The first usable addresses of a prefix, beside the spans of the ranges of its table.
+/// The first usable addresses of a prefix, beside the spans of the populated ranges of its table.
 fn usable_of_prefix(
     row_tables: &RowTables,
     held: &[Span],
     row: &Prefix,
     limit: u32,
 ) -> Result<Vec<Addr>, AllocError>
-    requires { AreSpansOf row_tables.now.ranges.rows (table_of row.now.vrf) row.now.block.family AllRanges held.now }
+    requires { AreSpansOf row_tables.now.ranges.rows (table_of row.now.vrf) row.now.block.family PopulatedRanges held.now }
     ensures { IfOk result (λ v. v.items ≡ take limit (addressed row.now.block.family (usable_in (state_of row_tables.now) row.now))) }
 {
     let alloc = row_tables.allocator();
@@ -59,7 +60,7 @@ fn usable_of_pieces(
     row: &IpRange,
     limit: u32,
 ) -> Result<Vec<Addr>, AllocError>
-    requires numbers { flat_map addresses_of pieces.now ≡ numbers_in row.now }
+    requires numbers { flat_map addresses_of pieces.now ≡ given_numbers row.now }
     requires family { AllByRecursion (λ b. b.family ≡ row.now.ends.start.family) pieces.now }
     ensures { IfOk result (λ v. v.items ≡ take limit (addressed row.now.ends.start.family (usable_of_range (state_of row_tables.now) row.now))) }
 {
@@ -76,7 +77,7 @@ pub fn claimed_of_prefix(
     row: &Prefix,
     n: u32,
 ) -> Result<Vec<Addr>, ClaimFault>
-    requires { AreSpansOf row_tables.now.ranges.rows (table_of row.now.vrf) row.now.block.family AllRanges held.now }
+    requires { AreSpansOf row_tables.now.ranges.rows (table_of row.now.vrf) row.now.block.family PopulatedRanges held.now }
     ensures ok { IfOk result (λ v. IsServed n (addressed row.now.block.family (usable_in (state_of row_tables.now) row.now)) v.items) }
     ensures err { IfErr result (IsShort n (length (usable_in (state_of row_tables.now) row.now))) }
     ensures count { IfOk result (λ v. length v.items ≡ n) }
@@ -96,7 +97,7 @@ pub fn claimed_of_range(
     row: &IpRange,
     n: u32,
 ) -> Result<Vec<Addr>, ClaimFault>
-    requires numbers { flat_map addresses_of pieces.now ≡ numbers_in row.now }
+    requires numbers { flat_map addresses_of pieces.now ≡ given_numbers row.now }
     requires family { AllByRecursion (λ b. b.family ≡ row.now.ends.start.family) pieces.now }
     ensures ok { IfOk result (λ v. IsServed n (addressed row.now.ends.start.family (usable_of_range (state_of row_tables.now) row.now)) v.items) }
     ensures err { IfErr result (IsShort n (length (usable_of_range (state_of row_tables.now) row.now))) }
@@ -118,7 +119,7 @@ pub fn plan_prefix_addrs(row_tables: &RowTables, id: u32, limit: u32) -> Result<
         return Ok(Planned::Refused(Refusal::NotFound(Kind::Prefixes, id)));
     };
     let family = row.block.family();
-    let held = spans_of(row_tables, Table::of(row.vrf), family, Which::All);
+    let held = spans_of(row_tables, Table::of(row.vrf), family, SpanKind::Populated);
     let found = usable_of_prefix(row_tables, held, row, limit)?;
     Ok(Planned::Read(Reply::Addrs {
         vrf: row.vrf,
@@ -127,7 +128,8 @@ pub fn plan_prefix_addrs(row_tables: &RowTables, id: u32, limit: u32) -> Result<
     }))
 }
 
-/// The first addresses of the range of an id that no host has, at most so many. `Err` means out of memory.
+/// The first addresses of the range of an id that no host has, at most so many, and none where somebody else fills it. `Err` is want of
+/// memory.
 pub fn plan_range_addrs(row_tables: &RowTables, id: u32, limit: u32) -> Result<Planned, AllocError>
     requires { IsLawful (state_of row_tables.now) }
     ensures { IfOk result (λ p. IsPlanned (range_addrs_plan (state_of row_tables.now) id limit) p) }
@@ -135,7 +137,7 @@ pub fn plan_range_addrs(row_tables: &RowTables, id: u32, limit: u32) -> Result<P
     let Some(row) = row_tables.ranges().get(id) else {
         return Ok(Planned::Refused(Refusal::NotFound(Kind::Ranges, id)));
     };
-    let pieces = pieces_of(row_tables, id, row)?;
+    let pieces = given_pieces(row_tables, id, row)?;
     let found = usable_of_pieces(row_tables, pieces.as_slice(), row, limit)?;
     Ok(Planned::Read(Reply::Addrs {
         vrf: row.vrf,
@@ -146,7 +148,7 @@ pub fn plan_range_addrs(row_tables: &RowTables, id: u32, limit: u32) -> Result<P
 
 /// How much of a prefix that is no container hosts and the spans of marked ranges use.
 fn used_of_prefix(row_tables: &RowTables, marked: &[Span], row: &Prefix) -> u8
-    requires spans { AreSpansOf row_tables.now.ranges.rows (table_of row.now.vrf) row.now.block.family MarkedRanges marked.now }
+    requires spans { AreSpansOf row_tables.now.ranges.rows (table_of row.now.vrf) row.now.block.family UtilizedRanges marked.now }
     requires mask { 1 ≤ row.now.block.len }
     requires unmarked { row.now.mark_utilized ≡ false }
     requires plain { is_container row.now.status ≡ false }
@@ -167,7 +169,7 @@ pub fn hosts_figure(row_tables: &RowTables, row: &Prefix) -> u8
     ensures { result ≡ prefix_figure (state_of row_tables.now) row.now }
 {
     let family = row.block.family();
-    let marked = spans_of(row_tables, Table::of(row.vrf), family, Which::Marked);
+    let marked = spans_of(row_tables, Table::of(row.vrf), family, SpanKind::Utilized);
     used_of_prefix(row_tables, marked, row)
 }
 

@@ -6,3 +6,4 @@ pub mod NoKeeper
 pub mod NoSpace
 pub mod MachineFits
 pub mod Loading
+pub mod Sent

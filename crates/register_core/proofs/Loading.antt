@@ -10,7 +10,7 @@ use Rattle.ipam_data.specs.Updates.{with_view, AreFit}
 use Rattle.stored_tables.specs.declared.tables.Row.{Row}
 use Rattle.stored_tables.specs.declared.tables.Tables.{Tables}
 use Rattle.stored_tables.specs.declared.opening.Breach.{Breach}
-use Rattle.stored_tables.specs.Stored.{stored_row, row_place, kinds}
+use Rattle.stored_tables.specs.Stored.{stored_row, row_place, kinds, stored_version}
 use Rattle.stored_tables.specs.Order.{AreTables}
 use Rattle.stored_tables.proofs.OpenLaws.{read_fit, accepted_are_opened}
 use Rattle.stored_tables.specs.Reading.{IsBare, IsRead}
@@ -79,7 +79,7 @@ fit tables g rows nexts views unread s order same r n e =
 
 -- where no pass finds anything, the tables stand for the state of the rows that were put
 pub opened : (tables : Tables) (g : Bool) (rows : List Row) (nexts : List (Kind × ℕ)) (views : List View) (unread : Option (Kind × ℕ)) (over bad : Option Kind) (breach : Option Breach) (before after : State)
-    → AreTables tables → rows ≡ tables.rows → nexts ≡ tables.next → tables.version ≡ 1
+    → AreTables tables → rows ≡ tables.rows → nexts ≡ tables.next → tables.version ≡ stored_version
     → AreRead rows views unread → unread ≡ None
     → over ≡ find (is_overfull rows) kinds → over ≡ None
     → before ≡ bare_state nexts g → AreNextIds nexts

@@ -1,7 +1,9 @@
 -- A call of the register is one of a machine.
-use Rattle.std.proofs.Common.{◌≡◌, ◌≢◌, ◌⊎◌, ℕ, ◌<◌, ◌≤◌, true, List, [], ◌∷◌, map, refl, ap, sym, ◌∙◌}
+use Rattle.std.proofs.Common.{◌≡◌, ◌≢◌, ◌⊎◌, ◌↔◌, ℕ, ◌<◌, ◌≤◌, Bool, true, false, List, [], ◌∷◌, map, Option, Some, None, IsSome, is_some, refl, ap, sym, ◌∙◌, subst}
+use Rattle.std.specs.Prelude.{take}
 use Rattle.std.proofs.lemmas.List.{map-append}
-use Rattle.history_lock.specs.Replies.{fault, grown, AnswersAs}
+use Rattle.history_lock.specs.Places.{IsLegalAt}
+use Rattle.history_lock.specs.Replies.{ReplyKind, fault, grown, AnswersAs}
 use Rattle.history_lock.specs.Replay.{replay as machine_replay}
 use Rattle.ipam_data.specs.declared.calls.Call.{Call}
 use Rattle.ipam_data.specs.declared.replies.Refusal.{Refusal}
@@ -12,7 +14,35 @@ use Rattle.ipam_data.specs.State.{State}
 use Rattle.ipam_data.specs.Steps.{plain_step}
 use Rattle.ipam_data.specs.Replays.{Entry, replay, is_accepted}
 use Rattle.register_core.specs.Kept.{logged}
-use Rattle.register_core.specs.Machines.{kind_of, refusal_kind, pair_of}
+use Rattle.register_core.specs.Machines.{Seen, kind_of, refusal_kind, pair_of, seen_step}
+
+-- the replay of a state beside what the keeper tells
+pub seen_replay : (s : State) (tells : Bool) (log : List (ℕ × Call))
+    → machine_replay seen_step (record { state = s; tells = tells }) log ≡ record { state = machine_replay plain_step s log; tells = tells }
+seen_replay s tells [] = refl
+seen_replay s tells (entry ∷ log) = seen_replay (plain_step s entry.1).0 tells log
+
+-- the reply behind a history is the plain register's ..
+pub answer_plainly : (s : Seen) (log : List (ℕ × Call)) (call : Call)
+    → (plain_step (machine_replay plain_step s.state log) call).1 ≡ (seen_step (machine_replay seen_step s log) call).1
+answer_plainly s log call = ap (λ (x : Seen). (seen_step x call).1) (sym (seen_replay s.state s.tells log))
+
+-- .. and has its legal place where the plain register's has it
+pub legal_plainly : (fallible : Reply → Bool) (s : Seen) (history : List (ℕ × Call)) (who : ℕ) (call : Call) (reply : Reply) (kind : ReplyKind) (place : ℕ)
+    → IsLegalAt seen_step fallible s history who call reply kind place → IsLegalAt plain_step fallible s.state history who call reply kind place
+legal_plainly fallible s history who call reply kind place k =
+    record {
+      within = k.within;
+      right = subst (AnswersAs fallible kind reply) (sym (answer_plainly s (take place history) call)) k.right;
+      entry = k.entry;
+    }
+
+-- a keeper that goes on as before tells as before
+pub tells_still : {A : Type 0} (old new : Option A) → IsSome old ↔ IsSome new → is_some new ≡ is_some old
+tells_still None None h = refl
+tells_still None (Some y) h = let k : false ≡ true = h.1 refl in cc
+tells_still (Some x) None h = let k : false ≡ true = h.0 refl in cc
+tells_still (Some x) (Some y) h = refl
 
 -- replay over entries and over pairs is one
 pub replay_pairs : (s : State) (log : List Entry) → machine_replay plain_step s (map pair_of log) ≡ replay s log

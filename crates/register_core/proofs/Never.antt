@@ -41,7 +41,7 @@ use Rattle.ipam_data.specs.declared.replies.Reply.TheVariants.{Made, MadeMany, C
 use Rattle.ipam_data.specs.RowList.{row_at}
 use Rattle.ipam_data.specs.Checks.{first, too_many, no_ids, no_log, no_such, breaks}
 use Rattle.ipam_data.specs.State.{State, Plan, verdict_of, reading}
-use Rattle.ipam_data.specs.Plans.{KindRules, broken, no_seats, no_place, creation, create, replace, change, take_out, delete, get, list, with_found, nothing_told}
+use Rattle.ipam_data.specs.Plans.{KindRules, call_faults, broken, no_seats, no_place, creation, create, replace, change, take_out, delete, get, list, with_found, nothing_told}
 use Rattle.ipam_data.specs.Vrfs.{vrf_rules}
 use Rattle.ipam_data.specs.Rirs.{rir_rules}
 use Rattle.ipam_data.specs.Roles.{role_rules}
@@ -141,7 +141,7 @@ module _ (bad : Refusal) (apart : IsApart bad) where
         (never_one (no_ids (rules.row_list s).next more) (limited (nat_le _ _) _ _))
 
     never_created : (told : List (Option Rule)) (row : T) → first (creation rules s told row) ≢ Some bad
-    never_created told row = never_append (broken rules s None told row) (no_seats rules s 1) (never_breaks (rules.references s row ++ told ++ rules.faults s None row)) (never_seats 1)
+    never_created told row = never_append (broken rules s None told row) (no_seats rules s 1) (never_breaks (rules.references s row ++ told ++ call_faults rules s None row)) (never_seats 1)
 
     create_rules : (told : List (Option Rule)) (row : T) → IsOfRules (create rules s told row)
     create_rules told row = record {
@@ -151,7 +151,7 @@ module _ (bad : Refusal) (apart : IsApart bad) where
 
     replace_rules : (old : T) (told : List (Option Rule)) (row : T) → IsOfRules (replace rules s old told row)
     replace_rules old told row = record {
-      checks = never_append (broken rules s (Some old) told row) (no_log s.spent 1 ∷ []) (never_breaks (rules.references s row ++ told ++ rules.faults s (Some old) row)) (never_log 1);
+      checks = never_append (broken rules s (Some old) told row) (no_log s.spent 1 ∷ []) (never_breaks (rules.references s row ++ told ++ call_faults rules s (Some old) row)) (never_log 1);
       reply = λ v refusal e. cc;
     }
 

@@ -1,10 +1,9 @@
 //! The register as a machine of the lock: so many callers can share one, and have one history.
 
 ghost use Rattle.std.specs.Prelude.{◌≡◌, ◌^◌, ◌<◌, true, length, map, List, ℕ};
-ghost use Rattle.ipam_data.specs.State.{State, empty_state};
+ghost use Rattle.ipam_data.specs.State.{empty_state};
 ghost use Rattle.ipam_data.specs.Replays.{is_accepted};
-ghost use Rattle.ipam_data.specs.Steps.{plain_step};
-ghost use Rattle.register_core.specs.Machines.{kind_of, pair_of};
+ghost use Rattle.register_core.specs.Machines.{kind_of, pair_of, seen, seen_step};
 
 use crate::register::Register;
 use history_lock::Machine;
@@ -13,16 +12,17 @@ use ipam_data::replies::Reply;
 use ipam_keeper::keeper::Keeper;
 use std::marker::Model;
 
-/// A state as contracts see it. No value of it is made.
+/// A state, and whether the keeper tells its tables, as contracts of a lock see them. No value of it is made.
 pub struct SeenState {}
 
 impl Model for SeenState {
     ghost use Rattle.std.specs.Prelude.{true};
-    ghost use Rattle.ipam_data.specs.State.{State, empty_state};
+    ghost use Rattle.ipam_data.specs.State.{empty_state};
+    ghost use Rattle.register_core.specs.Machines.{Seen};
 
-    ghost Value = { State };
+    ghost Value = { Seen };
 
-    ghost view = { λ s. empty_state true };
+    ghost view = { λ s. record { state = empty_state true; tells = true } };
 }
 
 impl<K: Keeper> Machine for Register<K> {
@@ -46,17 +46,17 @@ impl<K: Keeper> Machine for Register<K> {
 
     ghost takes = { λ c. Unit {0} };
 
-    ghost blank = { empty_state true };
+    ghost blank = { record { state = empty_state true; tells = true } };
 
-    ghost opening = { λ m. m.opening };
+    ghost opening = { λ m. seen m.opening (K.told m.keeper) };
 
-    ghost state = { λ m. m.state };
+    ghost state = { λ m. seen m.state (K.told m.keeper) };
 
     ghost log = { λ m. map pair_of m.log };
 
     ghost faults = { λ m. K.faults m.keeper };
 
-    ghost step = { plain_step };
+    ghost step = { seen_step };
 
     fn act(&mut self, who: u32, call: Call) -> Reply {
         Register::act(self, who, call)

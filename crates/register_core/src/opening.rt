@@ -17,7 +17,7 @@ use ipam_keeper::keeper::{KeepFault, Keeper};
 use register_tables::RowTables;
 use std::alloc::{AllocError, Global};
 use stored_tables::opening::OpenFault;
-use stored_tables::tables::Tables;
+use stored_tables::tables::{Tables, VERSION};
 
 /// The tables in memory of the rows of stored tables, or what is first found wrong with the tables. `Err` means out of memory.
 fn check(
@@ -28,7 +28,7 @@ fn check(
     requires { AreTables tables.now }
     ensures { IfOk result (λ checked. IsChecked tables.now global_unique checked) }
 {
-    if tables.version != 1 {
+    if tables.version != VERSION {
         return Ok(Err(OpenFault::Version(tables.version)));
     }
     let rows = tables.rows.as_slice();
@@ -101,7 +101,7 @@ fn load_row_tables<K: Keeper + Drop>(
 /// A register over a keeper, of the state for which its tables stand. The register has an empty log and no last change, and the keeper
 /// keeps what it tells, as does the keeper that a refusal hands back.
 ///
-/// `Err` is `Version` exactly where the version is not 1; `BadRow` exactly where a row has id 0 or can't be read, the first such;
+/// `Err` is `Version` exactly where the version is not that of the register's tables; `BadRow` exactly where a row has id 0 or can't be read, the first such;
 /// `Limit` exactly where a kind has more rows than it may, the first such; `BadTables` exactly where a row breaks a rule beside the
 /// rows before it, the first such with its first rule, references first; `BadNext` exactly where a next id is absent, 0 or not above
 /// all ids of its kind, the first such kind; `Keeper` only where the keeper failed in this call, whose count rises in no other case; `Memory`

@@ -13,7 +13,7 @@ use Rattle.ipam_data.specs.Rows.{same_kind, HasVrfBounds, HasRirBounds, HasRoleB
 use Rattle.ipam_data.specs.RowList.{AllBelow}
 use Rattle.ipam_data.specs.Checks.{first, breaks}
 use Rattle.ipam_data.specs.State.{State}
-use Rattle.ipam_data.specs.Plans.{KindRules, broken, no_seats, creation}
+use Rattle.ipam_data.specs.Plans.{KindRules, call_faults, broken, no_seats, creation}
 use Rattle.ipam_data.specs.Vrfs.{vrf_rules}
 use Rattle.ipam_data.specs.Rirs.{rir_rules}
 use Rattle.ipam_data.specs.Roles.{role_rules}
@@ -73,11 +73,11 @@ nothing_told s (RirRow name slug is_private description) e = refl
 nothing_told s (RoleRow name slug weight description) e = refl
 nothing_told s (AggregateRow block rir description) e = refl
 nothing_told s (PrefixRow block vrf status role is_pool mark_utilized description) e = refl
-nothing_told s (RangeRow start end vrf status role mark_utilized description) e =
-    let row = RangeRow start end vrf status role mark_utilized description in
+nothing_told s (RangeRow start end vrf status role mark_utilized mark_populated description) e =
+    let row = RangeRow start end vrf status role mark_utilized mark_populated description in
     none_range (range_told start end) (value_rules row) refl (none_right (name_rules s row) (value_rules row) e)
   where
-    none_range : (told all : List (Option Rule)) → all ≡ value_rules (RangeRow start end vrf status role mark_utilized description) → first all ≡ None → first (range_told start end) ≡ None
+    none_range : (told all : List (Option Rule)) → all ≡ value_rules (RangeRow start end vrf status role mark_utilized mark_populated description) → first all ≡ None → first (range_told start end) ≡ None
     none_range told all same f = none_left (range_told start end) _ (ap first (sym same) ∙ f)
 nothing_told s (AddressRow host vrf status role dns_name description) e = refl
 
@@ -131,21 +131,21 @@ record_put s (RirDraft name slug is_private description) = refl
 record_put s (RoleDraft name slug weight description) = refl
 record_put s (AggregateDraft block rir description) = refl
 record_put s (PrefixDraft block vrf status role is_pool mark_utilized description) = refl
-record_put s (RangeDraft start end vrf status role mark_utilized description) = refl
+record_put s (RangeDraft start end vrf status role mark_utilized mark_populated description) = refl
 record_put s (AddressDraft host vrf status role dns_name description) = refl
 
 -- ---- the checks of a record
 
 module _ {T : Type 0} (rules : KindRules T) (s : State) where
   creation_is : (row : T) → first (broken rules s None [] row) ≡ breaks (first_broken rules s None row)
-  creation_is row = firsts (rules.references s row ++ [] ++ rules.faults s None row) ∙ ap (λ (xs : List (Option Rule)). breaks (first xs)) (joined (rules.references s row))
+  creation_is row = firsts (rules.references s row ++ [] ++ call_faults rules s None row) ∙ ap (λ (xs : List (Option Rule)). breaks (first xs)) (joined (rules.references s row))
     where
       firsts : (xs : List (Option Rule)) → first (map breaks xs) ≡ breaks (first xs)
       firsts [] = refl
       firsts (None ∷ xs) = firsts xs
       firsts (Some rule ∷ xs) = refl
 
-      joined : (xs : List (Option Rule)) → xs ++ [] ++ rules.faults s None row ≡ xs ++ rules.faults s None row
+      joined : (xs : List (Option Rule)) → xs ++ [] ++ call_faults rules s None row ≡ xs ++ call_faults rules s None row
       joined [] = refl
       joined (x ∷ xs) = ap (λ (zs : List (Option Rule)). x ∷ zs) (joined xs)
 
@@ -159,12 +159,12 @@ module _ {T : Type 0} (rules : KindRules T) (s : State) where
   untold : (told : List (Option Rule)) (row : T) → first told ≡ None → first (creation rules s [] row) ≡ first (creation rules s told row)
   untold told row t = go (rules.references s row)
     where
-      skip : (xs : List (Option Rule)) → first xs ≡ None → first (map breaks (rules.faults s None row) ++ no_seats rules s 1) ≡ first (map breaks (xs ++ rules.faults s None row) ++ no_seats rules s 1)
+      skip : (xs : List (Option Rule)) → first xs ≡ None → first (map breaks (call_faults rules s None row) ++ no_seats rules s 1) ≡ first (map breaks (xs ++ call_faults rules s None row) ++ no_seats rules s 1)
       skip [] e = refl
       skip (None ∷ xs) e = skip xs e
       skip (Some x ∷ xs) e = cc
 
-      go : (xs : List (Option Rule)) → first (map breaks (xs ++ [] ++ rules.faults s None row) ++ no_seats rules s 1) ≡ first (map breaks (xs ++ told ++ rules.faults s None row) ++ no_seats rules s 1)
+      go : (xs : List (Option Rule)) → first (map breaks (xs ++ [] ++ call_faults rules s None row) ++ no_seats rules s 1) ≡ first (map breaks (xs ++ told ++ call_faults rules s None row) ++ no_seats rules s 1)
       go [] = skip told t
       go (None ∷ xs) = go xs
       go (Some x ∷ xs) = refl

@@ -66,7 +66,7 @@ kind_same s (RirRow name slug is_private description) = refl
 kind_same s (RoleRow name slug weight description) = refl
 kind_same s (AggregateRow block rir description) = refl
 kind_same s (PrefixRow block vrf status role is_pool mark_utilized description) = refl
-kind_same s (RangeRow start end vrf status role mark_utilized description) = refl
+kind_same s (RangeRow start end vrf status role mark_utilized mark_populated description) = refl
 kind_same s (AddressRow host vrf status role dns_name description) = refl
 
 -- where nothing is told of it, the record that it makes is in its bounds
@@ -119,7 +119,7 @@ module _ (s : State) (l : IsLawful s) where
   row_words (RoleRow name slug weight description) = tt
   row_words (AggregateRow block rir description) = rir_word rir
   row_words (PrefixRow block vrf status role is_pool mark_utilized description) = (vrf_word vrf, role_word role)
-  row_words (RangeRow start end vrf status role mark_utilized description) = (vrf_word vrf, role_word role)
+  row_words (RangeRow start end vrf status role mark_utilized mark_populated description) = (vrf_word vrf, role_word role)
   row_words (AddressRow host vrf status role dns_name description) = vrf_word vrf
 
   -- a row that is not refused by itself is stored as a draft that a record keeps

@@ -145,7 +145,7 @@ prefix_like (VrfDraft name rd enforce_unique description) row e = cc
 prefix_like (RirDraft name slug is_private description) row e = cc
 prefix_like (RoleDraft name slug weight description) row e = cc
 prefix_like (AggregateDraft block rir description) row e = cc
-prefix_like (RangeDraft start end vrf status role mark_utilized description) row e = cc
+prefix_like (RangeDraft start end vrf status role mark_utilized mark_populated description) row e = cc
 prefix_like (AddressDraft host vrf status role dns_name description) row e = cc
 
 address_like : (d : Draft) (row : IpAddress) → stored_draft d ≡ recorded (AddressView row) → address_meets (address_filter d) row ≡ true
@@ -162,7 +162,7 @@ address_like (RirDraft name slug is_private description) row e = cc
 address_like (RoleDraft name slug weight description) row e = cc
 address_like (AggregateDraft block rir description) row e = cc
 address_like (PrefixDraft block vrf status role is_pool mark_utilized description) row e = cc
-address_like (RangeDraft start end vrf status role mark_utilized description) row e = cc
+address_like (RangeDraft start end vrf status role mark_utilized mark_populated description) row e = cc
 
 module _ (s : State) (l : IsLawful s) (d : Draft) (key : List ℕ) where
   pub prefix_found : IsKept Prefixes (stored_draft d) → key ≡ key_of_draft (stored_draft d) → (row : Prefix) → Contains s.prefixes.rows row

@@ -95,7 +95,7 @@ stored_is (RirDraft name slug is_private description) = refl
 stored_is (RoleDraft name slug weight description) = refl
 stored_is (AggregateDraft block rir description) = refl
 stored_is (PrefixDraft block vrf status role is_pool mark_utilized description) = refl
-stored_is (RangeDraft start end vrf status role mark_utilized description) = refl
+stored_is (RangeDraft start end vrf status role mark_utilized mark_populated description) = refl
 stored_is (AddressDraft host vrf status role dns_name description) = refl
 
 -- two drafts of a kind with the same texts are one

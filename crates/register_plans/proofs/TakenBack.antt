@@ -143,7 +143,7 @@ ahead_record old s kind d e l h = subst (λ (k : Kind). IsAhead old k s → IsAh
     go (RoleDraft name slug weight description) = ahead_row role_rules roles_tied old s _ (λ t. refl) refl l.roles.row_list
     go (AggregateDraft block rir description) = ahead_row aggregate_rules aggregates_tied old s _ (λ t. refl) refl l.aggregates.row_list
     go (PrefixDraft block vrf status role is_pool mark_utilized description) = ahead_row prefix_rules prefixes_tied old s _ (λ t. refl) refl l.prefixes.row_list
-    go (RangeDraft start end vrf status role mark_utilized description) = ahead_row range_rules ranges_tied old s _ (λ t. refl) refl l.ranges.row_list
+    go (RangeDraft start end vrf status role mark_utilized mark_populated description) = ahead_row range_rules ranges_tied old s _ (λ t. refl) refl l.ranges.row_list
     go (AddressDraft host vrf status role dns_name description) = ahead_row address_rules addresses_tied old s _ (λ t. refl) refl l.addresses.row_list
 
 -- a record that was made, or was not

@@ -14,7 +14,7 @@ use Rattle.ipam_data.specs.declared.replies.Refusal.TheVariants.{Rule as Breaks}
 use Rattle.ipam_data.specs.Checks.{first, breaks, no_log}
 use Rattle.ipam_data.specs.RowList.{row_at}
 use Rattle.ipam_data.specs.State.{State, Plan, verdict_of}
-use Rattle.ipam_data.specs.Plans.{KindRules, broken, no_seats, creation, create, replace, take_out, delete, change, with_found, nothing_told}
+use Rattle.ipam_data.specs.Plans.{KindRules, call_faults, broken, no_seats, creation, create, replace, take_out, delete, change, with_found, nothing_told}
 use Rattle.ipam_data.proofs.Verdicts.{none_left, none_right, room_from}
 use Rattle.ipam_data.proofs.Kept.{found_there}
 use Rattle.register_tables.proofs.Firsts.{head_refuses, head_passes}
@@ -26,13 +26,23 @@ first_breaks [] = refl
 first_breaks (None ∷ rules) = first_breaks rules
 first_breaks (Some rule ∷ rules) = refl
 
-one : {A : Type 0} (x : Option A) → first (x ∷ []) ≡ x
+pub one : {A : Type 0} (x : Option A) → first (x ∷ []) ≡ x
 one None = refl
 one (Some x) = refl
 
+-- of two checks the first that finds something is answered
+pub pair_refuses : (x y : Option Rule) (rule : Rule) → x ≡ Some rule → first (x ∷ y ∷ []) ≡ Some rule
+pair_refuses (Some r) y rule e = e
+pair_refuses None y rule e = cc
+
+pub pair_passes : (x y : Option Rule) → x ≡ None → first (x ∷ y ∷ []) ≡ y
+pair_passes None None e = refl
+pair_passes None (Some y) e = refl
+pair_passes (Some x) y e = cc
+
 module _ {T : Type 0} (rules : KindRules T) (s : State) where
   broken_is : (old : Option T) (row : T) → first (broken rules s old [] row) ≡ breaks (first_broken rules s old row)
-  broken_is old row = first_breaks (rules.references s row ++ [] ++ rules.faults s old row) ∙ ap (λ (xs : List (Option Rule)). breaks (first xs)) (joined (rules.references s row) (rules.faults s old row))
+  broken_is old row = first_breaks (rules.references s row ++ [] ++ call_faults rules s old row) ∙ ap (λ (xs : List (Option Rule)). breaks (first xs)) (joined (rules.references s row) (call_faults rules s old row))
     where
       joined : (xs ys : List (Option Rule)) → xs ++ [] ++ ys ≡ xs ++ ys
       joined [] ys = refl
@@ -40,10 +50,10 @@ module _ {T : Type 0} (rules : KindRules T) (s : State) where
 
   -- a row that names one that is not there breaks that rule first, and one that names none the first of the others
   pub names_none : (old : Option T) (row : T) (rule : Rule) → first (rules.references s row) ≡ Some rule → first_broken rules s old row ≡ Some rule
-  names_none old row rule e = head_refuses (rules.references s row) (rules.faults s old row) rule e
+  names_none old row rule e = head_refuses (rules.references s row) (call_faults rules s old row) rule e
 
-  pub names_all : (old : Option T) (row : T) → first (rules.references s row) ≡ None → first_broken rules s old row ≡ first (rules.faults s old row)
-  names_all old row e = head_passes (rules.references s row) (rules.faults s old row) e
+  pub names_all : (old : Option T) (row : T) → first (rules.references s row) ≡ None → first_broken rules s old row ≡ first (call_faults rules s old row)
+  names_all old row e = head_passes (rules.references s row) (call_faults rules s old row) e
 
   -- ---- a new row
 
@@ -129,14 +139,14 @@ module _ {T : Type 0} (rules : KindRules T) (s : State) where
       → first (broken rules s old told row ++ rest) ≡ Some (Breaks rule)
   told_named old told row rest rule e =
       head_refuses (broken rules s old told row) rest (Breaks rule)
-      (first_breaks (rules.references s row ++ told ++ rules.faults s old row) ∙ ap breaks (head_refuses (rules.references s row ++ told) (rules.faults s old row) rule (head_refuses (rules.references s row) told rule e)))
+      (first_breaks (rules.references s row ++ told ++ call_faults rules s old row) ∙ ap breaks (head_refuses (rules.references s row ++ told) (call_faults rules s old row) rule (head_refuses (rules.references s row) told rule e)))
 
   pub told_refuses : (old : Option T) (told : List (Option Rule)) (row : T) (rest : List (Option Refusal)) (rule : Rule) → first (rules.references s row) ≡ None → first told ≡ Some rule
       → first (broken rules s old told row ++ rest) ≡ Some (Breaks rule)
   told_refuses old told row rest rule e t =
       head_refuses (broken rules s old told row) rest (Breaks rule)
-      (first_breaks (rules.references s row ++ told ++ rules.faults s old row)
-      ∙ ap breaks (head_refuses (rules.references s row ++ told) (rules.faults s old row) rule (head_passes (rules.references s row) told e ∙ t)))
+      (first_breaks (rules.references s row ++ told ++ call_faults rules s old row)
+      ∙ ap breaks (head_refuses (rules.references s row ++ told) (call_faults rules s old row) rule (head_passes (rules.references s row) told e ∙ t)))
 
   pub create_named : (told : List (Option Rule)) (row : T) (rule : Rule) → first (rules.references s row) ≡ Some rule → verdict_of (create rules s told row) ≡ Some (Breaks rule)
   create_named told row rule e = head_refuses (broken rules s None told row ++ no_seats rules s 1) (no_log s.spent 1 ∷ []) (Breaks rule) (told_named None told row (no_seats rules s 1) rule e)
@@ -147,12 +157,12 @@ module _ {T : Type 0} (rules : KindRules T) (s : State) where
   untold : (old : Option T) (told : List (Option Rule)) (row : T) (rest : List (Option Refusal)) → first told ≡ None → first (broken rules s old told row ++ rest) ≡ first (broken rules s old [] row ++ rest)
   untold old told row rest t = go (rules.references s row)
     where
-      skip : (xs : List (Option Rule)) → first xs ≡ None → first (map breaks (xs ++ rules.faults s old row) ++ rest) ≡ first (map breaks (rules.faults s old row) ++ rest)
+      skip : (xs : List (Option Rule)) → first xs ≡ None → first (map breaks (xs ++ call_faults rules s old row) ++ rest) ≡ first (map breaks (call_faults rules s old row) ++ rest)
       skip [] e = refl
       skip (None ∷ xs) e = skip xs e
       skip (Some x ∷ xs) e = cc
 
-      go : (xs : List (Option Rule)) → first (map breaks (xs ++ told ++ rules.faults s old row) ++ rest) ≡ first (map breaks (xs ++ [] ++ rules.faults s old row) ++ rest)
+      go : (xs : List (Option Rule)) → first (map breaks (xs ++ told ++ call_faults rules s old row) ++ rest) ≡ first (map breaks (xs ++ [] ++ call_faults rules s old row) ++ rest)
       go [] = skip told t
       go (None ∷ xs) = go xs
       go (Some x ∷ xs) = refl

@@ -1,12 +1,15 @@
 //! Addresses: in a table that enforces two have one host only where both have a shared role.
 
-ghost use Rattle.std.specs.Prelude.{◌≡◌, ℕ, ◌==◌, IfOk, bytes_eq};
-ghost use Rattle.ipam_data.specs.Rows.{address_status_number, address_role_number};
+ghost use Rattle.std.specs.Prelude.{◌≡◌, ℕ, ◌==◌, ◌++◌, IfOk, None, option_map, bytes_eq};
+ghost use Rattle.ipam_data.specs.declared.replies.Rule.TheVariants.{Populated as PopulatedRule};
+ghost use Rattle.ipam_data.specs.Rows.{address_id, address_status_number, address_role_number};
+ghost use Rattle.ipam_data.specs.RowList.{row_at};
 ghost use Rattle.ipam_data.specs.Tables.{table_of, is_enforcing};
-ghost use Rattle.ipam_data.specs.Checks.{asks};
+ghost use Rattle.ipam_data.specs.Checks.{asks, first};
 ghost use Rattle.ipam_data.specs.Plans.{change, nothing_told};
 ghost use Rattle.ipam_data.specs.Fields.{edited_address};
-ghost use Rattle.ipam_data.specs.Addresses.{address_rules, address_fault, has_role};
+ghost use Rattle.ipam_data.specs.Ranges.{populated_at};
+ghost use Rattle.ipam_data.specs.Addresses.{address_rules, address_fault, address_barred, is_moved, has_role};
 ghost use Rattle.register_tables.specs.Held.{state_of};
 ghost use Rattle.register_tables.specs.Planned.{IsPlanned};
 ghost use Rattle.register_plans.specs.Meets.{address_meets};
@@ -15,10 +18,11 @@ use crate::calls::plan_replace;
 use crate::candidates::{area_of, ids_asked};
 use crate::filters::{asks_family, asks_name, asks_parent, asks_text};
 use crate::registered::Registered;
+use inet_num::is_one_address;
 use ip_addresses::AddressRules;
 use ipam_data::address::{AddressRole, AddressStatus, IpAddress, MOST_ADDRESSES};
 use ipam_data::calls::{Edit, Filter};
-use ipam_data::kinds::{Kind, Table};
+use ipam_data::kinds::{Kind, Table, is_one_table};
 use ipam_data::replies::{Refusal, Rule, View};
 use register_tables::{Planned, RowTables, missing_vrf};
 use std::alloc::AllocError;
@@ -32,6 +36,62 @@ fn fault(row_tables: &RowTables, row: &IpAddress) -> Option<Rule>
         .vrfs()
         .enforcing(Table::of(row.vrf), row_tables.global_unique());
     row_tables.addresses().fault(row, enforcing)
+}
+
+/// Why no address may come to the place of this one, if so: a range of its table has it that somebody else fills.
+fn filled(row_tables: &RowTables, row: &IpAddress) -> Option<Rule>
+    ensures { result ≡ option_map PopulatedRule (populated_at row_tables.now.ranges.rows (table_of row.now.vrf) row.now.host.addr) }
+{
+    match row_tables
+        .ranges()
+        .populated(Table::of(row.vrf), row.host.addr())
+    {
+        Some(id) => Some(Rule::Populated(id)),
+        None => None,
+    }
+}
+
+/// Why a call may not make the address, past its other rules.
+#[tactic(auto, unfolding(ipam_data::specs::Addresses::address_barred))]
+fn barred_new(row_tables: &RowTables, row: &IpAddress) -> Option<Rule>
+    ensures { result ≡ address_barred row_tables.now.ranges.rows None row.now }
+{
+    filled(row_tables, row)
+}
+
+/// Whether the address comes to its place: the one of its id has another host or is of another table, or there is none.
+fn is_coming(row_tables: &RowTables, row: &IpAddress) -> bool
+    ensures { result ≡ is_moved (row_at address_id row_tables.now.addresses.rows row.now.id) row.now }
+{
+    match IpAddress::found(row_tables, row.id) {
+        Some(old) => {
+            !(is_one_address(old.host.addr(), row.host.addr())
+                && is_one_table(Table::of(old.vrf), Table::of(row.vrf)))
+        }
+        None => true,
+    }
+}
+
+/// Why a call may not put the address in the place of the one of its id, past its other rules.
+#[tactic(auto, unfolding(ipam_data::specs::Addresses::address_barred))]
+fn barred_changed(row_tables: &RowTables, row: &IpAddress) -> Option<Rule>
+    ensures { result ≡ address_barred row_tables.now.ranges.rows (row_at address_id row_tables.now.addresses.rows row.now.id) row.now }
+{
+    if is_coming(row_tables, row) {
+        filled(row_tables, row)
+    } else {
+        None
+    }
+}
+
+/// The first rule that an address breaks that no call makes: the VRF that it names comes first.
+pub(crate) fn standing_fault(row_tables: &RowTables, row: &IpAddress) -> Option<Rule>
+    ensures { result ≡ first (address_rules.references (state_of row_tables.now) row.now ++ address_rules.faults (state_of row_tables.now) None row.now) }
+{
+    match row.missing(row_tables) {
+        Some(rule) => Some(rule),
+        None => fault(row_tables, row),
+    }
 }
 
 /// Whether the status is the one that is asked for.
@@ -133,11 +193,17 @@ impl Registered for IpAddress {
     }
 
     fn fault_new(&self, row_tables: &RowTables) -> Option<Rule> {
-        fault(row_tables, self)
+        match fault(row_tables, self) {
+            Some(rule) => Some(rule),
+            None => barred_new(row_tables, self),
+        }
     }
 
     fn fault_changed(&self, row_tables: &RowTables) -> Option<Rule> {
-        fault(row_tables, self)
+        match fault(row_tables, self) {
+            Some(rule) => Some(rule),
+            None => barred_changed(row_tables, self),
+        }
     }
 
     fn user(_row_tables: &RowTables, _id: u32) -> Option<Refusal> {

@@ -22,7 +22,8 @@ use ipam_data::vrf::Vrf;
 use register_tables::{Planned, RowTables};
 use std::alloc::AllocError;
 
-/// The first rule that a row breaks as a new one beside the rows that are there, the rows that it names first.
+/// The first rule that a row breaks that no call makes, beside the rows that are there, the rows that it names first: an address that was
+/// in a range before somebody else filled it stays.
 pub fn broken_by_view(row_tables: &RowTables, view: &View) -> Option<Rule>
     ensures { result ≡ broken_new (state_of row_tables.now) view.now }
 {
@@ -37,7 +38,7 @@ pub fn broken_by_view(row_tables: &RowTables, view: &View) -> Option<Rule>
             children: _,
         } => broken(row_tables, row),
         View::IpRange(row) => broken(row_tables, row),
-        View::IpAddress(row) => broken(row_tables, row),
+        View::IpAddress(row) => addresses::standing_fault(row_tables, row),
     }
 }
 

@@ -5,7 +5,7 @@ ghost use Rattle.ipam_data.specs.declared.calls.Filter.{Filter};
 ghost use Rattle.ipam_data.specs.Checks.{first};
 ghost use Rattle.ipam_data.specs.RowList.{RowList, row_at, Rises};
 ghost use Rattle.ipam_data.specs.State.{State};
-ghost use Rattle.ipam_data.specs.Plans.{KindRules};
+ghost use Rattle.ipam_data.specs.Plans.{KindRules, call_faults};
 ghost use Rattle.ipam_data.specs.Lawful.{IsLawful};
 ghost use Rattle.register_tables.specs.Held.{state_of};
 ghost use Rattle.register_plans.specs.Broken.{own_row};
@@ -74,13 +74,13 @@ pub trait Registered: HasId {
     fn missing(&self, row_tables: &RowTables) -> Option<Rule>
         ensures { result ≡ first (rules.references (state_of row_tables.now) self.now) };
 
-    /// The first rule that it breaks as a new row.
+    /// The first rule that it breaks as a new row that a call makes.
     fn fault_new(&self, row_tables: &RowTables) -> Option<Rule>
-        ensures { result ≡ first (rules.faults (state_of row_tables.now) None self.now) };
+        ensures { result ≡ first (call_faults rules (state_of row_tables.now) None self.now) };
 
-    /// The first rule that it breaks in the place of the row of its id.
+    /// The first rule that it breaks where a call puts it in the place of the row of its id.
     fn fault_changed(&self, row_tables: &RowTables) -> Option<Rule>
-        ensures { result ≡ first (rules.faults (state_of row_tables.now) (own_row rules (state_of row_tables.now) self.now) self.now) };
+        ensures { result ≡ first (call_faults rules (state_of row_tables.now) (own_row rules (state_of row_tables.now) self.now) self.now) };
 
     /// Why the row of an id can't be taken out, if so: the first row that names it.
     fn user(row_tables: &RowTables, id: u32) -> Option<Refusal>

@@ -1,8 +1,8 @@
 -- What is promised of a register that was served to a listener, or was not.
-use Rattle.std.specs.Prelude.{◌≡◌, ◌≢◌, ◌+◌, ◌++◌, ◌⊎◌, ℕ, Bool, List, length, Option, Some, All, IfSome, Result, Ok, Err}
-use Rattle.history_lock.specs.Machines.{Reaches}
+use Rattle.std.specs.Prelude.{◌≡◌, ◌⊎◌, ℕ, Bool, List, length, Option, Some, IsSome, Result, Ok, Err}
 use Rattle.history_lock.specs.Replay.{replay}
 use Rattle.ipam_listen.specs.Connections.{Returned}
+use Rattle.ipam_data.specs.declared.calls.Call.{Call}
 use Rattle.ipam_data.specs.State.{State}
 use Rattle.ipam_data.specs.Steps.{plain_step}
 use Rattle.ipam_edge.specs.Faults.{Rose}
@@ -10,34 +10,24 @@ use Rattle.stored_tables.specs.declared.tables.Tables.{Tables}
 use Rattle.stored_tables.specs.declared.opening.OpenFault.TheVariants.{Keeper as KeeperFailed, Memory as NoMemory}
 use Rattle.stored_tables.specs.Stored.{Tells}
 use Rattle.stored_tables.specs.Opening.{IsOfTables}
-use Rattle.ipam_keeper.specs.Keeping.{IsReturned, IsTold, started}
+use Rattle.ipam_keeper.specs.Keeping.{IsReturned, started}
 use Rattle.register_core.specs.Opened.{IsOpened, IsUnopened}
-use Rattle.shared_session.specs.Told.{Made}
-use Rattle.register_server.specs.History.{AreLanesOf, IsHistoryOf, Shift, all_faults_of}
-use Rattle.register_server.specs.declared.ending.Listening.{Listening}
-use Rattle.register_server.specs.declared.ending.Listening.TheVariants.{Whole, Broken}
+use Rattle.http_lanes.specs.Listened.{IsListening}
+use Rattle.machine_server.specs.History as any
+use Rattle.rest_ipam.specs.Protocol.{register_protocol}
 use Rattle.register_server.specs.declared.ending.Served.{Served}
 use Rattle.register_server.specs.declared.ending.Unserved.{Unserved}
 use Rattle.register_server.specs.declared.ending.Unserved.TheVariants.{Opening, Place}
 
--- a register that was opened so was served: it has this history, and the lanes that the listener got back tell what the workers did;
--- `none_left` is the fact that as many lanes came as were wanted
-pub record IsServedBy (opening : State) (faults_old faults_new : ℕ) (old new : List Returned) (none_left : Type 0) (history : List Made) : Type 0 where
-  pub shifts : List Shift
-  pub back : List Returned
-  -- the lanes that came back tell the connections that the workers served
-  pub returned : new ≡ old ++ back
-  pub lanes : AreLanesOf back shifts
-  -- all answers are out of one history, which has their changes and no others
-  pub one_history : IsHistoryOf opening history shifts
-  -- no more answers tell a fault than were counted
-  pub faults : Reaches (faults_old + all_faults_of shifts) faults_new
-  -- where all lanes that were wanted came, none has an accept left
-  pub spent : none_left → All (λ r. r.accepts ≡ 0) back
+-- a register that was opened so was served, and this is its history: all answers of all connections are out of it, and it has their changes,
+-- in order, and no others; the lanes that the listener got back tell what the workers did; no more answers tell that the keeper failed than
+-- its count rose, as far as that goes; and where `none_left` holds, no lane has an accept left
+abbrev pub IsServedBy : State → ℕ → ℕ → List Returned → List Returned → Type 0 → List (ℕ × Call) → Type 0
+IsServedBy opening faults_old faults_new old new none_left history = any.IsServedBy register_protocol opening faults_old faults_new old new none_left history
 
 -- it was served, with so many entries, and its keeper tells these tables at the end
 pub record IsServedWhole (opening : State) (faults_old faults_new : ℕ) (told : Option Tables) (old new : List Returned) (none_left : Type 0) (entries : ℕ) : Type 0 where
-  pub history : List Made
+  pub history : List (ℕ × Call)
   pub served : IsServedBy opening faults_old faults_new old new none_left history
   pub length_is : entries ≡ length history
   -- told tables are those of the history's replay
@@ -53,58 +43,43 @@ abbrev pub IsOutcome : State → ℕ → ℕ → Option Tables → List Returned
 IsOutcome opening faults_old faults_new told old new none_left (Ok served) = IsServedWhole opening faults_old faults_new told old new none_left served.entries
 IsOutcome opening faults_old faults_new told old new none_left (Err why) = Tells told opening × (new ≡ old) × IsPrevented why
 
--- the tables were refused, or could not be read: it was not for lack of memory
-abbrev pub IsRefusal : Unserved → Type 0
-IsRefusal (Opening fault) = fault ≢ NoMemory
-IsRefusal Place = ⊥
-
--- what is told at the end was told at the start; and where the tables were refused as much is told as before
-pub record AreAsBefore (start told : Option Tables) (why : Unserved) : Type 0 where
-  pub before : IfSome told (IsTold start)
-  pub refused : IsRefusal why → told ≡ start
-
 -- a fault that is said of tables was found in those that were told; and that a keeper failed was counted
 abbrev pub IsFaultOf : Option Tables → Bool → ℕ → ℕ → Unserved → Type 0
 IsFaultOf start global_unique faults_old faults_new (Opening fault) =
     (IsOfTables fault → IsUnopened start global_unique fault) × (fault ≡ KeeperFailed → Rose faults_old faults_new)
 IsFaultOf start global_unique faults_old faults_new Place = Unit {0}
 
--- what came of a keeper that told these tables at the start
+-- what came of a keeper that told these tables at the start: it goes on telling where it did, and nobody was served without a change of them
 abbrev pub IsKeeperOutcome : Option Tables → Bool → ℕ → ℕ → Option Tables → List Returned → List Returned → Type 0 → Result Served Unserved → Type 0
 IsKeeperOutcome start global_unique faults_old faults_new told old new none_left (Ok served) =
-    (opening : State) × IsOpened start global_unique opening × IsServedWhole opening faults_old faults_new told old new none_left served.entries
+    (opening : State) × IsOpened start global_unique opening × IsServedWhole opening faults_old faults_new told old new none_left served.entries × (IsSome start → IsSome told)
 IsKeeperOutcome start global_unique faults_old faults_new told old new none_left (Err why) =
-    AreAsBefore start told why × (new ≡ old) × IsFaultOf start global_unique faults_old faults_new why
+    (told ≡ start) × (new ≡ old) × IsFaultOf start global_unique faults_old faults_new why
 
 -- what stands under each path
 abbrev pub Stored : Type 0
 Stored = Option (List (List ℕ × Tables))
 
--- the tables of a path were opened and served, and a keeper came back which tells those of the history's replay
+-- the tables of a path were opened and served, and a keeper came back which tells those of the history's replay, where they were told
 pub record IsServedFrom {K : Type 0} (told : K → Option Tables) (path : Option (List ℕ)) (global_unique : Bool) (stored_old stored_new : Stored) (faults_old faults_new : ℕ) (old new : List Returned) (none_left : Type 0) (entries : ℕ) : Type 0 where
   pub opening : State
   pub opened : IsOpened (started stored_old path) global_unique opening
   pub kept : K
   pub whole : IsServedWhole opening faults_old faults_new (told kept) old new none_left entries
+  pub telling : IsSome (started stored_old path) → IsSome (told kept)
   pub returned : IsReturned (Some path) (told kept) stored_old stored_new
 
 -- the tables of a path were left: no keeper started, or one came back which tells what it told at its start
-abbrev pub AreLeft : {K : Type 0} → (K → Option Tables) → Option (List ℕ) → Stored → Stored → Unserved → Type 0
-AreLeft {K} told path stored_old stored_new why =
-    (stored_new ≡ stored_old)
-    ⊎ ((kept : K) × AreAsBefore (started stored_old path) (told kept) why × IsReturned (Some path) (told kept) stored_old stored_new)
+abbrev pub AreLeft : {K : Type 0} → (K → Option Tables) → Option (List ℕ) → Stored → Stored → Type 0
+AreLeft {K} told path stored_old stored_new =
+    (stored_new ≡ stored_old) ⊎ ((kept : K) × (told kept ≡ started stored_old path) × IsReturned (Some path) (told kept) stored_old stored_new)
 
 -- what came of a path's tables
 abbrev pub IsServing : {K : Type 0} → (K → Option Tables) → Option (List ℕ) → Bool → Stored → Stored → ℕ → ℕ → List Returned → List Returned → Type 0 → Result Served Unserved → Type 0
 IsServing told path global_unique stored_old stored_new faults_old faults_new old new none_left (Ok served) =
     IsServedFrom told path global_unique stored_old stored_new faults_old faults_new old new none_left served.entries
 IsServing told path global_unique stored_old stored_new faults_old faults_new old new none_left (Err why) =
-    AreLeft told path stored_old stored_new why × (new ≡ old) × IsFaultOf (started stored_old path) global_unique faults_old faults_new why
-
--- how the listening ended: with all lanes and no fault, or with a fault
-abbrev pub IsListening : Type 0 → Type 0 → Listening → Type 0
-IsListening came failed Whole = came
-IsListening came failed Broken = failed
+    AreLeft told path stored_old stored_new × (new ≡ old) × IsFaultOf (started stored_old path) global_unique faults_old faults_new why
 
 -- the listener's end of it: it is not used where the register was not opened, or memory ran out
 abbrev pub IsListened : Type 0 → Type 0 → Type 0 → Result Served Unserved → Type 0

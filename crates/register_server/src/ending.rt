@@ -1,29 +1,7 @@
 //! How serving a register ends.
-ghost use Rattle.std.specs.Prelude.{◌≡◌, ◌⊎◌};
 
+use http_lanes::Listening;
 use stored_tables::opening::OpenFault;
-
-/// How the listening ended.
-#[derive(Clone, Copy, Debug)]
-pub enum Listening {
-    /// Every lane that was wanted came, and no accept failed.
-    Whole,
-    /// A lane did not come, or an accept failed.
-    Broken,
-}
-
-impl Listening {
-    /// How both went: whole where each did.
-    pub fn and(self, other: Listening) -> Listening
-        ensures whole { result ≡ Listening.Whole → (self ≡ Listening.Whole) × (other ≡ Listening.Whole) }
-        ensures broken { result ≡ Listening.Broken → (self ≡ Listening.Broken) ⊎ (other ≡ Listening.Broken) }
-    {
-        match self {
-            Listening::Whole => other,
-            Listening::Broken => Listening::Broken,
-        }
-    }
-}
 
 /// What is said of a register that was served.
 #[derive(Clone, Copy, Debug)]

@@ -2,10 +2,11 @@
 #![tactic(auto)]
 
 mod ending;
-mod hire;
 mod keeping;
 mod service;
 mod serving;
 
-pub use ending::{Listening, Served, Unserved};
+pub use ending::{Served, Unserved};
+pub use http_lanes::Listening;
+pub use register_core::Settings;
 pub use serving::serve;

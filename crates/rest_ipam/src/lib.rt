@@ -1,11 +1,20 @@
-//! The register over HTTP: one connection that has a register for itself.
+//! The register over HTTP: its service, which says what a request asks for and how a reply is answered; one connection over a register
+//! that many share, and many connections at once, each worker in a thread.
 #![tactic(auto)]
 
+mod answer;
 mod laws;
+mod request;
+mod service;
 mod session;
+mod workers;
 
-pub use http_session::SessionEnd;
+pub use answer::put_answer;
+pub use http_session::{HttpRequest, Inbox, PutEnd, SessionEnd};
 pub use laws::{answers_are_one, state_is_replay};
 pub use register_core::Settings;
+pub use request::{Asked, next_request};
 pub use rest_routes::{Route, read_call};
-pub use session::{OwnDesk, OwnRegister, answer_to, own_register, serve_session};
+pub use service::{Page, RegisterService};
+pub use session::serve_session;
+pub use workers::{Worker, serve_workers};

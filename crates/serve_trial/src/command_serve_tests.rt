@@ -143,7 +143,7 @@ fn who_is_served_and_who_is_not(rt: HostRuntime) -> Result<(), Fail> {
         "--connections=1",
         "--db=a",
     ];
-    let mut opener = opener_of(alloc, 1)?;
+    let mut opener = opener_of(alloc, 2)?;
     let mut listener = listener_of(alloc)?;
     let left = ran(&rt, alloc, &words, &mut listener, &mut opener)?;
     assert!(rt; left.status == 0 && left.errors.is_empty());

@@ -3,14 +3,15 @@
 ghost use Rattle.std.specs.Prelude.{◌≡◌, ℕ, ◌≤◌, ◌⊎◌, None, option_map, IfOk, OnOk, OnErr, IsErrOf};
 ghost use Rattle.stored_tables.specs.Stored.{changed};
 ghost use Rattle.stored_tables.specs.Order.{AreTables};
-ghost use Rattle.ipam_keeper.specs.Keeping.{Rose, IsTold, IsRaised};
-ghost use Rattle.sqlite_keeper.specs.Counting.{IsCounted};
+ghost use Rattle.ipam_keeper.specs.Keeping.{Rose, IsTold};
+ghost use Rattle.sqlite_calls.specs.Counting.{IsCounted};
 
-use crate::fault::StoreFault;
 use crate::loading::load_tables;
 use crate::storing::{Statements, prepare, store};
+use crate::upgrading::upgrade;
 use ipam_keeper::keeper::{KeepFault, Keeper};
 use sqlite::{Alter, Connection};
+use sqlite_calls::{StoreFault, refused};
 use std::alloc::Global;
 use std::marker::Model;
 use stored_tables::tables::{Change, Tables};
@@ -58,20 +59,6 @@ impl<S: Alter> SqliteKeeper<S> {
         self.conn
     }
 
-    /// What a stop is to the caller. It is counted, unless it means out of memory.
-    fn refused(&mut self, fault: StoreFault) -> KeepFault
-        ensures memory { fault ≡ StoreFault.Memory → (result ≡ KeepFault.Memory) × (self.new ≡ self.old) }
-        ensures failed { fault ≡ StoreFault.Failed → (result ≡ KeepFault.Failed) × IsRaised self.old 1 self.new }
-    {
-        match fault {
-            StoreFault::Memory => KeepFault::Memory,
-            StoreFault::Failed => {
-                self.faults = self.faults.saturating_add(1);
-                KeepFault::Failed
-            }
-        }
-    }
-
     /// Stores a change; before the first one the statements are prepared.
     fn change(&mut self, change: &Change) -> Result<(), StoreFault>
         ensures { self.new ≡ self.old }
@@ -83,6 +70,14 @@ impl<S: Alter> SqliteKeeper<S> {
         let stored = store(self.alloc, &mut self.conn, &statements, change);
         self.statements = Some(statements);
         stored
+    }
+
+    /// Puts tables in the place of those of an older version. The statements that were prepared are of those.
+    fn put_anew(&mut self, tables: &Tables) -> Result<(), StoreFault>
+        ensures { self.new ≡ self.old }
+    {
+        let _older = self.statements.take();
+        upgrade(self.alloc, &mut self.conn, tables)
     }
 }
 
@@ -103,7 +98,7 @@ impl<S: Alter> Keeper for SqliteKeeper<S> {
     {
         match load_tables(self.alloc, &mut self.conn) {
             Ok(tables) => Ok(tables),
-            Err(fault) => Err(self.refused(fault)),
+            Err(fault) => Err(refused(&mut self.faults, fault)),
         }
     }
 
@@ -117,7 +112,21 @@ impl<S: Alter> Keeper for SqliteKeeper<S> {
     {
         match self.change(change) {
             Ok(()) => Ok(()),
-            Err(fault) => Err(self.refused(fault)),
+            Err(fault) => Err(refused(&mut self.faults, fault)),
+        }
+    }
+
+    /// Drops the table of ranges, makes it anew, fills it and sets the version, in one transaction. `Failed` comes where the file can't
+    /// be written; each time it comes the count rises by one.
+    fn upgrade(&mut self, tables: &Tables) -> Result<(), KeepFault>
+        ensures later { self.old ≤ self.new }
+        ensures failed { IsErrOf result KeepFault.Failed → Rose self.old self.new }
+        ensures still { IsErrOf result KeepFault.Failed ⊎ (self.new ≡ self.old) }
+        ensures counted { IsCounted result self.old self.new }
+    {
+        match self.put_anew(tables) {
+            Ok(()) => Ok(()),
+            Err(fault) => Err(refused(&mut self.faults, fault)),
         }
     }
 }

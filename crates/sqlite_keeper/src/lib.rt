@@ -1,9 +1,7 @@
 //! Keepers of stored tables in SQLite files, and their opener.
 #![tactic(auto)]
 
-mod calls;
 mod connects;
-mod fault;
 mod keeper;
 mod loading;
 mod making;
@@ -11,6 +9,7 @@ mod opener;
 mod order;
 mod storing;
 mod tables;
+mod upgrading;
 
 pub use connects::{Connects, CountedKeeper};
 pub use keeper::SqliteKeeper;

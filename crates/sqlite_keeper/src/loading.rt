@@ -3,56 +3,16 @@
 ghost use Rattle.std.specs.Prelude.{IfOk};
 ghost use Rattle.stored_tables.specs.Order.{AreTables};
 
-use crate::fault::StoreFault;
 use crate::making::make_tables;
 use crate::order::are_in_order;
-use crate::tables::{SELECT_META, VERSION, VERSION_NAME, next_name_of, select_text};
+use crate::tables::{VERSION_NAME, columns_in, next_name_of, select_text};
 use ipam_data::kinds::Kind;
 use ipam_data::update::Ids;
 use sqlite::{Alter, Connection, Row as FoundRow};
+use sqlite_calls::{Number, StoreFault, number_under, read_numbers};
 use std::alloc::Global;
-use stored_tables::tables::{Row, Rows, Tables, Text, Texts};
-use stored_tables::writing::column_names;
-
-/// A row of the table of numbers.
-#[derive(Drop)]
-struct Number {
-    name: String,
-    value: u32,
-}
-
-fn number_of(found: &FoundRow) -> Result<Number, StoreFault> {
-    Ok(Number {
-        name: found.get(0)?,
-        value: found.get(1)?,
-    })
-}
-
-/// All numbers. One that is not from 0 to 4,294,967,295 is a fault.
-fn read_numbers<S: Alter>(
-    alloc: Global,
-    conn: &mut Connection<S>,
-) -> Result<Vec<Number>, StoreFault> {
-    let mut numbers = Vec::new(alloc);
-    let mut found = conn.query(SELECT_META, &[])?;
-    for _ in 0..u64::MAX {
-        let Some(row) = found.next()? else {
-            return Ok(numbers);
-        };
-        numbers.push(number_of(row)?)?;
-    }
-    Ok(numbers)
-}
-
-/// The number of this name.
-fn number_under(numbers: &[Number], name: &str) -> Option<u32> {
-    for number in numbers {
-        if number.name.as_str() == name {
-            return Some(number.value);
-        }
-    }
-    None
-}
+use stored_tables::migration::FIRST_VERSION;
+use stored_tables::tables::{Row, Rows, Tables, Text, Texts, VERSION};
 
 /// Puts the next id of a kind behind others, where it stands among the numbers.
 fn push_next(
@@ -91,56 +51,60 @@ fn texts_of(alloc: Global, found: &FoundRow, count: usize) -> Result<Texts, Stor
     Ok(Texts::of(texts))
 }
 
-fn row_of(alloc: Global, kind: Kind, found: &FoundRow) -> Result<Row, StoreFault> {
+fn row_of(alloc: Global, kind: Kind, found: &FoundRow, count: usize) -> Result<Row, StoreFault> {
     Ok(Row {
         kind,
         id: found.get(0)?,
-        fields: texts_of(alloc, found, column_names(kind).len())?,
+        fields: texts_of(alloc, found, count)?,
     })
 }
 
-/// Reads all rows of a kind, behind those that stand there.
+/// Reads all rows of a kind of tables of this version, behind those that stand there.
 fn read_rows<S: Alter>(
     alloc: Global,
     conn: &mut Connection<S>,
+    version: u32,
     kind: Kind,
     rows: &mut Vec<Row>,
 ) -> Result<(), StoreFault> {
-    let text = select_text(alloc, kind)?;
+    let columns = columns_in(version, kind);
+    let text = select_text(alloc, kind, columns)?;
     let mut found = conn.query(text.as_str(), &[])?;
     for _ in 0..u64::MAX {
         let Some(row) = found.next()? else {
             return Ok(());
         };
-        rows.push(row_of(alloc, kind, row)?)?;
+        rows.push(row_of(alloc, kind, row, columns.len())?)?;
     }
     Ok(())
 }
 
-/// Reads the rows of all kinds, kind after kind.
+/// Reads the rows of all kinds of tables of this version, kind after kind.
 fn read_kinds<S: Alter>(
     alloc: Global,
     conn: &mut Connection<S>,
+    version: u32,
     rows: &mut Vec<Row>,
 ) -> Result<(), StoreFault> {
-    read_rows(alloc, conn, Kind::Vrfs, rows)?;
-    read_rows(alloc, conn, Kind::Rirs, rows)?;
-    read_rows(alloc, conn, Kind::Roles, rows)?;
-    read_rows(alloc, conn, Kind::Aggregates, rows)?;
-    read_rows(alloc, conn, Kind::Prefixes, rows)?;
-    read_rows(alloc, conn, Kind::Ranges, rows)?;
-    read_rows(alloc, conn, Kind::Addresses, rows)
+    read_rows(alloc, conn, version, Kind::Vrfs, rows)?;
+    read_rows(alloc, conn, version, Kind::Rirs, rows)?;
+    read_rows(alloc, conn, version, Kind::Roles, rows)?;
+    read_rows(alloc, conn, version, Kind::Aggregates, rows)?;
+    read_rows(alloc, conn, version, Kind::Prefixes, rows)?;
+    read_rows(alloc, conn, version, Kind::Ranges, rows)?;
+    read_rows(alloc, conn, version, Kind::Addresses, rows)
 }
 
-/// All rows. Of tables of another version none are read, since their columns are not known.
+/// All rows of tables of this program's version or of version 1. Of tables of another one none are read, since their columns are not
+/// known.
 fn read_all<S: Alter>(
     alloc: Global,
     conn: &mut Connection<S>,
     version: u32,
 ) -> Result<Rows, StoreFault> {
     let mut rows = Vec::new(alloc);
-    if version == VERSION {
-        read_kinds(alloc, conn, &mut rows)?;
+    if version == VERSION || version == FIRST_VERSION {
+        read_kinds(alloc, conn, version, &mut rows)?;
     }
     Ok(Rows::of(rows))
 }

@@ -1,19 +1,13 @@
 //! The tables of a file that has none.
 
-use crate::calls::{end, prepare_text, run, set_number};
-use crate::fault::StoreFault;
-use crate::tables::{
-    COUNT_TABLES, CREATE_META, PUT_META, VERSION, VERSION_NAME, create_text, next_name_of,
-};
+use crate::tables::{VERSION_NAME, create_text, next_name_of};
 use ipam_data::kinds::Kind;
 use sqlite::{Alter, Connection, Statement};
+use sqlite_calls::{
+    StoreFault, begin, end, has_tables, make_numbers, prepare_number, run, set_number,
+};
 use std::alloc::Global;
-
-/// Whether the file has tables.
-fn has_tables<S: Alter>(conn: &mut Connection<S>) -> Result<bool, StoreFault> {
-    let count: u64 = conn.query_row(COUNT_TABLES, &[])?.get(0)?;
-    Ok(count > 0)
-}
+use stored_tables::tables::VERSION;
 
 /// Makes the table of a kind, and notes that its next id is 1.
 fn make_kind<S: Alter>(
@@ -45,8 +39,8 @@ fn make_kinds<S: Alter>(
 
 /// Makes the tables without rows: this version, and each next id is 1.
 fn make_all<S: Alter>(alloc: Global, conn: &mut Connection<S>) -> Result<(), StoreFault> {
-    run(conn, CREATE_META)?;
-    let put = prepare_text(conn, PUT_META)?;
+    make_numbers(conn)?;
+    let put = prepare_number(conn)?;
     set_number(conn, &put, VERSION_NAME, VERSION)?;
     make_kinds(alloc, conn, &put)
 }
@@ -59,7 +53,7 @@ pub(crate) fn make_tables<S: Alter>(
     if has_tables(conn)? {
         return Ok(());
     }
-    run(conn, "BEGIN")?;
+    begin(conn)?;
     let made = make_all(alloc, conn);
     end(conn, made)
 }

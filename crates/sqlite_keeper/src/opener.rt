@@ -1,16 +1,16 @@
 //! An opener of keepers over files.
 
 ghost use Rattle.std.specs.Prelude.{◌≡◌, ℕ, ◌≤◌, ◌⊎◌, Some, None, option_map, option_copied, IfOk, OnOk, OnErr, IsErrOf};
-ghost use Rattle.stored_tables.specs.Stored.{changed};
+ghost use Rattle.stored_tables.specs.Stored.{changed, stored_version};
 ghost use Rattle.stored_tables.specs.Order.{AreTables, empty_tables as no_rows};
-ghost use Rattle.ipam_keeper.specs.Keeping.{Rose, IsRaised, IsTold, started, IsReturned};
+ghost use Rattle.ipam_keeper.specs.Keeping.{Rose, IsRaised, IsTold, replaced_by, started, IsReturned};
 ghost use Rattle.sqlite_keeper.specs.Either.{told_of, faults_of};
 
 use crate::connects::{Connects, CountedKeeper};
-use crate::fault::StoreFault;
 use ipam_keeper::empty::empty_tables;
 use ipam_keeper::keeper::{KeepFault, Keeper, KeeperOpener};
 use ipam_keeper::memory::MemoryKeeper;
+use sqlite_calls::{StoreFault, refused};
 use std::alloc::{AllocError, Global};
 use stored_tables::tables::{Change, Tables, Text};
 
@@ -37,6 +37,13 @@ impl<F: Keeper> Keeper for StoreKeeper<F> {
         match self {
             StoreKeeper::File(keeper) => keeper.apply(change),
             StoreKeeper::Memory(keeper) => keeper.apply(change),
+        }
+    }
+
+    fn upgrade(&mut self, tables: &Tables) -> Result<(), KeepFault> {
+        match self {
+            StoreKeeper::File(keeper) => keeper.upgrade(tables),
+            StoreKeeper::Memory(keeper) => keeper.upgrade(tables),
         }
     }
 }
@@ -111,11 +118,7 @@ where
                 self.lent = Some(Some(path));
                 Ok(StoreKeeper::File(keeper))
             }
-            Err(StoreFault::Memory) => Err(KeepFault::Memory),
-            Err(StoreFault::Failed) => {
-                self.faults = self.faults.saturating_add(1);
-                Err(KeepFault::Failed)
-            }
+            Err(fault) => Err(refused(&mut self.faults, fault)),
         }
     }
 

@@ -1,11 +1,10 @@
 //! Changes of the tables of a file.
 
-use crate::calls::{end, prepare_text, run, set_number};
-use crate::fault::StoreFault;
-use crate::tables::{PUT_META, cut_text, next_name_of, put_text};
+use crate::tables::{cut_text, next_name_of, put_text};
 use ipam_data::kinds::Kind;
 use sqlite::types::ValueRef;
 use sqlite::{Alter, Connection, Statement};
+use sqlite_calls::{StoreFault, begin, end, prepare_number, prepare_text, run_with, set_number};
 use std::alloc::Global;
 use stored_tables::tables::{Change, Row};
 
@@ -76,11 +75,11 @@ pub(crate) fn prepare<S: Alter>(
 ) -> Result<Statements, StoreFault> {
     let mut kinds = Vec::new(alloc);
     prepare_kinds(alloc, conn, &mut kinds)?;
-    let meta = prepare_text(conn, PUT_META)?;
+    let meta = prepare_number(conn)?;
     Ok(Statements { kinds, meta })
 }
 
-fn put_row<S: Alter>(
+pub(crate) fn put_row<S: Alter>(
     alloc: Global,
     conn: &mut Connection<S>,
     put: &Statement,
@@ -91,13 +90,11 @@ fn put_row<S: Alter>(
     for text in row.fields.as_slice() {
         values.push(ValueRef::Text(text.as_str().as_bytes()))?;
     }
-    put.execute(conn, values.as_slice())?;
-    Ok(())
+    run_with(conn, put, values.as_slice())
 }
 
 fn cut_row<S: Alter>(conn: &mut Connection<S>, cut: &Statement, id: u32) -> Result<(), StoreFault> {
-    cut.execute(conn, &[ValueRef::Int(i64::from(id))])?;
-    Ok(())
+    run_with(conn, cut, &[ValueRef::Int(i64::from(id))])
 }
 
 fn put_rows<S: Alter>(
@@ -153,7 +150,7 @@ pub(crate) fn store<S: Alter>(
     statements: &Statements,
     change: &Change,
 ) -> Result<(), StoreFault> {
-    run(conn, "BEGIN")?;
+    begin(conn)?;
     let stored = store_parts(alloc, conn, statements, change);
     end(conn, stored)
 }

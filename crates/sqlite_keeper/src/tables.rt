@@ -2,27 +2,11 @@
 
 use ipam_data::kinds::Kind;
 use std::alloc::{AllocError, Global};
+use stored_tables::migration::{FIRST_VERSION, first_column_names};
 use stored_tables::writing::column_names;
-
-/// The version of the tables that this program writes.
-pub(crate) const VERSION: u32 = 1;
 
 /// The name of the row with the version.
 pub(crate) const VERSION_NAME: &str = "version";
-
-/// Says how many tables a file has.
-pub(crate) const COUNT_TABLES: &str = "SELECT count(*) FROM sqlite_schema WHERE type = 'table'";
-
-/// Makes the table of numbers.
-pub(crate) const CREATE_META: &str =
-    "CREATE TABLE meta (name TEXT PRIMARY KEY, value INTEGER NOT NULL) STRICT";
-
-/// Reads the numbers.
-pub(crate) const SELECT_META: &str = "SELECT name, value FROM meta";
-
-/// Sets a number.
-pub(crate) const PUT_META: &str =
-    "INSERT INTO meta (name, value) VALUES (?, ?) ON CONFLICT (name) DO UPDATE SET value = excluded.value";
 
 /// The name of the table of a kind.
 fn name_of(kind: Kind) -> &'static str {
@@ -45,9 +29,23 @@ pub(crate) fn next_name_of(alloc: Global, kind: Kind) -> Result<String, AllocErr
     Ok(text)
 }
 
+/// The columns of a kind in tables of a version whose rows can be read: version 1, or the one of this program.
+pub(crate) fn columns_in(version: u32, kind: Kind) -> &'static [&'static str] {
+    if version == FIRST_VERSION {
+        first_column_names(kind)
+    } else {
+        column_names(kind)
+    }
+}
+
 /// Adds a text for each column.
-fn push_columns(text: &mut String, kind: Kind, front: &str, back: &str) -> Result<(), AllocError> {
-    for column in column_names(kind) {
+fn push_columns(
+    text: &mut String,
+    columns: &[&str],
+    front: &str,
+    back: &str,
+) -> Result<(), AllocError> {
+    for column in columns {
         text.push_str(front)?;
         text.push_str(column)?;
         text.push_str(back)?;
@@ -61,16 +59,20 @@ pub(crate) fn create_text(alloc: Global, kind: Kind) -> Result<String, AllocErro
     text.push_str("CREATE TABLE ")?;
     text.push_str(name_of(kind))?;
     text.push_str(" (id INTEGER PRIMARY KEY")?;
-    push_columns(&mut text, kind, ", ", " TEXT NOT NULL")?;
+    push_columns(&mut text, column_names(kind), ", ", " TEXT NOT NULL")?;
     text.push_str(") STRICT")?;
     Ok(text)
 }
 
-/// Reads all rows of a kind by id.
-pub(crate) fn select_text(alloc: Global, kind: Kind) -> Result<String, AllocError> {
+/// Reads all rows of a kind by id, with these columns.
+pub(crate) fn select_text(
+    alloc: Global,
+    kind: Kind,
+    columns: &[&str],
+) -> Result<String, AllocError> {
     let mut text = String::new(alloc);
     text.push_str("SELECT id")?;
-    push_columns(&mut text, kind, ", ", "")?;
+    push_columns(&mut text, columns, ", ", "")?;
     text.push_str(" FROM ")?;
     text.push_str(name_of(kind))?;
     text.push_str(" ORDER BY id")?;
@@ -83,7 +85,7 @@ pub(crate) fn put_text(alloc: Global, kind: Kind) -> Result<String, AllocError> 
     text.push_str("INSERT INTO ")?;
     text.push_str(name_of(kind))?;
     text.push_str(" (id")?;
-    push_columns(&mut text, kind, ", ", "")?;
+    push_columns(&mut text, column_names(kind), ", ", "")?;
     text.push_str(") VALUES (?")?;
     for _ in column_names(kind) {
         text.push_str(", ?")?;
@@ -104,5 +106,13 @@ pub(crate) fn cut_text(alloc: Global, kind: Kind) -> Result<String, AllocError> 
     text.push_str("DELETE FROM ")?;
     text.push_str(name_of(kind))?;
     text.push_str(" WHERE id = ?")?;
+    Ok(text)
+}
+
+/// Drops the table of a kind.
+pub(crate) fn drop_text(alloc: Global, kind: Kind) -> Result<String, AllocError> {
+    let mut text = String::new(alloc);
+    text.push_str("DROP TABLE ")?;
+    text.push_str(name_of(kind))?;
     Ok(text)
 }

@@ -58,6 +58,25 @@ pub(crate) fn stopping_files(alloc: Global, stop: Stop) -> Files<Fuse<Memory>>
     }
 }
 
+/// These files, one of which stops.
+pub(crate) fn stopping_over(files: Files<Memory>, stop: Stop) -> Files<Fuse<Memory>>
+    requires found_log { IsTrue (memory_is_usable files.log) }
+    requires found_db { IsTrue (memory_is_usable files.db) }
+    ensures log { IsTrue (⟦<Fuse<Memory> as Disk>⟧.is_usable result.log) }
+    ensures db { IsTrue (⟦<Fuse<Memory> as Disk>⟧.is_usable result.db) }
+{
+    match stop.side {
+        Side::Log => Files {
+            log: Fuse::new(files.log, stop.calls),
+            db: Fuse::new(files.db, u64::MAX),
+        },
+        Side::Database => Files {
+            log: Fuse::new(files.log, u64::MAX),
+            db: Fuse::new(files.db, stop.calls),
+        },
+    }
+}
+
 /// A file of these bytes. `Err` means out of memory.
 fn file_of(alloc: Global, bytes: &[u8]) -> Result<Memory, AllocError>
     ensures { IfOk result (λ file. IsTrue (memory_is_usable file)) }

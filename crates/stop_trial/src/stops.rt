@@ -3,13 +3,10 @@
 ghost use Rattle.std.specs.Prelude.{IsTrue};
 ghost use Rattle.sqlite_disk.specs.Memory.{memory_is_usable};
 
-use crate::changes::{loaded, store};
 use crate::files::{Stop, found_files, stopping_files};
-use ipam_keeper::empty::empty_tables;
-use ipam_keeper::memory::MemoryKeeper;
-use sqlite::{Alter, Connection, Files, Options};
+use crate::store_kinds::StoreKind;
+use sqlite::{Connection, Files, Options};
 use sqlite_disk::{Fuse, Memory};
-use sqlite_keeper::SqliteKeeper;
 use std::alloc::{AllocError, Global};
 
 /// What came of a stop.
@@ -23,25 +20,8 @@ pub enum Ending {
     Beyond,
 }
 
-/// Stores changes over a connection, and gives its store back, with how many were stored. `Err` means out of memory.
-fn stored_over<S: Alter + Drop>(
-    alloc: Global,
-    conn: Connection<S>,
-    changes: u32,
-) -> (Result<u32, AllocError>, S) {
-    let mut keeper = SqliteKeeper::adopt(alloc, conn);
-    let stored = store(alloc, &mut keeper, changes);
-    (stored, keeper.into_connection().into_store())
-}
-
-/// The tables that a connection has, in words. `Err` means out of memory.
-fn tables_over<S: Alter + Drop>(alloc: Global, conn: Connection<S>) -> Result<String, AllocError> {
-    let mut keeper = SqliteKeeper::adopt(alloc, conn);
-    loaded(alloc, &mut keeper)
-}
-
 /// How many changes were stored before a file stopped, and both files then.
-fn stopped(
+fn stopped<K: StoreKind>(
     alloc: Global,
     changes: u32,
     stop: Stop,
@@ -49,7 +29,7 @@ fn stopped(
     let files = stopping_files(alloc, stop);
     match Connection::open_files(alloc, files, Options::new(1)) {
         Ok(conn) => {
-            let (stored, files) = stored_over(alloc, conn, changes);
+            let (stored, files) = K::store(alloc, conn, changes);
             (stored, files.close())
         }
         Err((_, left)) => (Ok(0), left.into_files()),
@@ -57,36 +37,36 @@ fn stopped(
 }
 
 /// The tables of files, in words. `Err` means out of memory.
-fn tables_of(alloc: Global, files: Files<Memory>) -> Result<String, AllocError>
+pub(crate) fn tables_of<K: StoreKind>(
+    alloc: Global,
+    files: Files<Memory>,
+) -> Result<String, AllocError>
     requires log { IsTrue (memory_is_usable files.log) }
     requires db { IsTrue (memory_is_usable files.db) }
 {
     match Connection::open_files(alloc, files, Options::new(2)) {
-        Ok(conn) => tables_over(alloc, conn),
+        Ok(conn) => K::tables(alloc, conn),
         Err(_) => String::from_str(alloc, "refused"),
     }
 }
 
-/// The tables after so many changes, in words, as a keeper in memory has them.
-fn tables_after(alloc: Global, changes: u32) -> Result<String, AllocError> {
-    let mut keeper = MemoryKeeper::new(empty_tables(alloc)?, Vec::new(alloc));
-    store(alloc, &mut keeper, changes)?;
-    loaded(alloc, &mut keeper)
-}
-
 /// Whether these are the tables after so many changes.
-fn are_after(alloc: Global, tables: &str, changes: u32) -> Result<bool, AllocError> {
-    let after = tables_after(alloc, changes)?;
+fn are_after<K: StoreKind>(alloc: Global, tables: &str, changes: u32) -> Result<bool, AllocError> {
+    let after = K::tables_after(alloc, changes)?;
     Ok(after.as_str() == tables)
 }
 
 /// What comes of a stop while so many changes are stored. `Err` means out of memory.
-pub fn ending_of(alloc: Global, changes: u32, stop: Stop) -> Result<Ending, AllocError> {
-    let (stored, files) = stopped(alloc, changes, stop);
+pub fn ending_of<K: StoreKind>(
+    alloc: Global,
+    changes: u32,
+    stop: Stop,
+) -> Result<Ending, AllocError> {
+    let (stored, files) = stopped::<K>(alloc, changes, stop);
     let stored = stored?;
     let files = found_files(alloc, files, stop.found)?;
-    let tables = tables_of(alloc, files)?;
-    let is_before = are_after(alloc, tables.as_str(), stored)?;
+    let tables = tables_of::<K>(alloc, files)?;
+    let is_before = are_after::<K>(alloc, tables.as_str(), stored)?;
     if stored == changes {
         return Ok(if is_before {
             Ending::Beyond
@@ -94,7 +74,7 @@ pub fn ending_of(alloc: Global, changes: u32, stop: Stop) -> Result<Ending, Allo
             Ending::Broken
         });
     }
-    let is_whole = is_before || are_after(alloc, tables.as_str(), stored.saturating_add(1))?;
+    let is_whole = is_before || are_after::<K>(alloc, tables.as_str(), stored.saturating_add(1))?;
     Ok(if is_whole {
         Ending::Whole
     } else {

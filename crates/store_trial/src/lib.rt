@@ -1,7 +1,11 @@
-//! The store over SQLite, tried on databases in memory: what is stored, loaded and refused.
+//! The stores over SQLite, tried on databases in memory: what is stored, loaded and refused, of a register and of pools.
 #![tactic(auto)]
 
 #[cfg(test)]
 mod database;
 #[cfg(test)]
+mod register_file;
+#[cfg(test)]
 mod tests;
+#[cfg(test)]
+mod words;

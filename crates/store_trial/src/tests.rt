@@ -1,24 +1,27 @@
 //! Keepers over databases: what they load, and that what they hold after changes is what a keeper in memory holds.
 
-use crate::database::keeper_of_file;
+use crate::database::{bytes_of, connection_of};
+use crate::register_file::FILE;
+use crate::words::{number_of, text_of, word_of};
 use ipam_data::kinds::Kind;
 use ipam_data::update::Ids;
 use ipam_keeper::empty::empty_tables;
-use ipam_keeper::keeper::{KeepFault, Keeper};
+use ipam_keeper::keeper::Keeper;
 use ipam_keeper::memory::MemoryKeeper;
 use sqlite::{Alter, Connection};
 use sqlite_keeper::SqliteKeeper;
 use std::alloc::{AllocError, Global};
 use std::test::Fail;
-use stored_tables::tables::{Change, Row, Rows, Tables, Text, Texts};
+use stored_tables::tables::{Change, Row, Rows, Tables, Texts};
 
 /// What makes a database, a bar, and what its keeper then loads.
 const LOADS: &str = "\
-|1:1,1,1,1,1,1,1,:
+|2:1,1,1,1,1,1,1,:
 CREATE TABLE other (id INTEGER PRIMARY KEY)|Failed
 CREATE TABLE meta (name TEXT PRIMARY KEY, value INTEGER NOT NULL) STRICT|Failed
 CREATE TABLE meta (name TEXT PRIMARY KEY, value INTEGER NOT NULL) STRICT; INSERT INTO meta (name, value) VALUES ('version', 9)|9::
 CREATE TABLE meta (name TEXT PRIMARY KEY, value INTEGER NOT NULL) STRICT; INSERT INTO meta (name, value) VALUES ('version', 1)|Failed
+CREATE TABLE meta (name TEXT PRIMARY KEY, value INTEGER NOT NULL) STRICT; INSERT INTO meta (name, value) VALUES ('version', 2)|Failed
 CREATE TABLE meta (name TEXT PRIMARY KEY, value INTEGER NOT NULL) STRICT; INSERT INTO meta (name, value) VALUES ('version', 4294967296)|Failed
 CREATE TABLE meta (name TEXT PRIMARY KEY, value INTEGER NOT NULL) STRICT; INSERT INTO meta (name, value) VALUES ('version', -1)|Failed
 ";
@@ -26,9 +29,9 @@ CREATE TABLE meta (name TEXT PRIMARY KEY, value INTEGER NOT NULL) STRICT; INSERT
 /// Changes one after another, each with its answer: the rows that come, the ids that go, the next ids. The first one makes what bench/tables.sql
 /// makes; the third one changes every column. Where `many` come they are VRFs.
 const CHANGES: &str = "\
-done|vrfs,1,red,65000:1,false,office;vrfs,2,blue,65000:2,true,guests;rirs,1,ARIN,arin,true,north;rirs,2,RIPE NCC,ripe,false,east;roles,1,LAN,lan,10,cables;roles,2,WAN,wan,32767,links;aggregates,1,10.0.0.0/8,2,own;aggregates,2,2001:db8::/32,1,six;prefixes,1,10.0.0.0/16,1,container,2,true,false,halls;prefixes,2,2001:db8::/48,2,reserved,1,false,true,rooms;ip-ranges,1,10.0.0.10/24,10.0.0.19/24,1,reserved,2,true,printers;ip-ranges,2,2001:db8::a/64,2001:db8::f/64,2,deprecated,1,false,phones;ip-addresses,1,10.0.0.1/24,1,dhcp,vip,gw.example.org,gateway;ip-addresses,2,2001:db8::5/64,2,slaac,carp,b.example.org,host||vrfs,3;rirs,4;roles,5;aggregates,6;prefixes,7;ip-ranges,8;ip-addresses,9
+done|vrfs,1,red,65000:1,false,office;vrfs,2,blue,65000:2,true,guests;rirs,1,ARIN,arin,true,north;rirs,2,RIPE NCC,ripe,false,east;roles,1,LAN,lan,10,cables;roles,2,WAN,wan,32767,links;aggregates,1,10.0.0.0/8,2,own;aggregates,2,2001:db8::/32,1,six;prefixes,1,10.0.0.0/16,1,container,2,true,false,halls;prefixes,2,2001:db8::/48,2,reserved,1,false,true,rooms;ip-ranges,1,10.0.0.10/24,10.0.0.19/24,1,reserved,2,true,false,printers;ip-ranges,2,2001:db8::a/64,2001:db8::f/64,2,deprecated,1,false,true,phones;ip-addresses,1,10.0.0.1/24,1,dhcp,vip,gw.example.org,gateway;ip-addresses,2,2001:db8::5/64,2,slaac,carp,b.example.org,host||vrfs,3;rirs,4;roles,5;aggregates,6;prefixes,7;ip-ranges,8;ip-addresses,9
 Failed|vrfs,3,green,65000:3|vrfs,1|vrfs,9
-done|vrfs,1,green,65000:7,true,lab;vrfs,9,black,65000:8,false,far;rirs,1,APNIC,apnic,false,south;rirs,9,LACNIC,lacnic,true,west;roles,1,MAN,man,11,rings;roles,9,VPN,vpn,12,tunnels;aggregates,1,172.16.0.0/12,1,private;aggregates,9,192.168.0.0/16,2,home;prefixes,1,10.1.0.0/16,2,deprecated,1,false,true,floors;prefixes,9,10.2.0.0/16,3,active,4,true,false,roofs;ip-ranges,1,10.0.1.10/25,10.0.1.20/25,2,active,1,false,cameras;ip-ranges,9,10.0.2.30/26,10.0.2.40/26,3,reserved,4,true,doors;ip-addresses,1,10.0.0.2/25,2,reserved,hsrp,m.example.org,mail;ip-addresses,9,10.0.0.3/26,3,deprecated,glbp,n.example.org,news||vrfs,30;rirs,31;roles,32;aggregates,33;prefixes,34;ip-ranges,35;ip-addresses,36
+done|vrfs,1,green,65000:7,true,lab;vrfs,9,black,65000:8,false,far;rirs,1,APNIC,apnic,false,south;rirs,9,LACNIC,lacnic,true,west;roles,1,MAN,man,11,rings;roles,9,VPN,vpn,12,tunnels;aggregates,1,172.16.0.0/12,1,private;aggregates,9,192.168.0.0/16,2,home;prefixes,1,10.1.0.0/16,2,deprecated,1,false,true,floors;prefixes,9,10.2.0.0/16,3,active,4,true,false,roofs;ip-ranges,1,10.0.1.10/25,10.0.1.20/25,2,active,1,false,true,cameras;ip-ranges,9,10.0.2.30/26,10.0.2.40/26,3,reserved,4,true,false,doors;ip-addresses,1,10.0.0.2/25,2,reserved,hsrp,m.example.org,mail;ip-addresses,9,10.0.0.3/26,3,deprecated,glbp,n.example.org,news||vrfs,30;rirs,31;roles,32;aggregates,33;prefixes,34;ip-ranges,35;ip-addresses,36
 done|||
 done||vrfs,2;rirs,2;roles,2;aggregates,2;prefixes,2;ip-ranges,2;ip-addresses,2|
 done|roles,9,MAN,man,13,;prefixes,4,10.3.0.0/16,,active,,false,false,|aggregates,9;ip-ranges,1|prefixes,4294967295;rirs,31
@@ -37,10 +40,6 @@ done|many||vrfs,2000
 
 /// How many VRFs are many.
 const MANY: u32 = 1_100;
-
-fn text_of(alloc: Global, text: &str) -> Result<Text, AllocError> {
-    Ok(Text::of(String::from_str(alloc, text)?))
-}
 
 fn push_row(alloc: Global, text: &mut String, row: &Row) -> Result<(), AllocError> {
     text.push_str(format!(in alloc; "{:?} {}", row.kind, row.id)?.as_str())?;
@@ -65,7 +64,7 @@ fn written(alloc: Global, tables: &Tables) -> Result<String, AllocError> {
 }
 
 /// What is loaded, or why not.
-fn loaded<K: Keeper>(alloc: Global, keeper: &mut K) -> Result<String, AllocError> {
+pub(crate) fn loaded<K: Keeper>(alloc: Global, keeper: &mut K) -> Result<String, AllocError> {
     match keeper.load() {
         Ok(tables) => written(alloc, &tables),
         Err(fault) => format!(in alloc; "{fault:?}"),
@@ -105,10 +104,6 @@ fn kind_of(name: Option<&str>) -> Kind {
         "ip-ranges" => Kind::Ranges,
         _ => Kind::Addresses,
     }
-}
-
-fn number_of(word: Option<&str>) -> u32 {
-    word.unwrap_or("").parse::<u32>().unwrap_or(0)
 }
 
 /// A row of these words: its kind, its id and its fields.
@@ -165,14 +160,6 @@ fn change_of(alloc: Global, line: &str) -> Result<Change, AllocError> {
     })
 }
 
-fn word_of(answer: Result<(), KeepFault>) -> &'static str {
-    match answer {
-        Ok(()) => "done",
-        Err(KeepFault::Failed) => "Failed",
-        Err(KeepFault::Memory) => "Memory",
-    }
-}
-
 /// Whether a keeper over a database answers the change of a line as the line says, and then loads what a keeper in memory loads, which makes the
 /// change where it is done.
 fn is_alike<S: Alter>(
@@ -190,7 +177,7 @@ fn is_alike<S: Alter>(
 }
 
 /// A keeper that a second one follows over the same database.
-fn followed<S: Alter>(alloc: Global, keeper: SqliteKeeper<S>) -> SqliteKeeper<S> {
+pub(crate) fn followed<S: Alter>(alloc: Global, keeper: SqliteKeeper<S>) -> SqliteKeeper<S> {
     SqliteKeeper::adopt(alloc, keeper.into_connection())
 }
 
@@ -238,7 +225,8 @@ fn changes_are_stored_whole_or_not_at_all(rt: HostRuntime) -> Result<(), Fail> {
 
 #[test]
 fn a_database_of_sqlite3_is_loaded_and_changed(rt: HostRuntime) -> Result<(), Fail> {
-    let keeper = keeper_of_file(rt.alloc())?;
+    let bytes = bytes_of(rt.alloc(), FILE)?;
+    let keeper = SqliteKeeper::adopt(rt.alloc(), connection_of(rt.alloc(), bytes.as_slice())?);
     let (first, rest) = CHANGES.split_once('\n').unwrap_or(("", ""));
     let wrong = wrong_lines(rt.alloc(), keeper, first, rest)?;
     assert!(rt; wrong.is_empty(), "{wrong}");

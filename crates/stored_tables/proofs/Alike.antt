@@ -79,7 +79,7 @@ pub one_range : (a b : IpRange) → IsTypedRange a → IsTypedRange b → stored
 unfolding range_texts
 one_range a b h k e =
     let id : a.id ≡ b.id = ap (λ (r : Row). r.id) e in
-    let texts : host_text a.ends.start a.ends.len ∷ host_text a.ends.end a.ends.len ∷ reference_text a.vrf ∷ range_status_text a.status ∷ reference_text a.role ∷ flag_text a.mark_utilized ∷ a.description ∷ [] ≡ host_text b.ends.start b.ends.len ∷ host_text b.ends.end b.ends.len ∷ reference_text b.vrf ∷ range_status_text b.status ∷ reference_text b.role ∷ flag_text b.mark_utilized ∷ b.description ∷ [] = ap row_texts e in
+    let texts : host_text a.ends.start a.ends.len ∷ host_text a.ends.end a.ends.len ∷ reference_text a.vrf ∷ range_status_text a.status ∷ reference_text a.role ∷ flag_text a.mark_utilized ∷ flag_text a.mark_populated ∷ a.description ∷ [] ≡ host_text b.ends.start b.ends.len ∷ host_text b.ends.end b.ends.len ∷ reference_text b.vrf ∷ range_status_text b.status ∷ reference_text b.role ∷ flag_text b.mark_utilized ∷ flag_text b.mark_populated ∷ b.description ∷ [] = ap row_texts e in
     let starts : host_text a.ends.start a.ends.len ≡ host_text b.ends.start b.ends.len = cc in
     let ends_too : host_text a.ends.end a.ends.len ≡ host_text b.ends.end b.ends.len = cc in
     let ends : a.ends ≡ b.ends = one_ends a.ends b.ends h.bounds.ends k.bounds.ends cc in
@@ -87,8 +87,9 @@ one_range a b h k e =
     let status : a.status ≡ b.status = one_range_status a.status b.status cc in
     let role : a.role ≡ b.role = one_reference a.role b.role h.role k.role cc in
     let mark_utilized : a.mark_utilized ≡ b.mark_utilized = one_flag a.mark_utilized b.mark_utilized cc in
+    let mark_populated : a.mark_populated ≡ b.mark_populated = one_flag a.mark_populated b.mark_populated cc in
     let description : a.description ≡ b.description = cc in
-    let same : (let row : IpRange = record { id = a.id; ends = a.ends; vrf = a.vrf; status = a.status; role = a.role; mark_utilized = a.mark_utilized; description = a.description } in row) ≡ (let row : IpRange = record { id = b.id; ends = b.ends; vrf = b.vrf; status = b.status; role = b.role; mark_utilized = b.mark_utilized; description = b.description } in row) = rw (id, ends, vrf, status, role, mark_utilized, description) refl in
+    let same : (let row : IpRange = record { id = a.id; ends = a.ends; vrf = a.vrf; status = a.status; role = a.role; mark_utilized = a.mark_utilized; mark_populated = a.mark_populated; description = a.description } in row) ≡ (let row : IpRange = record { id = b.id; ends = b.ends; vrf = b.vrf; status = b.status; role = b.role; mark_utilized = b.mark_utilized; mark_populated = b.mark_populated; description = b.description } in row) = rw (id, ends, vrf, status, role, mark_utilized, mark_populated, description) refl in
     same
 
 pub one_address : (a b : IpAddress) → IsTypedAddress a → IsTypedAddress b → stored_address a ≡ stored_address b → a ≡ b

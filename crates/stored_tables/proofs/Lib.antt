@@ -9,3 +9,4 @@ pub mod ReadBack
 pub mod Nexts
 pub mod OpenLaws
 pub mod OpenOne
+pub mod Migrating

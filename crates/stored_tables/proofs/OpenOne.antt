@@ -9,7 +9,7 @@ use Rattle.stored_tables.specs.declared.tables.Tables.{Tables}
 use Rattle.stored_tables.specs.declared.opening.Breach.{Breach}
 use Rattle.stored_tables.specs.declared.opening.OpenFault.{OpenFault}
 use Rattle.stored_tables.specs.declared.opening.OpenFault.TheVariants.{Keeper, BadTables, Memory, BadRow, Version, BadNext, Limit}
-use Rattle.stored_tables.specs.Stored.{stored_row, kinds}
+use Rattle.stored_tables.specs.Stored.{stored_row, kinds, stored_version}
 use Rattle.stored_tables.specs.Reading.{IsBare}
 use Rattle.stored_tables.specs.Opening.{first_breach, bare_state, most_of, is_overfull, is_bad_next, AllBare, IsUnread, IsReadable, IsAccepted, IsRefused, IsOfTables, OpeningIsOne}
 use Rattle.stored_tables.proofs.ReadBack.{one_row}
@@ -62,8 +62,8 @@ fault_of tables views breach = found_in tables (find (is_overfull tables.rows) k
 
 -- where a fault is found
 data Place (tables : Tables) (global_unique : Bool) (fault : OpenFault) : Type 0 where
-  in_version : tables.version ≢ 1 → fault ≡ Version tables.version → Place tables global_unique fault
-  in_row : tables.version ≡ 1 → (kind : Kind) → (id : ℕ) → IsUnread tables.rows kind id → fault ≡ BadRow kind id → Place tables global_unique fault
+  in_version : tables.version ≢ stored_version → fault ≡ Version tables.version → Place tables global_unique fault
+  in_row : tables.version ≡ stored_version → (kind : Kind) → (id : ℕ) → IsUnread tables.rows kind id → fault ≡ BadRow kind id → Place tables global_unique fault
   in_state : (views : List View) → IsReadable tables views → fault_of tables views (first_breach (bare_state tables.next global_unique) views) ≡ Some fault → Place tables global_unique fault
 
 -- ---- each refusal has its place

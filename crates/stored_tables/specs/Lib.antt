@@ -2,3 +2,4 @@ pub mod Stored
 pub mod Order
 pub mod Reading
 pub mod Opening
+pub mod Migration

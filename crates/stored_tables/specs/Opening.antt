@@ -20,7 +20,7 @@ use Rattle.ipam_data.specs.State.{State}
 use Rattle.ipam_data.specs.ByKind.{by_kind, by_view}
 use Rattle.ipam_data.specs.Updates.{with_view}
 use Rattle.ipam_data.specs.Lawful.{IsLawful}
-use Rattle.stored_tables.specs.Stored.{stored_row, tables_of, kinds, kind_number}
+use Rattle.stored_tables.specs.Stored.{stored_row, tables_of, kinds, kind_number, stored_version}
 use Rattle.stored_tables.specs.Order.{AreTables}
 use Rattle.stored_tables.specs.Reading.{IsBare}
 
@@ -106,9 +106,9 @@ pub record IsUnread (rows : List Row) (kind : Kind) (id : ℕ) : Type 0 where
   pub id_is : row.id ≡ id
   pub none : (view : View) → IsBare view → stored_row view ≢ row
 
--- the tables have version 1, and their rows are those of these views
+-- the tables have the version of the register's, and their rows are those of these views
 pub record IsReadable (tables : Tables) (views : List View) : Type 0 where
-  pub version : tables.version ≡ 1
+  pub version : tables.version ≡ stored_version
   pub stored : map stored_row views ≡ tables.rows
   pub bare : AllBare views
 
@@ -136,8 +136,8 @@ pub record IsOverfull (rows : List Row) (which : Which) (most : ℕ) : Type 0 wh
 
 -- what a refusal says of the tables: each pass found nothing before the one that found it
 abbrev pub IsRefused : Tables → Bool → OpenFault → Type 0
-IsRefused tables global_unique (Version version) = (tables.version ≡ version) × (version ≢ 1)
-IsRefused tables global_unique (BadRow kind id) = (tables.version ≡ 1) × IsUnread tables.rows kind id
+IsRefused tables global_unique (Version version) = (tables.version ≡ version) × (version ≢ stored_version)
+IsRefused tables global_unique (BadRow kind id) = (tables.version ≡ stored_version) × IsUnread tables.rows kind id
 IsRefused tables global_unique (Limit which most) = (views : List View) × IsReadable tables views × IsOverfull tables.rows which most
 IsRefused tables global_unique (BadTables kind id rule) = (views : List View) × IsWithin tables views
     × (first_breach (bare_state tables.next global_unique) views ≡ Some (record { kind = kind; id = id; rule = rule }))

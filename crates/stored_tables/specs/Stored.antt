@@ -22,6 +22,7 @@ use Rattle.ipam_data.specs.declared.kinds.Kind.{Kind}
 use Rattle.ipam_data.specs.declared.kinds.Kind.TheVariants.{Vrfs, Rirs, Roles, Aggregates, Prefixes, Ranges, Addresses}
 use Rattle.stored_tables.specs.declared.tables.Row.{Row}
 use Rattle.stored_tables.specs.declared.tables.Tables.{Tables}
+use Rattle.stored_tables.specs.declared.tables.TheConstants.{VERSION}
 use Rattle.stored_tables.specs.declared.tables.Change.{Change}
 use Rattle.ipam_data.specs.declared.update.Update.{Update}
 use Rattle.ipam_data.specs.declared.replies.View.{View}
@@ -43,7 +44,7 @@ stored_columns Rirs = codes "name" ∷ codes "slug" ∷ codes "is_private" ∷ c
 stored_columns Roles = codes "name" ∷ codes "slug" ∷ codes "weight" ∷ codes "description" ∷ []
 stored_columns Aggregates = codes "prefix" ∷ codes "rir" ∷ codes "description" ∷ []
 stored_columns Prefixes = codes "prefix" ∷ codes "vrf" ∷ codes "status" ∷ codes "role" ∷ codes "is_pool" ∷ codes "mark_utilized" ∷ codes "description" ∷ []
-stored_columns Ranges = codes "start_address" ∷ codes "end_address" ∷ codes "vrf" ∷ codes "status" ∷ codes "role" ∷ codes "mark_utilized" ∷ codes "description" ∷ []
+stored_columns Ranges = codes "start_address" ∷ codes "end_address" ∷ codes "vrf" ∷ codes "status" ∷ codes "role" ∷ codes "mark_utilized" ∷ codes "mark_populated" ∷ codes "description" ∷ []
 stored_columns Addresses = codes "address" ∷ codes "vrf" ∷ codes "status" ∷ codes "role" ∷ codes "dns_name" ∷ codes "description" ∷ []
 
 -- ---- the texts of a column
@@ -119,11 +120,11 @@ prefix_texts row =
     block_text_of row.block ∷ reference_text row.vrf ∷ prefix_status_text row.status ∷ reference_text row.role
     ∷ flag_text row.is_pool ∷ flag_text row.mark_utilized ∷ row.description ∷ []
 
--- start_address, end_address, vrf, status, role, mark_utilized, description
+-- start_address, end_address, vrf, status, role, mark_utilized, mark_populated, description
 unfoldable pub range_texts : IpRange → List (List ℕ)
 range_texts row =
     host_text row.ends.start row.ends.len ∷ host_text row.ends.end row.ends.len ∷ reference_text row.vrf ∷ range_status_text row.status
-    ∷ reference_text row.role ∷ flag_text row.mark_utilized ∷ row.description ∷ []
+    ∷ reference_text row.role ∷ flag_text row.mark_utilized ∷ flag_text row.mark_populated ∷ row.description ∷ []
 
 -- address, vrf, status, role, dns_name, description
 unfoldable pub address_texts : IpAddress → List (List ℕ)
@@ -179,10 +180,14 @@ abbrev pub next_ids : (Kind → ℕ) → List Kind → List (Kind × ℕ)
 next_ids next [] = []
 next_ids next (kind ∷ rest) = (kind, next kind) ∷ next_ids next rest
 
--- the tables for which a state stands: version 1, the next ids, and the rows in the order of their kinds and ids
+-- the version of the tables that a register reads and writes
+abbrev pub stored_version : ℕ
+stored_version = VERSION
+
+-- the tables for which a state stands: their version, the next ids, and the rows in the order of their kinds and ids
 abbrev pub tables_of : State → Tables
 tables_of s = record {
-  version = 1;
+  version = stored_version;
   next = next_ids (next_of s) kinds;
   rows = flat_map (stored_rows s) kinds;
 }

@@ -3,6 +3,7 @@
 ghost use Rattle.stored_tables.specs.Stored.{ChangesAreTold};
 ghost use Rattle.stored_tables.specs.Reading.{WrittenIsRead};
 ghost use Rattle.stored_tables.specs.Opening.{AcceptedAreOpened, OpeningIsOne};
+ghost use Rattle.stored_tables.specs.Migration.{MigratedTablesStand};
 
 /// The tables after the change of an update are those of the updated state.
 pub fn changes_are_told()
@@ -22,4 +23,9 @@ pub fn accepted_tables_are_opened()
 /// Tables are read as one list of rows, and are accepted or have one fault, and not both.
 pub fn opening_is_one()
     ensures { OpeningIsOne }
+{}
+
+/// Tables that stood in version 1 for a state are migrated, and then stand for that state with every mark as asked.
+pub fn migrated_tables_stand()
+    ensures { MigratedTablesStand }
 {}

@@ -5,6 +5,7 @@ mod address;
 mod aggregate;
 mod columns;
 pub mod laws;
+pub mod migration;
 pub mod opening;
 mod prefix;
 mod range;

@@ -22,7 +22,7 @@ pub enum OpenFault {
     Memory,
     /// The row of this kind and id can't be read.
     BadRow(Kind, u32),
-    /// The tables have this version, which is not 1.
+    /// The tables have this version, which is not that of the register's tables.
     Version(u32),
     /// The next id of this kind is absent, is 0, or is not above all ids of the kind.
     BadNext(Kind),

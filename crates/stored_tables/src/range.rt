@@ -24,6 +24,7 @@ pub(crate) fn range_columns() -> &'static [&'static str]
         "status",
         "role",
         "mark_utilized",
+        "mark_populated",
         "description",
     ]
 }
@@ -40,6 +41,7 @@ pub(crate) fn write_range(alloc: Global, row: &IpRange) -> Result<Row, AllocErro
     fields.push(range_status_words(alloc, row.status)?)?;
     fields.push(reference_words(alloc, row.role)?)?;
     fields.push(flag_words(alloc, row.mark_utilized)?)?;
+    fields.push(flag_words(alloc, row.mark_populated)?)?;
     fields.push(words(alloc, row.description.as_str())?)?;
     Ok(Row {
         kind: Kind::Ranges,
@@ -57,10 +59,20 @@ pub(crate) fn read_range(
     requires { 1 ≤ id }
     ensures { IfOk result (λ r. IsRead IsTypedRange stored_range (row_of Kind.Ranges id fields.now) r) }
 {
-    if fields.len() != 7 {
+    if fields.len() != 8 {
         return Ok(None);
     }
-    let [start, end, vrf, status, role, mark_utilized, description] = fields else {
+    let [
+        start,
+        end,
+        vrf,
+        status,
+        role,
+        mark_utilized,
+        mark_populated,
+        description,
+    ] = fields
+    else {
         return Ok(None);
     };
     let Some(ends) = read_ends(alloc, start, end)? else {
@@ -78,6 +90,9 @@ pub(crate) fn read_range(
     let Some(mark_utilized) = read_flag(mark_utilized) else {
         return Ok(None);
     };
+    let Some(mark_populated) = read_flag(mark_populated) else {
+        return Ok(None);
+    };
     let Some(description) = read_text::<DescriptionBounds>(description)? else {
         return Ok(None);
     };
@@ -88,6 +103,7 @@ pub(crate) fn read_range(
         status,
         role,
         mark_utilized,
+        mark_populated,
         description,
     }))
 }

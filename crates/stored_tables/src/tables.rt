@@ -145,6 +145,11 @@ impl Rows {
         self.items.as_slice()
     }
 
+    /// The allocator of the rows.
+    pub(crate) fn allocator(&self) -> Global {
+        *self.items.allocator()
+    }
+
     /// The vector again. It takes no memory.
     pub fn into_vec(self) -> Vec<Row>
         ensures { result.items ≡ self }
@@ -163,6 +168,9 @@ impl Rows {
         Ok(Rows { items })
     }
 }
+
+/// The version of the tables that a register reads and writes.
+pub const VERSION: u32 = 2;
 
 /// What a keeper holds: a version, the next id of each kind in the order of the kinds, and the rows in the order of their kinds
 /// and ids.

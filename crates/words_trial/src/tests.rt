@@ -107,6 +107,16 @@ reverse --prefix 1 --prefix 1 | None
 reverse --prefix 1 --db= | None
 reverse --prefix 4294967295 | Some(Reverse(4294967295, Store { db: None, global_unique: true }))
 reverse --db f --prefix=1 --global-unique no | Some(Reverse(1, Store { db: Some(WordText { string: \"f\" }), global_unique: false }))
+migrate | None
+migrate --db f | None
+migrate --populated yes | None
+migrate --db= --populated yes | None
+migrate --db f --populated maybe | None
+migrate --db f --populated Yes | None
+migrate --db f --populated yes --global-unique no | None
+migrate --db f --populated yes x | None
+migrate --db f --populated yes | Some(Migrate { db: WordText { string: \"f\" }, populated: true })
+migrate --populated=no --db=f | Some(Migrate { db: WordText { string: \"f\" }, populated: false })
 reverse-read x | None
 reverse-read --db f | None
 reverse-read --prefix 1 | None

@@ -6,7 +6,7 @@ use history_lock::{Seat, Shared};
 use ipam_keeper::memory::MemoryKeeper;
 use ipam_listen::{Gate, Lane, ListLane};
 use register_core::Register;
-use shared_workers::{Worker, serve_workers};
+use rest_ipam::{Worker, serve_workers};
 use std::alloc::{AllocError, Global};
 use std::marker::{Send, Sync};
 use std::str;

@@ -33,4 +33,7 @@ pub returns-then-is_word-10 : goal.returns-then-is_word-10
 returns-then-is_word-10 c = read_is_asked (codes "reverse-read") c.in-Some.name.now _ c.read_reverse_read.result (c.if-is_word-10.ensures.0 refl) c.in-Some.ensures c.read_reverse_read.ensures
 
 pub returns-then-is_word-11 : goal.returns-then-is_word-11
-returns-then-is_word-11 c = read_is_asked (codes "load") c.in-Some.name.now _ c.read_load.result (c.if-is_word-11.ensures.0 refl) c.in-Some.ensures c.read_load.ensures
+returns-then-is_word-11 c = read_is_asked (codes "migrate") c.in-Some.name.now _ c.read_migrate.result (c.if-is_word-11.ensures.0 refl) c.in-Some.ensures c.read_migrate.ensures
+
+pub returns-then-is_word-12 : goal.returns-then-is_word-12
+returns-then-is_word-12 c = read_is_asked (codes "load") c.in-Some.name.now _ c.read_load.result (c.if-is_word-12.ensures.0 refl) c.in-Some.ensures c.read_load.ensures

@@ -29,3 +29,6 @@ returns-in-ReverseRead-clause-usage g c = λ _. c.say_usage-in-ReverseRead.ensur
 
 pub returns-in-Load-clause-usage : goal.returns-in-Load-clause-usage
 returns-in-Load-clause-usage g c = λ _. c.say_usage-in-Load.ensures _ _
+
+pub returns-in-Migrate-clause-usage : goal.returns-in-Migrate-clause-usage
+returns-in-Migrate-clause-usage g c = λ _. c.say_usage-in-Migrate.ensures _ _

@@ -109,6 +109,7 @@ impl Exported for IpRange {
             status: self.status,
             role: role_name_of(row_tables, self.role)?,
             mark_utilized: self.mark_utilized,
+            mark_populated: self.mark_populated,
             description: self.description.copy()?,
         })
     }

@@ -146,6 +146,7 @@ fn range_draft(row_tables: &RowTables, row: &ImportRow) -> Result<Draft, AllocEr
             status,
             role,
             mark_utilized,
+            mark_populated,
             description,
         } => Ok(Draft::IpRange {
             start: *start,
@@ -154,6 +155,7 @@ fn range_draft(row_tables: &RowTables, row: &ImportRow) -> Result<Draft, AllocEr
             status: *status,
             role: role_id_of(row_tables, role),
             mark_utilized: *mark_utilized,
+            mark_populated: *mark_populated,
             description: description.copy()?,
         }),
         _ => unreachable!(),

@@ -48,7 +48,7 @@ loop-nth-preserved g c =
       first = (
         ap (λ (k : Caller). k.number) s.old_loses_share ∙ i.first.0,
         ap (λ (k : Caller). k.ended) s.old_loses_share ∙ i.first.1,
-        ap (λ (k : Caller). k.opening) s.old_loses_share ∙ i.first.2,
+        ap (λ (k : Caller). k.opening.state) s.old_loses_share ∙ i.first.2,
         ap (λ (k : Caller). k.seen) s.old_loses_share ∙ i.first.3,
       );
       hired = pushed (IsHired c.args.shared.now) c.loop-nth.claimers.items c.push_reserved.new.self.items _ c.push_reserved.ensures.items i.hired

@@ -10,7 +10,7 @@ invariant-loop-nth g l =
       lock : l.seat.lock ≡ l.shared;
       weight : l.seat.weight + length l.claimers.items ≡ 65536;
       spare : l.seat.spare ≡ l.seat.weight;
-      first : (l.seat.number ≡ 0) × (l.seat.ended ≡ []) × (l.seat.opening ≡ empty_state true) × (l.seat.seen ≡ l.fn.seat.seen);
+      first : (l.seat.number ≡ 0) × (l.seat.ended ≡ []) × (l.seat.opening.state ≡ empty_state true) × (l.seat.seen ≡ l.fn.seat.seen);
       hired : All (IsHired l.shared) l.claimers.items;
       numbers : AreNumberedDown top_number l.claimers.items;
       shares : sum_by (λ w. w.share) l.claimers.items + l.left ≡ l.count;

@@ -1,7 +1,7 @@
 use Rattle.std.proofs.Common.{arith, sym, ap, subst}
 use Rattle.ipam_data.specs.declared.range.IpRange.{IpRange}
 use Rattle.placed_book.specs.RowBook.{Book}
-use Rattle.ip_ranges.specs.declared.Which.TheVariants.{All, Marked}
+use Rattle.ip_ranges.specs.declared.SpanKind.TheVariants.{All, Utilized, Populated}
 use Rattle.ip_ranges.specs.Tracks.{IsKept}
 use Rattle.ip_ranges.proofs.Spanned.{kept_track}
 use Rattle.ip_ranges.proofs.RangeBook.put_in_place.Goals as goal
@@ -16,6 +16,8 @@ invariant_of-self c =
       omega (arith, held.0),
       omega (arith, held.1),
       omega (arith, held.2),
-      kept_track All rows c.put.new.self.rows c.self.inside.all.entries c.args.row held.3 kept c.put.ensures.rows,
-      kept_track Marked rows c.put.new.self.rows c.self.inside.marked.entries c.args.row held.4 kept c.put.ensures.rows,
+      omega (arith, held.3),
+      kept_track All rows c.put.new.self.rows c.self.inside.all.entries c.args.row held.4 kept c.put.ensures.rows,
+      kept_track Utilized rows c.put.new.self.rows c.self.inside.utilized.entries c.args.row held.5 kept c.put.ensures.rows,
+      kept_track Populated rows c.put.new.self.rows c.self.inside.populated.entries c.args.row held.6 kept c.put.ensures.rows,
     )

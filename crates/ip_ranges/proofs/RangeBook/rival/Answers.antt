@@ -10,5 +10,5 @@ use Rattle.ip_ranges.proofs.RangeBook.rival.Goals as goal
 pub returns : goal.returns
 returns c = sym (
     subst (λ (b : Book IpRange). least_rival range_id crosses b.rows c.args.row.now ≡ None) c.self.view_is
-    (no_rival c.self.inside.rows.rows c.self.inside.all.entries c.args.row.now c.entry.result c.self.invariant.3 c.entry.ensures (c.may_meet.ensures c.if-may_meet.false))
+    (no_rival c.self.inside.rows.rows c.self.inside.all.entries c.args.row.now c.entry.result c.self.invariant.4 c.entry.ensures (c.may_meet.ensures c.if-may_meet.false))
     )

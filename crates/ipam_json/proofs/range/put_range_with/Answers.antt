@@ -11,10 +11,11 @@ returns c =
     (after (as_family (c.family.ensures.family ∙ ap (λ (a : Address). a.family) c.start.ensures.start) c.in_ok-put_family.ensures)
     (after c.in_ok-put_id.ensures
     (after c.in_ok-put_flag.ensures
+    (after c.in_ok-put_flag-2.ensures
     (after c.in_ok-put_reference.ensures
     (after (as_number c.range_size.ensures c.in_ok-put_number.ensures)
     (after (as_text c.requires.start c.in_ok-put_text-3.ensures)
     (after c.in_ok-put_name.ensures
     (after c.in_ok-put_status.ensures
     (after c.in_ok-put_reference-2.ensures
-    (wrote c.end_object.ensures))))))))))))
+    (wrote c.end_object.ensures)))))))))))))

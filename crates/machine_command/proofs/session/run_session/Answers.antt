@@ -10,8 +10,8 @@ use Rattle.machine_command.specs.Session.{HasFailedCall, Serves}
 use Rattle.machine_command.proofs.Bounded.{bounded, ends_in_memory, none_failed, none_told, not_below, stayed_or_told, stays}
 use Rattle.machine_command.proofs.session.run_session.Goals as goal
 
-pub returns-in-Ok : goal.returns-in-Ok
-returns-in-Ok g c =
+pub returns-in-Ok-clause-session : goal.returns-in-Ok-clause-session
+returns-in-Ok-clause-session g c =
     let P = protocol g.M.Machine.step g.M.Machine.answer g.M.Machine.kind g.M.Machine.fallible g.V.Service.asks g.V.Service.tells g.V.Service.refuses g.V.Service.misread in
     let O = g.O.MachineOpener in
     let U = opener_meaning O.loads O.holds O.refuses O.says in
@@ -68,8 +68,8 @@ returns-in-Ok g c =
           );
     }
 
-pub returns-in-Err : goal.returns-in-Err
-returns-in-Err g c =
+pub returns-in-Err-clause-session : goal.returns-in-Err-clause-session
+returns-in-Err-clause-session g c =
     let e = c.in-Err.ensures in
     let say = c.say.ensures in
     record {

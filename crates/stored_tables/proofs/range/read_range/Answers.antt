@@ -8,9 +8,9 @@ use Rattle.stored_tables.specs.Reading.{IsAny, IsWord, IsAbsentOr, ends_texts, r
 use Rattle.stored_tables.proofs.ColumnLaws.{unread, was_read, row_texts, column, two_columns, next_column, no_more_columns}
 use Rattle.stored_tables.proofs.range.read_range.Goals as goal
 
-pub returns-then-fields-ne7 : goal.returns-then-fields-ne7
+pub returns-then-fields-ne8 : goal.returns-then-fields-ne8
 unfolding range_texts
-returns-then-fields-ne7 c = λ x h e. c.if-fields-ne7.true (sym (ap length (ap row_texts e)))
+returns-then-fields-ne8 c = λ x h e. c.if-fields-ne8.true (sym (ap length (ap row_texts e)))
 
 pub returns-in_default-2 : goal.returns-in_default-2
 unfolding range_texts
@@ -37,10 +37,15 @@ unfolding range_texts
 returns-in_default-read_flag c = λ x h e. unread IsAny flag_text c.mark_utilized-item.result c.read_flag.result c.in_default-read_flag.is c.read_flag.ensures
     x.mark_utilized tt (column 5 c.mark_utilized-item.result (ap row_texts e) c.mark_utilized-item.is)
 
+pub returns-in_default-read_flag-2 : goal.returns-in_default-read_flag-2
+unfolding range_texts
+returns-in_default-read_flag-2 c = λ x h e. unread IsAny flag_text c.mark_populated-item.result c.read_flag-2.result c.in_default-read_flag-2.is c.read_flag-2.ensures
+    x.mark_populated tt (column 6 c.mark_populated-item.result (ap row_texts e) c.mark_populated-item.is)
+
 pub returns-in_default-3 : goal.returns-in_default-3
 unfolding range_texts
 returns-in_default-3 c = λ x h e. unread IsDescription (λ n. n) c.description-item.result c.in_ok-description.field-0 c.in_default-3.is c.in_ok-description.ensures
-    x.description h.bounds.description (column 6 c.description-item.result (ap row_texts e) c.description-item.is)
+    x.description h.bounds.description (column 7 c.description-item.result (ap row_texts e) c.description-item.is)
 
 pub returns : goal.returns
 unfolding range_texts
@@ -53,6 +58,7 @@ returns c =
     let status = was_read IsAny range_status_text c.status-item.result c.read_range_status.result c.in-Some-read_range_status.status c.in-Some-read_range_status.is c.read_range_status.ensures in
     let role = was_read (IsAbsentOr IsWord) reference_text c.role-item.result c.read_reference-2.result c.in-Some-read_reference-2.role c.in-Some-read_reference-2.is c.read_reference-2.ensures in
     let mark_utilized = was_read IsAny flag_text c.mark_utilized-item.result c.read_flag.result c.in-Some-read_flag.mark_utilized c.in-Some-read_flag.is c.read_flag.ensures in
+    let mark_populated = was_read IsAny flag_text c.mark_populated-item.result c.read_flag-2.result c.in-Some-read_flag-2.mark_populated c.in-Some-read_flag-2.is c.read_flag-2.ensures in
     let description = was_read IsDescription (λ n. n) c.description-item.result c.in_ok-description.field-0 c.in-Some-2.description c.in-Some-2.is c.in_ok-description.ensures in (
       record { low = c.requires; high = omega arith; vrf = vrf.0; role = role.0; bounds = record { ends = ends.0; description = description.0 } },
       ap (row_of Ranges c.args.id) (
@@ -62,6 +68,7 @@ returns c =
           next_column xs 3 c.status-item.result (omega arith) c.status-item.is status.1 (
           next_column xs 4 c.role-item.result (omega arith) c.role-item.is role.1 (
           next_column xs 5 c.mark_utilized-item.result (omega arith) c.mark_utilized-item.is mark_utilized.1 (
-          next_column xs 6 c.description-item.result (omega arith) c.description-item.is description.1 (
-          no_more_columns xs 7 (omega arith))))))))),
+          next_column xs 6 c.mark_populated-item.result (omega arith) c.mark_populated-item.is mark_populated.1 (
+          next_column xs 7 c.description-item.result (omega arith) c.description-item.is description.1 (
+          no_more_columns xs 8 (omega arith)))))))))),
     )

@@ -1,0 +1,27 @@
+#!/usr/bin/env python3
+"""docs/openapi-pools.json, beside the program `poold`; bench/openapi.sh says how.
+
+    openapi_pools.py --write                     writes docs/openapi-pools.json
+    openapi_pools.py [--program PROGRAM] [--streams N] [--requests N] [--seed N]
+"""
+import os
+
+import openapi
+import openapi_pools_document
+from agree_pools import Start
+from openapi_document import written
+
+DOCUMENT = os.path.join(openapi.HERE, "..", "docs", "openapi-pools.json")
+
+
+def main():
+    given = openapi.options("POOLD", "poold")
+    document = openapi.read_document(DOCUMENT, written(openapi_pools_document.document()), given.write)
+    if document is None:
+        return
+    seen = openapi.replay(document, given, Start, document.paths["/api/ipam/asn-ranges/"]["get"])
+    print(f"openapi: refusals of the document that were not seen: {', '.join(sorted(set(document.refusals) - seen)) or 'none'}")
+
+
+if __name__ == "__main__":
+    main()

@@ -1,3 +1,0 @@
-pub mod Plainly
-pub mod Asked
-pub mod Telling

@@ -1,0 +1,4 @@
+pub mod Begun
+pub mod Finished
+pub mod Serve
+pub mod Views

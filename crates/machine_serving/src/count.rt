@@ -1,0 +1,58 @@
+//! How many changes were accepted, as a line.
+
+ghost use Rattle.std.specs.Prelude.{◌≡◌, ◌≤◌, ◌+◌, ◌++◌, length};
+ghost use Rattle.arrayvec.specs.ArrayVec.{array_vec_len};
+ghost use Rattle.command_streams.specs.Streams.{EndsWith, told};
+ghost use Rattle.machine_serving.specs.Serve.{entries_line as line_of, listening_status};
+
+use crate::ending::Served;
+use arrayvec::ArrayVec;
+use command_streams::{DONE, FAULT, end_with};
+use http_lanes::Listening;
+use ipam_edge::Sink;
+use itoa::Buffer;
+
+/// How many bytes the line has, at most.
+const LINE: usize = 64;
+
+/// Puts bytes behind the line, which has room for them.
+fn push_bytes(line: &mut ArrayVec<u8, LINE>, bytes: &[u8])
+    requires { array_vec_len line.old + length bytes.now ≤ 64 }
+    ensures { line.new.items ≡ line.old.items ++ bytes.now }
+{
+    match line.try_extend_from_slice(bytes) {
+        Ok(()) => {}
+        Err(_) => unreachable!(),
+    }
+}
+
+/// The line. It takes no memory.
+fn entries_line(entries: u64) -> ArrayVec<u8, LINE>
+    ensures { result.items ≡ line_of entries }
+{
+    let mut digits = Buffer::new();
+    let mut line = ArrayVec::<u8, LINE>::new();
+    push_bytes(&mut line, b"entries ");
+    push_bytes(&mut line, digits.format(entries).as_bytes());
+    push_bytes(&mut line, b"\n");
+    line
+}
+
+/// The status of a listening that ended so, where nothing else fails.
+fn status_of(listening: Listening) -> u8
+    ensures { result ≡ listening_status listening }
+{
+    match listening {
+        Listening::Whole => DONE,
+        Listening::Broken => FAULT,
+    }
+}
+
+/// Prints how many changes were accepted, and gives the status of that.
+pub fn say_entries<Si: Sink>(served: Served, output: &mut Si) -> u8
+    ensures said { EndsWith (told Si.written Si.faults output.old) (told Si.written Si.faults output.new) (line_of served.entries) (listening_status served.listening) result }
+    ensures later { Si.faults output.old ≤ Si.faults output.new }
+{
+    let line = entries_line(served.entries);
+    end_with(output, line.as_slice(), status_of(served.listening))
+}

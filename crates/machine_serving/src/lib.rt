@@ -1,0 +1,15 @@
+//! The command `serve` of a program that serves a machine, whatever the machine is and whatever opens it: what stands before its workers
+//! start and behind their end, and what is printed and said. The workers' threads are started by the program itself, between the two.
+#![tactic(auto)]
+
+mod begin;
+mod count;
+mod ending;
+mod finish;
+mod unserved;
+
+pub use begin::{Begun, begin_serve};
+pub use count::say_entries;
+pub use ending::{Served, Unserved};
+pub use finish::finish_serve;
+pub use unserved::say_unserved;

@@ -1,0 +1,41 @@
+-- What the process ends with: the status of one run over standard streams, or that of arguments which are no text.
+use Rattle.std.proofs.Common.{◌≡◌, ℕ, List, None, inl, inr, refl, sym, subst}
+use Rattle.command_streams.specs.Streams.{Streams, Told, streams}
+use Rattle.machine_command.specs.Outside.{Stores, outside}
+use Rattle.pool_keeper.specs.declared.tables.PoolTables.{PoolTables}
+use Rattle.machine_serving.specs.Views.{ListenerView}
+use Rattle.pool_command.specs.Runs.{IsUsage, Runs, SaysUsage}
+use Rattle.pool_command.specs.Program.{AreUntold, RunsOver, HasNoText}
+
+-- a stream that tells nothing and has not failed
+abbrev untold : Told
+untold = record { bytes = None; faults = 0 }
+
+-- a run of words that are these
+pub runs_over : (words asked : List (List ℕ)) (old new : Streams) (stores_before stores_after : Stores PoolTables) (before after : ListenerView) (status : ℕ) → asked ≡ words → AreUntold old
+    → Runs asked (outside old stores_before) (outside new stores_after) before after status → RunsOver words stores_before stores_after before after status
+runs_over words asked old new stores_before stores_after before after status same untold runs = (
+  old,
+  new,
+  untold,
+  subst (λ (w : List (List ℕ)). Runs w (outside old stores_before) (outside new stores_after) before after status) same runs,
+)
+
+-- where memory ran out to read the words nothing was used
+pub not_run : (words : List (List ℕ)) (stores : Stores PoolTables) (view : ListenerView) (status : ℕ) → status ≡ 5 → RunsOver words stores stores view view status
+not_run words stores view status five = (
+  streams untold untold untold,
+  streams untold untold untold,
+  record { input = record { bytes = refl; faults = refl }; output = record { bytes = refl; faults = refl }; errors = record { bytes = refl; faults = refl } },
+  inr (inr (five, refl, refl)),
+)
+
+-- the usage line was said to standard error
+pub says_usage : (old new : Told) (stores : Stores PoolTables) (view : ListenerView) (status said : ℕ) → old.bytes ≡ None → old.faults ≡ 0 → status ≡ said
+    → ((input output : Told) → IsUsage (streams input output old) (streams input output new) said) → HasNoText stores stores view view status
+says_usage old new stores view status said bytes faults same usage = (
+  streams untold untold old,
+  streams untold untold new,
+  record { input = record { bytes = refl; faults = refl }; output = record { bytes = refl; faults = refl }; errors = record { bytes = bytes; faults = faults } },
+  subst (λ (n : ℕ). SaysUsage (outside (streams untold untold old) stores) (outside (streams untold untold new) stores) view view n) (sym same) (usage untold untold, refl, refl),
+)

@@ -1,0 +1,57 @@
+-- Where nothing fails, a fault of told tables gives status 1: with status 0 they were loaded, and had none.
+use Rattle.std.proofs.Common.{◌≡◌, ℕ, ◌⊎◌, inl, inr, List, Option, Some, None, sym, ◌∙◌, ap, subst}
+use Rattle.machine_serving.specs.Views.{ListenerView}
+use Rattle.pool_keeper.specs.declared.tables.PoolTables.{PoolTables}
+use Rattle.pool_keeper.specs.Keeping.{started}
+use Rattle.pool_opening.specs.Faults.{fault_of}
+use Rattle.pool_register.specs.Kept.{Seen}
+use Rattle.pool_register.specs.Opened.{IsOpened}
+use Rattle.pool_store.specs.Opening.{IsLoaded}
+use Rattle.pool_words.specs.Asked.{Asks}
+use Rattle.pool_words.specs.declared.asked.Command.{Command}
+use Rattle.pool_words.specs.declared.asked.Command.TheVariants.{Session, Serve}
+use Rattle.pool_words.specs.declared.asked.Serving.{Serving}
+use Rattle.pool_words.proofs.Unique.{words_ask_for_one}
+use Rattle.pool_command.specs.Clauses.{Counts, IsDone, Opens}
+use Rattle.pool_command.specs.Exact.{HasBadTables, RunsAreExact}
+use Rattle.pool_command.specs.Runs.{PoolOutside}
+use Rattle.pool_command.proofs.RunLaws.{runs_have_clauses}
+
+-- tables that were loaded have no fault
+not_loaded : (path : Option (List ℕ)) (old : PoolOutside) (s : Seen) → HasBadTables path old → IsLoaded path old.stores.stored s → ⊥
+not_loaded path old s bad loaded =
+    let opened : IsOpened (Some bad.tables) s.pools = subst (λ (t : Option PoolTables). IsOpened t s.pools) bad.told loaded.pools in
+    let none : fault_of bad.tables ≡ None = opened.0 in
+    let some = bad.bad in
+    cc (sym none ∙ some)
+
+one_path : (a b : Option (List ℕ)) → Session a ≡ Session b → a ≡ b
+one_path a b same = cc
+
+one_store : (s t : Serving) → Serve s ≡ Serve t → s ≡ t
+one_store s t same = cc
+
+not_done : (words : List (List ℕ)) (old new : PoolOutside) (before after : ListenerView) (path : Option (List ℕ)) → Opens words path → HasBadTables path old → IsDone words old new before after → ⊥
+not_done words old new before after path (inl asks) bad (inl d) =
+    (let one = one_path d.0 path (words_ask_for_one words (Session d.0) (Session path) d.1 asks) in
+    not_loaded path old d.2.first.opening bad (subst (λ (p : Option (List ℕ)). IsLoaded p old.stores.stored d.2.first.opening) one d.2.loaded))
+not_done words old new before after path (inl asks) bad (inr d) = (let wrong : Serve d.0 ≡ Session path = words_ask_for_one words (Serve d.0) (Session path) d.1 asks in cc)
+not_done words old new before after path (inr o) bad (inl d) = (let wrong : Session d.0 ≡ Serve o.0 = words_ask_for_one words (Session d.0) (Serve o.0) d.1 o.1 in cc)
+not_done words old new before after path (inr o) bad (inr d) =
+    (let one = one_store d.0 o.0 (words_ask_for_one words (Serve d.0) (Serve o.0) d.1 o.1) in
+    let c : Counts o.0 old new before after = subst (λ (s : Serving). Counts s old new before after) one d.2 in
+    not_loaded path old c.serves.opening bad (subst (λ (p : Option (List ℕ)). IsLoaded p old.stores.stored c.serves.opening) o.2 c.serves.loaded))
+
+-- the command that opens the pools of this path
+opener_of : (words : List (List ℕ)) (path : Option (List ℕ)) → Opens words path → (command : Command) × Asks words command
+opener_of words path (inl asks) = (Session path, asks)
+opener_of words path (inr o) = (Serve o.0, o.1)
+
+pub runs_are_exact : RunsAreExact
+runs_are_exact = λ words old new before after status runs well heard path opens bad.
+    let c = runs_have_clauses words old new before after status runs in
+    let o = opener_of words path opens in
+    elim (c.complete o.0 o.1 well (heard o.0 o.1)) [
+      | inl zero_ ↦ absurd (not_done words old new before after path opens bad (c.done zero_).0)
+      | inr more ↦ more
+    ]

@@ -1,0 +1,7 @@
+pub mod Ending
+pub mod ExactLaws
+pub mod NotBegun
+pub mod Outcomes
+pub mod Parts
+pub mod RunLaws
+pub mod Sent

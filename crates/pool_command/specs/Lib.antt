@@ -1,0 +1,4 @@
+pub mod Runs
+pub mod Clauses
+pub mod Exact
+pub mod Program

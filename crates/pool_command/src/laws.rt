@@ -1,0 +1,14 @@
+//! Laws of a run: the function is empty, and its contract is the law.
+
+ghost use Rattle.pool_command.specs.Clauses.{RunsHaveClauses};
+ghost use Rattle.pool_command.specs.Exact.{RunsAreExact};
+
+/// The one relation of a run gives each promise of the program.
+pub fn runs_have_clauses()
+    ensures { RunsHaveClauses }
+{}
+
+/// Status 1 comes exactly for its cause: where nothing fails, told tables that have a fault give it, memory apart.
+pub fn runs_are_exact()
+    ensures { RunsAreExact }
+{}

@@ -1,0 +1,27 @@
+//! The words of each command as clap takes them.
+
+ghost use Rattle.std.specs.Prelude.{◌≡◌, IfOk};
+ghost use Rattle.clap.specs.Words.{app_of};
+ghost use Rattle.pool_words.specs.Grammar.{serve_app, session_app};
+
+use command_grammar::{needed, option, plain_command, with};
+use std::alloc::{AllocError, Global};
+
+/// `session`. `Err` means out of memory.
+#[tactic(auto, unfolding(crate::specs::Grammar::session_app))]
+pub(crate) fn session_command<'a>(alloc: Global) -> Result<clap::Command<'a>, AllocError>
+    ensures { IfOk result (λ c. app_of c ≡ session_app) }
+{
+    with(plain_command(alloc, "session"), option(alloc, "db"))
+}
+
+/// `serve --bind HOST:PORT --workers N`. `Err` means out of memory.
+#[tactic(auto, unfolding(crate::specs::Grammar::serve_app))]
+pub(crate) fn serve_command<'a>(alloc: Global) -> Result<clap::Command<'a>, AllocError>
+    ensures { IfOk result (λ c. app_of c ≡ serve_app) }
+{
+    let command = with(plain_command(alloc, "serve"), needed(alloc, "bind"))?;
+    let command = with(command, needed(alloc, "workers"))?;
+    let command = with(command, option(alloc, "connections"))?;
+    with(command, option(alloc, "db"))
+}

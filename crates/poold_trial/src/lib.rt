@@ -1,0 +1,13 @@
+//! The commands of `poold`, tried whole: their words, inputs and outputs, over a store in memory and a listener of lists.
+#![tactic(auto)]
+
+#[cfg(test)]
+mod cases;
+#[cfg(test)]
+mod claims;
+#[cfg(test)]
+mod exchanges;
+#[cfg(test)]
+mod running;
+#[cfg(test)]
+mod stores;

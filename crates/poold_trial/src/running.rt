@@ -1,0 +1,54 @@
+//! `run_pools` over objects in memory.
+
+use ipam_edge::{BytesSink, BytesSource};
+use ipam_listen::ListListener;
+use pool_command::run_pools;
+use pool_keeper::opener::MemoryPoolOpener;
+use std::alloc::{AllocError, Global};
+use std::marker::Sync;
+use std::sync::Wait;
+use std::thread::Threads;
+
+/// What a run left: its status, the output, the messages.
+#[derive(Drop)]
+pub struct Left {
+    pub status: u8,
+    pub output: Vec<u8>,
+    pub errors: Vec<u8>,
+}
+
+/// Runs words, with one space between two of them, over an input that comes in pieces of this size.
+pub fn run_words<R: Threads + Wait + Sync>(
+    rt: &R,
+    alloc: Global,
+    words: &str,
+    input: &[u8],
+    piece: usize,
+    listener: &mut ListListener,
+    opener: &mut MemoryPoolOpener,
+) -> Result<Left, AllocError> {
+    let piece = piece.max(1);
+    let mut list = Vec::new(alloc);
+    for word in words.split(' ') {
+        list.push(word)?;
+    }
+    let bytes = Vec::from_slice(alloc, input)?;
+    let mut input = BytesSource::new(bytes, Vec::new(alloc), piece);
+    let mut output = BytesSink::new(alloc, Vec::new(alloc), piece, 65_536)?;
+    let mut errors = BytesSink::new(alloc, Vec::new(alloc), piece, 4_096)?;
+    let status = run_pools(
+        rt,
+        alloc,
+        &list,
+        &mut input,
+        &mut output,
+        &mut errors,
+        listener,
+        opener,
+    );
+    Ok(Left {
+        status,
+        output: output.into_bytes(),
+        errors: errors.into_bytes(),
+    })
+}

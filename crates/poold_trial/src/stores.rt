@@ -1,0 +1,85 @@
+//! A store from a line: the next ids and, behind semicolons, rows and the numbers of the calls of each keeper that fail.
+
+use number_pools::{Listed, Member, NumberRange, PoolKind};
+use pool_keeper::opener::MemoryPoolOpener;
+use pool_keeper::tables::PoolTables;
+use std::alloc::{AllocError, Global};
+use stored_tables::tables::Text;
+
+/// A word of a part.
+fn word(part: &str, index: usize) -> &str {
+    part.split(' ').nth(index).unwrap_or("")
+}
+
+/// The number that a word is, or 0.
+fn number(part: &str, index: usize) -> u32 {
+    word(part, index).parse::<u32>().unwrap_or(0)
+}
+
+fn text_of(alloc: Global, text: &str) -> Result<Text, AllocError> {
+    Ok(Text::of(String::from_str(alloc, text)?))
+}
+
+/// `range ID KIND NAME FIRST LAST`.
+fn range_of(alloc: Global, part: &str) -> Result<NumberRange, AllocError> {
+    let kind = if word(part, 2) == "vlan" {
+        PoolKind::Vlan
+    } else {
+        PoolKind::Asn
+    };
+    Ok(NumberRange {
+        id: number(part, 1),
+        kind,
+        name: text_of(alloc, word(part, 3))?,
+        first: number(part, 4),
+        last: number(part, 5),
+    })
+}
+
+/// `member ID RANGE NUMBER`.
+fn member_of(alloc: Global, part: &str) -> Result<Member, AllocError> {
+    Ok(Member {
+        id: number(part, 1),
+        range: number(part, 2),
+        number: number(part, 3),
+        name: text_of(alloc, "")?,
+    })
+}
+
+/// The tables of a line.
+fn tables_of(alloc: Global, line: &str) -> Result<PoolTables, AllocError> {
+    let mut ranges = Vec::new(alloc);
+    let mut members = Vec::new(alloc);
+    for part in line.split(';') {
+        if part.starts_with("range ") {
+            ranges.push(range_of(alloc, part)?)?;
+        }
+        if part.starts_with("member ") {
+            members.push(member_of(alloc, part)?)?;
+        }
+    }
+    Ok(PoolTables {
+        next_range: number(line, 0),
+        next_member: number(line.split(';').next().unwrap_or(""), 1),
+        ranges: Listed::of(ranges),
+        members: Listed::of(members),
+    })
+}
+
+/// `fails N ..`.
+fn fails_of(alloc: Global, line: &str) -> Result<Vec<u32>, AllocError> {
+    let mut fails = Vec::new(alloc);
+    for part in line.split(';') {
+        if part.starts_with("fails ") {
+            fails.push(number(part, 1))?;
+        }
+    }
+    Ok(fails)
+}
+
+/// An opener with the tables of a line under the path `a`.
+pub fn opener_of(alloc: Global, line: &str) -> Result<MemoryPoolOpener, AllocError> {
+    let mut stored = Vec::new(alloc);
+    stored.push((text_of(alloc, "a")?, tables_of(alloc, line)?))?;
+    Ok(MemoryPoolOpener::new(stored, fails_of(alloc, line)?))
+}

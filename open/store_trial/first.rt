@@ -1,0 +1,107 @@
+//! A database of version 1 that the program `sqlite3` made of bench/tables_first.sql is migrated, and loaded again.
+
+use crate::database::{bytes_of, connection_of};
+use crate::first_file::FILE;
+use crate::tests::{followed, loaded};
+use ipam_keeper::keeper::Keeper;
+use sqlite::Alter;
+use sqlite_keeper::SqliteKeeper;
+use std::alloc::{AllocError, Global};
+use std::test::Fail;
+use stored_tables::migration::migrate;
+
+/// What is loaded of it, up to the ranges.
+const FRONT: &str = "3,4,5,6,7,8,9,:\
+Vrfs 1 red 65000:1 false office;Vrfs 2 blue 65000:2 true guests;Rirs 1 ARIN arin true north;Rirs 2 RIPE NCC ripe false east;\
+Roles 1 LAN lan 10 cables;Roles 2 WAN wan 32767 links;Aggregates 1 10.0.0.0/8 2 own;Aggregates 2 2001:db8::/32 1 six;\
+Prefixes 1 10.0.0.0/16 1 container 2 true false halls;Prefixes 2 2001:db8::/48 2 reserved 1 false true rooms;";
+
+/// The ranges, each in front of its mark and behind it.
+const RANGES: &str = "\
+Ranges 1 10.0.0.10/24 10.0.0.19/24 1 reserved 2 true| printers;
+Ranges 2 2001:db8::a/64 2001:db8::f/64 2 deprecated 1 false| phones;
+Ranges 7 10.0.0.1/24 10.0.0.9/24  active  false| ;
+";
+
+/// What is loaded behind them.
+const BACK: &str = "\
+Addresses 1 10.0.0.1/24 1 dhcp vip gw.example.org gateway;Addresses 2 2001:db8::5/64 2 slaac carp b.example.org host;";
+
+/// What is loaded where the ranges have this mark, which may be none.
+fn wanted(alloc: Global, version: u32, mark: &str) -> Result<String, AllocError> {
+    let mut text = format!(in alloc; "{version}:")?;
+    text.push_str(FRONT)?;
+    for line in RANGES.lines() {
+        let (front, back) = line.split_once('|').unwrap_or(("", ""));
+        text.push_str(front)?;
+        text.push_str(mark)?;
+        text.push_str(back)?;
+    }
+    text.push_str(BACK)?;
+    Ok(text)
+}
+
+/// Migrates what a keeper has, and says whether it did.
+fn is_migrated<K: Keeper>(keeper: &mut K, populated: bool) -> bool {
+    match keeper.load() {
+        Ok(tables) => match migrate(&tables, populated) {
+            Ok(anew) => keeper.upgrade(&anew).is_ok(),
+            Err(_) => false,
+        },
+        Err(_) => false,
+    }
+}
+
+/// Why what a keeper has is not migrated, or that it could be.
+fn refused<K: Keeper>(alloc: Global, keeper: &mut K) -> Result<String, AllocError> {
+    match keeper.load() {
+        Ok(tables) => match migrate(&tables, true) {
+            Ok(_) => String::from_str(alloc, "migrated"),
+            Err(fault) => format!(in alloc; "{fault:?}"),
+        },
+        Err(fault) => format!(in alloc; "{fault:?}"),
+    }
+}
+
+/// What a keeper loads before it is migrated and what one over the same database loads after that, and why it is not migrated again.
+fn around<S: Alter + Drop>(
+    alloc: Global,
+    mut keeper: SqliteKeeper<S>,
+    populated: bool,
+) -> Result<String, AllocError> {
+    let mut text = loaded(alloc, &mut keeper)?;
+    if !is_migrated(&mut keeper, populated) {
+        return Err(AllocError);
+    }
+    let mut keeper = followed(alloc, keeper);
+    text.push('\n')?;
+    text.push_str(loaded(alloc, &mut keeper)?.as_str())?;
+    text.push('\n')?;
+    text.push_str(refused(alloc, &mut keeper)?.as_str())?;
+    Ok(text)
+}
+
+/// What they should be.
+fn wanted_around(alloc: Global, mark: &str) -> Result<String, AllocError> {
+    let mut text = wanted(alloc, 1, "")?;
+    text.push('\n')?;
+    text.push_str(wanted(alloc, 2, mark)?.as_str())?;
+    text.push_str("\nVersion(2)")?;
+    Ok(text)
+}
+
+/// What a keeper over that database does.
+fn found_around(alloc: Global, populated: bool) -> Result<String, AllocError> {
+    let bytes = bytes_of(alloc, FILE)?;
+    let conn = connection_of(alloc, bytes.as_slice())?;
+    around(alloc, SqliteKeeper::adopt(alloc, conn), populated)
+}
+
+#[test]
+fn a_database_of_version_1_is_migrated(rt: HostRuntime) -> Result<(), Fail> {
+    let found = found_around(rt.alloc(), true)?;
+    assert!(rt; found == wanted_around(rt.alloc(), " true")?, "{found}");
+    let found = found_around(rt.alloc(), false)?;
+    assert!(rt; found == wanted_around(rt.alloc(), " false")?, "{found}");
+    Ok(())
+}
