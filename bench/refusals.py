@@ -57,6 +57,10 @@ def names(first, count):
     return "name\n" + "".join(f"x{n}\n" for n in range(first, first + count))
 
 
+def ranges(count):
+    return "start_address,end_address\n" + "".join(f"10.{n >> 8}.{n & 255}.1/24,10.{n >> 8}.{n & 255}.9/24\n" for n in range(count))
+
+
 def written(text):
     return lambda path: open(path, "w").write(text)
 
@@ -108,6 +112,8 @@ CASES = [
     Case("store: version 2", "store: version 2", 1, "migrate --populated yes", before=ONE, then_file=sql("UPDATE meta SET value = 1 WHERE name = 'version'")),
     Case("store: version 1", "store: version 1", 1, "session", before=ONE, file=sql("UPDATE meta SET value = 1 WHERE name = 'version'"),
          then_words="migrate --populated yes"),
+    Case("store: the store could not be written", "store: the store could not be written", 4, "migrate --populated yes", before=(("import ip-ranges", ranges(900)),),
+         file=sql("UPDATE meta SET value = 1 WHERE name = 'version'"), limited=65536),
     Case("store: KIND N: unreadable", "store: prefixes 1: unreadable", 1, "report tree", before=ONE, file=sql("UPDATE prefixes SET prefix = 'x'"),
          then_file=sql("UPDATE prefixes SET prefix = '10.0.0.0/24' WHERE id = 1")),
     Case("store: KIND N: CODE: DETAIL", "store: prefixes 2: duplicate: coincides with 1", 1, "export prefixes", before=TWO,
