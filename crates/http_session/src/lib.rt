@@ -13,7 +13,7 @@ mod request;
 mod session;
 mod wait;
 
-pub use answer::{PutEnd, put_answer};
+pub use answer::{PutEnd, put_answer, put_parts};
 pub use laws::{cut_anywhere, more_bytes, one_list, one_reading};
 pub use reply::{Body, NumberField, Reply};
 pub use request::{Asked, Fault, HttpRequest, Inbox, next_request};

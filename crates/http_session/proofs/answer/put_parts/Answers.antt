@@ -2,14 +2,13 @@ use Rattle.std.proofs.Common.{rules, [], sym, option_map}
 use Rattle.std.proofs.KnownBytes.{Appends-nil}
 use Rattle.ipam_edge.proofs.WritingLemmas.{write_then}
 use Rattle.http_session.specs.Answers.{IsGathered}
-use Rattle.http_session.specs.Replies.{body_bytes, field_of}
+use Rattle.http_session.specs.Replies.{field_of}
 use Rattle.http_session.proofs.Texts.{text_is, put_text}
-use Rattle.http_session.proofs.answer.put_answer.Goals as goal
+use Rattle.http_session.proofs.answer.put_parts.Goals as goal
 
 pub returns-clause-told : goal.returns-clause-told
 returns-clause-told g c =
     let w = g.S.Sink.written c.args.sink.now in
-    let reply = c.args.reply.now in
     let h0 : IsGathered w w c.new-answer_writer.result.end c.new-answer_writer.result.gathered.items [] = rw c.new-answer_writer.ensures.0 ([], Appends-nil w, sym c.new-answer_writer.ensures.1) in
     let h1 = c.put.ensures.told w [] h0 in
     let h2 = c.put-2.ensures.told w _ h1 in
@@ -21,7 +20,7 @@ returns-clause-told g c =
     let h8 = c.put_line-5.ensures.told w _ h7 in
     let h9 = c.put-3.ensures.told w _ h8 in
     let h10 = c.put-4.ensures.told w _ h9 in
-    let e = text_is reply.status reply.allow.now (option_map field_of reply.field) reply.media.now c.args.close c.args.bare (body_bytes reply.body) c.sent_body.result.now c.as_bytes.result.now c.phrase.result.now c.as_bytes-length.result.now c.bytes-body.result.now _ _
+    let e = text_is c.args.status c.args.allow.now (option_map field_of c.args.field.now) c.args.media.now c.args.close c.args.bare c.args.body.now c.sent_body.result.now c.as_bytes.result.now c.phrase.result.now c.as_bytes-length.result.now c.args.body.now _ _
     (search rules) (search rules) (search rules) (search rules) (search rules) c.sent_body.ensures (search rules) in
     put_text w (g.S.Sink.written c.finish.new.sink) c.finish.result _ _ e (c.finish.ensures.told w _ h10)
 
