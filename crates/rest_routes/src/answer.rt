@@ -125,7 +125,7 @@ pub fn answer_of_refusal(
 }
 
 /// The refusal of bytes that stand in the place of a request and are none.
-fn refusal_of(fault: Fault) -> Refusal
+pub fn refusal_of(fault: Fault) -> Refusal
     ensures refusal { result ≡ spec.refusal_of fault }
     ensures fixed { is_fixed result ≡ true }
 {

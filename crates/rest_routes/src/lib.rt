@@ -10,7 +10,7 @@ mod table;
 
 pub use answer::{
     answer_of_fault, answer_of_refusal, answer_of_refusal_by, answer_of_reply, answer_of_want,
-    finish_links, page_end,
+    finish_links, page_end, refusal_of,
 };
 pub use call::{read_call, read_call_by};
 pub use laws::request_is_one;
