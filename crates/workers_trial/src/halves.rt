@@ -47,7 +47,8 @@ fn answers_are_written_of_their_parts(rt: HostRuntime) -> Result<(), Fail> {
     let mut sink = BytesSink::new(alloc, Vec::new(alloc), 4096, 4096)?;
     let made = put_answer(&mut sink, 201, b"", Some(3), false, b"{}");
     let gone = put_answer(&mut sink, 405, b"GET", None, true, b"");
-    let want = b"HTTP/1.1 201 Created\r\nContent-Type: application/json\r\nContent-Length: 2\r\nIpam-Place: 3\r\n\r\n{}HTTP/1.1 405 Method Not Allowed\r\nAllow: GET\r\nConnection: close\r\n\r\n";
+    let want =
+        b"HTTP/1.1 201 Created\r\nContent-Type: application/json\r\nContent-Length: 2\r\nIpam-Place: 3\r\n\r\n{}HTTP/1.1 405 Method Not Allowed\r\nAllow: GET\r\nConnection: close\r\n\r\n";
     assert_eq!(rt; sink.bytes(), want.as_slice());
     assert_eq!(rt; made, PutEnd::Whole);
     assert_eq!(rt; gone, PutEnd::Whole);
