@@ -172,7 +172,7 @@ class Client(threading.Thread):
             ("ip-addresses", {"address": self.some_block(32, 32)[:-2] + "20", "vrf": vrf, "status": status, "dns_name": f"Host{pick.randrange(1000)}.Example",
                               "role": pick.choice(["vip", None])}),
             ("ip-ranges", {"start_address": f"10.{self.number}.{pick.randrange(256)}.10/24", "end_address": f"10.{self.number}.{pick.randrange(256)}.99/24",
-                           "role": role, "status": status}),
+                           "role": role, "status": status, "mark_populated": pick.random() < 0.3}),
             ("vrfs", {"name": self.some_name(), "rd": pick.choice([None, slug]), "enforce_unique": pick.random() < 0.5}),
             ("roles", {"name": self.some_name(), "slug": slug, "weight": pick.randrange(1000)}),
             ("rirs", {"name": self.some_name(), "slug": slug, "is_private": pick.random() < 0.5}),

@@ -12,6 +12,7 @@ import os
 import re
 import shutil
 import signal
+import sqlite3
 import subprocess
 import sys
 import tempfile
@@ -73,6 +74,14 @@ def office(rows):
         for kind, text in rows.items():
             subprocess.run(["./ipamd", "import", kind, "--db", "office.db"], cwd=folder, input=text.encode(), check=True, stdout=subprocess.DEVNULL)
     return make
+
+
+def first_office(folder):
+    """A register that an older program made, of version 1."""
+    forget_office(folder)
+    with open(os.path.join(TOP, "bench/tables_first.sql"), encoding="utf-8") as text, sqlite3.connect(os.path.join(folder, "office.db")) as made:
+        made.executescript(text.read())
+    made.close()
 
 
 def serving(folder):
@@ -155,6 +164,7 @@ STEPS = [
     using("""curl -s -d '[{"prefix_length":25},{"prefix_length":25}]' $U/prefixes/1/available-prefixes/""", r'\A\{"code":"no_space","detail":"[^"]*\b1\b[^"]*"\}\Z'),
     using("curl -s $U/prefixes/1/utilization/", r'\A\{"utilization":\d+\}\Z'),
     using("curl -s $U/ip-ranges/1/utilization/", r'\A\{"utilization":10\}\Z'),
+    using("""curl -s -X PATCH -d '{"mark_populated":true}' $U/ip-ranges/1/""", r'"mark_populated":true'),
     using("curl -s $U/aggregates/1/utilization/", r'\A\{"utilization":0\}\Z'),
     using("curl -s -X DELETE $U/prefixes/1/", r"\A\Z"),
     using("curl -s -X DELETE $U/rirs/1/", r'\A\{"code":"in_use","detail":"named by aggregates 1"\}\Z'),
@@ -191,6 +201,11 @@ STEPS = [
     lambda folder: expect(folder, "prefixes.csv", "prefix,vrf,status,role,description\n10.9.0.0/24,,active,,first floor\n10.9.1.0/24,,reserved,,\n"),
     using(PYTHON, r"\A\Z"),
     lambda folder: expect(folder, "prefixes.csv", "prefix,vrf,status,description\n10.9.0.0/24,,active,first floor\n10.9.1.0/24,,reserved,\n"),
+    first_office,
+    using("./ipamd migrate --db office.db --populated yes", r"\Amigrated 3\n\Z"),
+    lambda folder: serving(folder) + ["--db", "office.db"],
+    using("""curl -s -X PATCH -d '{"mark_populated":false}' $U/ip-ranges/7/""", r'"id":7,"mark_populated":false'),
+    None,
     using("./ipamd load 1000 --workers 4", r"\Aclaimed 1000\nfirst 10\.0\.0\.1\nlast 10\.0\.3\.232\npercent 24\nentries 1001\n\Z"),
     clients("./ipamd serve --bind 127.0.0.1:8080 --workers 4 &", "", stays=True),
     clients("examples/client_curl.sh http://127.0.0.1:8080", r"client_curl: 23 answers, all as they should be\n\Z"),

@@ -135,6 +135,8 @@ look 0 '^ExecMainStatus=1$' 'systemctl start ipamd; sleep 8; systemctl show -p E
 look 0 'store: version 1' 'journalctl --no-pager -u ipamd | tail -n 20'
 step 0 '' 'systemctl stop ipamd'
 step 0 '' 'cp /var/lib/ipamd/register.db register-before.db'
+look 0 '' '[ ! -e /var/lib/ipamd/register.db-wal ] || cp /var/lib/ipamd/register.db-wal register-before.db-wal'
+look 1 '^store: version 1$' 'ipamd session --db register-before.db < /dev/null'
 step 0 '^migrated 3$' 'ipamd migrate --db /var/lib/ipamd/register.db --populated yes'
 look 1 '^store: version 2$' 'ipamd migrate --db /var/lib/ipamd/register.db --populated yes'
 look 0 '' 'systemctl reset-failed ipamd'

@@ -52,13 +52,13 @@ prints may first register (Some input) (Some left) written_old written_new n byt
     )
 
 -- where the opener's count did not rise, no answer told that the keeper failed
-none_failed : (old mid count new told : ℕ) → Reaches told count → old ≤ mid → IsRaised mid count new → (¬ Rose old new) → told ≡ 0
+none_failed : (old mid count new told : ℕ) → Reaches (0 + told) count → old ≤ mid → IsRaised mid count new → (¬ Rose old new) → told ≡ 0
 none_failed old mid count new zero few later raised well = refl
 none_failed old mid count new (suc told) (inl few) later (inl is) well = absurd (well (inl (omega arith)))
 none_failed old mid count new (suc told) (inr most) later (inl is) well = absurd (well (inr (omega arith)))
 none_failed old mid count new (suc told) few later (inr is) well = absurd (well (inr (let e = is.1 in omega arith)))
 
-bounded : (old mid count new told : ℕ) → Reaches told count → old ≤ mid → IsRaised mid count new → (old + told ≤ new) ⊎ (last_count ≤ new)
+bounded : (old mid count new told : ℕ) → Reaches (0 + told) count → old ≤ mid → IsRaised mid count new → (old + told ≤ new) ⊎ (last_count ≤ new)
 bounded old mid count new told (inl few) later (inl is) = inl (omega arith)
 bounded old mid count new told (inr most) later (inl is) = inr (omega arith)
 bounded old mid count new told few later (inr is) = inr (let e = is.1 in omega arith)

@@ -58,18 +58,18 @@ module _ (words : List (List ℕ)) (old new : PoolOutside) (before after : Liste
   bad : (path : Option (List ℕ)) (fault : PoolFault) → Opens words path → IsOfTables fault → IsRefusedOpening path old.stores new.stores fault → IsUnused old new → after ≡ before
       → EndsWith old.streams.errors new.streams.errors (fault_line fault) 1 status → Outcome words old new before after status
   bad path fault opens of_tables refused unused idle (inl said) =
-      inr (inl (said.0, (path, opens, record { fault = fault; of_tables = of_tables; cause = refused.cause; said = said.1; unused = unused }), nobody_came before after idle))
+      inr (inl (said.0, ((path, opens, record { fault = fault; of_tables = of_tables; cause = refused.cause; said = said.1; unused = unused }), nobody_came before after idle)))
   bad path fault opens of_tables refused unused idle (inr said) = inr (inr (inl (said.0, inr (inr (inl said.1)))))
 
   refused_by : (path : Option (List ℕ)) (fault : PoolFault) → Opens words path → IsRefusedOpening path old.stores new.stores fault → IsUnused old new → after ≡ before
       → IsSaid fault old.streams.errors new.streams.errors status → Outcome words old new before after status
   refused_by path Keeper opens refused unused idle (inl said) =
-      inr (inr (inr (inl (said.0, nobody_came before after idle, (path, opens), record { failed = refused.failed refl; said = said.1; unused = unused }))))
+      inr (inr (inr (inl (said.0, (nobody_came before after idle, (path, opens), record { failed = refused.failed refl; said = said.1; unused = unused })))))
   refused_by path Keeper opens refused unused idle (inr said) = inr (inr (inl (said.0, inr (inr (inl said.1)))))
   refused_by path (BadRange id) opens refused unused idle said = bad path (BadRange id) opens tt refused unused idle said
   refused_by path (BadMember id) opens refused unused idle said = bad path (BadMember id) opens tt refused unused idle said
   refused_by path BadNext opens refused unused idle said = bad path BadNext opens tt refused unused idle said
-  refused_by path Memory opens refused unused idle said = inr (inr (inr (inr (said.0, said.1, inr unused.output))))
+  refused_by path Memory opens refused unused idle said = inr (inr (inr (inr (said.0, (said.1, inr unused.output)))))
 
   of_refused : (path : Option (List ℕ)) → Opens words path → IsRefused pool_opener path old new status → after ≡ before → Outcome words old new before after status
   of_refused path opens r idle = refused_by path r.fault opens r.refused (record { input = r.input; output = r.output; stored = r.refused.same }) idle r.said
@@ -90,7 +90,7 @@ module _ (words : List (List ℕ)) (old new : PoolOutside) (before after : Liste
   ended db (Closed n) asks s cause is = inl (is, inl (db, asks, answered db n s), s.silent)
   ended db SourceFault asks s cause is = inr (inr (inl (is, inl (cause.source refl))))
   ended db SinkFault asks s cause is = inr (inr (inl (is, inr (inl (cause.sink refl)))))
-  ended db NoMemory asks s cause is = inr (inr (inr (inr (is, s.silent, inl (db, asks)))))
+  ended db NoMemory asks s cause is = inr (inr (inr (inr (is, (s.silent, inl (db, asks))))))
 
   pub of_session : (db : Option (List ℕ)) → AsksSession words db → IsSession pool_protocol pool_opener db old new status → after ≡ before → Outcome words old new before after status
   of_session db asks s idle = elim s.run [ inl r ↦ ended db r.0 asks r.1 r.2 r.3 | inr r ↦ of_refused db (inl asks) r idle ]
@@ -111,7 +111,7 @@ module _ (words : List (List ℕ)) (old new : PoolOutside) (before after : Liste
     | inr more ↦ elim more [
       | inl v ↦ of_refused s.db (inr (s, asks, refl)) v.0 v.1
       | inr rest ↦ elim rest [
-        | inl v ↦ inr (inr (inr (inr (v.is, ap (λ (t : Streams). t.errors) v.streams, inr (ap (λ (t : Streams). t.output) v.streams)))))
+        | inl v ↦ inr (inr (inr (inr (v.is, (ap (λ (t : Streams). t.errors) v.streams, inr (ap (λ (t : Streams). t.output) v.streams))))))
         | inr v ↦ inr (inr (inl (v.is, inr (inr (inr (s, asks, v.failed))))))
       ]
     ]

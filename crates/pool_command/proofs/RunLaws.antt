@@ -6,7 +6,7 @@ use Rattle.command_streams.specs.Streams.{EndsWith, Failed, Gains, NeverRises, S
 use Rattle.machine_session.specs.Alone.{plain_at}
 use Rattle.machine_session.specs.Owned.{answers_certainly}
 use Rattle.machine_command.specs.Outside.{NoCountFalls, StoreFailed, Stores}
-use Rattle.machine_command.specs.Session.{HasFailedCall, IsRefused, IsSession, Prints, Serves, end_status}
+use Rattle.machine_command.specs.Session.{HasFailedCall, IsSession, Prints, Serves, end_status}
 use Rattle.machine_serving.specs.Serve.{IsServe}
 use Rattle.machine_serving.specs.Views.{ListenerView, ListeningFailed, NobodyCame}
 use Rattle.number_pools.specs.declared.calls.PoolCall.{PoolCall}
@@ -74,7 +74,7 @@ store_fault_of : (words : List (List ℕ)) (old new : PoolOutside) (before after
 store_fault_of words old new before after status (inl o) z = absurd (let e = o.0 in omega arith)
 store_fault_of words old new before after status (inr (inl o)) z = absurd (let e = o.0 in omega arith)
 store_fault_of words old new before after status (inr (inr (inl o))) z = absurd (let e = o.0 in omega arith)
-store_fault_of words old new before after status (inr (inr (inr (inl o)))) z = (o.1, o.2, o.3)
+store_fault_of words old new before after status (inr (inr (inr (inl o)))) z = o.1
 store_fault_of words old new before after status (inr (inr (inr (inr o)))) z = absurd (let e = o.0 in omega arith)
 
 memory_of : (words : List (List ℕ)) (old new : PoolOutside) (before after : ListenerView) (status : ℕ) → Outcome words old new before after status → status ≡ 5 → RanOut words old new
@@ -82,7 +82,7 @@ memory_of words old new before after status (inl o) z = absurd (let e = o.0 in o
 memory_of words old new before after status (inr (inl o)) z = absurd (let e = o.0 in omega arith)
 memory_of words old new before after status (inr (inr (inl o))) z = absurd (let e = o.0 in omega arith)
 memory_of words old new before after status (inr (inr (inr (inl o)))) z = absurd (let e = o.0 in omega arith)
-memory_of words old new before after status (inr (inr (inr (inr o)))) z = (o.1, o.2)
+memory_of words old new before after status (inr (inr (inr (inr o)))) z = o.1
 
 -- where nothing fails a command ends by itself
 complete_of : (words : List (List ℕ)) (command : Command) (old new : PoolOutside) (before after : ListenerView) (status : ℕ) → Asks words command → Outcome words old new before after status
@@ -100,7 +100,7 @@ complete_of words command old new before after status asks (inr (inr (inl o))) w
         ]
       ]
     ])
-complete_of words command old new before after status asks (inr (inr (inr (inl o)))) well heard = absurd (well (inr o.3.failed))
+complete_of words command old new before after status asks (inr (inr (inr (inl o)))) well heard = absurd (well (inr o.1.2.failed))
 complete_of words command old new before after status asks (inr (inr (inr (inr o)))) well heard = inr (inr o.0)
 
 -- only `serve` uses the listener
@@ -111,21 +111,6 @@ idle_of words (Serve s) old new before after status asks answers none = absurd (
 
 -- ---- what the record of `session` gives
 
--- what is said of a refused opening is no status of a session that was served
-said_so : (path : Option (List ℕ)) (old new : PoolOutside) (status : ℕ) → IsRefused pool_opener path old new status → ¬ (status ≡ 0)
-said_so path old new status r zero_ = not_done r.fault old.streams.errors new.streams.errors status r.said zero_
-where
-  ends : (old new : Told) (line : List ℕ) (wanted status : ℕ) → 1 ≤ wanted → EndsWith old new line wanted status → status ≡ 0 → ⊥
-  ends old new line wanted status some (inl said) z = let e = said.0 in omega arith
-  ends old new line wanted status some (inr said) z = let e = said.0 in omega arith
-
-  not_done : (fault : PoolFault) (old new : Told) (status : ℕ) → IsSaid fault old new status → status ≡ 0 → ⊥
-  not_done Keeper old new status said z = ends old new (fault_line Keeper) 4 status (omega arith) said z
-  not_done (BadRange id) old new status said z = ends old new (fault_line (BadRange id)) 1 status (omega arith) said z
-  not_done (BadMember id) old new status said z = ends old new (fault_line (BadMember id)) 1 status (omega arith) said z
-  not_done BadNext old new status said z = ends old new (fault_line BadNext) 1 status (omega arith) said z
-  not_done Memory old new status said z = let e = said.0 in omega arith
-
 -- it is the input that failed where neither the output nor the messages did
 starved_by : (db : Option (List ℕ)) (old new : PoolOutside) (status : ℕ) → IsSession pool_protocol pool_opener db old new status → status ≡ 3 → ¬ Failed old.streams.output new.streams.output
     → ¬ Failed old.streams.errors new.streams.errors → Failed old.streams.input new.streams.input × Serves pool_protocol pool_opener db old new SourceFault
@@ -133,25 +118,25 @@ starved_by db old new status s z output errors = elim s.run [
   | inl r ↦ by_end r.0 r.1 r.2.source r.2.sink r.3
   | inr r ↦ absurd (unsaid r.fault r.said)
 ]
-where
-  by_end : (end_ : SessionEnd) → Serves pool_protocol pool_opener db old new end_ → (end_ ≡ SourceFault → Failed old.streams.input new.streams.input)
-      → (end_ ≡ SinkFault → Failed old.streams.output new.streams.output) → status ≡ end_status end_
-      → Failed old.streams.input new.streams.input × Serves pool_protocol pool_opener db old new SourceFault
-  by_end (Closed n) serves source sink is = absurd (omega arith)
-  by_end SourceFault serves source sink is = (source refl, serves)
-  by_end SinkFault serves source sink is = absurd (output (sink refl))
-  by_end NoMemory serves source sink is = absurd (omega arith)
+  where
+    by_end : (end_ : SessionEnd) → Serves pool_protocol pool_opener db old new end_ → (end_ ≡ SourceFault → Failed old.streams.input new.streams.input)
+        → (end_ ≡ SinkFault → Failed old.streams.output new.streams.output) → status ≡ end_status end_
+        → Failed old.streams.input new.streams.input × Serves pool_protocol pool_opener db old new SourceFault
+    by_end (Closed n) serves source sink is = absurd (omega arith)
+    by_end SourceFault serves source sink is = (source refl, serves)
+    by_end SinkFault serves source sink is = absurd (output (sink refl))
+    by_end NoMemory serves source sink is = absurd (omega arith)
 
-  line_failed : (line : List ℕ) (wanted : ℕ) → ¬ (wanted ≡ 3) → EndsWith old.streams.errors new.streams.errors line wanted status → ⊥
-  line_failed line wanted other (inl said) = other (sym said.0 ∙ z)
-  line_failed line wanted other (inr said) = errors said.1
+    line_failed : (line : List ℕ) (wanted : ℕ) → ¬ (wanted ≡ 3) → EndsWith old.streams.errors new.streams.errors line wanted status → ⊥
+    line_failed line wanted other (inl said) = other (sym said.0 ∙ z)
+    line_failed line wanted other (inr said) = errors said.1
 
-  unsaid : (fault : PoolFault) → IsSaid fault old.streams.errors new.streams.errors status → ⊥
-  unsaid Keeper said = line_failed (fault_line Keeper) 4 (λ e. omega arith) said
-  unsaid (BadRange id) said = line_failed (fault_line (BadRange id)) 1 (λ e. omega arith) said
-  unsaid (BadMember id) said = line_failed (fault_line (BadMember id)) 1 (λ e. omega arith) said
-  unsaid BadNext said = line_failed (fault_line BadNext) 1 (λ e. omega arith) said
-  unsaid Memory said = let e = said.0 in omega arith
+    unsaid : (fault : PoolFault) → IsSaid fault old.streams.errors new.streams.errors status → ⊥
+    unsaid Keeper said = line_failed (fault_line Keeper) 4 (λ e. omega arith) said
+    unsaid (BadRange id) said = line_failed (fault_line (BadRange id)) 1 (λ e. omega arith) said
+    unsaid (BadMember id) said = line_failed (fault_line (BadMember id)) 1 (λ e. omega arith) said
+    unsaid BadNext said = line_failed (fault_line BadNext) 1 (λ e. omega arith) said
+    unsaid Memory said = let e = said.0 in omega arith
 
 -- pools that were loaded from empty tables are empty, and tell theirs
 one_seen : (s : Seen) (p : Pools) → s.pools ≡ p → s.tells ≡ true → s ≡ record { pools = p; tells = true }
@@ -291,12 +276,12 @@ of_want words old new before after status five same idle = record {
   refused = λ z. absurd (omega arith);
   usage = λ z. absurd (omega arith);
   usage_first = λ none. (
-      ap (λ (o : PoolOutside). o.streams.input) same,
-      ap (λ (o : PoolOutside). o.streams.output) same,
-      ap (λ (o : PoolOutside). o.stores) same,
-      idle,
-      inr (inr (five, ap (λ (o : PoolOutside). o.streams.errors) same)),
-    );
+    ap (λ (o : PoolOutside). o.streams.input) same,
+    ap (λ (o : PoolOutside). o.streams.output) same,
+    ap (λ (o : PoolOutside). o.stores) same,
+    idle,
+    inr (inr (five, ap (λ (o : PoolOutside). o.streams.errors) same)),
+  );
   fault = λ z. absurd (omega arith);
   starved = λ db a z. absurd (omega arith);
   store_fault = λ z. absurd (omega arith);

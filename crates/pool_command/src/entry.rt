@@ -13,8 +13,8 @@ use command_streams::{MEMORY, NoArguments, words_given};
 use ipam_edge::{
     Sink, Source, StdSink, StdSource, standard_error, standard_input, standard_output,
 };
-use pool_keeper::keeper::PoolOpener;
 use ipam_listen::Listener;
+use pool_keeper::keeper::PoolOpener;
 use std::alloc::{AllocError, Global};
 use std::io::{Printer, Stderr, StdinLock};
 use std::marker::Sync;

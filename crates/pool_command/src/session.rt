@@ -35,21 +35,23 @@ fn path_of(alloc: Global, word: &Option<WordText>) -> Result<Option<Text>, Alloc
     }
 }
 
-/// Answers the requests of the input on the output, by pools of the store.
-fn session_of<So: Source, Si: Sink, Se: Sink, O: PoolOpener>(
+/// Answers the requests of the input on the output, by pools of the store under the path, or of none. The path and the opener are lent for
+/// one time, as the store wants them.
+fn session_at<'a, So: Source, Si: Sink, Se: Sink, O: PoolOpener>(
     alloc: Global,
+    path: Option<&'a Text>,
     input: &mut So,
     output: &mut Si,
     errors: &mut Se,
-    store: &mut PoolStore<'_, O>,
+    opener: &'a mut O,
 ) -> u8
-    ensures session { IsSession pool_protocol pool_opener (option_copied store.old.path)
-        (outside (streams (told So.left So.faults input.old) (told Si.written Si.faults output.old) (told Se.written Se.faults errors.old)) (stores O.stored O.faults store.old.opener.now))
-        (outside (streams (told So.left So.faults input.new) (told Si.written Si.faults output.new) (told Se.written Se.faults errors.new)) (stores O.stored O.faults store.new.opener.now)) result }
-    ensures lent { store.new.opener.ghost_name ≡ store.old.opener.ghost_name }
+    ensures { IsSession pool_protocol pool_opener (option_copied path.entry)
+        (outside (streams (told So.left So.faults input.old) (told Si.written Si.faults output.old) (told Se.written Se.faults errors.old)) (stores O.stored O.faults opener.old))
+        (outside (streams (told So.left So.faults input.new) (told Si.written Si.faults output.new) (told Se.written Se.faults errors.new)) (stores O.stored O.faults opener.new)) result }
 {
+    let mut store = PoolStore { opener, path };
     machine_command::run_session::<Pools<O::Kept>, PoolService, PoolStore<'_, O>, So, Si, Se>(
-        alloc, input, output, errors, store,
+        alloc, input, output, errors, &mut store,
     )
 }
 
@@ -67,25 +69,45 @@ pub(crate) fn run_session<So: Source, Si: Sink, Se: Sink, O: PoolOpener>(
         (outside (streams (told So.left So.faults input.old) (told Si.written Si.faults output.old) (told Se.written Se.faults errors.old)) (stores O.stored O.faults opener.old))
         (outside (streams (told So.left So.faults input.new) (told Si.written Si.faults output.new) (told Se.written Se.faults errors.new)) (stores O.stored O.faults opener.new)) result }
 {
-    let path = match path_of(alloc, db) {
-        Ok(path) => path,
-        Err(_) => return MEMORY,
-    };
-    let mut store = PoolStore {
-        opener,
-        path: path.as_ref(),
-    };
-    session_of(alloc, input, output, errors, &mut store)
+    match path_of(alloc, db) {
+        Ok(path) => session_at(alloc, path.as_ref(), input, output, errors, opener),
+        Err(_) => MEMORY,
+    }
+}
+
+/// Serves the pools of the store under the path, or of none, as the words say.
+fn serve_at<'a, R: Threads + Wait + Sync, Si: Sink, Se: Sink, L: Listener, O: PoolOpener>(
+    rt: &R,
+    alloc: Global,
+    path: Option<&'a Text>,
+    serving: &Serving,
+    output: &mut Si,
+    errors: &mut Se,
+    listener: &mut L,
+    opener: &'a mut O,
+) -> u8
+    requires few { serving.now.workers ≤ 32 }
+    ensures { (input : Told) → IsServe pool_protocol pool_opener (option_copied path.entry) (serving_of serving.now.bind serving.now.workers serving.now.connections)
+        (outside (streams input (told Si.written Si.faults output.old) (told Se.written Se.faults errors.old)) (stores O.stored O.faults opener.old))
+        (outside (streams input (told Si.written Si.faults output.new) (told Se.written Se.faults errors.new)) (stores O.stored O.faults opener.new))
+        (listener_view L.bound L.lanes L.returned L.faults listener.old) (listener_view L.bound L.lanes L.returned L.faults listener.new) result }
+{
+    let mut store = PoolStore { opener, path };
+    run_serve(
+        rt,
+        alloc,
+        serving.bind.as_str(),
+        serving.workers,
+        serving.connections,
+        output,
+        errors,
+        listener,
+        &mut store,
+    )
 }
 
 /// Runs `serve`: serves the pools of the file that is named, or else of none, to all that connect to the place of the words.
-pub(crate) fn serve_words<
-    R: Threads + Wait + Sync,
-    Si: Sink,
-    Se: Sink,
-    L: Listener,
-    O: PoolOpener,
->(
+pub(crate) fn serve_words<R: Threads + Wait + Sync, Si: Sink, Se: Sink, L: Listener, O: PoolOpener>(
     rt: &R,
     alloc: Global,
     serving: &Serving,
@@ -100,23 +122,17 @@ pub(crate) fn serve_words<
         (outside (streams input (told Si.written Si.faults output.new) (told Se.written Se.faults errors.new)) (stores O.stored O.faults opener.new))
         (listener_view L.bound L.lanes L.returned L.faults listener.old) (listener_view L.bound L.lanes L.returned L.faults listener.new) result }
 {
-    let path = match path_of(alloc, &serving.db) {
-        Ok(path) => path,
-        Err(_) => return MEMORY,
-    };
-    let mut store = PoolStore {
-        opener,
-        path: path.as_ref(),
-    };
-    run_serve(
-        rt,
-        alloc,
-        serving.bind.as_str(),
-        serving.workers,
-        serving.connections,
-        output,
-        errors,
-        listener,
-        &mut store,
-    )
+    match path_of(alloc, &serving.db) {
+        Ok(path) => serve_at(
+            rt,
+            alloc,
+            path.as_ref(),
+            serving,
+            output,
+            errors,
+            listener,
+            opener,
+        ),
+        Err(_) => MEMORY,
+    }
 }

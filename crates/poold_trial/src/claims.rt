@@ -85,7 +85,15 @@ fn two_workers_claim_twenty_numbers(rt: HostRuntime) -> Result<(), Fail> {
     let mut opener = opener_of(rt.alloc(), STORE)?;
     let mut listener = listener_of(rt.alloc())?;
     let words = "serve --bind x --workers 2 --connections 1 --db a";
-    let left = run_words(&rt, rt.alloc(), words, b"", 1_000, &mut listener, &mut opener)?;
+    let left = run_words(
+        &rt,
+        rt.alloc(),
+        words,
+        b"",
+        1_000,
+        &mut listener,
+        &mut opener,
+    )?;
     assert!(rt; left.status == 0 && left.output.as_slice() == b"entries 20\n".as_slice());
     let mut told = String::new(rt.alloc());
     tell(&listener, &mut told)?;

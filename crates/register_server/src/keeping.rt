@@ -58,9 +58,7 @@ fn serve_bound<R: Threads + Wait + Sync, K: Keeper + Drop + Send, L: Listener>(
     ensures listening { IsListening ((L.lanes listener.new ≡ L.lanes listener.old + workers) × (L.faults listener.new ≡ L.faults listener.old)) (Rose (L.faults listener.old) (L.faults listener.new)) result.1.listening }
     ensures later { L.faults listener.old ≤ L.faults listener.new }
 {
-    let (register, listening) = serve_all(
-        rt, alloc, shared, seat, workers, lanes, hired, listener,
-    );
+    let (register, listening) = serve_all(rt, alloc, shared, seat, workers, lanes, hired, listener);
     let served = said_of(&register, listening);
     (register.into_keeper(), served)
 }
@@ -110,10 +108,7 @@ fn serve_shared<R: Threads + Wait + Sync, K: Keeper + Drop + Send, L: Listener>(
 }
 
 /// Room for so many workers and their lanes. `None` means out of memory.
-fn room_for<K: Keeper, A: Lane>(
-    alloc: Global,
-    workers: u32,
-) -> Option<(Vec<A>, Vec<Worker<K, A>>)>
+fn room_for<K: Keeper, A: Lane>(alloc: Global, workers: u32) -> Option<(Vec<A>, Vec<Worker<K, A>>)>
     ensures none_yet { IfSome result (λ r. (r.0.items ≡ []) × (r.1.items ≡ [])) }
     ensures room { IfSome result (λ r. (workers ≤ vec_capacity r.0) × (workers ≤ vec_capacity r.1)) }
 {

@@ -1,7 +1,5 @@
-//! `serve`, tried whole: two workers of the command over one store.
+//! The command `serve`, tried whole, with its own words and without the others.
 #![tactic(auto)]
 
-#[cfg(test)]
-mod claims;
 #[cfg(test)]
 mod command_serve_tests;
