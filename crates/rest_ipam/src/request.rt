@@ -3,8 +3,8 @@
 ghost use Rattle.std.specs.Prelude.{◌≡◌, ◌≤◌, ◌⊎◌, ℕ, List};
 ghost use Rattle.ipam_edge.specs.Faults.{Rose};
 ghost use Rattle.http_session.specs.Requests.{IsUnfinished};
-ghost use Rattle.http_session.specs.Steps.{Grown, IsReadUntil, IsReadWhile, framed as framed_before};
-ghost use Rattle.rest_ipam.specs.Asked.{IsAsked, IsAskedLast, framed};
+ghost use Rattle.http_session.specs.Steps.{Grown, IsReadUntil, IsReadWhile};
+ghost use Rattle.rest_ipam.specs.Asked.{IsAsked, IsAskedLast};
 
 use crate::bytes::Bytes;
 use http_session::Inbox;
@@ -36,7 +36,7 @@ pub enum Asked {
 
 /// The request, with its parts as lists. It takes no memory.
 fn request_of(request: http_session::HttpRequest) -> HttpRequest
-    ensures { framed result ≡ framed_before request }
+    ensures { result ≡ record { method = request.method.items; target = request.target.items; body = request.body.items; close = request.close } }
 {
     let http_session::HttpRequest {
         method,
