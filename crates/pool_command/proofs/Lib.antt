@@ -4,3 +4,4 @@ pub mod NotBegun
 pub mod Outcomes
 pub mod Parts
 pub mod RunLaws
+pub mod Sent

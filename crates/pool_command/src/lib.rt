@@ -1,11 +1,15 @@
-//! The commands of `poold`: what its words ask for is run over its input, output and messages, a listener and an opener of stores.
+//! The commands of `poold`: what its words ask for is run over its input, output and messages, a listener and an opener of stores. `serve` has
+//! its workers each in a thread of its own.
 #![tactic(auto)]
 
 mod entry;
 mod laws;
 mod run;
+mod serve;
 mod session;
+mod workers;
 
 pub use entry::program;
 pub use laws::{runs_are_exact, runs_have_clauses};
 pub use run::run_pools;
+pub use workers::serve_workers;

@@ -9,12 +9,12 @@ ghost use Rattle.machine_serving.specs.Views.{listener_view};
 ghost use Rattle.pool_service.specs.Protocol.{pool_protocol};
 ghost use Rattle.pool_store.specs.Meaning.{pool_opener};
 
+use crate::serve::run_serve;
 use command_streams::MEMORY;
 use ipam_edge::{Sink, Source};
 use ipam_listen::Listener;
 use pool_keeper::keeper::PoolOpener;
 use pool_register::Pools;
-use pool_server::run_serve;
 use pool_service::PoolService;
 use pool_store::PoolStore;
 use pool_words::Serving;

@@ -7,7 +7,7 @@ use Rattle.machine_serving.proofs.Unran.{of_unserved}
 use Rattle.pool_opening.specs.declared.faults.PoolFault.TheVariants.{Keeper}
 use Rattle.pool_service.specs.Protocol.{pool_protocol}
 use Rattle.pool_store.specs.Meaning.{pool_opener}
-use Rattle.pool_server.proofs.serve.run_serve.Goals as goal
+use Rattle.pool_command.proofs.serve.run_serve.Goals as goal
 
 pub work_all-requires-clause-ready : goal.work_all-requires-clause-ready
 work_all-requires-clause-ready g c κs within =

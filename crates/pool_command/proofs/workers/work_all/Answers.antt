@@ -1,6 +1,6 @@
 use Rattle.machine_server.proofs.Worked.{all_spent, crew_ready, crew_worked}
 use Rattle.pool_service.specs.Protocol.{pool_protocol}
-use Rattle.pool_server.proofs.workers.work_all.Goals as goal
+use Rattle.pool_command.proofs.workers.work_all.Goals as goal
 
 pub serve_workers-requires-clause-ready : goal.serve_workers-requires-clause-ready
 serve_workers-requires-clause-ready g c κs within =
