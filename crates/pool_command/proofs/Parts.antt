@@ -1,6 +1,9 @@
 -- What the parts of a run give: words that were read, and a command that was run.
 use Rattle.std.proofs.Common.{◌≡◌, ℕ, ◌≤◌, inl, inr, subst, List, Option, Some, None, MatchOption}
+use Rattle.machine_serving.specs.Serve.{IsServe, Serving as Place, serving}
 use Rattle.machine_serving.specs.Views.{ListenerView}
+use Rattle.pool_service.specs.Protocol.{pool_protocol}
+use Rattle.pool_store.specs.Meaning.{pool_opener}
 use Rattle.word_values.specs.Values.{IsNumberValue, most_workers}
 use Rattle.pool_words.specs.Asked.{Asks, IsNoCommand}
 use Rattle.pool_words.specs.declared.asked.Command.{Command}
@@ -32,3 +35,14 @@ few (Some digits) n value = value.2
 
 pub few_workers : (words : List (List ℕ)) (command : Command) (s : Serving) → Asks words command → command ≡ Serve s → s.workers ≤ 32
 few_workers words command s asks is = let a : Asks words (Serve s) = subst (Asks words) is asks in few _ s.workers a.values.workers
+
+-- a place and a path that are those of the words
+pub serves_place : (path : Option (List ℕ)) (place bind : List ℕ) (workers connections : ℕ) (old new : PoolOutside) (before after : ListenerView) (status : ℕ) → place ≡ bind
+    → IsServe pool_protocol pool_opener path (serving place workers connections) old new before after status
+    → IsServe pool_protocol pool_opener path (serving bind workers connections) old new before after status
+serves_place path place bind workers connections old new before after status same served =
+    subst (λ (p : List ℕ). IsServe pool_protocol pool_opener path (serving p workers connections) old new before after status) same served
+
+pub serves_path : (path asked : Option (List ℕ)) (s : Place) (old new : PoolOutside) (before after : ListenerView) (status : ℕ) → path ≡ asked
+    → IsServe pool_protocol pool_opener path s old new before after status → IsServe pool_protocol pool_opener asked s old new before after status
+serves_path path asked s old new before after status same served = subst (λ (p : Option (List ℕ)). IsServe pool_protocol pool_opener p s old new before after status) same served

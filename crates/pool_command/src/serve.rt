@@ -32,7 +32,7 @@ pub fn run_serve<R: Threads + Wait + Sync, Si: Sink, Se: Sink, L: Listener, O: P
     output: &mut Si,
     errors: &mut Se,
     listener: &mut L,
-    store: &mut PoolStore<'_, O>,
+    store: &mut PoolStore<'_, '_, O>,
 ) -> u8
     requires few { workers ≤ 1000 }
     ensures serve { (input : Told) → IsServe pool_protocol pool_opener (option_copied store.old.path) (serving place.now workers connections)
@@ -41,7 +41,7 @@ pub fn run_serve<R: Threads + Wait + Sync, Si: Sink, Se: Sink, L: Listener, O: P
         (listener_view L.bound L.lanes L.returned L.faults listener.old) (listener_view L.bound L.lanes L.returned L.faults listener.new) result }
     ensures lent { store.new.opener.ghost_name ≡ store.old.opener.ghost_name }
 {
-    match begin_serve::<Pools<O::Kept>, PoolService, PoolStore<'_, O>, L>(
+    match begin_serve::<Pools<O::Kept>, PoolService, PoolStore<'_, '_, O>, L>(
         alloc,
         place,
         workers,
@@ -65,11 +65,11 @@ pub fn run_serve<R: Threads + Wait + Sync, Si: Sink, Se: Sink, L: Listener, O: P
                 hired,
                 came,
             };
-            let served = finish_serve::<Pools<O::Kept>, PoolService, PoolStore<'_, O>, L>(
+            let served = finish_serve::<Pools<O::Kept>, PoolService, PoolStore<'_, '_, O>, L>(
                 worked, store, listener,
             );
             say_entries(served, output)
         }
-        Err(why) => { say_unserved::<Pools<O::Kept>, PoolStore<'_, O>, Se>(alloc, why, errors) }
+        Err(why) => { say_unserved::<Pools<O::Kept>, PoolStore<'_, '_, O>, Se>(alloc, why, errors) }
     }
 }

@@ -35,24 +35,39 @@ fn path_of(alloc: Global, word: &Option<WordText>) -> Result<Option<Text>, Alloc
     }
 }
 
-/// Answers the requests of the input on the output, by pools of the store under the path, or of none. The path and the opener are lent for
-/// one time, as the store wants them.
-fn session_at<'a, So: Source, Si: Sink, Se: Sink, O: PoolOpener>(
+/// Answers the requests of the input on the output, by pools of the store. The store keeps the opener that is lent to it.
+fn session_of<So: Source, Si: Sink, Se: Sink, O: PoolOpener>(
     alloc: Global,
-    path: Option<&'a Text>,
     input: &mut So,
     output: &mut Si,
     errors: &mut Se,
-    opener: &'a mut O,
+    store: &mut PoolStore<'_, '_, O>,
+) -> u8
+    ensures session { IsSession pool_protocol pool_opener (option_copied store.old.path)
+        (outside (streams (told So.left So.faults input.old) (told Si.written Si.faults output.old) (told Se.written Se.faults errors.old)) (stores O.stored O.faults store.old.opener.now))
+        (outside (streams (told So.left So.faults input.new) (told Si.written Si.faults output.new) (told Se.written Se.faults errors.new)) (stores O.stored O.faults store.new.opener.now)) result }
+    ensures lent { store.new.opener.ghost_name ≡ store.old.opener.ghost_name }
+{
+    machine_command::run_session::<Pools<O::Kept>, PoolService, PoolStore<'_, '_, O>, So, Si, Se>(
+        alloc, input, output, errors, store,
+    )
+}
+
+/// The same by the store under the path, or of none.
+fn session_at<So: Source, Si: Sink, Se: Sink, O: PoolOpener>(
+    alloc: Global,
+    path: Option<&Text>,
+    input: &mut So,
+    output: &mut Si,
+    errors: &mut Se,
+    opener: &mut O,
 ) -> u8
     ensures { IsSession pool_protocol pool_opener (option_copied path.entry)
         (outside (streams (told So.left So.faults input.old) (told Si.written Si.faults output.old) (told Se.written Se.faults errors.old)) (stores O.stored O.faults opener.old))
         (outside (streams (told So.left So.faults input.new) (told Si.written Si.faults output.new) (told Se.written Se.faults errors.new)) (stores O.stored O.faults opener.new)) result }
 {
     let mut store = PoolStore { opener, path };
-    machine_command::run_session::<Pools<O::Kept>, PoolService, PoolStore<'_, O>, So, Si, Se>(
-        alloc, input, output, errors, &mut store,
-    )
+    session_of(alloc, input, output, errors, &mut store)
 }
 
 /// Runs `session`: the requests of the input, by pools of the file that is named, or else of none. What a refused opening says goes to the
@@ -75,24 +90,23 @@ pub(crate) fn run_session<So: Source, Si: Sink, Se: Sink, O: PoolOpener>(
     }
 }
 
-/// Serves the pools of the store under the path, or of none, as the words say.
-fn serve_at<'a, R: Threads + Wait + Sync, Si: Sink, Se: Sink, L: Listener, O: PoolOpener>(
+/// Serves the pools of the store, as the words say. The store keeps the opener that is lent to it.
+fn serve_of<R: Threads + Wait + Sync, Si: Sink, Se: Sink, L: Listener, O: PoolOpener>(
     rt: &R,
     alloc: Global,
-    path: Option<&'a Text>,
     serving: &Serving,
     output: &mut Si,
     errors: &mut Se,
     listener: &mut L,
-    opener: &'a mut O,
+    store: &mut PoolStore<'_, '_, O>,
 ) -> u8
     requires few { serving.now.workers ≤ 32 }
-    ensures { (input : Told) → IsServe pool_protocol pool_opener (option_copied path.entry) (serving_of serving.now.bind serving.now.workers serving.now.connections)
-        (outside (streams input (told Si.written Si.faults output.old) (told Se.written Se.faults errors.old)) (stores O.stored O.faults opener.old))
-        (outside (streams input (told Si.written Si.faults output.new) (told Se.written Se.faults errors.new)) (stores O.stored O.faults opener.new))
+    ensures serve { (input : Told) → IsServe pool_protocol pool_opener (option_copied store.old.path) (serving_of serving.now.bind serving.now.workers serving.now.connections)
+        (outside (streams input (told Si.written Si.faults output.old) (told Se.written Se.faults errors.old)) (stores O.stored O.faults store.old.opener.now))
+        (outside (streams input (told Si.written Si.faults output.new) (told Se.written Se.faults errors.new)) (stores O.stored O.faults store.new.opener.now))
         (listener_view L.bound L.lanes L.returned L.faults listener.old) (listener_view L.bound L.lanes L.returned L.faults listener.new) result }
+    ensures lent { store.new.opener.ghost_name ≡ store.old.opener.ghost_name }
 {
-    let mut store = PoolStore { opener, path };
     run_serve(
         rt,
         alloc,
@@ -102,8 +116,29 @@ fn serve_at<'a, R: Threads + Wait + Sync, Si: Sink, Se: Sink, L: Listener, O: Po
         output,
         errors,
         listener,
-        &mut store,
+        store,
     )
+}
+
+/// The same by the store under the path, or of none.
+fn serve_at<R: Threads + Wait + Sync, Si: Sink, Se: Sink, L: Listener, O: PoolOpener>(
+    rt: &R,
+    alloc: Global,
+    path: Option<&Text>,
+    serving: &Serving,
+    output: &mut Si,
+    errors: &mut Se,
+    listener: &mut L,
+    opener: &mut O,
+) -> u8
+    requires few { serving.now.workers ≤ 32 }
+    ensures { (input : Told) → IsServe pool_protocol pool_opener (option_copied path.entry) (serving_of serving.now.bind serving.now.workers serving.now.connections)
+        (outside (streams input (told Si.written Si.faults output.old) (told Se.written Se.faults errors.old)) (stores O.stored O.faults opener.old))
+        (outside (streams input (told Si.written Si.faults output.new) (told Se.written Se.faults errors.new)) (stores O.stored O.faults opener.new))
+        (listener_view L.bound L.lanes L.returned L.faults listener.old) (listener_view L.bound L.lanes L.returned L.faults listener.new) result }
+{
+    let mut store = PoolStore { opener, path };
+    serve_of(rt, alloc, serving, output, errors, listener, &mut store)
 }
 
 /// Runs `serve`: serves the pools of the file that is named, or else of none, to all that connect to the place of the words.

@@ -14,12 +14,12 @@ use stored_tables::tables::Text;
 
 /// The store that a command names by its path, or else one in memory. The opener of keepers is lent to it.
 #[derive(Drop)]
-pub struct PoolStore<'a, O> {
+pub struct PoolStore<'a, 'p, O> {
     pub opener: &'a mut O,
-    pub path: Option<&'a Text>,
+    pub path: Option<&'p Text>,
 }
 
-impl<'a, O: PoolOpener> MachineOpener<Pools<O::Kept>> for PoolStore<'a, O> {
+impl<'a, 'p, O: PoolOpener> MachineOpener<Pools<O::Kept>> for PoolStore<'a, 'p, O> {
     ghost use Rattle.std.specs.Borrow.{GName};
     ghost use Rattle.pool_keeper.specs.declared.tables.PoolTables.{PoolTables as StoredPools};
     ghost use Rattle.pool_opening.specs.declared.faults.PoolFault.TheVariants.{Keeper as KeeperFailed};

@@ -1,0 +1,4 @@
+use Rattle.pool_command.proofs.session.session_of.Goals as goal
+
+pub returns-clause-session : goal.returns-clause-session
+returns-clause-session g c = c.run_session.ensures.session
