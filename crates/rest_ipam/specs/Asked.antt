@@ -3,11 +3,16 @@ use Rattle.std.specs.Prelude.{◌≡◌, ◌⊎◌, ℕ, List, [], Option}
 use Rattle.std.specs.Io.KnownBytes.{IsAtEnd}
 use Rattle.ipam_edge.specs.Reading.{Last, Open, Told, Failed}
 use Rattle.http_session.specs.declared.request.Fault.{Fault}
-use Rattle.http_session.specs.Requests.{Asks, InboxView, IsItem, IsUnfinished, Refuses}
-use Rattle.http_session.specs.Steps.{framed, next_number}
+use Rattle.http_session.specs.Requests.{Asks, Framed, InboxView, IsItem, IsUnfinished, Refuses}
+use Rattle.http_session.specs.Steps.{next_number}
 use Rattle.rest_routes.specs.Answers.{refusal_of}
+use Rattle.rest_ipam.specs.declared.request.HttpRequest.{HttpRequest}
 use Rattle.rest_ipam.specs.declared.request.Asked.{Asked}
 use Rattle.rest_ipam.specs.declared.request.Asked.TheVariants as asked
+
+-- a request as the bytes have it
+abbrev pub framed : HttpRequest → Framed
+framed r = record { method = r.method; target = r.target; body = r.body; close = r.close }
 
 -- what stands next in the bytes, of which `number` items were given before, and the inbox behind it
 abbrev pub IsAsked : ℕ → List ℕ → Option (List ℕ) → Asked → InboxView → Type 0

@@ -6,11 +6,21 @@ ghost use Rattle.http_session.specs.Requests.{IsUnfinished};
 ghost use Rattle.http_session.specs.Steps.{Grown, IsReadUntil, IsReadWhile};
 ghost use Rattle.rest_ipam.specs.Asked.{IsAsked, IsAskedLast};
 
-use http_session::{HttpRequest, Inbox};
+use crate::bytes::Bytes;
+use http_session::Inbox;
 use ipam_data::replies::Refusal;
 use ipam_edge::Source;
 use rest_routes::refusal_of;
 use std::alloc::Global;
+
+/// A request before its route: its method and its target as they stand, its body, and whether no request follows it.
+#[derive(Debug, Drop)]
+pub struct HttpRequest {
+    pub method: Bytes,
+    pub target: Bytes,
+    pub body: Bytes,
+    pub close: bool,
+}
 
 /// What stands next.
 #[derive(Drop)]
@@ -24,6 +34,24 @@ pub enum Asked {
     Memory,
 }
 
+/// The request, with its parts as lists. It takes no memory.
+fn request_of(request: http_session::HttpRequest) -> HttpRequest
+    ensures { result ≡ record { method = request.method.items; target = request.target.items; body = request.body.items; close = request.close } }
+{
+    let http_session::HttpRequest {
+        method,
+        target,
+        body,
+        close,
+    } = request;
+    HttpRequest {
+        method: Bytes::of(method),
+        target: Bytes::of(target),
+        body: Bytes::of(body),
+        close,
+    }
+}
+
 /// The next item of the bytes that the inbox has and the source has left: a request, a refusal of the bytes that stand in its place, or
 /// the end of the input between two requests. `SourceFault` comes where a read failed while more bytes were needed, and no other answer
 /// where the source's count rose; `Memory` where memory ran out. After both no byte is lost, and the call may be made again.
@@ -35,7 +63,7 @@ pub fn next_request<So: Source>(alloc: Global, source: &mut So, inbox: &mut Inbo
     ensures kept { (result ≡ Asked.SourceFault) ⊎ (So.faults source.new ≡ So.faults source.old) }
 {
     match http_session::next_request(alloc, source, inbox) {
-        http_session::Asked::Request(request) => Asked::Request(request),
+        http_session::Asked::Request(request) => Asked::Request(request_of(request)),
         http_session::Asked::Bad(fault) => Asked::Bad(refusal_of(fault)),
         http_session::Asked::End => Asked::End,
         http_session::Asked::SourceFault => Asked::SourceFault,

@@ -4,6 +4,8 @@
 #[cfg(test)]
 mod gates;
 #[cfg(test)]
+mod halves;
+#[cfg(test)]
 mod ports;
 #[cfg(test)]
 mod register_server_tests;
