@@ -8,7 +8,9 @@ use Rattle.register_server.specs.Serving.{IsServedFrom}
 use Rattle.command_words.specs.declared.asked.Serving.{Serving}
 use Rattle.command_streams.specs.Streams.{Told, Gains, GainsFront, Failed, EndsWith}
 use Rattle.command_store.specs.Outside.{Outside}
-use Rattle.command_serve.specs.Serve.{ListenerView, ListeningFailed, AllCame, NoneFailed, IsBoundBy, ServesStore, entries_line, listening_status, IsServe}
+use Rattle.machine_serving.specs.Serve.{entries_line, listening_status}
+use Rattle.machine_serving.specs.Views.{ListenerView, ListeningFailed, NoneFailed}
+use Rattle.command_serve.specs.Serve.{AllCame, IsBoundBy, ServesStore, IsServe}
 use Rattle.command_serve.proofs.Unserved.{Whatever}
 
 -- the count of the changes is on the output

@@ -7,7 +7,7 @@ use Rattle.stored_tables.specs.declared.opening.OpenFault.TheVariants.{Keeper, B
 use Rattle.stored_tables.specs.Opening.{IsOfTables}
 use Rattle.ipam_listen.specs.Connections.{Returned}
 use Rattle.register_server.specs.Serving.{AreLeft, IsFaultOf, IsListened}
-use Rattle.register_server.specs.declared.ending.Served.{Served}
+use Rattle.machine_serving.specs.declared.ending.Served.{Served}
 use Rattle.register_server.specs.declared.ending.Unserved.{Unserved}
 use Rattle.register_server.specs.declared.ending.Unserved.TheVariants.{Opening, Place}
 use Rattle.command_words.specs.declared.asked.Store.{Store}
@@ -17,7 +17,8 @@ use Rattle.command_store.specs.Outside.{Outside, StoreFailed, AreSame, IsUnused,
 use Rattle.command_store.specs.FaultWords.{IsSaid, fault_line}
 use Rattle.command_store.specs.Opening.{found_tables, IsBadStore}
 use Rattle.command_store.proofs.Refused.{back_again, not_used, quiet_refused, unchanged}
-use Rattle.command_serve.specs.Serve.{ListenerView, ListeningFailed, AllCame, NoneFailed, NobodyCame, IsBoundBy, IsUnserved, IsUnservedSaid, IsServe}
+use Rattle.machine_serving.specs.Views.{ListenerView, ListeningFailed, NoneFailed, NobodyCame}
+use Rattle.command_serve.specs.Serve.{AllCame, IsBoundBy, IsUnserved, IsUnservedSaid, IsServe}
 
 -- what holds of a run whatever its status
 pub record Whatever (serving : Serving) (old new : Outside) (before after : ListenerView) (status : ℕ) : Type 0 where

@@ -1,14 +1,13 @@
 -- What a run of the command `serve` promises of each status: a register over the store that the words name, or else in memory, served to
 -- all that connect.
-use Rattle.std.specs.Prelude.{◌≡◌, ℕ, ◌+◌, ◌++◌, ◌≤◌, ◌<◌, ◌⊎◌, List, [], ◌∷◌, Option, Some, length, codes, decimal}
-use Rattle.ipam_edge.specs.Faults.{Rose}
+use Rattle.std.specs.Prelude.{◌≡◌, ℕ, ◌+◌, ◌≤◌, ◌<◌, ◌⊎◌, List, length}
 use Rattle.history_lock.specs.Replay.{replay}
 use Rattle.ipam_data.specs.declared.calls.Call.{Call}
 use Rattle.ipam_data.specs.State.{State}
 use Rattle.ipam_data.specs.Steps.{plain_step}
-use Rattle.ipam_listen.specs.Connections.{Binding, Returned, binding}
-use Rattle.http_lanes.specs.declared.listening.Listening.{Listening}
-use Rattle.http_lanes.specs.declared.listening.Listening.TheVariants.{Whole, Broken}
+use Rattle.ipam_listen.specs.Connections.{binding}
+use Rattle.machine_serving.specs.Serve.{entries_line}
+use Rattle.machine_serving.specs.Views.{ListenerView, ListeningFailed, NobodyCame, NoneFailed}
 use Rattle.register_server.specs.Serving.{IsServedBy}
 use Rattle.register_server.specs.declared.ending.Unserved.{Unserved}
 use Rattle.register_server.specs.declared.ending.Unserved.TheVariants.{Opening, Place}
@@ -18,52 +17,13 @@ use Rattle.command_store.specs.Outside.{AreSame, Outside, NoCountFalls, NoCountR
 use Rattle.command_store.specs.FaultWords.{IsSaid}
 use Rattle.command_store.specs.Opening.{IsLoaded, HoldsTold, NamesFault, NamesFailure, FailsToSay}
 
--- ---- what is seen of a listener
-
--- what it tells: what it was bound to last, a place and how many connections each lane may accept; how many lanes it handed out; the
--- lanes that were given back; and its count of faults
-pub record ListenerView : Type 0 where
-  pub bound : Binding
-  pub lanes : ℕ
-  pub returned : List Returned
-  pub faults : ℕ
-
--- what a listener tells, by the members of its trait
-abbrev pub listener_view : {L : Type 0} → (L → Binding) → (L → ℕ) → (L → List Returned) → (L → ℕ) → L → ListenerView
-listener_view bound lanes returned faults listener =
-    record { bound = bound listener; lanes = lanes listener; returned = returned listener; faults = faults listener }
-
--- it failed meanwhile, or a lane that it took back had failed
-abbrev pub ListeningFailed : ListenerView → ListenerView → Type 0
-ListeningFailed before after = Rose before.faults after.faults
-
 -- as many lanes came as workers were asked for
 abbrev pub AllCame : Serving → ListenerView → ListenerView → Type 0
 AllCame serving before after = after.lanes ≡ before.lanes + serving.workers
 
--- none of them failed, nor did the listener
-abbrev pub NoneFailed : ListenerView → ListenerView → Type 0
-NoneFailed before after = after.faults ≡ before.faults
-
 -- it is bound to the place of the words, and each lane may accept their number of connections
 abbrev pub IsBoundBy : Serving → ListenerView → Type 0
 IsBoundBy serving after = after.bound ≡ binding serving.bind serving.connections
-
--- no lane was handed out, and none came back
-pub record NobodyCame (before after : ListenerView) : Type 0 where
-  pub lanes : after.lanes ≡ before.lanes
-  pub returned : after.returned ≡ before.returned
-
--- ---- what came of it
-
--- the line that says how many changes were accepted
-abbrev pub entries_line : ℕ → List ℕ
-entries_line entries = codes "entries " ++ decimal entries ++ 10 ∷ []
-
--- the status of a listening that ended so, where nothing else fails
-abbrev pub listening_status : Listening → ℕ
-listening_status Whole = 0
-listening_status Broken = 3
 
 -- the register of the store was served at the place of the words: behind all that the lanes tell is one history of so many changes
 pub record ServesStore (serving : Serving) (old new : Outside) (before after : ListenerView) (entries : ℕ) : Type 0 where

@@ -2,7 +2,6 @@
 //! of a refused opening.
 #![tactic(auto)]
 
-mod count;
 mod serve;
 
 pub use serve::run_serve;

@@ -7,15 +7,16 @@ ghost use Rattle.stored_tables.specs.declared.opening.OpenFault.{OpenFault};
 ghost use Rattle.command_streams.specs.Streams.{Told, streams, told};
 ghost use Rattle.register_server.specs.Serving.{IsListened, IsServing};
 ghost use Rattle.command_store.specs.Outside.{outside, stores};
-ghost use Rattle.command_serve.specs.Serve.{IsServe, IsUnservedSaid, listener_view};
+ghost use Rattle.machine_serving.specs.Views.{listener_view};
+ghost use Rattle.command_serve.specs.Serve.{IsServe, IsUnservedSaid};
 
-use crate::count::say_entries;
 use command_store::{path_of, say_fault};
 use command_streams::FAULT;
 use command_words::Serving;
 use ipam_edge::Sink;
 use ipam_keeper::keeper::KeeperOpener;
 use ipam_listen::Listener;
+use machine_serving::say_entries;
 use register_server::{Served, Settings, Unserved, serve};
 use std::alloc::Global;
 use std::marker::Sync;

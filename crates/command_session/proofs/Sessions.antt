@@ -32,7 +32,8 @@ use Rattle.ipam_edge.proofs.FaultLemmas.{unless}
 use Rattle.command_streams.specs.Streams.{Told, Failed}
 use Rattle.command_store.specs.Outside.{Outside, NoCountFalls}
 use Rattle.command_store.specs.Opening.{found_tables, IsLoaded}
-use Rattle.command_session.specs.Session.{Serves, HasFailedCall, IsSession, end_status}
+use Rattle.machine_command.specs.Session.{end_status}
+use Rattle.command_session.specs.Session.{Serves, HasFailedCall, IsSession}
 
 -- where the session closed, the output has the answers to all requests of the whole input
 prints : {S : Type 0} (may : May S) (first register : S) (left_old left_new written_old written_new : Option (List ℕ)) (n : ℕ) (bytes : List ℕ)

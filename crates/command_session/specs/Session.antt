@@ -67,13 +67,6 @@ pub record Breaks (store : Store) (old new : Outside) : Type 0 where
   pub failed : Failed old.streams.output new.streams.output
   pub serves : Serves store old new SinkFault
 
--- the status of a session by its end
-abbrev pub end_status : SessionEnd → ℕ
-end_status (Closed n) = 0
-end_status SourceFault = 3
-end_status SinkFault = 3
-end_status Memory = 5
-
 -- a call was answered by a failed keeper
 pub record HasFailedCall (store : Store) (old new : Outside) (end : SessionEnd) : Type 0 where
   pub serves : Serves store old new end

@@ -5,32 +5,20 @@ ghost use Rattle.ipam_keeper.specs.Keeping.{started};
 ghost use Rattle.register_core.specs.Opened.{IsOpened};
 ghost use Rattle.command_streams.specs.Streams.{Told, streams, told};
 ghost use Rattle.command_store.specs.Outside.{Stores, outside, stores};
-ghost use Rattle.command_session.specs.Session.{Serves, IsSession, end_status};
+ghost use Rattle.command_session.specs.Session.{Serves, IsSession};
 ghost use Rattle.command_words.specs.declared.asked.Store.{Store as AskedStore};
 ghost use Rattle.ipam_edge.specs.Faults.{Rose as EdgeRose};
 
 use command_store::{open_store, say_fault};
-use command_streams::{DONE, FAULT, MEMORY};
 use command_words::Store;
 use http_session::SessionEnd;
 use ipam_edge::{Sink, Source};
 use ipam_keeper::keeper::KeeperOpener;
+use machine_command::status_of;
 use machine_session::{NoFollower, serve_own};
 use register_core::Register;
 use rest_ipam::RegisterService;
 use std::alloc::Global;
-
-/// The status with which a session ends.
-fn status_of(end: SessionEnd) -> u8
-    ensures { result ≡ end_status end }
-{
-    match end {
-        SessionEnd::Closed(_) => DONE,
-        SessionEnd::SourceFault => FAULT,
-        SessionEnd::SinkFault => FAULT,
-        SessionEnd::Memory => MEMORY,
-    }
-}
 
 /// Serves the requests of the input by a register that was opened, and gives its keeper back.
 fn serve_opened<So: Source, Si: Sink, O: KeeperOpener>(

@@ -11,7 +11,7 @@ use Rattle.command_words.specs.Asked.{Asks}
 use Rattle.command_words.proofs.Unique.{words_ask_for_one}
 use Rattle.command_streams.specs.Streams.{Streams, NeverRises}
 use Rattle.command_store.specs.Outside.{Stores, Outside, NoCountRises}
-use Rattle.command_serve.specs.Serve.{ListenerView, NobodyCame}
+use Rattle.machine_serving.specs.Views.{ListenerView, NobodyCame}
 use Rattle.ipam_command.specs.Runs.{Answers}
 use Rattle.ipam_command.specs.Clauses.{IsQuiet}
 

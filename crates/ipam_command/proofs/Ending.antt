@@ -2,7 +2,7 @@
 use Rattle.std.proofs.Common.{◌≡◌, ℕ, List, None, inl, inr, refl, sym, subst}
 use Rattle.command_streams.specs.Streams.{Streams, Told, streams, IsUsage}
 use Rattle.command_store.specs.Outside.{Stores, outside}
-use Rattle.command_serve.specs.Serve.{ListenerView}
+use Rattle.machine_serving.specs.Views.{ListenerView}
 use Rattle.ipam_command.specs.Runs.{Runs, SaysUsage}
 use Rattle.ipam_command.specs.Program.{AreUntold, RunsOver, HasNoText}
 

@@ -21,7 +21,7 @@ use Rattle.command_words.specs.declared.asked.Serving.{Serving}
 use Rattle.command_words.specs.Asked.{Asks}
 use Rattle.command_store.specs.Outside.{Outside, AnyFailed}
 use Rattle.command_store.specs.Opening.{found_tables, IsLoaded}
-use Rattle.command_serve.specs.Serve.{ListenerView}
+use Rattle.machine_serving.specs.Views.{ListenerView}
 use Rattle.command_files.specs.Files.{kind_named, GivesRows}
 use Rattle.command_files.specs.Import.{IsImportOf, IsStored}
 use Rattle.command_files.specs.Report.{IsReportText, report_text}

@@ -11,7 +11,7 @@ use Rattle.command_streams.specs.Streams.{Failed}
 use Rattle.ipam_data.specs.declared.kinds.Kind.{Kind}
 use Rattle.command_store.specs.Outside.{Stores, Outside, AreSame, NoCountFalls}
 use Rattle.command_store.proofs.Refused.{unchanged}
-use Rattle.command_serve.specs.Serve.{ListenerView}
+use Rattle.machine_serving.specs.Views.{ListenerView}
 use Rattle.command_files.specs.Files.{kind_named}
 use Rattle.command_files.specs.Import.{IsStored, IsImport}
 use Rattle.command_files.specs.Export.{IsExportText, IsPrinting, IsExport}

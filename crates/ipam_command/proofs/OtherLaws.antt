@@ -10,7 +10,7 @@ use Rattle.command_words.proofs.Unique.{words_ask_for_one}
 use Rattle.command_streams.specs.Streams.{Streams, Failed, NeverFalls}
 use Rattle.command_store.specs.Outside.{Stores, Outside, NoCountFalls, NoCountRises}
 use Rattle.command_store.specs.Opening.{NamesFailure}
-use Rattle.command_serve.specs.Serve.{ListenerView}
+use Rattle.machine_serving.specs.Views.{ListenerView}
 use Rattle.command_lists.specs.PrefixList.{IsPrefixList}
 use Rattle.command_lists.specs.PrefixCheck.{IsPrefixCheck}
 use Rattle.command_migrate.specs.Migrate.{NamesUnwritten, IsWhole, IsMigrate}

@@ -6,7 +6,7 @@ use Rattle.command_words.specs.declared.asked.Command.TheVariants.{Serve, Load}
 use Rattle.command_words.specs.Asked.{Asks, IsNoCommand}
 use Rattle.command_words.specs.Values.{IsNumberOr, IsNumberValue, most_claims, most_workers}
 use Rattle.command_store.specs.Outside.{Outside}
-use Rattle.command_serve.specs.Serve.{ListenerView}
+use Rattle.machine_serving.specs.Views.{ListenerView}
 use Rattle.ipam_command.specs.Runs.{Answers, SaysUsage, Runs}
 
 -- a command that was read, and run

@@ -18,7 +18,8 @@ use Rattle.ipam_data.specs.State.{State, empty_state}
 use Rattle.rest_ipam.specs.Answered.{answers_plainly, opened}
 use Rattle.command_store.specs.Outside.{Stores, Outside, StoreFailed, AnyFailed, NoCountFalls}
 use Rattle.command_session.specs.Session.{Prints, Serves, IsSession}
-use Rattle.command_serve.specs.Serve.{ListenerView, ListeningFailed, IsServe}
+use Rattle.machine_serving.specs.Views.{ListenerView, ListeningFailed}
+use Rattle.command_serve.specs.Serve.{IsServe}
 use Rattle.command_load.specs.Load.{IsLoad}
 use Rattle.command_load.proofs.Ended.{unprinted}
 use Rattle.ipam_command.specs.Runs.{Answers, SaysUsage}

@@ -19,7 +19,8 @@ use Rattle.command_free.specs.Run.{PrintsFree, NamesLine, FailsToRead, FailsToPr
 use Rattle.command_store.specs.Outside.{Outside, StoreFailed, AnyFailed, AreSame, NoCountFalls}
 use Rattle.command_store.specs.Opening.{IsLoaded, NamesFault, NamesFailure}
 use Rattle.command_session.specs.Session.{Prints, Serves, HasFailedCall, IsSession}
-use Rattle.command_serve.specs.Serve.{ListenerView, ListeningFailed, NobodyCame, Counts, IsServe}
+use Rattle.machine_serving.specs.Views.{ListenerView, ListeningFailed, NobodyCame}
+use Rattle.command_serve.specs.Serve.{Counts, IsServe}
 use Rattle.command_load.specs.LoadText.{load_text}
 use Rattle.command_load.specs.Load.{IsLoad}
 use Rattle.command_files.specs.Files.{kind_named}

@@ -2,7 +2,7 @@
 use Rattle.std.specs.Prelude.{◌≡◌, ℕ, ◌⊎◌, List, None}
 use Rattle.command_streams.specs.Streams.{Streams, Told}
 use Rattle.command_store.specs.Outside.{Stores, outside}
-use Rattle.command_serve.specs.Serve.{ListenerView}
+use Rattle.machine_serving.specs.Views.{ListenerView}
 use Rattle.ipam_command.specs.Runs.{Runs, SaysUsage}
 
 -- a standard stream as it is handed out: it tells nothing, and has not failed

@@ -7,7 +7,8 @@ use Rattle.command_streams.specs.Streams.{Streams, IsUsage}
 use Rattle.command_free.specs.Run.{IsFree}
 use Rattle.command_store.specs.Outside.{Outside}
 use Rattle.command_session.specs.Session.{IsSession}
-use Rattle.command_serve.specs.Serve.{ListenerView, IsServe}
+use Rattle.machine_serving.specs.Views.{ListenerView}
+use Rattle.command_serve.specs.Serve.{IsServe}
 use Rattle.command_load.specs.Load.{IsLoad}
 use Rattle.command_files.specs.Files.{kind_named}
 use Rattle.command_files.specs.Import.{IsImport}

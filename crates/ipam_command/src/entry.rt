@@ -4,7 +4,7 @@ ghost use Rattle.std.specs.Prelude.{◌≡◌, IfOk, map, string_bytes};
 ghost use Rattle.std.specs.Process.{exit_status};
 ghost use Rattle.command_streams.specs.Streams.{streams, told};
 ghost use Rattle.command_store.specs.Outside.{outside, stores};
-ghost use Rattle.command_serve.specs.Serve.{listener_view};
+ghost use Rattle.machine_serving.specs.Views.{listener_view};
 ghost use Rattle.ipam_command.specs.Program.{IsEnding, RunsOver};
 ghost use Rattle.ipam_command.specs.Runs.{Runs};
 

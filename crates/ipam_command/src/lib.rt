@@ -6,7 +6,7 @@ ghost use Rattle.command_words.specs.Asked.{Asks};
 ghost use Rattle.command_streams.specs.Streams.{streams, told};
 ghost use Rattle.ipam_command.specs.Clauses.{RunsHaveClauses};
 ghost use Rattle.command_store.specs.Outside.{Stores, outside, stores};
-ghost use Rattle.command_serve.specs.Serve.{listener_view};
+ghost use Rattle.machine_serving.specs.Views.{listener_view};
 ghost use Rattle.ipam_command.specs.Runs.{Answers, Runs};
 
 mod entry;

@@ -6,4 +6,4 @@ mod opener;
 mod session;
 
 pub use opener::MachineOpener;
-pub use session::run_session;
+pub use session::{run_session, status_of};

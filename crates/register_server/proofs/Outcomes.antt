@@ -9,7 +9,7 @@ use Rattle.stored_tables.specs.declared.opening.OpenFault.TheVariants.{Keeper as
 use Rattle.stored_tables.specs.Stored.{Tells}
 use Rattle.stored_tables.specs.Opening.{IsOfTables}
 use Rattle.register_core.specs.Opened.{IsOpened}
-use Rattle.register_server.specs.declared.ending.Served.{Served}
+use Rattle.machine_serving.specs.declared.ending.Served.{Served}
 use Rattle.register_server.specs.declared.ending.Unserved.{Unserved}
 use Rattle.register_server.specs.declared.ending.Unserved.TheVariants.{Opening, Place}
 use Rattle.machine_server.specs.History.{all_faults_of}

@@ -15,7 +15,7 @@ use Rattle.register_core.specs.Opened.{IsOpened, IsUnopened}
 use Rattle.http_lanes.specs.Listened.{IsListening}
 use Rattle.machine_server.specs.History as any
 use Rattle.rest_ipam.specs.Protocol.{register_protocol}
-use Rattle.register_server.specs.declared.ending.Served.{Served}
+use Rattle.machine_serving.specs.declared.ending.Served.{Served}
 use Rattle.register_server.specs.declared.ending.Unserved.{Unserved}
 use Rattle.register_server.specs.declared.ending.Unserved.TheVariants.{Opening, Place}
 

@@ -1,15 +1,6 @@
-//! How serving a register ends.
+//! Why a register is not served.
 
-use http_lanes::Listening;
 use stored_tables::opening::OpenFault;
-
-/// What is said of a register that was served.
-#[derive(Clone, Copy, Debug)]
-pub struct Served {
-    /// How many changes were accepted.
-    pub entries: u64,
-    pub listening: Listening,
-}
 
 /// Why a register was not served.
 #[derive(Clone, Copy, Debug)]

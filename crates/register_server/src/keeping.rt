@@ -7,12 +7,13 @@ ghost use Rattle.stored_tables.specs.Stored.{Tells};
 ghost use Rattle.stored_tables.specs.declared.opening.OpenFault.{OpenFault};
 ghost use Rattle.register_server.specs.Serving.{IsKeeperOutcome, IsListened, IsOutcome, IsServedWhole};
 
-use crate::ending::{Served, Unserved};
+use crate::ending::Unserved;
 use crate::service::serve_all;
 use history_lock::{Seat, Shared};
 use http_lanes::Listening;
 use ipam_keeper::keeper::Keeper;
 use ipam_listen::{Lane, Listener};
+use machine_serving::Served;
 use register_core::{Register, Settings, open};
 use rest_ipam::Worker;
 use std::alloc::Global;

@@ -6,7 +6,8 @@ mod keeping;
 mod service;
 mod serving;
 
-pub use ending::{Served, Unserved};
+pub use ending::Unserved;
 pub use http_lanes::Listening;
+pub use machine_serving::Served;
 pub use register_core::Settings;
 pub use serving::serve;

@@ -6,10 +6,11 @@ ghost use Rattle.stored_tables.specs.Opening.{IsOfTables};
 ghost use Rattle.stored_tables.specs.declared.opening.OpenFault.{OpenFault};
 ghost use Rattle.register_server.specs.Serving.{IsListened, IsServing};
 
-use crate::ending::{Served, Unserved};
+use crate::ending::Unserved;
 use crate::keeping::serve_keeper;
 use ipam_keeper::keeper::{KeepFault, KeeperOpener};
 use ipam_listen::Listener;
+use machine_serving::Served;
 use register_core::Settings;
 use std::alloc::Global;
 use std::marker::Sync;

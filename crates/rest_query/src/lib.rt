@@ -18,4 +18,5 @@ mod vrf;
 pub use asked::{Available, Listing};
 pub use laws::{limit_is_one, listing_is_one};
 pub use lists::{link_query, read_limit, read_listing};
+pub use numbers::number_below;
 pub use query::cut;

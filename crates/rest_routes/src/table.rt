@@ -1,6 +1,6 @@
 //! The table of routes, and the look-up of a path in it.
 
-ghost use Rattle.std.specs.Prelude.{◌≡◌, ◌≢◌, ◌↔◌, ℕ, ◌^◌, ◌<◌, List, [], ◌∷◌, ◌++◌, decimal, Some, IfOk, IfSome, IfNone, IsTrue, OnOk, option_copied};
+ghost use Rattle.std.specs.Prelude.{◌≡◌, ◌≢◌, ℕ, List, [], ◌∷◌, ◌++◌, decimal, IfOk, IfSome, IfNone, OnOk, option_copied};
 ghost use Rattle.std.specs.String.{string_bytes};
 ghost use Rattle.rest_routes.specs.Routes.{HasRoute, IsId, part_end, rows_path};
 ghost use Rattle.rest_routes.specs.Stems.{Lists, IsRouteAt};
@@ -8,7 +8,7 @@ ghost use Rattle.rest_routes.specs.Stems.{Lists, IsRouteAt};
 use crate::route::{Route, RowPart};
 use ipam_data::kinds::Kind;
 use ipam_words::kind_name;
-use itoa::Buffer;
+use rest_query::number_below;
 use route_table::RouteTable;
 use std::alloc::{AllocError, Global};
 use std::marker::Model;
@@ -21,31 +21,13 @@ pub(crate) enum Stem {
     PartOf(RowPart),
 }
 
-/// The number that the text is read as: at least every decimal text of one is.
-fn number_of(text: &str) -> Option<u32>
-    ensures { (id : ℕ) → id < 2 ^ 32 → text.now ≡ decimal id → result ≡ Some id }
-{
-    match text.parse::<u32>() {
-        Ok(id) => Some(id),
-        Err(_) => None,
-    }
-}
-
-/// Whether the text is the decimal one of this number, without a sign or a leading zero.
-fn is_decimal(text: &str, id: u32) -> bool
-    ensures { IsTrue result ↔ (text.now ≡ decimal id) }
-{
-    let mut room = Buffer::new();
-    text.as_bytes() == room.format(id).as_bytes()
-}
-
 /// The id that the text is in decimal.
 fn id_of(text: &str) -> Option<u32>
     ensures some { IfSome result (λ id. (text.now ≡ decimal id) × IsId id) }
     ensures none { IfNone result ((id : ℕ) → IsId id → text.now ≢ decimal id) }
 {
-    match number_of(text) {
-        Some(id) if id > 0 && is_decimal(text, id) => Some(id),
+    match number_below(text, 4294967296) {
+        Some(id) if id > 0 => Some(id as u32),
         _ => None,
     }
 }

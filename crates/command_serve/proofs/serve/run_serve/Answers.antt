@@ -1,6 +1,7 @@
 use Rattle.std.proofs.Common.{◌≡◌, Err, refl, ap, arith}
 use Rattle.command_serve.proofs.Served.{not_want, of_served}
-use Rattle.command_serve.specs.Serve.{listener_view, AllCame, NoneFailed, ListeningFailed}
+use Rattle.machine_serving.specs.Views.{listener_view, NoneFailed, ListeningFailed}
+use Rattle.command_serve.specs.Serve.{AllCame}
 use Rattle.command_serve.proofs.Unserved.{heard_of_view, of_unserved, quiet_unserved}
 use Rattle.command_serve.proofs.serve.run_serve.Goals as goal
 
