@@ -186,7 +186,7 @@ pub record HasClauses (words : List (List ℕ)) (old new : Outside) (before afte
   pub store_fault : status ≡ 4 → NobodyCame before after
       × ((AsksRegister words × NamesFailure old new) ⊎ ((kind : KindName) × (store : Store) × AsksImport words kind store × (NamesUnread old new ⊎ NamesUnwritten (kind_named kind) store old new))
       ⊎ ((db : List ℕ) × (populated : Bool) × AsksMigrate words db populated × (NamesFailure old new ⊎ NamesUnwrittenFile db old new)))
-  -- 5: out of memory. Nothing was said, and `free` and `serve` have nothing on the output
+  -- 5: out of memory. Nothing was said, and only a session has anything on the output
   pub memory : status ≡ 5 → (new.streams.errors ≡ old.streams.errors) × (((store : Store) × AsksStore words store) ⊎ (new.streams.output ≡ old.streams.output))
   -- `free` has nothing on the output unless the status is 0 or a write of it failed
   pub nothing_else : (within : Cidr) → AsksFree words within
