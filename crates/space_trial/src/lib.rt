@@ -2,6 +2,8 @@
 #![tactic(auto)]
 
 #[cfg(test)]
+mod changes;
+#[cfg(test)]
 mod radix_tree_tests;
 #[cfg(test)]
 mod tests;
