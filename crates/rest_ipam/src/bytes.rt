@@ -32,12 +32,4 @@ impl Bytes {
     {
         self.bytes.as_slice()
     }
-
-    /// The list as the vector that it is of. It takes no memory.
-    pub fn into_vec(self) -> Vec<u8>
-        ensures { result.items ≡ self.entry }
-    {
-        let Bytes { bytes } = self;
-        bytes
-    }
 }
