@@ -4,6 +4,10 @@
 #[cfg(test)]
 mod database;
 #[cfg(test)]
+mod first;
+#[cfg(test)]
+mod first_file;
+#[cfg(test)]
 mod register_file;
 #[cfg(test)]
 mod tests;
