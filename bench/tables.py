@@ -17,7 +17,7 @@ TOP = os.path.join(os.path.dirname(os.path.abspath(__file__)), "..")
 MADE = {
     "bench/tables.sql": "crates/store_trial/src/register_file.rt",
     "bench/tables_first.sql": "crates/store_trial/src/first_file.rt",
-    "bench/pool_tables.sql": "bench/store_trial/pool_file.rt.txt",
+    "bench/pool_tables.sql": "crates/store_trial/src/pool_file.rt",
 }
 TEXT = re.compile(r'(const FILE: &str = "\\\n)(.*?)(";\n)', re.S)
 

@@ -8,6 +8,10 @@ mod first;
 #[cfg(test)]
 mod first_file;
 #[cfg(test)]
+mod other_tests;
+#[cfg(test)]
+mod pool_file;
+#[cfg(test)]
 mod register_file;
 #[cfg(test)]
 mod tests;
