@@ -12,6 +12,8 @@ mod other_tests;
 #[cfg(test)]
 mod pool_file;
 #[cfg(test)]
+mod pool_tests;
+#[cfg(test)]
 mod register_file;
 #[cfg(test)]
 mod tests;
