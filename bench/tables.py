@@ -16,8 +16,8 @@ TOP = os.path.join(os.path.dirname(os.path.abspath(__file__)), "..")
 # each text, and the file that has what is made of it
 MADE = {
     "bench/tables.sql": "crates/store_trial/src/register_file.rt",
-    "bench/tables_first.sql": "bench/store_trial/first_file.rt.txt",
-    "bench/pool_tables.sql": "bench/store_trial/pool_file.rt.txt",
+    "bench/tables_first.sql": "crates/store_trial/src/first_file.rt",
+    "bench/pool_tables.sql": "crates/store_trial/src/pool_file.rt",
 }
 TEXT = re.compile(r'(const FILE: &str = "\\\n)(.*?)(";\n)', re.S)
 

@@ -1,9 +1,9 @@
-//! Databases in memory, of the bytes of files.
+//! Databases in memory, of the bytes of files, and what is tried over them. A store is named here alone: what is tried is generic in it.
 
 ghost use Rattle.std.specs.Prelude.{IfOk, IsTrue};
 ghost use Rattle.sqlite_disk.specs.Memory.{memory_is_usable};
 
-use sqlite::{Connection, FileStore, Files, Options};
+use sqlite::{Alter, Connection, FileStore, Files, Options};
 use sqlite_disk::{Disk, Memory};
 use std::alloc::{AllocError, Global};
 
@@ -27,7 +27,7 @@ fn put_word(alloc: Global, bytes: &mut Vec<u8>, word: &str) -> Result<(), AllocE
 }
 
 /// The bytes of a file, given in hexadecimal digits, of which `0*N` are N bytes that are zero.
-pub(crate) fn bytes_of(alloc: Global, digits: &str) -> Result<Vec<u8>, AllocError> {
+fn bytes_of(alloc: Global, digits: &str) -> Result<Vec<u8>, AllocError> {
     let mut bytes = Vec::new(alloc);
     for word in digits.split_whitespace() {
         put_word(alloc, &mut bytes, word)?;
@@ -50,10 +50,7 @@ fn file_of(alloc: Global, bytes: &[u8]) -> Result<Memory, AllocError>
 }
 
 /// A connection to the database in a file of these bytes.
-pub(crate) fn connection_of(
-    alloc: Global,
-    bytes: &[u8],
-) -> Result<Connection<FileStore<Memory>>, AllocError> {
+fn connection_of(alloc: Global, bytes: &[u8]) -> Result<Connection<FileStore<Memory>>, AllocError> {
     let db = file_of(alloc, bytes)?;
     let files = Files {
         log: Memory::new(alloc),
@@ -63,4 +60,63 @@ pub(crate) fn connection_of(
         Ok(conn) => Ok(conn),
         Err(_) => Err(AllocError),
     }
+}
+
+/// What is tried over a connection, whatever its store.
+pub(crate) trait Trial {
+    /// Tries it with these words, and tells what came of it.
+    fn over<S: Alter + Drop>(
+        alloc: Global,
+        conn: Connection<S>,
+        words: &str,
+    ) -> Result<String, AllocError>;
+}
+
+/// What a trial tells over the database in a file of these bytes, which is an empty one where there are none.
+pub(crate) fn over_file<T: Trial>(
+    alloc: Global,
+    digits: &str,
+    words: &str,
+) -> Result<String, AllocError> {
+    let bytes = bytes_of(alloc, digits)?;
+    let conn = connection_of(alloc, bytes.as_slice())?;
+    T::over(alloc, conn, words)
+}
+
+/// The lines of a table, each as it should be: what is tried over an empty database, a bar, and what is told then.
+pub(crate) fn told_lines<T: Trial>(alloc: Global, lines: &str) -> Result<String, AllocError> {
+    let mut told = String::new(alloc);
+    for line in lines.lines() {
+        let words = line.split('|').next().unwrap_or("");
+        told.push_str(words)?;
+        told.push('|')?;
+        told.push_str(over_file::<T>(alloc, "", words)?.as_str())?;
+        told.push('\n')?;
+    }
+    Ok(told)
+}
+
+/// What is done over a connection, whatever its store, which is then given back.
+pub(crate) trait Deed {
+    /// Does it, and says whether all was as it should be.
+    fn over<S: Alter + Drop>(alloc: Global, conn: Connection<S>) -> (bool, Connection<S>);
+}
+
+/// Whether the file of a database has these bytes, after all that is committed was put into it.
+fn is_as_before(conn: Connection<FileStore<Memory>>, bytes: &[u8]) -> bool {
+    match conn.close_files() {
+        Ok(files) => files.db.bytes() == bytes,
+        Err(_) => false,
+    }
+}
+
+/// Whether a deed over the database in a file of these bytes was as it should be, and whether the file has the same bytes then.
+pub(crate) fn done_and_left<D: Deed>(
+    alloc: Global,
+    digits: &str,
+) -> Result<(bool, bool), AllocError> {
+    let bytes = bytes_of(alloc, digits)?;
+    let conn = connection_of(alloc, bytes.as_slice())?;
+    let (is_done, conn) = D::over(alloc, conn);
+    Ok((is_done, is_as_before(conn, bytes.as_slice())))
 }

@@ -4,6 +4,16 @@
 #[cfg(test)]
 mod database;
 #[cfg(test)]
+mod first;
+#[cfg(test)]
+mod first_file;
+#[cfg(test)]
+mod other_tests;
+#[cfg(test)]
+mod pool_file;
+#[cfg(test)]
+mod pool_tests;
+#[cfg(test)]
 mod register_file;
 #[cfg(test)]
 mod tests;

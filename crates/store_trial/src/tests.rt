@@ -1,6 +1,6 @@
 //! Keepers over databases: what they load, and that what they hold after changes is what a keeper in memory holds.
 
-use crate::database::{bytes_of, connection_of};
+use crate::database::{Trial, over_file, told_lines};
 use crate::register_file::FILE;
 use crate::words::{number_of, text_of, word_of};
 use ipam_data::kinds::Kind;
@@ -71,25 +71,27 @@ pub(crate) fn loaded<K: Keeper>(alloc: Global, keeper: &mut K) -> Result<String,
     }
 }
 
-/// What a keeper loads of a database that this text makes.
-fn loaded_of(alloc: Global, text: &str) -> Result<String, Fail> {
-    let mut conn = Connection::open_in_memory(alloc)?;
-    conn.execute_batch(text)?;
-    let mut keeper = SqliteKeeper::adopt(alloc, conn);
-    Ok(loaded(alloc, &mut keeper)?)
+/// What a keeper loads of a database that the words make.
+struct Loading;
+
+impl Trial for Loading {
+    fn over<S: Alter + Drop>(
+        alloc: Global,
+        mut conn: Connection<S>,
+        words: &str,
+    ) -> Result<String, AllocError> {
+        if conn.execute_batch(words).is_err() {
+            return Err(AllocError);
+        }
+        let mut keeper = SqliteKeeper::adopt(alloc, conn);
+        loaded(alloc, &mut keeper)
+    }
 }
 
 #[test]
 fn databases_are_loaded(rt: HostRuntime) -> Result<(), Fail> {
-    let mut found = String::new(rt.alloc());
-    for line in LOADS.lines() {
-        let text = line.split('|').next().unwrap_or("");
-        found.push_str(text)?;
-        found.push('|')?;
-        found.push_str(loaded_of(rt.alloc(), text)?.as_str())?;
-        found.push('\n')?;
-    }
-    assert!(rt; found.as_str() == LOADS, "{found}");
+    let told = told_lines::<Loading>(rt.alloc(), LOADS)?;
+    assert!(rt; told.as_str() == LOADS, "{told}");
     Ok(())
 }
 
@@ -181,10 +183,10 @@ pub(crate) fn followed<S: Alter>(alloc: Global, keeper: SqliteKeeper<S>) -> Sqli
     SqliteKeeper::adopt(alloc, keeper.into_connection())
 }
 
-/// A keeper in memory after the changes of these lines.
-fn memory_after(alloc: Global, lines: &str) -> Result<MemoryKeeper, AllocError> {
+/// A keeper in memory after so many of the changes.
+fn memory_after(alloc: Global, made: usize) -> Result<MemoryKeeper, AllocError> {
     let mut memory = MemoryKeeper::new(empty_tables(alloc)?, Vec::new(alloc));
-    for line in lines.lines() {
+    for line in CHANGES.lines().take(made) {
         let change = change_of(alloc, line)?;
         if memory.apply(&change).is_err() {
             return Err(AllocError);
@@ -193,19 +195,18 @@ fn memory_after(alloc: Global, lines: &str) -> Result<MemoryKeeper, AllocError> 
     Ok(memory)
 }
 
-/// The lines whose changes leave other tables in a keeper over a database than in one in memory, behind these lines. Both begin alike.
+/// The lines whose changes leave other tables in a keeper over a database, where so many are made, than in one in memory.
 fn wrong_lines<S: Alter + Drop>(
     alloc: Global,
     mut keeper: SqliteKeeper<S>,
-    before: &str,
-    lines: &str,
+    made: usize,
 ) -> Result<String, AllocError> {
-    let mut memory = memory_after(alloc, before)?;
+    let mut memory = memory_after(alloc, made)?;
     let mut wrong = String::new(alloc);
     if loaded(alloc, &mut keeper)? != loaded(alloc, &mut memory)? {
         wrong.push_str("other tables at first")?;
     }
-    for line in lines.lines() {
+    for line in CHANGES.lines().skip(made) {
         if !is_alike(alloc, &mut keeper, &mut memory, line)? {
             wrong.push_str(line)?;
         }
@@ -214,21 +215,30 @@ fn wrong_lines<S: Alter + Drop>(
     Ok(wrong)
 }
 
+/// The changes, as many of which are made as the words say.
+struct Changing;
+
+impl Trial for Changing {
+    fn over<S: Alter + Drop>(
+        alloc: Global,
+        conn: Connection<S>,
+        words: &str,
+    ) -> Result<String, AllocError> {
+        let made = words.parse::<usize>().unwrap_or(0);
+        wrong_lines(alloc, SqliteKeeper::adopt(alloc, conn), made)
+    }
+}
+
 #[test]
 fn changes_are_stored_whole_or_not_at_all(rt: HostRuntime) -> Result<(), Fail> {
-    let conn = Connection::open_in_memory(rt.alloc())?;
-    let keeper = SqliteKeeper::adopt(rt.alloc(), conn);
-    let wrong = wrong_lines(rt.alloc(), keeper, "", CHANGES)?;
+    let wrong = over_file::<Changing>(rt.alloc(), "", "0")?;
     assert!(rt; wrong.is_empty(), "{wrong}");
     Ok(())
 }
 
 #[test]
 fn a_database_of_sqlite3_is_loaded_and_changed(rt: HostRuntime) -> Result<(), Fail> {
-    let bytes = bytes_of(rt.alloc(), FILE)?;
-    let keeper = SqliteKeeper::adopt(rt.alloc(), connection_of(rt.alloc(), bytes.as_slice())?);
-    let (first, rest) = CHANGES.split_once('\n').unwrap_or(("", ""));
-    let wrong = wrong_lines(rt.alloc(), keeper, first, rest)?;
+    let wrong = over_file::<Changing>(rt.alloc(), FILE, "1")?;
     assert!(rt; wrong.is_empty(), "{wrong}");
     Ok(())
 }

@@ -1,10 +1,10 @@
 //! A database of version 1 that the program `sqlite3` made of bench/tables_first.sql is migrated, and loaded again.
 
-use crate::database::{bytes_of, connection_of};
+use crate::database::{Trial, over_file};
 use crate::first_file::FILE;
 use crate::tests::{followed, loaded};
 use ipam_keeper::keeper::Keeper;
-use sqlite::Alter;
+use sqlite::{Alter, Connection};
 use sqlite_keeper::SqliteKeeper;
 use std::alloc::{AllocError, Global};
 use std::test::Fail;
@@ -63,25 +63,51 @@ fn refused<K: Keeper>(alloc: Global, keeper: &mut K) -> Result<String, AllocErro
     }
 }
 
-/// What a keeper loads before it is migrated and what one over the same database loads after that, and why it is not migrated again.
-fn around<S: Alter + Drop>(
+/// What a keeper loads, which is then migrated.
+fn told_before<K: Keeper>(
     alloc: Global,
-    mut keeper: SqliteKeeper<S>,
+    keeper: &mut K,
     populated: bool,
 ) -> Result<String, AllocError> {
-    let mut text = loaded(alloc, &mut keeper)?;
-    if !is_migrated(&mut keeper, populated) {
-        return Err(AllocError);
+    let text = loaded(alloc, keeper)?;
+    if is_migrated(keeper, populated) {
+        Ok(text)
+    } else {
+        String::from_str(alloc, "not migrated")
     }
-    let mut keeper = followed(alloc, keeper);
+}
+
+/// What a keeper loads, and why it is not migrated, each on a line behind this text.
+fn told_after<K: Keeper>(
+    alloc: Global,
+    mut text: String,
+    keeper: &mut K,
+) -> Result<String, AllocError> {
     text.push('\n')?;
-    text.push_str(loaded(alloc, &mut keeper)?.as_str())?;
+    text.push_str(loaded(alloc, keeper)?.as_str())?;
     text.push('\n')?;
-    text.push_str(refused(alloc, &mut keeper)?.as_str())?;
+    text.push_str(refused(alloc, keeper)?.as_str())?;
     Ok(text)
 }
 
-/// What they should be.
+/// A migration whose ranges are populated where the words are `yes`: what a keeper loads before it, what one over the same database
+/// loads after it, and why that one is not migrated again.
+struct Migrating;
+
+impl Trial for Migrating {
+    fn over<S: Alter + Drop>(
+        alloc: Global,
+        conn: Connection<S>,
+        words: &str,
+    ) -> Result<String, AllocError> {
+        let mut keeper = SqliteKeeper::adopt(alloc, conn);
+        let text = told_before(alloc, &mut keeper, words == "yes")?;
+        let mut keeper = followed(alloc, keeper);
+        told_after(alloc, text, &mut keeper)
+    }
+}
+
+/// What that should be, where the ranges have this mark after it.
 fn wanted_around(alloc: Global, mark: &str) -> Result<String, AllocError> {
     let mut text = wanted(alloc, 1, "")?;
     text.push('\n')?;
@@ -90,18 +116,18 @@ fn wanted_around(alloc: Global, mark: &str) -> Result<String, AllocError> {
     Ok(text)
 }
 
-/// What a keeper over that database does.
-fn found_around(alloc: Global, populated: bool) -> Result<String, AllocError> {
-    let bytes = bytes_of(alloc, FILE)?;
-    let conn = connection_of(alloc, bytes.as_slice())?;
-    around(alloc, SqliteKeeper::adopt(alloc, conn), populated)
+#[test]
+fn a_database_of_version_1_is_migrated(rt: HostRuntime) -> Result<(), Fail> {
+    let told = over_file::<Migrating>(rt.alloc(), FILE, "yes")?;
+    let wanted = wanted_around(rt.alloc(), " true")?;
+    assert!(rt; told.as_str() == wanted.as_str(), "{told}");
+    Ok(())
 }
 
 #[test]
-fn a_database_of_version_1_is_migrated(rt: HostRuntime) -> Result<(), Fail> {
-    let found = found_around(rt.alloc(), true)?;
-    assert!(rt; found == wanted_around(rt.alloc(), " true")?, "{found}");
-    let found = found_around(rt.alloc(), false)?;
-    assert!(rt; found == wanted_around(rt.alloc(), " false")?, "{found}");
+fn a_database_of_version_1_is_migrated_without_the_mark(rt: HostRuntime) -> Result<(), Fail> {
+    let told = over_file::<Migrating>(rt.alloc(), FILE, "no")?;
+    let wanted = wanted_around(rt.alloc(), " false")?;
+    assert!(rt; told.as_str() == wanted.as_str(), "{told}");
     Ok(())
 }
