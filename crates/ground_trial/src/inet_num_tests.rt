@@ -1,6 +1,7 @@
 //! Worked examples: texts from RFC 4632 and this repository's rules, and the blocks that are left of a block.
 
-use inet_num::{Addr, Block, Family, TextFault, available_blocks, read_block, write_block};
+use crate::inet_text_tests::name_of;
+use inet_num::{Addr, Block, Family, available_blocks, read_block, write_block};
 use std::alloc::Global;
 use std::test::Fail;
 
@@ -8,16 +9,6 @@ fn text_of(alloc: Global, block: Block) -> Result<Vec<u8>, Fail> {
     let mut out = Vec::new(alloc);
     write_block(block, &mut out)?;
     Ok(out)
-}
-
-fn name_of(fault: TextFault) -> &'static str {
-    match fault {
-        TextFault::Octet => "octet",
-        TextFault::Group => "group",
-        TextFault::Shape => "shape",
-        TextFault::Length => "length",
-        TextFault::HostBits(_) => "host bits",
-    }
 }
 
 #[test]

@@ -6,7 +6,8 @@ use inet_num::{
 use std::alloc::{AllocError, Global};
 use std::test::Fail;
 
-fn name_of(fault: TextFault) -> &'static str {
+/// The name of a fault, without what it says further.
+pub fn name_of(fault: TextFault) -> &'static str {
     match fault {
         TextFault::Octet => "octet",
         TextFault::Group => "group",

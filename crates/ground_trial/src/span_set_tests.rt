@@ -2,212 +2,215 @@
 
 ghost use Rattle.std.specs.Prelude.{◌≡◌, ◌≤◌, IfOk, IfSome};
 
-use inet_num::{Addr, Block, Family, Span, available_blocks};
+use inet_num::{Addr, Block, Family, Span, available_blocks, read_addr, read_block, write_block};
 use span_set::{SpanSet, span_of};
 use std::alloc::{AllocError, Global};
+use std::test::Fail;
 
-/// A change of a set, by the first and the last number of a span.
-#[derive(Clone, Copy, Debug)]
-enum Change {
-    Add(u128, u128),
-    Subtract(u128, u128),
+/// A column of a case, without the spaces around it.
+fn column(case: &str, index: usize) -> &str {
+    case.split('|').nth(index).unwrap_or("").trim()
 }
 
-use Change::{Add, Subtract};
-
-/// The block of this length at the address of this number.
-fn block(family: Family, first: u128, len: u8) -> Option<Block>
+/// The block of a text, if it is one of the family.
+fn block_of(family: Family, text: &str) -> Option<Block>
     ensures { IfSome result (λ b. b.family ≡ family) }
 {
-    Block::of(Addr::of(family, first)?, len)
+    let block = read_block(text.as_bytes()).ok()?;
+    if !block.family().is(family) {
+        return None;
+    }
+    Some(block)
 }
 
-/// The span from the one number to the other.
-fn span(family: Family, first: u128, last: u128) -> Option<Span>
+/// The address of a text, if it is one of the family.
+fn addr_of(family: Family, text: &str) -> Option<Addr>
+    ensures { IfSome result (λ a. a.family ≡ family) }
+{
+    let addr = read_addr(text.as_bytes()).ok()?;
+    if !addr.family().is(family) {
+        return None;
+    }
+    Some(addr)
+}
+
+/// The span of a text as `10.0.0.0-10.0.0.255`, if it is one of the family.
+fn span_told(family: Family, text: &str) -> Option<Span>
     ensures first { IfSome result (λ s. s.first.family ≡ family) }
     ensures last { IfSome result (λ s. s.last.family ≡ family) }
     ensures order { IfSome result (λ s. s.first.value ≤ s.last.value) }
 {
-    if last < first {
+    let (first, last) = text.split_once('-')?;
+    let first = addr_of(family, first)?;
+    let last = addr_of(family, last)?;
+    if last.value() < first.value() {
         return None;
     }
-    let first = Addr::of(family, first)?;
-    let last = Addr::of(family, last)?;
     Some(Span { first, last })
 }
 
-/// The empty set with these changes. What is no span of the family fails, as for lack of memory.
-fn changed(alloc: Global, family: Family, changes: &[Change]) -> Result<SpanSet, AllocError>
+/// Adds the span of a word as `+10.0.0.0-10.0.0.255`, or takes away that of one as `-10.0.0.0-10.0.0.255`. Another word, or a span of
+/// the other family, fails as for lack of memory.
+fn apply(set: &mut SpanSet, change: &str) -> Result<(), AllocError>
+    ensures { set.new.family ≡ set.old.family }
+{
+    let (is_added, text) = match change.strip_prefix("+") {
+        Some(text) => (true, text),
+        None => (false, change.strip_prefix("-").unwrap_or("")),
+    };
+    let Some(span) = span_told(set.family(), text) else {
+        return Err(AllocError);
+    };
+    if is_added {
+        set.add(span)
+    } else {
+        set.subtract(span)
+    }
+}
+
+/// The empty set after the changes of these words.
+fn changed(alloc: Global, family: Family, changes: &str) -> Result<SpanSet, AllocError>
     ensures { IfOk result (λ set. set.family ≡ family) }
 {
     let mut set = SpanSet::new(alloc, family);
-    'changes: for change in changes {
-        match *change {
-            Add(first, last) => {
-                let Some(span) = span(family, first, last) else {
-                    return Err(AllocError);
-                };
-                set.add(span)?;
-            }
-            Subtract(first, last) => {
-                let Some(span) = span(family, first, last) else {
-                    return Err(AllocError);
-                };
-                set.subtract(span)?;
-            }
-        }
+    'changes: for change in changes.split_whitespace() {
+        apply(&mut set, change)?;
     }
     Ok(set)
 }
 
-/// Blocks as their first numbers and lengths.
-fn listed(alloc: Global, blocks: &[Block]) -> Result<Vec<(u128, u8)>, AllocError> {
+/// The texts of blocks, with a space between them.
+fn written(alloc: Global, blocks: &[Block]) -> Result<Vec<u8>, AllocError> {
     let mut out = Vec::new(alloc);
     for block in blocks {
-        out.push((block.addr().value(), block.len()))?;
+        if !out.is_empty() {
+            out.push(b' ')?;
+        }
+        write_block(*block, &mut out)?;
     }
     Ok(out)
 }
 
+/// A family, changes of its empty set, and the blocks that are then in the set.
+const CHANGES: [&str; 12] = [
+    "4||",
+    // 10.0.0.0 to 10.0.0.255 without the first: from 10.0.0.1/32 to 10.0.0.128/25
+    "4
+    |+10.0.0.0-10.0.0.255 -10.0.0.0-10.0.0.0
+    |10.0.0.1/32 10.0.0.2/31 10.0.0.4/30 10.0.0.8/29 10.0.0.16/28 10.0.0.32/27 10.0.0.64/26 10.0.0.128/25",
+    // spans that touch are one, and so are those that a third one joins
+    "4|+0.0.0.0-0.0.0.3 +0.0.0.4-0.0.0.7|0.0.0.0/29",
+    "4|+0.0.0.4-0.0.0.7 +0.0.0.0-0.0.0.3|0.0.0.0/29",
+    "4|+0.0.0.0-0.0.0.2 +0.0.0.5-0.0.0.7 +0.0.0.12-0.0.0.15 +0.0.0.3-0.0.0.4|0.0.0.0/29 0.0.0.12/30",
+    "4|+0.0.0.0-0.0.0.2 +0.0.0.5-0.0.0.7 +0.0.0.12-0.0.0.15 +0.0.0.1-0.0.0.13|0.0.0.0/28",
+    // a gap of one stays
+    "4|+0.0.0.0-0.0.0.2 +0.0.0.4-0.0.0.7|0.0.0.0/31 0.0.0.2/32 0.0.0.4/30",
+    // from the middle of one span to the middle of another, and all between
+    "4|+0.0.0.0-0.0.0.3 +0.0.0.8-0.0.0.11 +0.0.0.16-0.0.0.19 -0.0.0.2-0.0.0.17|0.0.0.0/31 0.0.0.18/31",
+    "4|+0.0.0.0-0.0.0.3 -0.0.0.4-0.0.0.9|0.0.0.0/30",
+    // all of a family, and its last address
+    "6|+::-ffff:ffff:ffff:ffff:ffff:ffff:ffff:ffff|::/0",
+    "6
+    |+::-ffff:ffff:ffff:ffff:ffff:ffff:ffff:ffff -::-ffff:ffff:ffff:ffff:ffff:ffff:ffff:fffe
+    |ffff:ffff:ffff:ffff:ffff:ffff:ffff:ffff/128",
+    "6
+    |+ffff:ffff:ffff:ffff:ffff:ffff:ffff:ffff-ffff:ffff:ffff:ffff:ffff:ffff:ffff:ffff
+    +::-ffff:ffff:ffff:ffff:ffff:ffff:ffff:fffe -::-7fff:ffff:ffff:ffff:ffff:ffff:ffff:ffff
+    |8000::/1",
+];
+
+/// The texts of the blocks of a set after the changes of a case.
+fn blocks_after(alloc: Global, case: &str) -> Result<Vec<u8>, AllocError> {
+    let family = if column(case, 0) == "6" {
+        Family::V6
+    } else {
+        Family::V4
+    };
+    let set = changed(alloc, family, column(case, 1))?;
+    written(alloc, &set.blocks()?)
+}
+
 #[test]
-fn changes_are_kept(rt: HostRuntime) -> Result<(), AllocError> {
-    let alloc = rt.alloc();
-    let last = u128::MAX;
-    let table: [(Family, &[Change], &[(u128, u8)]); 12] = [
-        (Family::V4, &[], &[]),
-        // 10.0.0.0 to 10.0.0.255 without the first: from 10.0.0.1/32 to 10.0.0.128/25
-        (
-            Family::V4,
-            &[
-                Add(0x0a000000, 0x0a0000ff),
-                Subtract(0x0a000000, 0x0a000000),
-            ],
-            &[
-                (0x0a000001, 32),
-                (0x0a000002, 31),
-                (0x0a000004, 30),
-                (0x0a000008, 29),
-                (0x0a000010, 28),
-                (0x0a000020, 27),
-                (0x0a000040, 26),
-                (0x0a000080, 25),
-            ],
-        ),
-        // spans that touch are one, and so are those that a third one joins
-        (Family::V4, &[Add(0, 3), Add(4, 7)], &[(0, 29)]),
-        (Family::V4, &[Add(4, 7), Add(0, 3)], &[(0, 29)]),
-        (
-            Family::V4,
-            &[Add(0, 2), Add(5, 7), Add(12, 15), Add(3, 4)],
-            &[(0, 29), (12, 30)],
-        ),
-        (
-            Family::V4,
-            &[Add(0, 2), Add(5, 7), Add(12, 15), Add(1, 13)],
-            &[(0, 28)],
-        ),
-        // a gap of one stays
-        (
-            Family::V4,
-            &[Add(0, 2), Add(4, 7)],
-            &[(0, 31), (2, 32), (4, 30)],
-        ),
-        // from the middle of one span to the middle of another, and all between
-        (
-            Family::V4,
-            &[Add(0, 3), Add(8, 11), Add(16, 19), Subtract(2, 17)],
-            &[(0, 31), (18, 31)],
-        ),
-        (Family::V4, &[Add(0, 3), Subtract(4, 9)], &[(0, 30)]),
-        // all of a family, and its last address
-        (Family::V6, &[Add(0, last)], &[(0, 0)]),
-        (
-            Family::V6,
-            &[Add(0, last), Subtract(0, last - 1)],
-            &[(last, 128)],
-        ),
-        (
-            Family::V6,
-            &[Add(last, last), Add(0, last - 1), Subtract(0, last >> 1)],
-            &[(1 << 127, 1)],
-        ),
-    ];
-    for (family, changes, want) in table {
-        let set = changed(alloc, family, changes)?;
-        let got = listed(alloc, &set.blocks()?)?;
-        assert!(rt; got.as_slice() == want, "{changes:?}");
+fn a_set_has_what_was_added_and_not_taken_away(rt: HostRuntime) -> Result<(), Fail> {
+    for case in CHANGES {
+        let got = blocks_after(rt.alloc(), case)?;
+        assert!(rt; got.as_slice() == column(case, 2).as_bytes(), "{case}");
     }
     Ok(())
 }
 
+/// Changes of the empty set, a block, and how many of its addresses are then in the set.
+const COUNTS: [&str; 6] = [
+    "|::/1|0",
+    "+::-ffff:ffff:ffff:ffff:ffff:ffff:ffff:ffff|::/1|170141183460469231731687303715884105728",
+    "+::1-7fff:ffff:ffff:ffff:ffff:ffff:ffff:ffff|::/1|170141183460469231731687303715884105727",
+    "+7fff:ffff:ffff:ffff:ffff:ffff:ffff:ffff-8000::|::/1|1",
+    "+::-::9 +::c-::e +::10-::28|::8/125|5",
+    "+::-::9 +::c-::e +::10-::28|::c/128|1",
+];
+
+/// How many addresses of the block of a case are in a set after its changes; none where all addresses of a family are asked for.
+fn counted(alloc: Global, case: &str) -> Result<Option<u128>, AllocError> {
+    let Ok(within) = read_block(column(case, 1).as_bytes()) else {
+        return Ok(None);
+    };
+    if within.len() == 0 {
+        return Ok(None);
+    }
+    let set = changed(alloc, within.family(), column(case, 0))?;
+    Ok(Some(set.count(within)))
+}
+
 #[test]
-fn addresses_are_counted(rt: HostRuntime) -> Result<(), AllocError> {
-    let alloc = rt.alloc();
-    let half = u128::MAX >> 1;
-    let table: [(&[Change], (u128, u8), u128); 6] = [
-        (&[], (0, 1), 0),
-        (&[Add(0, u128::MAX)], (0, 1), half + 1),
-        (&[Add(1, half)], (0, 1), half),
-        (&[Add(half, half + 1)], (0, 1), 1),
-        (&[Add(0, 9), Add(12, 14), Add(16, 40)], (8, 125), 5),
-        (&[Add(0, 9), Add(12, 14), Add(16, 40)], (12, 128), 1),
-    ];
-    for (changes, within, want) in table {
-        let set = changed(alloc, Family::V6, changes)?;
-        let Some(within) = block(Family::V6, within.0, within.1) else {
-            assert!(rt; false, "no block beside {changes:?}");
-            return Ok(());
-        };
-        assert!(rt; within.len() > 0, "{changes:?}");
-        let got = set.count(within);
-        assert!(rt; got == want, "{changes:?}: {got}");
+fn addresses_are_counted(rt: HostRuntime) -> Result<(), Fail> {
+    for case in COUNTS {
+        let want: u128 = column(case, 2).parse()?;
+        assert!(rt; counted(rt.alloc(), case)? == Some(want), "{case}");
     }
     Ok(())
 }
 
-/// 192.0.2.0
-const NET: u128 = 0xc0000200;
+/// A block, and those that are taken of it.
+const TAKEN: [&str; 10] = [
+    "192.0.2.0/28|",
+    "192.0.2.0/28|192.0.2.0/32",
+    "192.0.2.0/28|192.0.2.15/32",
+    // at both ends
+    "192.0.2.0/28|192.0.2.0/30 192.0.2.12/30",
+    // equal, containing one another
+    "192.0.2.0/28|192.0.2.4/31 192.0.2.4/31",
+    "192.0.2.0/28|192.0.2.4/30 192.0.2.5/32",
+    "192.0.2.0/28|192.0.2.5/32 192.0.2.4/30",
+    // filled whole
+    "192.0.2.0/28|192.0.2.8/29 192.0.2.0/29",
+    "192.0.2.0/27|192.0.2.3/32 192.0.2.16/31 192.0.2.30/32",
+    "192.0.2.0/32|",
+];
 
-/// Whether the blocks that are left of the net with this length, without its children, are those of the plain search.
-fn agrees(alloc: Global, len: u8, children: &[(u128, u8)]) -> Result<bool, AllocError> {
-    let Some(within) = block(Family::V4, NET, len) else {
+/// Whether the blocks that are left of the block of a case, without those that are taken, are those of the plain search.
+fn agrees(alloc: Global, case: &str) -> Result<bool, AllocError> {
+    let Ok(within) = read_block(column(case, 0).as_bytes()) else {
         return Ok(false);
     };
     let mut taken = Vec::new(alloc);
-    let mut set = SpanSet::new(alloc, Family::V4);
+    let mut set = SpanSet::new(alloc, within.family());
     set.add(span_of(&within))?;
-    'children: for child in children {
-        let Some(child) = block(Family::V4, child.0, child.1) else {
+    'words: for word in column(case, 1).split_whitespace() {
+        let Some(block) = block_of(within.family(), word) else {
             return Ok(false);
         };
-        set.subtract(span_of(&child))?;
-        taken.push(child)?;
+        set.subtract(span_of(&block))?;
+        taken.push(block)?;
     }
-    let got = listed(alloc, &set.blocks()?)?;
-    let want = listed(alloc, &available_blocks(alloc, &within, &taken)?)?;
+    let got = written(alloc, &set.blocks()?)?;
+    let want = written(alloc, &available_blocks(alloc, &within, &taken)?)?;
     Ok(got.as_slice() == want.as_slice())
 }
 
 #[test]
-fn blocks_are_those_of_the_plain_search(rt: HostRuntime) -> Result<(), AllocError> {
-    let alloc = rt.alloc();
-    let table: [(u8, &[(u128, u8)]); 10] = [
-        (28, &[]),
-        (28, &[(NET, 32)]),
-        (28, &[(NET + 15, 32)]),
-        // at both ends
-        (28, &[(NET, 30), (NET + 12, 30)]),
-        // equal, containing one another
-        (28, &[(NET + 4, 31), (NET + 4, 31)]),
-        (28, &[(NET + 4, 30), (NET + 5, 32)]),
-        (28, &[(NET + 5, 32), (NET + 4, 30)]),
-        // filled whole
-        (28, &[(NET + 8, 29), (NET, 29)]),
-        (27, &[(NET + 3, 32), (NET + 16, 31), (NET + 30, 32)]),
-        (32, &[]),
-    ];
-    for (len, children) in table {
-        assert!(rt; agrees(alloc, len, children)?, "/{len}");
+fn blocks_are_those_of_the_plain_search(rt: HostRuntime) -> Result<(), Fail> {
+    for case in TAKEN {
+        assert!(rt; agrees(rt.alloc(), case)?, "{case}");
     }
     Ok(())
 }

@@ -1,6 +1,5 @@
 use Rattle.std.proofs.Common.{◌≡◌}
-use Rattle.inet_num.specs.declared.Family.TheVariants.{V4}
 use Rattle.ground_trial.proofs.span_set_tests.agrees.Given as goal
 
-abbrev pub invariant-children : goal.invariant-children
-invariant-children l = l.set.family ≡ V4
+abbrev pub invariant-words : goal.invariant-words
+invariant-words l = l.set.family ≡ l.within.family
