@@ -132,159 +132,96 @@ fn expect<R: Abort + AllocGlobal>(
     Ok(())
 }
 
+/// A column of a case.
+fn column(case: &str, index: usize) -> &str {
+    case.split('|').nth(index).unwrap_or("")
+}
+
+/// The refusal of this name.
+fn refusal(name: &str) -> &'static str {
+    match name {
+        "bad head" => BAD_HEAD,
+        "large head" => LARGE_HEAD,
+        "large body" => LARGE_BODY,
+        "coding" => CODING,
+        _ => "",
+    }
+}
+
+/// A session over what comes in a case writes what the case says, and closes.
+fn expect_case<R: Abort + AllocGlobal>(rt: &R, case: &str) -> Result<(), AllocError> {
+    let closed = column(case, 3).parse().unwrap_or(u32::MAX);
+    expect(
+        rt,
+        column(case, 0).as_bytes(),
+        column(case, 1).as_bytes(),
+        refusal(column(case, 2)).as_bytes(),
+        closed,
+    )
+}
+
+/// What comes, what is answered, no refusal, and how many answers are written.
+const ANSWERED: [&str; 14] = [
+    "|||0",
+    "HEAD /a HTTP/1.1\r\n\r\nGET /a HTTP/1.1\r\n\r\n\
+    |HTTP/1.1 405 Method Not Allowed\r\nContent-Type: text/plain\r\nContent-Length: 2\r\nAllow: GET, POST\r\n\r\n\
+    HTTP/1.1 200 OK\r\nContent-Type: text/plain\r\nContent-Length: 2\r\nEcho-Count: 0\r\n\r\n/a||2",
+    "HEAD /a HTTP/1.0\r\n\r\n\
+    |HTTP/1.1 405 Method Not Allowed\r\nContent-Type: text/plain\r\nContent-Length: 2\r\nAllow: GET, POST\r\nConnection: close\r\n\r\n\
+    ||1",
+    "GET /a HTTP/1.1\r\n\r\n|HTTP/1.1 200 OK\r\nContent-Type: text/plain\r\nContent-Length: 2\r\nEcho-Count: 0\r\n\r\n/a||1",
+    "GET /a HTTP/1.1\nHost: x\n\n|HTTP/1.1 200 OK\r\nContent-Type: text/plain\r\nContent-Length: 2\r\nEcho-Count: 0\r\n\r\n/a||1",
+    "\r\n\nGET /a HTTP/1.1\r\n\r\n|HTTP/1.1 200 OK\r\nContent-Type: text/plain\r\nContent-Length: 2\r\nEcho-Count: 0\r\n\r\n/a||1",
+    "GET /a HTTP/1.1\r\n\r\nPOST /b HTTP/1.1\r\nContent-Length: 5\r\n\r\nhello\
+    |HTTP/1.1 200 OK\r\nContent-Type: text/plain\r\nContent-Length: 2\r\nEcho-Count: 0\r\n\r\n/a\
+    HTTP/1.1 201 Created\r\nContent-Type: text/plain\r\nContent-Length: 5\r\nEcho-Count: 1\r\n\r\nhello||2",
+    "POST /b HTTP/1.1\r\ncontent-LENGTH: 0000005 \r\n\r\nhello\
+    |HTTP/1.1 201 Created\r\nContent-Type: text/plain\r\nContent-Length: 5\r\nEcho-Count: 0\r\n\r\nhello||1",
+    "DELETE /a HTTP/1.1\r\n\r\nPUT /a HTTP/1.1\r\n\r\n|HTTP/1.1 204 No Content\r\nEcho-Count: 0\r\n\r\n\
+    HTTP/1.1 405 Method Not Allowed\r\nContent-Type: text/plain\r\nContent-Length: 2\r\nAllow: GET, POST\r\n\r\n{}||2",
+    "GET /a HTTP/1.0\r\nConnection: keep-alive\r\n\r\nGET /b HTTP/1.1\r\n\r\n\
+    |HTTP/1.1 200 OK\r\nContent-Type: text/plain\r\nContent-Length: 2\r\nEcho-Count: 0\r\nConnection: close\r\n\r\n/a||1",
+    "GET /a HTTP/1.1\r\nConnection: keep-alive, CLOSE\r\n\r\nGET /b HTTP/1.1\r\n\r\n\
+    |HTTP/1.1 200 OK\r\nContent-Type: text/plain\r\nContent-Length: 2\r\nEcho-Count: 0\r\nConnection: close\r\n\r\n/a||1",
+    "GET /a HTTP/1.1\r\nconnection: x\r\nCONNECTION: ,\t close ,\r\n\r\nGET /b\
+    |HTTP/1.1 200 OK\r\nContent-Type: text/plain\r\nContent-Length: 2\r\nEcho-Count: 0\r\nConnection: close\r\n\r\n/a||1",
+    "GET /a HTTP/1.1\r\nConnection: closed, clos e\r\nX: close\r\n\r\n\
+    |HTTP/1.1 200 OK\r\nContent-Type: text/plain\r\nContent-Length: 2\r\nEcho-Count: 0\r\n\r\n/a||1",
+    "DELETE /a HTTP/1.1\r\nConnection: close\r\n\r\n|HTTP/1.1 204 No Content\r\nEcho-Count: 0\r\nConnection: close\r\n\r\n||1",
+];
+
 #[test]
 fn requests_are_answered_in_order(rt: HostRuntime) -> Result<(), Fail> {
-    let cases: [(&str, &str, u32); 14] = [
-        ("", "", 0),
-        (
-            "HEAD /a HTTP/1.1\r\n\r\nGET /a HTTP/1.1\r\n\r\n",
-            "HTTP/1.1 405 Method Not Allowed\r\nContent-Type: text/plain\r\nContent-Length: 2\r\nAllow: GET, POST\r\n\r\nHTTP/1.1 200 OK\r\nContent-Type: text/plain\r\nContent-Length: 2\r\nEcho-Count: 0\r\n\r\n/a",
-            2,
-        ),
-        (
-            "HEAD /a HTTP/1.0\r\n\r\n",
-            "HTTP/1.1 405 Method Not Allowed\r\nContent-Type: text/plain\r\nContent-Length: 2\r\nAllow: GET, POST\r\nConnection: close\r\n\r\n",
-            1,
-        ),
-        (
-            "GET /a HTTP/1.1\r\n\r\n",
-            "HTTP/1.1 200 OK\r\nContent-Type: text/plain\r\nContent-Length: 2\r\nEcho-Count: 0\r\n\r\n/a",
-            1,
-        ),
-        (
-            "GET /a HTTP/1.1\nHost: x\n\n",
-            "HTTP/1.1 200 OK\r\nContent-Type: text/plain\r\nContent-Length: 2\r\nEcho-Count: 0\r\n\r\n/a",
-            1,
-        ),
-        (
-            "\r\n\nGET /a HTTP/1.1\r\n\r\n",
-            "HTTP/1.1 200 OK\r\nContent-Type: text/plain\r\nContent-Length: 2\r\nEcho-Count: 0\r\n\r\n/a",
-            1,
-        ),
-        (
-            "GET /a HTTP/1.1\r\n\r\nPOST /b HTTP/1.1\r\nContent-Length: 5\r\n\r\nhello",
-            "HTTP/1.1 200 OK\r\nContent-Type: text/plain\r\nContent-Length: 2\r\nEcho-Count: 0\r\n\r\n/aHTTP/1.1 201 Created\r\nContent-Type: text/plain\r\nContent-Length: 5\r\nEcho-Count: 1\r\n\r\nhello",
-            2,
-        ),
-        (
-            "POST /b HTTP/1.1\r\ncontent-LENGTH: 0000005 \r\n\r\nhello",
-            "HTTP/1.1 201 Created\r\nContent-Type: text/plain\r\nContent-Length: 5\r\nEcho-Count: 0\r\n\r\nhello",
-            1,
-        ),
-        (
-            "DELETE /a HTTP/1.1\r\n\r\nPUT /a HTTP/1.1\r\n\r\n",
-            "HTTP/1.1 204 No Content\r\nEcho-Count: 0\r\n\r\nHTTP/1.1 405 Method Not Allowed\r\nContent-Type: text/plain\r\nContent-Length: 2\r\nAllow: GET, POST\r\n\r\n{}",
-            2,
-        ),
-        (
-            "GET /a HTTP/1.0\r\nConnection: keep-alive\r\n\r\nGET /b HTTP/1.1\r\n\r\n",
-            "HTTP/1.1 200 OK\r\nContent-Type: text/plain\r\nContent-Length: 2\r\nEcho-Count: 0\r\nConnection: close\r\n\r\n/a",
-            1,
-        ),
-        (
-            "GET /a HTTP/1.1\r\nConnection: keep-alive, CLOSE\r\n\r\nGET /b HTTP/1.1\r\n\r\n",
-            "HTTP/1.1 200 OK\r\nContent-Type: text/plain\r\nContent-Length: 2\r\nEcho-Count: 0\r\nConnection: close\r\n\r\n/a",
-            1,
-        ),
-        (
-            "GET /a HTTP/1.1\r\nconnection: x\r\nCONNECTION: ,\t close ,\r\n\r\nGET /b",
-            "HTTP/1.1 200 OK\r\nContent-Type: text/plain\r\nContent-Length: 2\r\nEcho-Count: 0\r\nConnection: close\r\n\r\n/a",
-            1,
-        ),
-        (
-            "GET /a HTTP/1.1\r\nConnection: closed, clos e\r\nX: close\r\n\r\n",
-            "HTTP/1.1 200 OK\r\nContent-Type: text/plain\r\nContent-Length: 2\r\nEcho-Count: 0\r\n\r\n/a",
-            1,
-        ),
-        (
-            "DELETE /a HTTP/1.1\r\nConnection: close\r\n\r\n",
-            "HTTP/1.1 204 No Content\r\nEcho-Count: 0\r\nConnection: close\r\n\r\n",
-            1,
-        ),
-    ];
-    for (input, answers, closed) in cases {
-        expect(&rt, input.as_bytes(), answers.as_bytes(), b"", closed)?;
+    for case in ANSWERED {
+        expect_case(&rt, case)?;
     }
     Ok(())
 }
 
+/// What comes, what is answered, which refusal stands behind that, and how many answers are written with it.
+const REFUSED: [&str; 15] = [
+    "GET / HTTP/1.1\r\nHost||bad head|1",
+    "HEAD / HTTP/1.1\r\nContent-Length: +5\r\n\r\n||bad head|1",
+    "GET /a HTTP/1.1\r\n\r\n\r\n|HTTP/1.1 200 OK\r\nContent-Type: text/plain\r\nContent-Length: 2\r\nEcho-Count: 0\r\n\r\n/a|bad head|2",
+    "GET /a HTTP/1.1\r\n\r\nPOST /b HTTP/1.1\r\nContent-Length: 5\r\n\r\nhell\
+    |HTTP/1.1 200 OK\r\nContent-Type: text/plain\r\nContent-Length: 2\r\nEcho-Count: 0\r\n\r\n/a|bad head|2",
+    "GET / HTTP/1.1\r\nContent-Length: 0\r\nContent-Length: 0\r\n\r\n||bad head|1",
+    "GET / HTTP/1.1\r\nContent-Length: +5\r\n\r\nhello||bad head|1",
+    "GET / HTTP/1.1\r\nContent-Length:\r\n\r\n||bad head|1",
+    "GET / HTTP/1.1\r\nContent-Length: 00000000000000000000\r\n\r\n||bad head|1",
+    "GET / HTTP/1.1\r\nContent-Length: 9999999999999999999\r\n\r\n||large body|1",
+    "GET / HTTP/1.1\r\nContent-Length: 4194305\r\n\r\n||large body|1",
+    "GET / HTTP/1.1\r\nTransfer-Encoding: chunked\r\nContent-Length: x\r\n\r\n||coding|1",
+    "GET / HTTP/1.1\r\ntransfer-encoding:\r\n\r\n||coding|1",
+    "GET  / HTTP/1.1\r\n\r\n||bad head|1",
+    "GET / HTTP/1.1\r\nA : b\r\n\r\n||bad head|1",
+    "GET / HTTP/2.0\r\n\r\n||bad head|1",
+];
+
 #[test]
-fn bytes_that_are_no_request_are_refused(rt: HostRuntime) -> Result<(), Fail> {
-    let cases: [(&str, &str, &str, u32); 15] = [
-        ("GET / HTTP/1.1\r\nHost", "", BAD_HEAD, 1),
-        (
-            "HEAD / HTTP/1.1\r\nContent-Length: +5\r\n\r\n",
-            "",
-            BAD_HEAD,
-            1,
-        ),
-        (
-            "GET /a HTTP/1.1\r\n\r\n\r\n",
-            "HTTP/1.1 200 OK\r\nContent-Type: text/plain\r\nContent-Length: 2\r\nEcho-Count: 0\r\n\r\n/a",
-            BAD_HEAD,
-            2,
-        ),
-        (
-            "GET /a HTTP/1.1\r\n\r\nPOST /b HTTP/1.1\r\nContent-Length: 5\r\n\r\nhell",
-            "HTTP/1.1 200 OK\r\nContent-Type: text/plain\r\nContent-Length: 2\r\nEcho-Count: 0\r\n\r\n/a",
-            BAD_HEAD,
-            2,
-        ),
-        (
-            "GET / HTTP/1.1\r\nContent-Length: 0\r\nContent-Length: 0\r\n\r\n",
-            "",
-            BAD_HEAD,
-            1,
-        ),
-        (
-            "GET / HTTP/1.1\r\nContent-Length: +5\r\n\r\nhello",
-            "",
-            BAD_HEAD,
-            1,
-        ),
-        ("GET / HTTP/1.1\r\nContent-Length:\r\n\r\n", "", BAD_HEAD, 1),
-        (
-            "GET / HTTP/1.1\r\nContent-Length: 00000000000000000000\r\n\r\n",
-            "",
-            BAD_HEAD,
-            1,
-        ),
-        (
-            "GET / HTTP/1.1\r\nContent-Length: 9999999999999999999\r\n\r\n",
-            "",
-            LARGE_BODY,
-            1,
-        ),
-        (
-            "GET / HTTP/1.1\r\nContent-Length: 4194305\r\n\r\n",
-            "",
-            LARGE_BODY,
-            1,
-        ),
-        (
-            "GET / HTTP/1.1\r\nTransfer-Encoding: chunked\r\nContent-Length: x\r\n\r\n",
-            "",
-            CODING,
-            1,
-        ),
-        (
-            "GET / HTTP/1.1\r\ntransfer-encoding:\r\n\r\n",
-            "",
-            CODING,
-            1,
-        ),
-        ("GET  / HTTP/1.1\r\n\r\n", "", BAD_HEAD, 1),
-        ("GET / HTTP/1.1\r\nA : b\r\n\r\n", "", BAD_HEAD, 1),
-        ("GET / HTTP/2.0\r\n\r\n", "", BAD_HEAD, 1),
-    ];
-    for (input, answers, refusal, closed) in cases {
-        expect(
-            &rt,
-            input.as_bytes(),
-            answers.as_bytes(),
-            refusal.as_bytes(),
-            closed,
-        )?;
+fn what_is_no_request_is_refused_behind_the_answers(rt: HostRuntime) -> Result<(), Fail> {
+    for case in REFUSED {
+        expect_case(&rt, case)?;
     }
     Ok(())
 }
@@ -301,7 +238,7 @@ const ROOT: &str =
     "HTTP/1.1 200 OK\r\nContent-Type: text/plain\r\nContent-Length: 1\r\nEcho-Count: 0\r\n\r\n/";
 
 #[test]
-fn the_limit_of_a_head(rt: HostRuntime) -> Result<(), Fail> {
+fn heads_past_16384_bytes_are_refused(rt: HostRuntime) -> Result<(), Fail> {
     let cases: [(usize, &str, &str); 8] = [
         (16383, "", BAD_HEAD),
         (16384, "", LARGE_HEAD),
@@ -330,7 +267,7 @@ fn many_fields(alloc: Global, count: usize) -> Result<Vec<u8>, AllocError> {
 }
 
 #[test]
-fn the_limit_of_fields(rt: HostRuntime) -> Result<(), Fail> {
+fn more_than_64_fields_are_refused(rt: HostRuntime) -> Result<(), Fail> {
     let some = many_fields(rt.alloc(), 64)?;
     expect(&rt, some.as_slice(), ROOT.as_bytes(), b"", 1)?;
     let many = many_fields(rt.alloc(), 65)?;
@@ -362,68 +299,60 @@ fn the_thousandth_answer_closes(rt: HostRuntime) -> Result<(), Fail> {
     Ok(())
 }
 
+/// What comes, the read that fails, the room of the sink, what is answered, which refusal stands behind that, and how the session ends:
+/// what failed, or how many answers are written.
+const FAULTS: [&str; 11] = [
+    "GET /a HTTP/1.1\r\n\r\n|0|999|||source",
+    "GET /a HTTP/1.1\r\n\r\n|1|999|HTTP/1.1 200 OK\r\nContent-Type: text/plain\r\nContent-Length: 2\r\nEcho-Count: 0\r\n\r\n/a||source",
+    "GET /a HTTP/1.1\r\n\r\nGET /b HT|1|999|HTTP/1.1 200 OK\r\nContent-Type: text/plain\r\nContent-Length: 2\r\nEcho-Count: 0\r\n\r\n/a||source",
+    "GET /a HTTP/1.1\r\n\r\nGET /b HTTP/1.1\r\nContent-Length: 5\r\n\r\nhell|1|999\
+    |HTTP/1.1 200 OK\r\nContent-Type: text/plain\r\nContent-Length: 2\r\nEcho-Count: 0\r\n\r\n/a||source",
+    "GET /a HTTP/1.1\r\n\r\nGET /memory HTTP/1.1\r\n\r\n|1|999\
+    |HTTP/1.1 200 OK\r\nContent-Type: text/plain\r\nContent-Length: 2\r\nEcho-Count: 0\r\n\r\n/a||memory",
+    "GET  |1|999||bad head|1",
+    "GET / HTTP/1.1\r\nContent-Length: 4194305\r\n\r\n|1|999||large body|1",
+    "GET / HTTP/1.1\r\nTransfer-Encoding: x\r\n\r\n|1|999||coding|1",
+    "GET /a HTTP/1.1\r\n\r\n||0|||sink",
+    "GET /a HTTP/1.1\r\n\r\n||20|HTTP/1.1 200 OK\r\nCon||sink",
+    "GET /a HTTP/1.1\r\n\r\n||81|HTTP/1.1 200 OK\r\nContent-Type: text/plain\r\nContent-Length: 2\r\nEcho-Count: 0\r\n\r\n/a||1",
+];
+
+/// The end of a session that a word says.
+fn end_of(word: &str) -> SessionEnd {
+    match word {
+        "source" => SessionEnd::SourceFault,
+        "sink" => SessionEnd::SinkFault,
+        "memory" => SessionEnd::Memory,
+        count => SessionEnd::Closed(count.parse().unwrap_or(u32::MAX)),
+    }
+}
+
+/// What a session writes over what comes in a case, and how it ends.
+fn served_with_faults(alloc: Global, case: &str) -> Result<(Vec<u8>, SessionEnd), AllocError> {
+    let bytes = Vec::from_slice(alloc, column(case, 0).as_bytes())?;
+    let mut fails = Vec::new(alloc);
+    if let Ok(fail) = column(case, 1).parse::<u32>() {
+        fails.push(fail)?;
+    }
+    let room: usize = column(case, 2).parse().unwrap_or(0);
+    let mut source = BytesSource::new(bytes, fails, 4096);
+    let mut sink = BytesSink::new(alloc, Vec::new(alloc), 4096, room)?;
+    let (_, end) = serve(alloc, &Echo, 0, &mut source, &mut sink);
+    Ok((sink.into_bytes(), end))
+}
+
 #[test]
-fn faults_end_the_session(rt: HostRuntime) -> Result<(), Fail> {
-    let a =
-        "HTTP/1.1 200 OK\r\nContent-Type: text/plain\r\nContent-Length: 2\r\nEcho-Count: 0\r\n\r\n/a";
-    let source = SessionEnd::SourceFault;
-    let cases: [(&str, &[u32], usize, &str, SessionEnd); 11] = [
-        ("GET /a HTTP/1.1\r\n\r\n", &[0], 999, "", source),
-        ("GET /a HTTP/1.1\r\n\r\n", &[1], 999, a, source),
-        ("GET /a HTTP/1.1\r\n\r\nGET /b HT", &[1], 999, a, source),
-        (
-            "GET /a HTTP/1.1\r\n\r\nGET /b HTTP/1.1\r\nContent-Length: 5\r\n\r\nhell",
-            &[1],
-            999,
-            a,
-            source,
-        ),
-        (
-            "GET /a HTTP/1.1\r\n\r\nGET /memory HTTP/1.1\r\n\r\n",
-            &[1],
-            999,
-            a,
-            SessionEnd::Memory,
-        ),
-        ("GET  ", &[1], 999, BAD_HEAD, SessionEnd::Closed(1)),
-        (
-            "GET / HTTP/1.1\r\nContent-Length: 4194305\r\n\r\n",
-            &[1],
-            999,
-            LARGE_BODY,
-            SessionEnd::Closed(1),
-        ),
-        (
-            "GET / HTTP/1.1\r\nTransfer-Encoding: x\r\n\r\n",
-            &[1],
-            999,
-            CODING,
-            SessionEnd::Closed(1),
-        ),
-        ("GET /a HTTP/1.1\r\n\r\n", &[], 0, "", SessionEnd::SinkFault),
-        (
-            "GET /a HTTP/1.1\r\n\r\n",
-            &[],
-            20,
-            "HTTP/1.1 200 OK\r\nCon",
-            SessionEnd::SinkFault,
-        ),
-        (
-            "GET /a HTTP/1.1\r\n\r\n",
-            &[],
-            a.len(),
-            a,
-            SessionEnd::Closed(1),
-        ),
-    ];
-    for (input, fails, room, want, wanted_end) in cases {
-        let bytes = Vec::from_slice(rt.alloc(), input.as_bytes())?;
-        let fails = Vec::from_slice(rt.alloc(), fails)?;
-        let mut from = BytesSource::new(bytes, fails, 4096);
-        let mut to = BytesSink::new(rt.alloc(), Vec::new(rt.alloc()), 4096, room)?;
-        let (_, end) = serve(rt.alloc(), &Echo, 0, &mut from, &mut to);
-        assert_eq!(rt; end, wanted_end, "the end of {input}");
-        assert_eq!(rt; to.bytes(), want.as_bytes(), "the answers to {input}");
+fn what_fails_ends_the_session_behind_the_answers(rt: HostRuntime) -> Result<(), Fail> {
+    for case in FAULTS {
+        let mut want = Vec::from_slice(rt.alloc(), column(case, 3).as_bytes())?;
+        want.extend_from_slice(refusal(column(case, 4)).as_bytes())?;
+        let (written, end) = served_with_faults(rt.alloc(), case)?;
+        assert_eq!(rt; end, end_of(column(case, 5)), "the end of {case}");
+        assert_eq!(rt;
+            written.as_slice(),
+            want.as_slice(),
+            "the answers to {case}"
+        );
     }
     Ok(())
 }
