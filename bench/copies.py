@@ -509,11 +509,8 @@ def main():
             copies = with_pauses(port, folder, changes, url)
             without_pauses(port, folder, changes, url)
             refused(folder, url)
-            if shutil.which("nginx"):
-                proxy = Proxy(folder, port, port + 1)
-                copies += with_hold(proxy, folder, changes, url)
-            else:
-                print("   not run: --hold, since there is no nginx")
+            proxy = Proxy(folder, port, port + 1)
+            copies += with_hold(proxy, folder, changes, url)
             path = f"{folder}/last.db"
             copies.append((int(copy(url, path)), path))
             cron(program, port, folder)

@@ -6,6 +6,7 @@ mask, and on a part of the pages no others.
 """
 import http.client
 import json
+import os
 import random
 import ssl
 import sys
@@ -26,6 +27,7 @@ OWN = {
                      "dns_name": ["", "a"], "address": []},
 }
 OTHERS = ["tenant", "q", "id", "name__ic", "Address", "LIMIT", "", "limit[]", "vrf", "tag", "addres", "within_", 'a"b', "name", "parent", "address"]
+DOCUMENT = os.path.join(os.path.dirname(os.path.abspath(__file__)), "..", "docs", "openapi.json")
 HOSTS = [f"10.0.0.{n}" for n in range(1, 7)] + [f"2001:db8::{n}" for n in range(1, 7)] + ["2001:DB8::1", "x", "10.0.0.1.2", ""]
 
 
@@ -82,6 +84,16 @@ class Queries:
         return kind, f"{self.pick.choice(['/api/ipam/'] * 8 + others)}{kind}/?{query}", query
 
 
+def check_own():
+    """That the filters above are those of the document, and `address`, which nginx adds."""
+    with open(DOCUMENT, encoding="utf-8") as text:
+        paths = json.load(text)["paths"]
+    for kind, names in OWN.items():
+        told = {one["name"] for one in paths[f"/api/ipam/{kind}/"]["get"]["parameters"]}
+        if {*names, *BESIDE} - {"address"} != told:
+            fail(f"the filters of {kind} in docs/openapi.json are {sorted(told)}")
+
+
 def make(port, pick):
     """Hosts in two tables, of which some have two masks; gives each with its mask and its VRF."""
     connection, made = http.client.HTTPConnection("127.0.0.1", port, timeout=60), []
@@ -117,6 +129,7 @@ def main():
     front = Asker(lambda: http.client.HTTPSConnection("localhost", outer, timeout=60, context=context), head)
     register = Asker(lambda: http.client.HTTPConnection("127.0.0.1", inner, timeout=60), {})
     queries, refused, answered, broken = Queries(seed), 0, 0, 0
+    check_own()
     made = make(inner, queries.pick)
     for _ in range(count):
         kind, target, query = queries.some()

@@ -22,6 +22,8 @@ from dataclasses import dataclass
 TOP = os.path.abspath(os.path.join(os.path.dirname(os.path.abspath(__file__)), ".."))
 BASE, POOLS_BASE = "http://127.0.0.1:8080/api/ipam", "http://127.0.0.1:8081/api/ipam"
 POOLD = os.environ.get("POOLD", os.path.join(TOP, "crates/poold/out/poold"))
+# what the commands of the pages need, with Debian's packages
+NEEDS = {"curl": "curl", "socat": "socat", "dpkg-shlibdeps": "dpkg-dev", "strip": "binutils"}
 # the text that stands behind a command in a page and is none of it
 REMARK = re.compile(r" {2,}# .*$")
 PREFIXES = "prefix,vrf,status\n10.0.0.0/16,,container\n10.0.0.0/24,,active\n10.0.1.0/24,,active\n"
@@ -389,7 +391,16 @@ def left_over(pages, steps, told):
     return left, there
 
 
+def check_needs():
+    for command, package in NEEDS.items():
+        if shutil.which(command) is None:
+            sys.exit(f"pages: {command} is missing: apt-get install {package}")
+    if subprocess.run(["/usr/bin/python3", "-c", "import pynetbox"], stderr=subprocess.DEVNULL).returncode != 0:
+        sys.exit("pages: /usr/bin/python3 has no pynetbox: apt-get install python3-pynetbox")
+
+
 def main():
+    check_needs()
     path = tempfile.mkdtemp()
     folder = Folder(os.path.join(path, "ipamd"), "--build" in sys.argv[1:])
     pages = {page: lines_of(page) for page in ("README.md", "docs/USING.md", "docs/USING-POOLS.md", "docs/CLIENTS.md", "docs/OPERATING.md")}
