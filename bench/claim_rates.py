@@ -10,6 +10,8 @@ import time
 from dataclasses import dataclass
 from typing import Callable
 
+from wire import request
+
 # the most items of a claim
 PART = 1_000
 
@@ -21,10 +23,8 @@ class Session:
         self.process = subprocess.Popen([program, "session", *options], stdin=subprocess.PIPE, stdout=subprocess.PIPE)
 
     def ask(self, target, body=None):
-        text = b"" if body is None else json.dumps(body, separators=(",", ":")).encode()
         method, wanted = ("GET", b"200") if body is None else ("POST", b"201")
-        head = f"{method} {target} HTTP/1.1\r\nHost: x\r\n" + (f"Content-Length: {len(text)}\r\n" if text else "") + "\r\n"
-        self.process.stdin.write(head.encode() + text)
+        self.process.stdin.write(request(method, target, body))
         self.process.stdin.flush()
         length = 0
         status = self.process.stdout.readline()

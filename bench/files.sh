@@ -12,8 +12,9 @@ if [ "${1-}" = poold ]; then
     [ -x "$pools" ] || { echo "build the program first: ./build poold" >&2; exit 1; }
     exec python3 "$top/bench/pool_files.py" "$pools" "$program"
 fi
-exec python3 - "$program" <<'E2'
+PYTHONPATH=$top/bench exec python3 -B - "$program" <<'E2'
 import hashlib, json, os, sqlite3, subprocess, sys, tempfile
+from wire import request
 
 program = sys.argv[1]
 folder = tempfile.mkdtemp()
@@ -26,12 +27,6 @@ def check(holds, what):
     checks += 1
     if not holds:
         sys.exit(f"files: {what}")
-
-
-def request(method, target, body=None):
-    text = b"" if body is None else json.dumps(body).encode()
-    head = f"{method} {target} HTTP/1.1\r\nHost: x\r\n" + (f"Content-Length: {len(text)}\r\n" if text else "") + "\r\n"
-    return head.encode() + text
 
 
 def session(requests, *options, db=path):

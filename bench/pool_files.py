@@ -1,6 +1,5 @@
 """Sessions of `poold` over a real file, and each program over the other one's file; bench/files.sh says how."""
 import hashlib
-import json
 import os
 import shutil
 import sqlite3
@@ -9,6 +8,7 @@ import sys
 import tempfile
 
 from plain_pools import request_of
+from wire import answers
 
 program, register = sys.argv[1:3]
 folder = tempfile.mkdtemp()
@@ -27,17 +27,6 @@ def check(holds, what):
 def session(requests, db=path, of=program):
     done = subprocess.run([of, "session", "--db", db], input=b"".join(requests), capture_output=True)
     return done.returncode, done.stdout, done.stderr
-
-
-def answers(output):
-    """The status and the value of each answer."""
-    found = []
-    while output:
-        head, _, rest = output.partition(b"\r\n\r\n")
-        length = next((int(line[16:]) for line in head.split(b"\r\n") if line.startswith(b"Content-Length: ")), 0)
-        found.append((int(head.split(b" ")[1]), json.loads(rest[:length]) if length else None))
-        output = rest[length:]
-    return found
 
 
 def sums():
