@@ -2,7 +2,8 @@
 # Sessions over a real file, by the built program (./ipamd builds it; IPAMD=PROGRAM takes another one): what one process made the next
 # one has; while a process has the file open a second one is refused, and so is sqlite3, and nothing is changed; afterwards sqlite3
 # reads the file; an answered change outlives a process that is killed. With `poold`, the same of the program of number pools (./build poold;
-# POOLD=PROGRAM takes another one), and that each program refuses the other one's file and leaves it.   bench/files.sh [poold]
+# POOLD=PROGRAM takes another one), that each program refuses the other one's file and leaves it, and that standard error says what
+# the table of docs/USING-POOLS.md has, and each row of it.   bench/files.sh [poold]
 set -euo pipefail
 top=$(cd "$(dirname "$0")/.." && pwd)
 program=${IPAMD:-$top/crates/ipamd/out/ipamd}
