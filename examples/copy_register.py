@@ -1,7 +1,7 @@
 #!/usr/bin/env python3
 """Copies a register that is being served at URL into FILE, a file of tables that ipamd opens. The register goes on meanwhile.
 
-    copy.py http://127.0.0.1:8080 register-2026-11-29.db [--next KIND=N ..] [--hold FLAG] [--passes N]
+    copy_register.py http://127.0.0.1:8080 register-2026-11-29.db [--next KIND=N ..] [--hold FLAG] [--passes N]
 
 It reads all pages of all kinds over one connection. Where the register was changed between the first and the last page, it begins anew: all records of a
 copy are of one moment. Ids are kept. FILE must not exist; it appears once it is whole and on the disk. The line that is printed has the numbers of records,
