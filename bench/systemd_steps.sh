@@ -63,7 +63,7 @@ look 0 'Overall exposure level for ipamd.service: 1.[0-9] OK' 'systemd-analyze s
 post 10.0.0.0/24 '201$'
 
 # the program of AS numbers and VLANs as a service of its own; what it answered is there behind a crash
-step 0 '^installed poold [0-9.]+: /usr/local/bin/poold, /usr/local/share/man/man1/poold.1, /usr/local/lib/systemd/system/poold.service$' './install.sh /usr/local poold'
+look 0 '^installed poold [0-9.]+: /usr/local/bin/poold, /usr/local/share/man/man1/poold.1, /usr/local/lib/systemd/system/poold.service$' './install.sh /usr/local poold'
 look 0 '' 'systemctl daemon-reload; systemctl enable --now poold'
 listens 8081
 look 0 "^-rw-------.* $user +$user " 'ls -l /var/lib/poold/pools.db'
