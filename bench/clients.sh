@@ -1,13 +1,20 @@
 #!/usr/bin/env bash
-# The scripts of examples/ and the pictures of docs/, by the built program (./ipamd builds it; IPAMD=PROGRAM takes another one): curl's day; pynetbox, without
-# nginx and behind it, and over poold (./build poold; POOLD=PROGRAM takes another one); random filters behind nginx; plays of Ansible's netbox.netbox behind nginx, each twice; the moves from NetBox, phpIPAM and a spreadsheet
-# with what they print and the CSV files that they write; and that docs/layers.svg and docs/tree.svg are still what their scripts draw. Each has a register of
-# its own. It says what could not be run. Debian's packages python3-pynetbox, nginx-light, openssl and ansible have what is needed.   bench/clients.sh [PORT]
+# The scripts of examples/ and the pictures of docs/, by the built programs (./build, ./build poold; IPAMD=PROGRAM and POOLD=PROGRAM take other ones): curl's
+# day; pynetbox, without nginx and behind it, and over poold; random filters behind nginx; plays of Ansible's netbox.netbox behind nginx, each twice; the moves
+# from NetBox, phpIPAM and a spreadsheet, with what they print and the CSV files that they write; and that docs/layers.svg and docs/tree.svg are still what their
+# scripts draw. Each has a register of its own. It needs Debian's packages curl, nginx-light,
+# openssl, python3-pynetbox and ansible.   bench/clients.sh [PORT]
 set -euo pipefail
 top=$(cd "$(dirname "$0")/.." && pwd)
 program=${IPAMD:-$top/crates/ipamd/out/ipamd}
 pools=${POOLD:-$top/crates/poold/out/poold}
-[ -x "$program" ] || { echo "build the program first: ./ipamd free 10.0.0.0/8 </dev/null" >&2; exit 1; }
+[ -x "$program" ] && [ -x "$pools" ] || { echo "build the programs first: ./build; ./build poold" >&2; exit 1; }
+. "$top/bench/need.sh"
+need curl curl
+need nginx nginx-light
+need openssl openssl
+need ansible-playbook ansible
+/usr/bin/python3 -c 'import pynetbox' 2> /dev/null || { echo "clients: /usr/bin/python3 has no pynetbox: apt-get install python3-pynetbox" >&2; exit 1; }
 export PYTHONDONTWRITEBYTECODE=1
 port=${1:-18490}
 url=http://127.0.0.1:$port
@@ -29,7 +36,7 @@ listens() {
 start() {
     "$program" serve --bind "127.0.0.1:$port" --workers 16 "$@" > /dev/null 2> "$folder/errors" < /dev/null &
     server=$!
-    for _ in $(seq 100); do
+    for _ in $(seq 600); do
         listens && return
         kill -0 "$server" 2>/dev/null || fail "it ended: $(cat "$folder/errors")"
         sleep 0.1
@@ -50,7 +57,7 @@ start_front() {
     mkdir "$folder/front"
     "$top/bench/front.sh" "$folder/front" "$port" $((port + 1)) 2> "$folder/errors" &
     front=$!
-    for _ in $(seq 100); do
+    for _ in $(seq 600); do
         listens $((port + 1)) && return
         sleep 0.1
     done
@@ -75,48 +82,33 @@ move() {
     diff -r "$folder/$source" "$top/$csv" > "$folder/diff" || fail "the CSV files of $source: $(head -n 5 "$folder/diff")"
 }
 
+# a client by pynetbox: its words; its last line is said
+client() {
+    /usr/bin/python3 "$top/examples/$1" "${@:2}" > "$folder/out" 2>&1 || fail "$1: $(cat "$folder/out")"
+    tail -n 1 "$folder/out"
+}
+
 start
 "$top/examples/client_curl.sh" "$url"
 stop
-if /usr/bin/python3 -c 'import pynetbox' 2>/dev/null; then
-    start
-    /usr/bin/python3 "$top/examples/client_pynetbox.py" "$url" > "$folder/out" || fail "pynetbox: $(cat "$folder/out")"
-    tail -n 1 "$folder/out"
-    stop
-else
-    echo "not run: pynetbox, which /usr/bin/python3 does not have"
-fi
-if [ ! -x "$pools" ]; then
-    echo "not run: pynetbox over poold, which is not built (./build poold)"
-elif /usr/bin/python3 -c 'import pynetbox' 2>/dev/null; then
-    program=$pools start
-    /usr/bin/python3 "$top/examples/client_pools.py" "$url" > "$folder/out" || fail "pynetbox over poold: $(cat "$folder/out")"
-    tail -n 1 "$folder/out"
-    stop
-fi
-if ! /usr/bin/python3 -c 'import pynetbox' 2>/dev/null || [ -z "$(command -v nginx)" ]; then
-    echo "not run: clients of NetBox behind nginx, without pynetbox or nginx"
-else
-    start
-    start_front
-    export REQUESTS_CA_BUNDLE=$folder/front/register.pem
-    /usr/bin/python3 "$top/examples/client_netbox.py" "https://localhost:$((port + 1))" "$(cat "$folder/front/token")" > "$folder/out" 2>&1 ||
-        fail "pynetbox behind nginx: $(cat "$folder/out")"
-    tail -n 1 "$folder/out"
-    stop_front
-    start
-    start_front
-    python3 "$top/bench/filters.py" "$port" "$folder/front" $((port + 1))
-    stop_front
-    if [ -n "$(command -v ansible-playbook)" ]; then
-        start
-        start_front
-        python3 "$top/bench/plays.py" "$port" $((port + 1)) "$(cat "$folder/front/token")" "$folder/front/register.pem"
-        stop_front
-    else
-        echo "not run: Ansible, since there is no ansible-playbook"
-    fi
-fi
+start
+client client_pynetbox.py "$url"
+stop
+program=$pools start
+client client_pools.py "$url"
+stop
+start
+start_front
+REQUESTS_CA_BUNDLE=$folder/front/register.pem client client_netbox.py "https://localhost:$((port + 1))" "$(cat "$folder/front/token")"
+stop_front
+start
+start_front
+python3 "$top/bench/filters.py" "$port" "$folder/front" $((port + 1))
+stop_front
+start
+start_front
+python3 "$top/bench/plays.py" "$port" $((port + 1)) "$(cat "$folder/front/token")" "$folder/front/register.pem"
+stop_front
 start --db "$folder/moved.db"
 move netbox examples/netbox examples/netbox/csv 0 "made 24, present 0, refused 0" "made 0, present 24, refused 0"
 move phpipam examples/phpipam examples/phpipam/csv 1 "made 18, present 0, refused 1" "made 0, present 18, refused 1"

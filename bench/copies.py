@@ -8,7 +8,6 @@ import os
 import random
 import re
 import shutil
-import signal
 import socket
 import sqlite3
 import ssl
@@ -18,6 +17,8 @@ import tempfile
 import threading
 import time
 
+from wire import Asker, listens
+
 TOP = os.path.abspath(os.path.join(os.path.dirname(os.path.abspath(__file__)), ".."))
 COPY = os.path.join(TOP, "examples/copy_register.py")
 KINDS = ["vrfs", "rirs", "roles", "aggregates", "prefixes", "ip-ranges", "ip-addresses"]
@@ -26,12 +27,6 @@ CLIENTS = 4
 
 def fail(text):
     sys.exit(f"copies: {text}")
-
-
-def listens(port):
-    with contextlib.suppress(OSError), socket.create_connection(("127.0.0.1", port)):
-        return True
-    return False
 
 
 def wait_for(port, child, what):
@@ -79,29 +74,6 @@ class Proxy:
     def end(self):
         self.child.terminate()
         self.child.wait()
-
-
-class Asker:
-    """Requests over one connection after another: a new one before the old one is old."""
-
-    def __init__(self, connect, token=None):
-        self.connect, self.connection, self.count, self.since = connect, None, 0, 0.0
-        self.head = {"Authorization": f"Token {token}"} if token else {}
-
-    def ask(self, method, path, body=None):
-        """The status, the head and the body of the answer."""
-        if self.connection is None or self.count == 500 or time.monotonic() - self.since > 15:
-            self.end()
-            self.connection, self.count, self.since = self.connect(), 0, time.monotonic()
-        self.count += 1
-        self.connection.request(method, "/api/ipam/" + path, None if body is None else json.dumps(body), self.head)
-        answer = self.connection.getresponse()
-        return answer.status, answer.headers, answer.read()
-
-    def end(self):
-        if self.connection is not None:
-            self.connection.close()
-            self.connection = None
 
 
 def direct(port):
@@ -509,11 +481,8 @@ def main():
             copies = with_pauses(port, folder, changes, url)
             without_pauses(port, folder, changes, url)
             refused(folder, url)
-            if shutil.which("nginx"):
-                proxy = Proxy(folder, port, port + 1)
-                copies += with_hold(proxy, folder, changes, url)
-            else:
-                print("   not run: --hold, since there is no nginx")
+            proxy = Proxy(folder, port, port + 1)
+            copies += with_hold(proxy, folder, changes, url)
             path = f"{folder}/last.db"
             copies.append((int(copy(url, path)), path))
             cron(program, port, folder)

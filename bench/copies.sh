@@ -4,11 +4,14 @@
 # to be those of the copy, which is opened with status 0. Copies without --hold, where changes have pauses; with --hold, where they have none, by nginx with
 # examples/nginx-ipamd.conf, where all reading goes on; copies that are given up, ended by a signal, and refused; a register that is started anew while it is
 # copied; and the lines of cron in docs/OPERATING.md. With --full a register of 200,000 prefixes and 500,000 addresses is copied too, with the time that it
-# takes. By the built program (./ipamd builds it; IPAMD=PROGRAM takes another one). It needs nginx and openssl for the part with --hold.
+# takes. By the built program (./ipamd builds it; IPAMD=PROGRAM takes another one). It needs nginx, openssl and python3.
 # bench/copies.sh [--full] [PORT]
 set -euo pipefail
 top=$(cd "$(dirname "$0")/.." && pwd)
 program=${IPAMD:-$top/crates/ipamd/out/ipamd}
 [ -x "$program" ] || { echo "build the program first: ./ipamd free 10.0.0.0/8 </dev/null" >&2; exit 1; }
+. "$top/bench/need.sh"
+need nginx nginx-light
+need openssl openssl
 export PYTHONDONTWRITEBYTECODE=1
 exec python3 "$top/bench/copies.py" "$program" "$@"

@@ -2,7 +2,8 @@
 # Sessions over a real file, by the built program (./ipamd builds it; IPAMD=PROGRAM takes another one): what one process made the next
 # one has; while a process has the file open a second one is refused, and so is sqlite3, and nothing is changed; afterwards sqlite3
 # reads the file; an answered change outlives a process that is killed. With `poold`, the same of the program of number pools (./build poold;
-# POOLD=PROGRAM takes another one), and that each program refuses the other one's file and leaves it.   bench/files.sh [poold]
+# POOLD=PROGRAM takes another one), that each program refuses the other one's file and leaves it, and that standard error says what
+# the table of docs/USING-POOLS.md has, and each row of it.   bench/files.sh [poold]
 set -euo pipefail
 top=$(cd "$(dirname "$0")/.." && pwd)
 program=${IPAMD:-$top/crates/ipamd/out/ipamd}
@@ -12,8 +13,9 @@ if [ "${1-}" = poold ]; then
     [ -x "$pools" ] || { echo "build the program first: ./build poold" >&2; exit 1; }
     exec python3 "$top/bench/pool_files.py" "$pools" "$program"
 fi
-exec python3 - "$program" <<'E2'
+PYTHONPATH=$top/bench exec python3 -B - "$program" <<'E2'
 import hashlib, json, os, sqlite3, subprocess, sys, tempfile
+from wire import request
 
 program = sys.argv[1]
 folder = tempfile.mkdtemp()
@@ -26,12 +28,6 @@ def check(holds, what):
     checks += 1
     if not holds:
         sys.exit(f"files: {what}")
-
-
-def request(method, target, body=None):
-    text = b"" if body is None else json.dumps(body).encode()
-    head = f"{method} {target} HTTP/1.1\r\nHost: x\r\n" + (f"Content-Length: {len(text)}\r\n" if text else "") + "\r\n"
-    return head.encode() + text
 
 
 def session(requests, *options, db=path):

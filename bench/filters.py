@@ -6,11 +6,13 @@ mask, and on a part of the pages no others.
 """
 import http.client
 import json
+import os
 import random
 import ssl
 import sys
-import time
 import urllib.parse
+
+from wire import Asker
 
 BESIDE = {"limit": ["0", "1", "2", "1000"], "offset": ["0", "1"]}
 BLOCKS = ["10.0.0.0/24", "2001:db8::/32"]
@@ -26,27 +28,12 @@ OWN = {
                      "dns_name": ["", "a"], "address": []},
 }
 OTHERS = ["tenant", "q", "id", "name__ic", "Address", "LIMIT", "", "limit[]", "vrf", "tag", "addres", "within_", 'a"b', "name", "parent", "address"]
+DOCUMENT = os.path.join(os.path.dirname(os.path.abspath(__file__)), "..", "docs", "openapi.json")
 HOSTS = [f"10.0.0.{n}" for n in range(1, 7)] + [f"2001:db8::{n}" for n in range(1, 7)] + ["2001:DB8::1", "x", "10.0.0.1.2", ""]
 
 
 def fail(text):
     sys.exit(f"filters: {text}")
-
-
-class Asker:
-    def __init__(self, connect, head):
-        self.connect, self.head, self.connection, self.count, self.since = connect, head, None, 0, 0.0
-
-    def ask(self, target):
-        if self.connection is None or self.count == 500 or time.monotonic() - self.since > 15:
-            self.connection, self.count, self.since = self.connect(), 0, time.monotonic()
-        self.count += 1
-        self.connection.putrequest("GET", target, skip_accept_encoding=True)
-        for name, value in self.head.items():
-            self.connection.putheader(name, value)
-        self.connection.endheaders()
-        answer = self.connection.getresponse()
-        return answer.status, answer.read()
 
 
 class Queries:
@@ -82,15 +69,24 @@ class Queries:
         return kind, f"{self.pick.choice(['/api/ipam/'] * 8 + others)}{kind}/?{query}", query
 
 
-def make(port, pick):
+def check_own():
+    """That the filters above are those of the document, and `address`, which nginx adds."""
+    with open(DOCUMENT, encoding="utf-8") as text:
+        paths = json.load(text)["paths"]
+    for kind, names in OWN.items():
+        told = {one["name"] for one in paths[f"/api/ipam/{kind}/"]["get"]["parameters"]}
+        if {*names, *BESIDE} - {"address"} != told:
+            fail(f"the filters of {kind} in docs/openapi.json are {sorted(told)}")
+
+
+def make(register, pick):
     """Hosts in two tables, of which some have two masks; gives each with its mask and its VRF."""
-    connection, made = http.client.HTTPConnection("127.0.0.1", port, timeout=60), []
+    made = []
 
     def post(kind, row):
-        connection.request("POST", f"/api/ipam/{kind}/", json.dumps(row))
-        answer = connection.getresponse()
-        if answer.read() and answer.status != 201:
-            fail(f"{kind} {row}: {answer.status}")
+        status, _, answer = register.ask("POST", f"{kind}/", row)
+        if status != 201:
+            fail(f"{kind} {row}: {status} {answer!r}")
     post("vrfs", {"name": "a"})
     for host in HOSTS[:5] + HOSTS[6:11]:
         for vrf in (None, 1):
@@ -112,17 +108,18 @@ def wanted(made, pairs):
 def main():
     inner, folder, outer, count, seed = int(sys.argv[1]), sys.argv[2], int(sys.argv[3]), int((sys.argv[4:] or [2000])[0]), int((sys.argv[5:] or [1])[0])
     with open(f"{folder}/token") as file:
-        head = {"Authorization": f"Token {file.read().strip()}"}
+        token = file.read().strip()
     context = ssl.create_default_context(cafile=f"{folder}/register.pem")
-    front = Asker(lambda: http.client.HTTPSConnection("localhost", outer, timeout=60, context=context), head)
-    register = Asker(lambda: http.client.HTTPConnection("127.0.0.1", inner, timeout=60), {})
+    front = Asker(lambda: http.client.HTTPSConnection("localhost", outer, timeout=60, context=context), token, "")
+    register = Asker(lambda: http.client.HTTPConnection("127.0.0.1", inner, timeout=60))
     queries, refused, answered, broken = Queries(seed), 0, 0, 0
-    made = make(inner, queries.pick)
+    check_own()
+    made = make(register, queries.pick)
     for _ in range(count):
         kind, target, query = queries.some()
         pairs = urllib.parse.parse_qsl(query, keep_blank_values=True)
         names = [name for name, _ in pairs]
-        status, body = front.ask(target)
+        status, _, body = front.ask("GET", target)
         if status not in (200, 400, 404):
             fail(f"{target}: {status} {body!r}")
         if status != 200:
@@ -131,7 +128,7 @@ def main():
             fail(f"{target}: answered {body!r}")
         elif "address" not in names:
             answered += 1
-            if json.loads(register.ask(f"/api/ipam/{kind}/?{query}")[1])["results"] != json.loads(body)["results"]:
+            if json.loads(register.ask("GET", f"{kind}/?{query}")[2])["results"] != json.loads(body)["results"]:
                 fail(f"{target}: {body!r}")
         else:
             answered += 1

@@ -8,6 +8,8 @@ import sys
 import tempfile
 import time
 
+import wire
+
 BASE = "/api/ipam/"
 PREFIXES, ADDRESSES, RANGES = 200_000, 500_000, 10_000
 # A connection ends with its thousandth answer.
@@ -59,9 +61,7 @@ class Connection:
 
 
 def request(method, path, body=None):
-    text = b"" if body is None else json.dumps(body, separators=(",", ":")).encode()
-    length = f"Content-Length: {len(text)}\r\n" if text else ""
-    return f"{method} {BASE}{path} HTTP/1.1\r\nHost: x\r\n{length}\r\n".encode() + text
+    return wire.request(method, BASE + path, body)
 
 
 def make(port, requests):

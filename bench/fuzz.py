@@ -26,6 +26,8 @@ import tempfile
 import threading
 import time
 
+from wire import listens
+
 TOP = os.path.join(os.path.dirname(os.path.abspath(__file__)), "..")
 STATUSES = {200: "OK", 201: "Created", 204: "No Content", 400: "Bad Request", 404: "Not Found", 405: "Method Not Allowed", 409: "Conflict",
             413: "Payload Too Large", 501: "Not Implemented", 507: "Insufficient Storage"}
@@ -287,11 +289,6 @@ def one_connection(port, text, mutator, tally):
             way = "cut"
         check_answers(told, b"HEAD" in text, tally, may_be_cut=way == "cut")
     return way
-
-
-def listens(port):
-    with open("/proc/net/tcp") as table:
-        return any(f":{port:04X} 00000000:0000 0A" in line for line in table)
 
 
 def memory_of(child):

@@ -15,13 +15,16 @@ else
     program=${IPAMD:-$top/crates/ipamd/out/ipamd}
 fi
 [ -x "$program" ] || { echo "build the program first: ./build" >&2; exit 1; }
-exec python3 - "$name" "$program" "${1:-5}" "${2:-18090}" <<'E2'
+PYTHONPATH=$top/bench exec python3 -B - "$name" "$program" "${1:-5}" "${2:-18090}" <<'E2'
 import http.client, json, os, random, shutil, socket, sqlite3, subprocess, sys, tempfile, threading, time
+from wire import answers, listens, request
 
 name, program, rounds, port = sys.argv[1], sys.argv[2], int(sys.argv[3]), int(sys.argv[4])
 CLIENTS = 4
 # how many answers each client has before the program is killed, at least
 FEW = 20
+# and in how many seconds
+PATIENCE = 120
 PAGE = 1000
 # what is made first, where each client claims, and what a claim gives
 if name == "ipamd":
@@ -44,12 +47,6 @@ def give_up(what):
     sys.exit(f"kill: {what}")
 
 
-def request(method, target, body=None):
-    text = b"" if body is None else json.dumps(body).encode()
-    head = f"{method} {target} HTTP/1.1\r\nHost: x\r\n" + (f"Content-Length: {len(text)}\r\n" if text else "") + "\r\n"
-    return head.encode() + text
-
-
 def session(requests):
     done = subprocess.run([program, "session", "--db", path], input=b"".join(requests), capture_output=True)
     if done.returncode != 0 or done.stderr:
@@ -57,23 +54,11 @@ def session(requests):
     return done.stdout
 
 
-def bodies(output):
-    # the bodies of answers that lie one behind another
-    found = []
-    while output:
-        head, _, rest = output.partition(b"\r\n\r\n")
-        fields = dict(line.split(b": ", 1) for line in head.split(b"\r\n")[1:])
-        length = int(fields.get(b"Content-Length", b"0"))
-        found.append((int(head.split(b" ")[1]), json.loads(rest[:length]) if length else None))
-        output = rest[length:]
-    return found
-
-
 def pages():
     # the addresses of the file, page by page
     rows, offset = [], 0
     while True:
-        (status, page), = bodies(session([request("GET", f"/api/ipam/ip-addresses/?limit={PAGE}&offset={offset}")]))
+        (status, page), = answers(session([request("GET", f"/api/ipam/ip-addresses/?limit={PAGE}&offset={offset}")]))
         if status != 200:
             give_up(f"a list is answered {status}: {page}")
         rows += page["results"]
@@ -86,7 +71,7 @@ def pages():
 
 def members():
     # the numbers of both ranges of the file
-    (first, ours), (second, theirs) = bodies(session([request("GET", f"/api/ipam/asn-ranges/{n}/asns/") for n in (1, 2)]))
+    (first, ours), (second, theirs) = answers(session([request("GET", f"/api/ipam/asn-ranges/{n}/asns/") for n in (1, 2)]))
     if (first, second) != (200, 200):
         give_up(f"lists are answered {first} and {second}")
     return ours + theirs
@@ -101,20 +86,12 @@ def stored():
     return rows
 
 
-def listens():
-    try:
-        with open("/proc/net/tcp") as table:
-            return any(f":{port:04X} 00000000:0000 0A" in line for line in table)
-    except OSError:
-        return True
-
-
 def start():
     global server
     server = subprocess.Popen([program, "serve", "--bind", f"127.0.0.1:{port}", "--workers", str(CLIENTS), "--db", path],
                               stdin=subprocess.DEVNULL, stdout=subprocess.DEVNULL, stderr=subprocess.PIPE)
-    for _ in range(200):
-        if listens():
+    for _ in range(1200):
+        if listens(port):
             return
         if server.poll() is not None:
             give_up(f"the program ended {server.returncode}: {server.stderr.read()}")
@@ -146,19 +123,19 @@ def client(claim, answered, wrong):
             return
 
 
-for number, (status, made) in enumerate(bodies(session([request("POST", *one) for one in MADE])), 1):
+for number, (status, made) in enumerate(answers(session([request("POST", *one) for one in MADE])), 1):
     if status != 201 or made["id"] != number:
         give_up(f"what is made first: {status} {made}")
 
 known = {}
 for number in range(1, rounds + 1):
     start()
-    answers, wrong = [[] for _ in range(CLIENTS)], []
-    threads = [threading.Thread(target=client, args=(CLAIMS[i], answers[i], wrong)) for i in range(CLIENTS)]
+    told, wrong = [[] for _ in range(CLIENTS)], []
+    threads = [threading.Thread(target=client, args=(CLAIMS[i], told[i], wrong)) for i in range(CLIENTS)]
     for thread in threads:
         thread.start()
-    patience = time.monotonic() + 30
-    while any(len(rows) < FEW for rows in answers) and not wrong and time.monotonic() < patience:
+    patience = time.monotonic() + PATIENCE
+    while any(len(rows) < FEW for rows in told) and not wrong and time.monotonic() < patience:
         time.sleep(0.01)
     time.sleep(random.uniform(0, 0.7))
     server.kill()
@@ -167,9 +144,9 @@ for number in range(1, rounds + 1):
         thread.join()
     if wrong:
         give_up(f"round {number}: a claim is answered {wrong[0]}")
-    fresh = [row for rows in answers for row in rows]
-    if any(len(rows) < FEW for rows in answers):
-        give_up(f"round {number}: the clients had {[len(rows) for rows in answers]} answers in 30 seconds")
+    fresh = [row for rows in told for row in rows]
+    if any(len(rows) < FEW for rows in told):
+        give_up(f"round {number}: the clients had {[len(rows) for rows in told]} answers in {PATIENCE} seconds")
     rows = stored()
     for row in fresh:
         if row["id"] in known:

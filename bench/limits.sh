@@ -7,5 +7,7 @@ set -euo pipefail
 top=$(cd "$(dirname "$0")/.." && pwd)
 program=${IPAMD:-$top/crates/ipamd/out/ipamd}
 [ -x "$program" ] || { echo "build the program first: ./ipamd free 10.0.0.0/8 </dev/null" >&2; exit 1; }
+. "$top/bench/need.sh"
+need /usr/bin/time time
 echo "load: $(uptime | sed 's/.*average: //')"
 exec python3 "$top/bench/limits.py" "$program" "${1:-18440}"

@@ -10,6 +10,8 @@ import sys
 import tempfile
 import time
 
+from timed_runs import Run, runs
+
 PROGRAM = os.environ["IPAMD"]
 MOST = 4_194_304
 WIDTH = {4: 32, 6: 128}
@@ -59,27 +61,6 @@ def beyond(have, by):
         if first < end:
             found.append((first, end))
     return found
-
-
-class Run:
-    """What one run printed, its seconds, and its memory in MB at most."""
-
-    def __init__(self, words, lines=None):
-        with tempfile.NamedTemporaryFile("r") as memory, tempfile.TemporaryFile() as out:
-            begun = time.perf_counter()
-            with open(lines) if lines else open(os.devnull) as given:
-                done = subprocess.run(["/usr/bin/time", "-f", "%M", "-o", memory.name, *words], stdin=given, stdout=out, stderr=subprocess.PIPE)
-            self.seconds = time.perf_counter() - begun
-            if done.returncode:
-                sys.exit(f"lists: {words}: status {done.returncode}: {done.stderr.decode()[:300]}")
-            self.memory = int(memory.read().split()[-1]) / 1024
-            out.seek(0)
-            self.text = out.read().decode()
-
-
-def runs(words, lines=None, times=5):
-    """The middle of some runs."""
-    return sorted((Run(words, lines) for _ in range(times)), key=lambda run: run.seconds)[times // 2]
 
 
 def listing(command, family, style, *more):

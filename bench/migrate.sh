@@ -7,8 +7,9 @@ set -euo pipefail
 top=$(cd "$(dirname "$0")/.." && pwd)
 program=${IPAMD:-$top/crates/ipamd/out/ipamd}
 [ -x "$program" ] || { echo "build the program first: ./ipamd free 10.0.0.0/8 </dev/null" >&2; exit 1; }
-exec python3 - "$program" "${1:-200000}" "${2:-500000}" "${3:-10000}" <<'PYTHON'
-import bisect, ipaddress, json, os, random, resource, shutil, sqlite3, subprocess, sys, tempfile, time
+PYTHONPATH=$top/bench exec python3 -B - "$program" "${1:-200000}" "${2:-500000}" "${3:-10000}" <<'PYTHON'
+import bisect, ipaddress, os, random, resource, shutil, sqlite3, subprocess, sys, tempfile, time
+from wire import answers, request
 
 program, prefixes, addresses, ranges = sys.argv[1], *map(int, sys.argv[2:5])
 pick = random.Random(16)
@@ -62,13 +63,8 @@ def lists(path, paths):
     """What the register gives out at each of these paths."""
     found = []
     for at in range(0, len(paths), 500):
-        given = "".join(f"GET /api/ipam/{one}/available-ips/?limit={LIMIT} HTTP/1.1\r\nHost: x\r\n\r\n" for one in paths[at:at + 500]).encode()
-        out = run(["session", "--db", path], given)[1].stdout
-        while out:
-            head, _, rest = out.partition(b"\r\n\r\n")
-            size = int(head.split(b"Content-Length: ")[1].split(b"\r\n")[0])
-            found.append([one["address"] for one in json.loads(rest[:size])])
-            out = rest[size:]
+        given = b"".join(request("GET", f"/api/ipam/{one}/available-ips/?limit={LIMIT}") for one in paths[at:at + 500])
+        found += [[one["address"] for one in rows] for _, rows in answers(run(["session", "--db", path], given)[1].stdout)]
     return found
 
 

@@ -14,9 +14,9 @@ from collections import Counter
 from jsonschema import Draft202012Validator
 
 import openapi_document
-import openapi_edges
 from agree import Start, closings, cut
 from openapi_reading import EARLY, METHODS, Document, accepts, answers_in, wrong_in
+from openapi_register_edges import RegisterEdges
 from plain_register import converse
 
 HERE = os.path.dirname(os.path.abspath(__file__))
@@ -158,13 +158,17 @@ def read_document(path, made, is_to_write):
     return document
 
 
+def compare(document, given, start_of, edges):
+    """Random conversations, and requests at the edges."""
+    seen = replay(document, given, start_of, document.paths[edges.listing]["get"]) | edges.check()
+    print(f"openapi: refusals of the document that neither saw: {', '.join(sorted(set(document.refusals) - seen)) or 'none'}")
+
+
 def main():
     given = options("IPAMD", "ipamd")
     document = read_document(DOCUMENT, openapi_document.written(), given.write)
-    if document is None:
-        return
-    seen = replay(document, given, Start, document.paths["/api/ipam/vrfs/"]["get"]) | openapi_edges.check_edges(document, given.program)
-    print(f"openapi: refusals of the document that neither saw: {', '.join(sorted(set(document.refusals) - seen)) or 'none'}")
+    if document:
+        compare(document, given, Start, RegisterEdges(document, given.program))
 
 
 if __name__ == "__main__":

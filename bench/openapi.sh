@@ -5,7 +5,7 @@
 #                  reached; and by bench/openapi_3.1_schema.json and the schema of JSON Schema 2020-12, always
 #   conversations  random requests: each answer has the status, fields and body that the document says of this operation, and is a refusal by its bytes alone
 #                  exactly where the document says so, with the code and the member that it says
-#   edges          (of ipamd) each member, parameter, id, list and limit at a bound and past it, each with its one status and code
+#   edges          each member, parameter, id, list and limit at a bound and past it, each with its one status and code
 # It needs Python's jsonschema (Debian: python3-jsonschema).   bench/openapi.sh [--streams N] [--requests N] [--seed N]
 set -euo pipefail
 top=$(cd "$(dirname "$0")/.." && pwd)

@@ -10,6 +10,7 @@ import openapi
 import openapi_pools_document
 from agree_pools import Start
 from openapi_document import written
+from openapi_pools_edges import PoolEdges
 
 DOCUMENT = os.path.join(openapi.HERE, "..", "docs", "openapi-pools.json")
 
@@ -17,10 +18,8 @@ DOCUMENT = os.path.join(openapi.HERE, "..", "docs", "openapi-pools.json")
 def main():
     given = openapi.options("POOLD", "poold")
     document = openapi.read_document(DOCUMENT, written(openapi_pools_document.document()), given.write)
-    if document is None:
-        return
-    seen = openapi.replay(document, given, Start, document.paths["/api/ipam/asn-ranges/"]["get"])
-    print(f"openapi: refusals of the document that were not seen: {', '.join(sorted(set(document.refusals) - seen)) or 'none'}")
+    if document:
+        openapi.compare(document, given, Start, PoolEdges(document, given.program))
 
 
 if __name__ == "__main__":

@@ -6,6 +6,9 @@ set -euo pipefail
 top=$(cd "$(dirname "$0")/.." && pwd)
 export IPAMD=${IPAMD:-$top/crates/ipamd/out/ipamd}
 [ -x "$IPAMD" ] || { echo "build the program first: ./ipamd free 10.0.0.0/8 </dev/null" >&2; exit 1; }
+. "$top/bench/need.sh"
+need curl curl
+need sqlite3 sqlite3
 port=${1:-18495}
 base=http://127.0.0.1:$port/api/ipam
 folder=$(mktemp -d)

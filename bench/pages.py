@@ -2,8 +2,8 @@
 """The commands of README.md, docs/USING.md, docs/USING-POOLS.md, docs/CLIENTS.md and docs/OPERATING.md, run as they are written in a fresh clone, each with what it has to print. A
 command has to stand in its page, and each indented line of a page has to be a command that was run, a line that the run printed, or one that is
 named at the end with the reason why not. What wants systemd is in bench/systemd.sh. The clone takes the built program of this folder (IPAMD=PROGRAM
-takes another one); with --build it is built there, the small program first, by the kit's `rt`. It needs curl and socat, and the ports 8080 and 8081. What
-asks poold is run where that program is built (POOLD=PROGRAM takes another one).
+takes another one); with --build it is built there, the small program first, by the kit's `rt`. It needs curl, socat, dpkg-dev and python3-pynetbox, and
+the ports 8080 and 8081. What asks poold, and the package, is run where that program is built (POOLD=PROGRAM takes another one).
 
     bench/pages.py [--build] [--quiet]
 """
@@ -22,6 +22,8 @@ from dataclasses import dataclass
 TOP = os.path.abspath(os.path.join(os.path.dirname(os.path.abspath(__file__)), ".."))
 BASE, POOLS_BASE = "http://127.0.0.1:8080/api/ipam", "http://127.0.0.1:8081/api/ipam"
 POOLD = os.environ.get("POOLD", os.path.join(TOP, "crates/poold/out/poold"))
+# what the commands of the pages need, with Debian's packages
+NEEDS = {"curl": "curl", "socat": "socat", "dpkg-shlibdeps": "dpkg-dev", "strip": "binutils"}
 # the text that stands behind a command in a page and is none of it
 REMARK = re.compile(r" {2,}# .*$")
 PREFIXES = "prefix,vrf,status\n10.0.0.0/16,,container\n10.0.0.0/24,,active\n10.0.1.0/24,,active\n"
@@ -214,7 +216,6 @@ STEPS = [
     clients("/usr/bin/python3 examples/client_pynetbox.py http://127.0.0.1:8080", r"client_pynetbox: "),
     None,
     lambda folder: os.remove(os.path.join(folder, "office.db")),
-    operating("packaging/build-deb.sh", r"\Abuilt \S*/packaging/out/ipamd_[\d.]+_amd64\.deb\n\Z"),
     operating("./install.sh /usr/local", r"\Ainstalled ipamd [\d.]+: "),
     operating(r"printf '10.0.0.0/24\n' | ipamd free 10.0.0.0/22", r"\A10\.0\.1\.0/24\n10\.0\.2\.0/23\n\Z"),
     operating("ipamd serve --bind 127.0.0.1:8080 --workers 16 --db office.db &", "", stays=True),
@@ -232,8 +233,9 @@ STEPS = [
     operating("python3 examples/move.py spreadsheet examples/spreadsheet.csv --to http://127.0.0.1:8080", r"made 23, present 1, refused 1\n", status=1),
     None,
 ]
-# the steps that ask poold
+# the steps that want poold
 POOL_STEPS = [
+    operating("packaging/build-deb.sh", r"\Abuilt \S*/packaging/out/ipamd_[\d.]+_amd64\.deb\n\Z"),
     pools("./poold serve --bind 127.0.0.1:8081 --workers 4 --db pools.db &", "", stays=True),
     pools("U=" + POOLS_BASE, r"\A\Z"),
     pools("""curl -s -d '{"name":"private","start":64512,"end":65534}' $U/asn-ranges/""", r'\A\{"end":65534,"id":1,"name":"private","start":64512\}\Z'),
@@ -293,6 +295,7 @@ ELSE = [
     ("docs/OPERATING.md", '{"code":"limit"', "bench/full_log.sh sees it"),
 ] + ([] if os.access(POOLD, os.X_OK) else [
     ("docs/USING-POOLS.md", "", "poold is not built"),
+    ("docs/OPERATING.md", "packaging/build-deb.sh", "poold is not built"),
     ("docs/CLIENTS.md", "./poold", "poold is not built"),
     ("docs/CLIENTS.md", "/usr/bin/python3 examples/client_pools.py", "poold is not built"),
 ])
@@ -388,7 +391,16 @@ def left_over(pages, steps, told):
     return left, there
 
 
+def check_needs():
+    for command, package in NEEDS.items():
+        if shutil.which(command) is None:
+            sys.exit(f"pages: {command} is missing: apt-get install {package}")
+    if subprocess.run(["/usr/bin/python3", "-c", "import pynetbox"], stderr=subprocess.DEVNULL).returncode != 0:
+        sys.exit("pages: /usr/bin/python3 has no pynetbox: apt-get install python3-pynetbox")
+
+
 def main():
+    check_needs()
     path = tempfile.mkdtemp()
     folder = Folder(os.path.join(path, "ipamd"), "--build" in sys.argv[1:])
     pages = {page: lines_of(page) for page in ("README.md", "docs/USING.md", "docs/USING-POOLS.md", "docs/CLIENTS.md", "docs/OPERATING.md")}

@@ -26,7 +26,7 @@ BEFORE = [
     ("prefixes", {"prefix": "10.62.0.2/31"}),
     ("ip-ranges", {"start_address": "10.60.0.100/24", "end_address": "10.60.0.199/24"}),
     ("ip-ranges", {"start_address": "10.60.0.100/24", "end_address": "10.60.0.199/24", "vrf": 1}),
-    ("ip-ranges", {"start_address": "10.62.0.1/30", "end_address": "10.62.0.2/30"}),
+    ("ip-ranges", {"start_address": "10.62.0.1/30", "end_address": "10.62.0.2/30", "mark_populated": True}),
     ("ip-addresses", {"address": "10.60.0.1/24"}), ("ip-addresses", {"address": "10.60.0.1/24", "vrf": 1}),
     ("ip-addresses", {"address": "10.60.0.1/24", "vrf": 2}),
     ("ip-addresses", {"address": "10.60.0.7/24"}), ("ip-addresses", {"address": "10.60.0.8/24"}), ("ip-addresses", {"address": "10.60.0.8/25", "vrf": 1}),

@@ -1,7 +1,7 @@
 """Sessions of `poold` over a real file, and each program over the other one's file; bench/files.sh says how."""
 import hashlib
-import json
 import os
+import re
 import shutil
 import sqlite3
 import subprocess
@@ -9,12 +9,15 @@ import sys
 import tempfile
 
 from plain_pools import request_of
+from wire import answers
 
 program, register = sys.argv[1:3]
 folder = tempfile.mkdtemp()
 path, register_path = os.path.join(folder, "pools.db"), os.path.join(folder, "office.db")
 UNREAD = b"store: the store could not be read\n"
 checks = 0
+# what standard error said, with N for a number, and the status
+lines = set()
 
 
 def check(holds, what):
@@ -26,18 +29,13 @@ def check(holds, what):
 
 def session(requests, db=path, of=program):
     done = subprocess.run([of, "session", "--db", db], input=b"".join(requests), capture_output=True)
+    heard(of, done)
     return done.returncode, done.stdout, done.stderr
 
 
-def answers(output):
-    """The status and the value of each answer."""
-    found = []
-    while output:
-        head, _, rest = output.partition(b"\r\n\r\n")
-        length = next((int(line[16:]) for line in head.split(b"\r\n") if line.startswith(b"Content-Length: ")), 0)
-        found.append((int(head.split(b" ")[1]), json.loads(rest[:length]) if length else None))
-        output = rest[length:]
-    return found
+def heard(of, done):
+    if of == program and done.returncode != 0:
+        lines.add((re.sub(r"\d+", "N", done.stderr.decode().rstrip("\n")), done.returncode))
 
 
 def sums():
@@ -143,9 +141,20 @@ def other_files():
     check(session([request_of("GET", "asn-ranges/")], db=empty)[0] == 0 and query("SELECT count(*) FROM meta", empty) == [(2,)], "an empty file")
 
 
+def table_of_page():
+    """Each line that standard error has is in the table of docs/USING-POOLS.md, and each row of it was seen."""
+    done = subprocess.run([program], stdin=subprocess.DEVNULL, capture_output=True)
+    heard(program, done)
+    with open(os.path.join(os.path.dirname(os.path.abspath(__file__)), "../docs/USING-POOLS.md"), encoding="utf-8") as page:
+        part = page.read().split("\n## What standard error says\n")[1].split("\n## ")[0]
+    rows = {(line, int(status)) for line, status in re.findall(r"^\| `([^`]+)` \| (\d) \|", part, re.M)}
+    check(lines == rows, f"in the table or here alone: {sorted(lines ^ rows)}")
+
+
 over_a_file()
 two_processes()
 broken_rows()
 other_files()
+table_of_page()
 shutil.rmtree(folder)
 print(f"files: {checks} checks passed")

@@ -1,30 +1,17 @@
 """Claims a second by `poold session` and by NetBox's way over PostgreSQL; bench/pools.sh says how."""
-import os
 import sys
-import tempfile
-import time
 
-from claims import Postgres, Session
+from claim_rates import Claims, heading
 
 FIRST, LAST = 4_200_000_000, 4_200_099_999
 TAKEN = [100, 10_000, 90_000]
-CLAIMS = "/api/ipam/asn-ranges/1/available-asns/"
+# what the claims a second among the most are to be of those among the fewest
+LEAST = 0.8
 
 
-def ours(program, taken, claims, *options):
-    """Claims a second, among so many members, and the first number that is claimed."""
-    session = Session(program, *options)
-    session.ask("/api/ipam/asn-ranges/", {"name": "private", "start": FIRST, "end": LAST})
-    for size in [1_000] * (taken // 1_000) + [taken % 1_000]:
-        if size:
-            session.ask(CLAIMS, [{}] * size)
-    start = time.perf_counter()
-    first = session.ask(CLAIMS, {})["asn"]
-    for _ in range(claims - 1):
-        session.ask(CLAIMS, {})
-    took = time.perf_counter() - start
-    session.end()
-    return claims / took, first
+def tables(taken):
+    return ("CREATE TABLE ipam_asn (id bigserial PRIMARY KEY, asn bigint NOT NULL UNIQUE, description varchar(200) NOT NULL);"
+            f"INSERT INTO ipam_asn (asn, description) SELECT {FIRST} + n, '' FROM generate_series(0, {taken - 1}) n; ANALYZE;")
 
 
 def peer_claim(database):
@@ -35,33 +22,21 @@ def peer_claim(database):
     return number
 
 
-def peers(taken, claims):
-    database = Postgres()
-    database.ask(
-        "CREATE TABLE ipam_asn (id bigserial PRIMARY KEY, asn bigint NOT NULL UNIQUE, description varchar(200) NOT NULL);"
-        f"INSERT INTO ipam_asn (asn, description) SELECT {FIRST} + n, '' FROM generate_series(0, {taken - 1}) n; ANALYZE;")
-    start = time.perf_counter()
-    first = peer_claim(database)
-    for _ in range(claims - 1):
-        peer_claim(database)
-    took = time.perf_counter() - start
-    database.end()
-    return claims / took, first
+NUMBERS = Claims(("/api/ipam/asn-ranges/", {"name": "private", "start": FIRST, "end": LAST}), "/api/ipam/asn-ranges/1/available-asns/", "asn",
+                 tables, peer_claim, 800, lambda taken: 50 if taken < 10_000 else 10)
 
 
 def main(program):
-    print("| members | in memory | over a file | NetBox's way | in memory to it | over a file to it | in memory to that among 100 |")
-    print("|---|---|---|---|---|---|---|")
-    among_few = None
+    print(heading("members", "in memory to that among 100"))
+    rates = []
     for taken in TAKEN:
-        memory, first = ours(program, taken, 800)
-        with tempfile.TemporaryDirectory() as folder:
-            stored, second = ours(program, taken, 200, "--db", os.path.join(folder, "pools.db"))
-        theirs, third = peers(taken, 50 if taken < 10_000 else 10)
-        if not first == second == third == FIRST + taken:
-            sys.exit(f"pools: {first}, {second} and {third} are claimed first")
-        among_few = among_few or memory
-        print(f"| {taken:,} | {memory:,.0f} | {stored:,.0f} | {theirs:,.1f} | {memory / theirs:,.0f} | {stored / theirs:,.0f} | {memory / among_few:.2f} |", flush=True)
+        memory, first, cells = NUMBERS.row(program, taken)
+        if first != FIRST + taken:
+            sys.exit(f"pools: {first} is claimed first")
+        rates.append(memory)
+        print(f"{cells} {memory / rates[0]:.2f} |", flush=True)
+    if rates[-1] < LEAST * rates[0]:
+        sys.exit(f"pools: among {TAKEN[-1]:,} there are less than {LEAST} of the claims a second among {TAKEN[0]:,}")
 
 
 if __name__ == "__main__":

@@ -3,7 +3,7 @@
 # `poold session`, in memory and over a file, each claim sent when the last one is answered; beside the way of NetBox, where all members of
 # the range are read from PostgreSQL, the first gap is found in Python, and one row is inserted, under an advisory lock. The peer has no web
 # framework, and looks for a gap where NetBox sorts all that are free; so it is quicker than NetBox. Each first number claimed is compared.
-# The last column is how many claims a second there are for one among 100. The built program (./build poold builds it; POOLD=PROGRAM takes
+# The last column is how many claims a second there are for one among 100; it is at least 0.8, or the script ends with status 1. The built program (./build poold builds it; POOLD=PROGRAM takes
 # another one), and Debian's PostgreSQL with its user `postgres`.
 # usage: bench/pools.sh
 set -euo pipefail

@@ -2,12 +2,16 @@
 # nginx in front of `serve`, with examples/nginx-ipamd.conf as it stands but for its ports and files: TLS, passwords and tokens, and the user in the log; HEAD
 # and what follows it on the same connection, bodies of 4 MiB and one byte more, a body in chunks; filters that are refused, addresses with their masks, links
 # of pages; changes that are held; requests over kept connections; and a request every half second for more than twice the 30 seconds that the register gives
-# a connection, of which none may fail. By the built program (./ipamd builds it; IPAMD=PROGRAM takes another one). It needs nginx, curl and openssl, and two
-# minutes and more; --short leaves the last two steps out.   bench/proxy.sh [--short] [PORT]
+# a connection, of which none may fail. By the built program (./ipamd builds it; IPAMD=PROGRAM takes another one). It needs nginx, curl, openssl and python3,
+# and two minutes and more; --short leaves the last two steps out.   bench/proxy.sh [--short] [PORT]
 set -euo pipefail
 top=$(cd "$(dirname "$0")/.." && pwd)
 program=${IPAMD:-$top/crates/ipamd/out/ipamd}
 [ -x "$program" ] || { echo "build the program first: ./ipamd free 10.0.0.0/8 </dev/null" >&2; exit 1; }
+. "$top/bench/need.sh"
+need nginx nginx-light
+need curl curl
+need openssl openssl
 long=yes
 [ "${1:-}" != --short ] || { long=; shift; }
 port=${1:-18480}
@@ -27,7 +31,7 @@ listens() {
 }
 
 wait_for() {
-    for _ in $(seq 100); do
+    for _ in $(seq 600); do
         listens "$1" && return
         sleep 0.1
     done
@@ -121,7 +125,17 @@ want 200 "${base%ipam}status/"
 [ "$(cat "$folder/answer")" = '{"netbox-version":"4.1.0"}' ] || fail "the status: $(cat "$folder/answer")"
 for kind in vrfs rirs roles aggregates prefixes ip-ranges ip-addresses; do
     want 200 -X OPTIONS "$base/$kind/"
-    python3 -c 'import json, sys; json.load(sys.stdin)["actions"]["POST"]' < "$folder/answer" || fail "the choices of $kind"
+    # the choices of the kind are those of docs/openapi.json
+    python3 - "$top/docs/openapi.json" "$kind" "$folder/answer" <<'P' || fail "the choices of $kind: $(cat "$folder/answer")"
+import json, sys
+document, kind = json.load(open(sys.argv[1])), sys.argv[2]
+schemas, post = document["components"]["schemas"], document["paths"][f"/api/ipam/{kind}/"]["post"]
+record = schemas[post["responses"]["201"]["content"]["application/json"]["schema"]["$ref"].split("/")[-1]]
+named = {name: one.get("$ref", "").split("/")[-1] for name, one in record["properties"].items()}
+wanted = {name: {"choices": [{"value": one["value"], "display_name": one["label"]} for one in schemas[schema]["enum"] if one]}
+          for name, schema in named.items() if schema.endswith("Choice")}
+assert json.load(open(sys.argv[3])) == {"actions": {"POST": wanted}}, wanted
+P
 done
 want 405 -X OPTIONS "$base/prefixes/1/"
 

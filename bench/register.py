@@ -58,7 +58,7 @@ class Peer(BaseHTTPRequestHandler):
 
 
 def timed(command, data, runs):
-    best = None
+    best, total = None, 0.0
     for _ in range(runs):
         begin = time.perf_counter()
         done = subprocess.run(command, input=data, stdout=subprocess.PIPE, check=True)
@@ -67,7 +67,7 @@ def timed(command, data, runs):
         if answers != 1000:
             sys.exit(f"{command[0]}: {answers} answers of 1000")
         best = took if best is None else min(best, took)
-        total = took if _ == 0 else total + took
+        total += took
     return total / runs, best
 
 

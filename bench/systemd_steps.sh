@@ -4,12 +4,13 @@
 set -u
 exec > "$1" 2>&1
 steps=0 looks=0 bad=0
-export IPAMD=/root/program
+export IPAMD=/root/program POOLD=/root/pools
 
 try() {
     local status=$1 pattern=$2 command=$3 told out
     out=$(bash -c "$command" 2>&1)
     told=$?
+    printf '%s\n' "$out" > /root/out
     if [ "$told" = "$status" ] && grep -qE -- "$pattern" <<< "$out"; then
         return
     fi
@@ -28,13 +29,18 @@ look() {
     try "$1" "$2" "$3"
 }
 
-# until the register listens, ten seconds at most
+# until a program listens, the register or the one on this port, a minute at most
 listens() {
-    look 0 '' 'for _ in $(seq 100); do curl -s -o /dev/null http://127.0.0.1:8080/ && exit; sleep 0.1; done; exit 1'
+    look 0 '' "for _ in \$(seq 600); do curl -s -o /dev/null http://127.0.0.1:${1:-8080}/ && exit; sleep 0.1; done; exit 1"
 }
 
 post() {
     look 0 "$2" "curl -s -w '%{http_code}' -d '{\"prefix\":\"$1\"}' http://127.0.0.1:8080/api/ipam/prefixes/"
+}
+
+# a claim of an AS number, which is the wanted one
+claim() {
+    look 0 "^\{\"asn\":$1," "curl -s -d '{}' http://127.0.0.1:8081/api/ipam/asn-ranges/1/available-asns/"
 }
 
 today=$(date +%F)
@@ -56,7 +62,19 @@ look 0 "^-rw-------.* $user +$user " 'ls -l /var/lib/ipamd/register.db'
 look 0 'Overall exposure level for ipamd.service: 1.[0-9] OK' 'systemd-analyze security --no-pager ipamd'
 post 10.0.0.0/24 '201$'
 
-# nginx before it
+# the program of AS numbers and VLANs as a service of its own; what it answered is there behind a crash
+look 0 '^installed poold [0-9.]+: /usr/local/bin/poold, /usr/local/share/man/man1/poold.1, /usr/local/lib/systemd/system/poold.service$' './install.sh /usr/local poold'
+look 0 '' 'systemctl daemon-reload; systemctl enable --now poold'
+listens 8081
+look 0 "^-rw-------.* $user +$user " 'ls -l /var/lib/poold/pools.db'
+look 0 'Overall exposure level for poold.service: 1.[0-9] OK' 'systemd-analyze security --no-pager poold'
+look 0 '"id":1,' "curl -s -d '{\"name\":\"private\",\"start\":64512,\"end\":65534}' http://127.0.0.1:8081/api/ipam/asn-ranges/"
+claim 64512
+look 0 '' 'systemctl kill -s KILL poold; sleep 6'
+listens 8081
+claim 64513
+
+# nginx before the register
 look 0 '' 'openssl req -x509 -newkey ec -pkeyopt ec_paramgen_curve:prime256v1 -nodes -days 2 -subj /CN=register.example.net -addext subjectAltName=DNS:register.example.net -keyout /etc/ssl/private/register.key -out /etc/ssl/certs/register.pem'
 step 0 '' 'cp examples/nginx-ipamd.conf /etc/nginx/conf.d/ipamd.conf'
 users="printf 'anna:%s\\n' \"\$(openssl passwd -apr1)\" >> /etc/nginx/register.users"
@@ -148,38 +166,59 @@ look 0 '' 'systemctl stop ipamd; cp kept.db /var/lib/ipamd/register.db; rm -f /v
 listens
 # the package in place of what install.sh put there; the register stays
 version=$(sed -n 's/^## \([0-9][0-9.]*\).*/\1/p' CHANGES.md | head -n 1)
-look 0 '' 'systemctl disable --now ipamd; cd /usr/local; rm bin/ipamd share/man/man1/ipamd.1 lib/systemd/system/ipamd.service && systemctl daemon-reload'
-step 0 'not started. To start it now and at each boot: systemctl enable --now ipamd.?$' "apt install ./packaging/out/ipamd_${version}_amd64.deb"
-look 3 '^inactive$' 'systemctl is-active ipamd'
-look 1 '^disabled$' 'systemctl is-enabled ipamd'
-look 0 '^IPAMD\(1\)' 'man ipamd | cat'
+look 0 '' 'systemctl disable --now ipamd poold; cd /usr/local; rm {bin,share/man/man1,lib/systemd/system}/{ipamd,poold}* && systemctl daemon-reload'
+step 0 'not started. To start one now and at each boot: systemctl enable --now ipamd.?$' "apt install ./packaging/out/ipamd_${version}_amd64.deb"
+for one in ipamd poold; do
+    look 3 '^inactive$' "systemctl is-active $one"
+    look 1 '^disabled$' "systemctl is-enabled $one"
+    look 0 "^${one^^}\\(1\\)" "man $one | cat"
+    look 0 "^complete -F _$one $one\$" ". /usr/share/bash-completion/completions/$one; complete -p $one"
+done
 look 0 '^10.0.1.0/24$' "printf '10.0.0.0/24\\n' | /usr/bin/ipamd free 10.0.0.0/22"
-look 0 '^complete -F _ipamd ipamd$' '. /usr/share/bash-completion/completions/ipamd; complete -p ipamd'
 look 0 '^README.md$' 'ls /usr/share/doc/ipamd'
 step 0 '' 'systemctl enable --now ipamd'
 listens
 look 0 '^\{"count":2,' 'curl -s http://127.0.0.1:8080/api/ipam/prefixes/'
 post 10.0.3.0/24 '201$'
+look 0 '' 'systemctl enable --now poold'
+listens 8081
+claim 64514
 
-# a package of a higher version: the unit is restarted by it, and the new program answers
-look 0 '' 'systemctl show -p MainPID ipamd > /root/before'
+# a package of a higher version: the units that run are restarted by it, and the new programs answer
+for one in ipamd poold; do look 0 '' "systemctl show -p MainPID $one > /root/before.$one"; done
 look 0 '' "apt install ./packaging/out/ipamd_${version}.1_amd64.deb"
 listens
-look 0 '^active$' 'systemctl is-active ipamd'
-look 0 "^Description=ipamd ${version}.1," 'systemctl show -p Description ipamd'
-look 0 '^/usr/bin/ipamd$' 'readlink /proc/$(systemctl show -p MainPID --value ipamd)/exe'
-look 1 '' 'systemctl show -p MainPID ipamd | cmp -s - /root/before'
+listens 8081
+for one in ipamd poold; do
+    look 0 '^active$' "systemctl is-active $one"
+    look 0 "^Description=$one ${version}.1," "systemctl show -p Description $one"
+    look 0 "^/usr/bin/$one\$" "readlink /proc/\$(systemctl show -p MainPID --value $one)/exe"
+    look 1 '' "systemctl show -p MainPID $one | cmp -s - /root/before.$one"
+done
 look 0 '^\{"count":3,' 'curl -s http://127.0.0.1:8080/api/ipam/prefixes/'
+claim 64515
 
-# the package removed; the register is kept, and the next package finds it
-kept='^ipamd: the register in /var/lib/ipamd is kept. To remove it: rm -r /var/lib/private/ipamd /var/lib/ipamd.?$'
-step 0 "$kept" 'apt purge -y ipamd'
-look 3 '^inactive$' 'systemctl is-active ipamd'
+# one that is stopped is not started by an upgrade
+look 0 '' "systemctl stop poold; apt install --allow-downgrades -y ./packaging/out/ipamd_${version}_amd64.deb"
+look 3 '^inactive$' 'systemctl is-active poold'
+listens
+
+# the package removed; the records are kept and said so, and the next package finds them
+kept='ipamd: the register in /var/lib/ipamd is kept. To remove it: rm -r /var/lib/private/ipamd /var/lib/ipamd'
+pools='ipamd: the pools in /var/lib/poold are kept. To remove them: rm -r /var/lib/private/poold /var/lib/poold'
+step 0 "^$kept" 'apt purge -y ipamd'
+look 0 "^$pools" 'cat /root/out'
+for one in ipamd poold; do
+    look 3 '^inactive$' "systemctl is-active $one"
+    look 1 '' "test -L /etc/systemd/system/multi-user.target.wants/$one.service || test -e /usr/bin/$one"
+done
 look 0 'register.db' 'ls /var/lib/private/ipamd'
-look 1 '' 'test -L /etc/systemd/system/multi-user.target.wants/ipamd.service || test -e /usr/bin/ipamd'
-look 0 'not started' "apt install ./packaging/out/ipamd_${version}_amd64.deb && systemctl start ipamd"
+look 0 'pools.db' 'ls /var/lib/private/poold'
+look 0 'not started' "apt install ./packaging/out/ipamd_${version}_amd64.deb && systemctl start ipamd poold"
 listens
 look 0 '^\{"count":3,' 'curl -s http://127.0.0.1:8080/api/ipam/prefixes/'
+listens 8081
+claim 64516
 
 if [ "$bad" = 0 ]; then
     echo "systemd: $steps lines of OPERATING.md and $looks looks, systemd $(systemctl --version | sed -n '1s/systemd \([0-9]*\).*/\1/p'): all as it should be"

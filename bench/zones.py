@@ -5,32 +5,12 @@ import sqlite3
 import subprocess
 import sys
 import tempfile
-import time
+
+from timed_runs import runs
 
 PROGRAM = os.environ["IPAMD"]
 MOST = 4_194_304
 FOUR, SIX = int(ipaddress.ip_address("10.0.0.0")), int(ipaddress.ip_address("2001:db8::"))
-
-
-class Run:
-    """What one run printed, its seconds, and its memory in MB at most."""
-
-    def __init__(self, words, lines=None):
-        with tempfile.NamedTemporaryFile("r") as memory, tempfile.TemporaryFile() as out:
-            begun = time.perf_counter()
-            with open(lines or os.devnull) as given:
-                status = subprocess.call(["/usr/bin/time", "-f", "%M", "-o", memory.name, PROGRAM, *words], stdin=given, stdout=out)
-            self.seconds = time.perf_counter() - begun
-            if status:
-                sys.exit(f"zones: {words}: status {status}")
-            self.memory = int(memory.read().split()[-1]) / 1024
-            out.seek(0)
-            self.text = out.read().decode()
-
-
-def runs(words, lines=None, times=5):
-    """The middle of some runs."""
-    return sorted((Run(words, lines) for _ in range(times)), key=lambda run: run.seconds)[times // 2]
 
 
 def name(n):
@@ -54,7 +34,7 @@ def register(path, hosts):
 
 
 def timed(what, path, prefix, wanted):
-    words = ["reverse", "--db", path, "--prefix"]
+    words = [PROGRAM, "reverse", "--db", path, "--prefix"]
     empty, full = runs([*words, "3"]), runs([*words, str(prefix)])
     if full.text != wanted:
         sys.exit(f"zones: {what}: other lines")
@@ -85,7 +65,7 @@ def main():
         path = os.path.join(folder, "lines")
         with open(path, "w") as out:
             out.write("".join(lines))
-        read = runs(["reverse-read"], path)
+        read = runs([PROGRAM, "reverse-read"], path)
         if read.text != "address,dns_name\n" + "".join(pairs):
             sys.exit("zones: other pairs")
         print(f"reverse-read of {size:,} bytes, {len(pairs):,} lines: {read.seconds:.2f} s, {read.memory:.0f} MB")

@@ -51,4 +51,11 @@ want 200 '"previous":"/api/ipam/ip-addresses/?limit=2&offset=0"' "$1$next"
 
 # how many changes there were before this answer
 want 200 'Ipam-Place: 11' -D - "$api/vrfs/?limit=1"
+
+# -f ends with 22 on a refusal, -I sends HEAD, which no path has, and --next asks over the same connection
+told=0
+curl -sf -o /dev/null "$api/prefixes/9/" || told=$?
+[ "$told" = 22 ] || { echo "client_curl: -f: status $told" >&2; exit 1; }
+told=$(curl -sI -o /dev/null -w '%{http_code}' "$api/prefixes/" --next -s -o /dev/null -w ' %{http_code} %{num_connects}' "$api/prefixes/1/")
+[ "$told" = "405 200 0" ] || { echo "client_curl: -I, and a request behind it: $told" >&2; exit 1; }
 echo "client_curl: $count answers, all as they should be"

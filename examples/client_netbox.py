@@ -32,6 +32,7 @@ def beside_records(nb, url):
         stranger = pynetbox.api(url, token=token)
         raises(pynetbox.RequestError, lambda: stranger.ipam.prefixes.count())
         raises(pynetbox.RequestError, lambda: stranger.status())
+        assert stranger.version == "4.1"
     print("version 4.1, status, choices; no token and a wrong one: RequestError")
 
 
@@ -47,6 +48,7 @@ def records(ipam):
     gateway = ipam.ip_addresses.create(address="10.20.0.1/24", role="vip", dns_name="gw.example.net")
     six = ipam.ip_addresses.create(address="2001:db8::1/64", vrf=vrf.id)
     assert [one.id for one in ipam.prefixes.filter(prefix="10.20.0.0/24", vrf_id="null")] == [office.id]
+    assert ipam.prefixes.get(prefix="10.20.0.0/24", vrf_id=vrf.id).id == guests.id and ipam.vrfs.get(guests.vrf).name == "guests"
     assert ipam.vrfs.get(name="guests").id == vrf.id and ipam.rirs.get(slug="private").id == rir.id and ipam.roles.get(slug="office-lan").id == role.id
     assert [one.id for one in ipam.ip_ranges.filter(contains="10.20.0.150")] == [span.id] and ipam.ip_addresses.count(parent="10.20.0.0/24") == 1
     assert ipam.prefixes.get(9) is None and ipam.prefixes.count() == 2
@@ -85,6 +87,9 @@ def differences(ipam, office):
     """What does not go as with NetBox."""
     assert isinstance(office.role, int) and ipam.roles.get(office.role).name == "Office LAN" and office.family == 4
     raises(AttributeError, lambda: str(ipam.ip_ranges.get(1)))
+    assert ipam.ip_ranges.get(1).start_address == "10.20.0.100/24"
+    more = ipam.prefixes.create(prefix="10.98.0.0/24", tags=["x"], tenant=1, site=1, comments="x", custom_fields={"x": 1})
+    assert not {"tags", "tenant", "site", "comments", "custom_fields", "created"} & {*dict(more)} and more.delete()
     for name in ("tenant", "q", "description__ic", "id", "vrf"):
         told = raises(pynetbox.RequestError, lambda: ipam.prefixes.get(**{name: 1}))
         assert told == f'{{"detail":"filter {name} is not in this profile"}}', told
@@ -93,7 +98,7 @@ def differences(ipam, office):
     assert '"code":"method"' in raises(pynetbox.RequestError, lambda: ipam.prefixes.delete([1]))
     assert '"code":"method"' in raises(pynetbox.RequestError, lambda: ipam.prefixes.update([{"id": 1, "description": "x"}]))
     assert '"code":"no_route"' in raises(pynetbox.RequestError, lambda: list(ipam.vlans.all()))
-    print("differences: ids in place of objects; other filters, one filter twice, several records in one request, other kinds: RequestError")
+    print("differences: ids in place of objects; members that are ignored; other filters, one filter twice, several records in one request, other kinds: RequestError")
 
 
 def pages(ipam):

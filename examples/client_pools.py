@@ -53,6 +53,8 @@ def claims(ipam, private, floor):
     assert [one["asn"] for one in part(private, "available-asns").create([{}, {}])] == [64513, 64514]
     raises(pynetbox.AllocationError, lambda: part(private, "available-asns").create())
     assert [one["asn"] for one in part(private, "asns").list()] == [64512, 64513, 64514]
+    assert [one["vid"] for one in part(floor, "vlans").list()] == [10, 11, 12]
+    assert "in_use" in raises(pynetbox.RequestError, private.delete) and "in_use" in raises(pynetbox.RequestError, floor.delete)
     assert give_back(ipam.asns, 5) and list(part(private, "available-asns").list()) == [64513]
     assert give_back(ipam.vlans, voice.id) and list(part(floor, "available-vlans").list(limit=1)) == [10]
     print("numbers: listed, claimed and given back; where too few are free AllocationError is raised")
@@ -64,11 +66,17 @@ def differences(ipam, private, floor):
     # A claimed VLAN has no url, so pynetbox takes it for a group: delete() asks for the group of its number.
     vlan = floor.available_vlans.create({"name": "voice"})
     assert "vlan-groups/%d/" % vlan.id in raises(pynetbox.RequestError, vlan.delete)
-    print("a claimed VLAN is not given back by its delete(), which acts on the group of its number")
+    while (group := ipam.vlan_groups.create(name=f"floor {vlan.id}", start=1, end=1)).id != vlan.id:
+        assert group.delete()
+    assert vlan.delete() and [row.id for row in ipam.vlan_groups.all()] == [2] and len(list(part(floor, "vlans").list())) == 3
+    print("a claimed VLAN is not given back by its delete(), which deletes the group of its number")
     raises(TypeError, ipam.vlan_groups.count)
     raises(AttributeError, lambda: private.available_asns)
     assert "405" in raises(pynetbox.RequestError, lambda: ipam.asn_ranges.get(1))
-    assert [row.id for row in ipam.asn_ranges.filter(name="other")] == [1]
+    assert [row.id for row in ipam.asn_ranges.filter(name="other")] == [1] and ipam.asn_ranges.get(name="other").name == "private"
+    for endpoint in (ipam.asns, ipam.vlans):
+        raises(pynetbox.RequestError, lambda: list(endpoint.all()))
+    assert "405" in raises(pynetbox.RequestError, lambda: private.update({"end": 64515}))
     private.name = "other"
     assert "405" in raises(pynetbox.RequestError, private.save)
     assert "name_taken" in raises(pynetbox.RequestError, lambda: ipam.asn_ranges.create(name="private", start=1, end=2))

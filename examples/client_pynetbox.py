@@ -82,6 +82,18 @@ def differences(ipam, address):
     print("a range has no display, so that it cannot be printed by str()")
 
 
+def alone(url):
+    """What nginx adds, and the register itself does not have."""
+    nb = pynetbox.api(url, token="0" * 40)
+    ipam = nb.ipam
+    assert ipam.prefixes.count() == len(ipam.prefixes.filter(tenant=1)) == len(ipam.prefixes.filter("x")) > 2
+    assert len(ipam.ip_addresses.filter(address="10.20.0.1/24")) == ipam.ip_addresses.count() > 1
+    assert {one.status.value for one in ipam.prefixes.filter(status=["reserved", "container"])} == {"container"}
+    for call in (lambda: nb.version, nb.status, ipam.prefixes.choices):
+        raises(pynetbox.RequestError, call)
+    print("without nginx: no token is looked at, other filters are ignored, and of one that is there twice the last counts; no version, status and choices")
+
+
 def pages(ipam, url):
     """More rows than two requests give: only by threads, or page by page."""
     net = ipam.prefixes.create(prefix="10.40.0.0/16")
@@ -107,6 +119,7 @@ def main():
         sys.exit("client_pynetbox: the register is not empty")
     rows(ipam)
     differences(ipam, claims(ipam))
+    alone(sys.argv[1])
     pages(ipam, sys.argv[1])
     print(f"client_pynetbox: all as it should be, with pynetbox {pynetbox.__version__}")
 

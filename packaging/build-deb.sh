@@ -1,12 +1,15 @@
 #!/bin/sh
-# Makes the Debian package ipamd_VERSION_amd64.deb out of the built program, by dpkg-deb; the program is built first where it is not built yet (./build).
-# IPAMD=PROGRAM packs one that is built, VERSION=V gives another version than that of the first heading of CHANGES.md. The same input makes the same
-# bytes. It needs dpkg-dev, binutils and python3.
+# Makes the Debian package ipamd_VERSION_amd64.deb out of the built programs ipamd and poold, by dpkg-deb; one that is not built yet is built first (./build).
+# IPAMD=PROGRAM and POOLD=PROGRAM pack those that are built, VERSION=V gives another version than that of the first heading of CHANGES.md. The same input
+# makes the same bytes. It needs dpkg-dev, binutils and python3.
 # usage: packaging/build-deb.sh [FOLDER]     FOLDER: where the package is put, packaging/out by default
 set -eu
 top=$(cd "$(dirname "$0")/.." && pwd)
-program=${IPAMD:-$top/crates/ipamd/out/ipamd}
+for one in "dpkg-shlibdeps dpkg-dev" "strip binutils" "python3 python3"; do
+    command -v "${one% *}" > /dev/null || { echo "build-deb: ${one% *} is missing: apt-get install ${one#* }" >&2; exit 1; }
+done
 [ -n "${IPAMD:-}" ] || "$top/build"
+[ -n "${POOLD:-}" ] || "$top/build" poold
 version=${VERSION:-$(sed -n 's/^## \([0-9][0-9.]*\).*/\1/p' "$top/CHANGES.md" | head -n 1)}
 mkdir -p "${1:-$top/packaging/out}"
 folder=$(cd "${1:-$top/packaging/out}" && pwd)
@@ -19,11 +22,17 @@ SOURCE_DATE_EPOCH=$(date -u -d "$(sed -n 's/^## [0-9][0-9.]*, //p' "$top/CHANGES
 export SOURCE_DATE_EPOCH
 
 install -d "$root/DEBIAN" "$root/usr/bin" "$root/usr/share/man/man1" "$root/lib/systemd/system" "$root/usr/share/bash-completion/completions" "$doc/docs"
-install -m 755 "$program" "$root/usr/bin/ipamd"
-strip --strip-all --remove-section=.comment --remove-section=.note "$root/usr/bin/ipamd"
-sed "s|@VERSION@|$version|" "$top/docs/ipamd.1" | gzip -9n > "$root/usr/share/man/man1/ipamd.1.gz"
-sed "s|@BIN@|/usr/bin|; s|@VERSION@|$version|" "$top/examples/ipamd.service" > "$root/lib/systemd/system/ipamd.service"
-install -m 644 "$top/packaging/ipamd.bash-completion" "$root/usr/share/bash-completion/completions/ipamd"
+
+# a program, its manual page, its unit and its completion
+pack() {
+    install -m 755 "$2" "$root/usr/bin/$1"
+    strip --strip-all --remove-section=.comment --remove-section=.note "$root/usr/bin/$1"
+    sed "s|@VERSION@|$version|" "$top/docs/$1.1" | gzip -9n > "$root/usr/share/man/man1/$1.1.gz"
+    sed "s|@BIN@|/usr/bin|; s|@VERSION@|$version|" "$top/examples/$1.service" > "$root/lib/systemd/system/$1.service"
+    install -m 644 "$top/packaging/$1.bash-completion" "$root/usr/share/bash-completion/completions/$1"
+}
+pack ipamd "${IPAMD:-$top/crates/ipamd/out/ipamd}"
+pack poold "${POOLD:-$top/crates/poold/out/poold}"
 
 # the pages keep their places beside one another, so that their links hold
 install -m 644 "$top/README.md" "$top/CHANGES.md" "$doc/"
@@ -37,8 +46,8 @@ install -m 644 "$top/packaging/copyright" "$doc/copyright"
 for script in postinst prerm postrm; do install -m 755 "$top/packaging/$script" "$root/DEBIAN/$script"; done
 mkdir "$work/debian"
 printf 'Source: ipamd\n\nPackage: ipamd\nArchitecture: amd64\n' > "$work/debian/control"
-depends=$(cd "$work" && dpkg-shlibdeps -O -e root/usr/bin/ipamd 2> /dev/null | sed -n 's/^shlibs:Depends=//p')
-[ -n "$depends" ] || { echo "build-deb: the libraries of the program are not known to dpkg" >&2; exit 1; }
+depends=$(cd "$work" && dpkg-shlibdeps -O -e root/usr/bin/ipamd -e root/usr/bin/poold 2> /dev/null | sed -n 's/^shlibs:Depends=//p')
+[ -n "$depends" ] || { echo "build-deb: the libraries of the programs are not known to dpkg" >&2; exit 1; }
 size=$(du -sk --apparent-size --exclude=DEBIAN "$root" | cut -f1)
 sed "s|@VERSION@|$version|; s|@SIZE@|$size|; s|@DEPENDS@|$depends|" "$top/packaging/control" > "$root/DEBIAN/control"
 (cd "$root" && find . -type f ! -path './DEBIAN/*' -printf '%P\0' | LC_ALL=C sort -z | xargs -0 md5sum) > "$root/DEBIAN/md5sums"
