@@ -1,0 +1,2 @@
+pub mod SnapshotRows
+pub mod Ahead
