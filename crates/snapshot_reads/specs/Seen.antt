@@ -59,6 +59,12 @@ module _ {L C : Type 0} where
     pub number : n ≡ length now.seen
     pub told : IsPrefix before.told now.seen
 
+-- what a copy with these lists answers, which took in so many changes
+abbrev pub IsAsked : Call → ℕ → Lists → ℕ → Looked → Type 0
+IsAsked call least rows count (Given reply n) = (n ≡ count) × (least ≤ n) × answers rows call reply
+IsAsked call least rows count (Behind n) = (n ≡ count) × (n < least)
+IsAsked call least rows count Memory = Unit {0}
+
 -- what a read answers: the reply on each state with the lists after the n changes that were seen, where n is at least `least`;
 -- n alone, where it is below; or out of memory
 abbrev pub IsAnswered : Call → ℕ → LookView Lists Update → LookView Lists Update → Looked → Type 0

@@ -23,7 +23,12 @@ use std::sync::Wait;
 /// A contract sees which history it is, the lists before the first change, the changes that it published, and whether it is live.
 /// Once publishing ran out of memory it is not, and may only be closed.
 pub struct Feed {
-    writer: Writer<Twin<SnapshotRows, Update>, Entry<Update>, Option<Known<SnapshotRows, Update>>, Follow>,
+    writer: Writer<
+        Twin<SnapshotRows, Update>,
+        Entry<Update>,
+        Option<Known<SnapshotRows, Update>>,
+        Follow,
+    >,
     head: Word<Update, u64, HistoryRule>,
     live: bool,
 }
@@ -162,7 +167,12 @@ impl Feed {
 
     /// A feed that may only be closed.
     fn ended(
-        writer: Writer<Twin<SnapshotRows, Update>, Entry<Update>, Option<Known<SnapshotRows, Update>>, Follow>,
+        writer: Writer<
+            Twin<SnapshotRows, Update>,
+            Entry<Update>,
+            Option<Known<SnapshotRows, Update>>,
+            Follow,
+        >,
         head: Word<Update, u64, HistoryRule>,
     ) -> Feed
         requires writing { IsWriting (view writer.desk.place) writer.desk.shown.value }

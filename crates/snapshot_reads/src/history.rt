@@ -82,10 +82,7 @@ pub(crate) fn extend<C>(
 }
 
 /// Of two beginnings of one history the shorter begins the longer. A law, for callers.
-pub(crate) fn begins<C>(
-    first: &Seen<C, u64, HistoryRule>,
-    second: &Seen<C, u64, HistoryRule>,
-)
+pub(crate) fn begins<C>(first: &Seen<C, u64, HistoryRule>, second: &Seen<C, u64, HistoryRule>)
     requires book { second.now.book ≡ first.now.book }
     requires count { length first.now.log ≤ length second.now.log }
     ensures { IsPrefix first.now.log second.now.log }

@@ -2,7 +2,8 @@
 ghost use Rattle.std.specs.Prelude.{◌≡◌, ◌<◌, ◌≤◌, length, Some, IfOk, OnOk, OnErr, fold};
 ghost use mathlib.Core.List.{IsPrefix};
 ghost use Rattle.left_right.specs.Sides.{view};
-ghost use Rattle.snapshot_reads.specs.Seen.{opening_of, IsReading, IsLookOf, Grows, IsAnswered};
+ghost use Rattle.snapshot_reads.specs.Published.{lists};
+ghost use Rattle.snapshot_reads.specs.Seen.{opening_of, IsReading, IsLookOf, Grows, IsAsked, IsAnswered};
 
 use crate::copies::{Entry, Known, Twin};
 use crate::feed::Feed;
@@ -55,6 +56,19 @@ impl Model for Look {
     ghost invariant = { λ l. IsReading (known l.reader.place) l.seen.book l.seen.log l.told.book l.told.log × (l.seen_count ≡ length l.seen.log) × (l.told_count ≡ length l.told.log) };
 }
 
+/// What a copy answers one who asks for so many changes at least.
+fn asked(twin: &Twin<SnapshotRows, Update>, call: &Call, least: u64) -> Looked
+    ensures { IsAsked call.now least (lists twin.now.value) twin.now.count result }
+{
+    if twin.count < least {
+        return Looked::Behind(twin.count);
+    }
+    match twin.value.answer(call) {
+        Ok(reply) => Looked::Given(reply, twin.count),
+        Err(AllocError) => Looked::Memory,
+    }
+}
+
 impl Look {
     /// A look that saw and was told all that its reader knows.
     pub(crate) fn over(
@@ -82,7 +96,11 @@ impl Look {
         ensures grows { Grows self.old self.new }
         ensures answer { IsAnswered call.now least self.old self.new result }
     {
-        replace_with(self, (call, least), |look, (call, least)| look.read_one(call, least))
+        replace_with(
+            self,
+            (call, least),
+            |look, (call, least)| look.read_one(call, least),
+        )
     }
 
     /// The same by value, so that the reader can be given to its own call.
@@ -112,14 +130,7 @@ impl Look {
                 let twin = reading.get();
                 let seen = twin.seen.again();
                 let count = twin.count;
-                let answer = if count < least {
-                    Looked::Behind(count)
-                } else {
-                    match twin.value.answer(call) {
-                        Ok(reply) => Looked::Given(reply, count),
-                        Err(AllocError) => Looked::Memory,
-                    }
-                };
+                let answer = asked(twin, call, least);
                 (
                     Look {
                         reader: reading.leave(),

@@ -1,2 +1,2 @@
-pub mod SnapshotRows
+pub mod Lists
 pub mod Ahead

@@ -86,13 +86,7 @@ pub fn read_all<R: Threads + Sync, A: Lane + Send>(rt: &R, workers: &mut [Reader
 }
 
 /// The operator publishes in this thread while the workers read in others.
-pub fn mirror<
-    R: Threads + Wait + Sync,
-    A: Lane + Send,
-    O: Operator,
-    So: Source,
-    Si: Sink,
->(
+pub fn mirror<R: Threads + Wait + Sync, A: Lane + Send, O: Operator, So: Source, Si: Sink>(
     rt: &R,
     feed: &mut Feed,
     operator: &mut O,

@@ -14,8 +14,10 @@ use ipam_listen::{ListLane, ListListener, Listener};
 use snapshot_reads::{Feed, Look, Looked};
 use snapshot_rows::SnapshotRows;
 use std::alloc::{AllocError, Global};
+use std::marker::Sync;
 use std::sync::Wait;
 use std::test::*;
+use std::thread::Threads;
 
 /// A VRF's row.
 fn vrf(alloc: Global, id: u32) -> Result<Option<View>, AllocError> {
@@ -103,14 +105,17 @@ fn rows_take_updates_in(rt: HostRuntime) -> Result<(), Fail> {
             id: 3,
         })
         .is_err();
-    assert_eq!(rt; (id_in(&there), refused, id_in(&gone), other), (3, true, 0, true));
+    assert_eq!(rt;
+        (id_in(&there), refused, id_in(&gone), other),
+        (3, true, 0, true)
+    );
     Ok(())
 }
 
 /// What a look finds before and after one change is published and told, when more than there are is asked for, and after the feed is
 /// closed.
-fn follow(
-    rt: &HostRuntime,
+fn follow<R: Wait>(
+    rt: &R,
     mut feed: Feed,
     mut look: Look,
     change: Update,
@@ -203,8 +208,8 @@ fn listener_of(alloc: Global) -> Result<ListListener, AllocError> {
 }
 
 /// Two readers in threads, beside an operator that publishes: how many of them were given a reply.
-fn mirrored(
-    rt: &HostRuntime,
+fn mirrored<R: Threads + Wait + Sync>(
+    rt: &R,
     feed: &mut Feed,
     operator: &mut Once,
     listener: &mut ListListener,
@@ -213,7 +218,7 @@ fn mirrored(
     match (worker_of(feed, listener), worker_of(feed, listener)) {
         (Some(one), Some(two)) => {
             let mut workers = [one, two];
-            mirror_doors::<HostRuntime, ListListener, Once, BytesSource, BytesSink>(
+            mirror_doors::<R, ListListener, Once, BytesSource, BytesSink>(
                 rt,
                 feed,
                 operator,

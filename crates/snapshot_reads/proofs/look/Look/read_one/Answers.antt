@@ -7,9 +7,9 @@ use Rattle.snapshot_reads.specs.Seen.{LookView, opening_of, IsReading, Grows, Is
 use Rattle.snapshot_reads.specs.declared.look.Looked.{Looked}
 use Rattle.snapshot_reads.specs.Published.{lists, after}
 use Rattle.snapshot_reads.proofs.Keeps.{sees}
+use Rattle.snapshot_reads.proofs.Answering.{answered_on}
 use Rattle.snapshot_reads.proofs.Reading.{knows_on, grows_on, found_on, lists_on}
 use Rattle.snapshot_reads.proofs.look.Look.read_one.Goals as goal
-use Rattle.snapshot_reads.proofs.look.Look.read_one.Goals.{then-count-least, else-count-least+in-Ok-answer, else-count-least+in-Err-answer}
 
 pub enter_as-requires : goal.enter_as-requires
 enter_as-requires c x = sees lists after _ _ x
@@ -27,15 +27,15 @@ invariant_of-result-in-Ok c =
       c.self.invariant.2,
     )
 
-pub returns-after-count-least-clause-grows : goal.returns-after-count-least-clause-grows
-returns-after-count-least-clause-grows c =
+pub returns-in-Ok-clause-grows : goal.returns-in-Ok-clause-grows
+returns-in-Ok-clause-grows c =
     let x = c.in-Ok.reading.part.value in
     let seen : c.again-seen.result ≡ x.seen = c.again-seen.ensures ∙ ap (λ t. t.seen) c.get-twin.ensures in
     let g = grows_on lists after (view c.self.inside.reader.place) (view c.in-Ok.reading.place) x c.self.inside.seen.book c.self.inside.told.book c.self.inside.seen.log c.self.inside.told.log c.again-seen.result.book c.again-seen.result.log c.in-Ok.ensures.1 c.self.invariant.0 (ap (λ s. s.book) seen) (ap (λ s. s.log) seen) in
     subst (λ (z : LookView Lists Update × Option (Known Lists Update)). Grows z.0 (record { book = c.again-seen.result.book; opening = opening_of z.1; seen = c.again-seen.result.log; told = c.self.inside.told.log })) (λ i. (c.self.view_is i, sym c.leave.ensures.1 i)) g
 
-pub returns-after-count-least-clause-answer : goal.returns-after-count-least-clause-answer
-returns-after-count-least-clause-answer c =
+pub returns-in-Ok-clause-answer : goal.returns-in-Ok-clause-answer
+returns-in-Ok-clause-answer c =
     let x = c.in-Ok.reading.part.value in
     let v = view c.self.inside.reader.place in
     let place = c.leave.ensures.1 in
@@ -46,12 +46,7 @@ returns-after-count-least-clause-answer c =
     let now : Option (Known Lists Update) → LookView Lists Update = λ w. record { book = c.again-seen.result.book; opening = opening_of w; seen = c.again-seen.result.log; told = c.self.inside.told.log } in
     let found = found_on lists after v (view c.in-Ok.reading.place) x c.self.inside.seen.book c.self.inside.told.book c.self.inside.seen.log c.self.inside.told.log c.get-twin.result.now.count c.again-seen.result.book c.again-seen.result.log c.in-Ok.ensures.1 c.self.invariant.0 count log in
     let known = lists_on lists after v (view c.in-Ok.reading.place) x c.self.inside.seen.book c.self.inside.told.book c.self.inside.seen.log c.self.inside.told.log c.again-seen.result.log c.in-Ok.ensures.1 c.self.invariant.0 log in
-    let Is : Looked → Type 0 = λ a. IsAnswered c.args.call.now c.args.least before (now (view c.in-Ok.reading.place)) a in
-    let is : Is c.if-count-least.answer = elim c.if-count-least.branch [
-      | then-count-least w ↦ subst Is (sym w.answer-is) (found, w.if-count-least.true)
-      | else-count-least+in-Ok-answer w ↦
-          let same = ap (λ t. lists t.value) c.get-twin.ensures ∙ known.2 in
-          subst Is (sym w.answer-is) (known.0, known.1, subst (λ (rows : Lists). IsReplyTo rows c.args.call.now w.in-Ok-answer.reply) same w.in-Ok-answer.ensures, found, w.if-count-least.false)
-      | else-count-least+in-Err-answer w ↦ subst Is (sym w.answer-is) tt
-    ] in
-    subst (λ (z : LookView Lists Update × Option (Known Lists Update)). IsAnswered c.args.call.now c.args.least z.0 (now z.1) c.if-count-least.answer) (λ i. (c.self.view_is i, sym place i)) is
+    let now_known = now (view c.in-Ok.reading.place) in
+    let same = ap (λ t. lists t.value) c.get-twin.ensures ∙ known.2 in
+    let is = answered_on c.args.call.now c.args.least c.get-twin.result.now.count (lists c.get-twin.result.now.value) known.0 before now_known c.asked-answer.result c.asked-answer.ensures known.1 same found in
+    subst (λ (z : LookView Lists Update × Option (Known Lists Update)). IsAnswered c.args.call.now c.args.least z.0 (now z.1) c.asked-answer.result) (λ i. (c.self.view_is i, sym place i)) is
