@@ -121,7 +121,20 @@ impl Feed {
         ensures err { OnErr result (self.new.published ≡ self.old.published) }
         ensures ended { OnErr result (self.new.live ≡ false) }
     {
-        replace_with(self, change, |feed, change| feed.publish_one(rt, change))
+        replace_with(
+            self,
+            change,
+            |feed: Feed, change: Update|
+                requires live { feed.live ≡ true }
+                requires few { length feed.published < 2 ^ 63 }
+                ensures same { (result.0.book ≡ feed.book) × (result.0.opening ≡ feed.opening) }
+                ensures ok { OnOk result.1 (result.0.published ≡ feed.published ++ change ∷ []) }
+                ensures number { IfOk result.1 (λ n. n ≡ length result.0.published) }
+                ensures live { OnOk result.1 (result.0.live ≡ true) }
+                ensures err { OnErr result.1 (result.0.published ≡ feed.published) }
+                ensures ended { OnErr result.1 (result.0.live ≡ false) }
+            { feed.publish_one(rt, change) },
+        )
     }
 
     /// The same by value, so that the writer can be given to its own call.

@@ -20,7 +20,7 @@ const MOST_CHANGES: u64 = 1_000_000;
 
 /// A look with the lane of its connections, and what it was answered last.
 #[derive(Drop)]
-pub struct ReaderWorker<A: Lane> {
+pub struct ReaderWorker<A> {
     pub look: Look,
     pub lane: A,
     pub last: Option<Looked>,

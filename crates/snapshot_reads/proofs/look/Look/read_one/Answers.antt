@@ -1,10 +1,9 @@
 use Rattle.std.proofs.Common.{◌≡◌, ap, sym, ◌∙◌, subst, Option, length}
-use Rattle.snapshot_rows.specs.Lists.{Lists, IsReplyTo}
+use Rattle.snapshot_rows.specs.Lists.{Lists}
 use Rattle.ipam_data.specs.declared.update.Update.{Update}
 use Rattle.left_right.specs.Sides.{view}
 use Rattle.snapshot_reads.specs.declared.copies.Known.{Known}
 use Rattle.snapshot_reads.specs.Seen.{LookView, opening_of, IsReading, Grows, IsAnswered}
-use Rattle.snapshot_reads.specs.declared.look.Looked.{Looked}
 use Rattle.snapshot_reads.specs.Published.{lists, after}
 use Rattle.snapshot_reads.proofs.Keeps.{sees}
 use Rattle.snapshot_reads.proofs.Answering.{answered_on}
