@@ -156,7 +156,7 @@ impl Look {
         ensures err { OnErr result (self.new ≡ self.old) }
     {
         let number = feed.number();
-        // A look never knows more changes than its feed published. That is not shown of this call, but tested.
+        // A look never knows more changes than its feed published. No clause says so.
         if number < self.seen_count || number < self.told_count {
             return Err(AllocError);
         }
