@@ -1,6 +1,6 @@
 """The databases that the program sqlite3 makes of bench/tables.sql, bench/tables_first.sql and bench/pool_tables.sql, as the tests of the stores over SQLite have them.
 
-    python3 bench/tables.py            says whether crates/store_trial/src and bench/store_trial have the bytes that sqlite3 makes
+    python3 bench/tables.py            says whether crates/store_trial/src has the bytes that sqlite3 makes
     python3 bench/tables.py --write    writes them there
 
 Two versions of sqlite3 may make different bytes: the number of the version is in the file. Those in the test are of sqlite3 3.40.1.

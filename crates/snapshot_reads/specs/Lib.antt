@@ -1,0 +1,4 @@
+pub mod History
+pub mod Following
+pub mod Seen
+pub mod Published

@@ -1,0 +1,8 @@
+//! The VRFs and the prefixes of a register, on tables that have no other rows: they take in each update, and answer what depends on
+//! these two kinds alone.
+#![tactic(auto)]
+
+mod checks;
+mod rows;
+
+pub use rows::{SnapshotRows, lists_follow, lists_follow_history};

@@ -1,0 +1,147 @@
+//! The rows of a copy.
+ghost use Rattle.std.specs.Prelude.{◌≡◌, ◌++◌, [], List, fold, filter, IfOk, OnOk, OnErr};
+ghost use Rattle.ipam_data.specs.State.{State};
+ghost use Rattle.ipam_data.specs.Updates.{updated};
+ghost use Rattle.register_tables.specs.Held.{state_of};
+ghost use Rattle.register_plans.specs.Pages.{only_if};
+ghost use Rattle.snapshot_rows.specs.Lists.{lists_of, is_listed, after_update, IsListsCall, IsReplyTo};
+ghost use Rattle.ipam_data.specs.declared.calls.Call.{Call};
+ghost use Rattle.ipam_data.specs.declared.update.Update.{Update};
+
+use crate::checks::{all_fit, ids_are_kept, is_huge};
+use ipam_data::calls::Call;
+use ipam_data::kinds::Kind;
+use ipam_data::replies::{Reply, View, Views};
+use ipam_data::update::{Ids, Update};
+use register_plans::plan_one;
+use register_tables::{Planned, RowTables};
+use std::alloc::{AllocError, Global};
+use std::marker::Model;
+
+/// VRFs and prefixes, on the register's tables without rows of other kinds. A contract sees the two lists.
+#[derive(Drop)]
+pub struct SnapshotRows {
+    tables: RowTables,
+}
+
+impl Model for SnapshotRows {
+    ghost use Rattle.register_tables.specs.Held.{state_of};
+    ghost use Rattle.snapshot_rows.specs.Lists.{Lists, lists_of};
+
+    ghost Value = { Lists };
+
+    ghost view = { λ s. lists_of (state_of s.tables) };
+}
+
+/// Adds a copy of a row, where it is of one of the two kinds. `Err` means out of memory.
+fn push_listed(view: &View, puts: &mut Vec<View>) -> Result<(), AllocError>
+    ensures { OnOk result (puts.new.items ≡ puts.old.items ++ only_if (is_listed view.now) view.now) }
+{
+    match view {
+        View::Vrf(row) => {
+            let row = row.copy()?;
+            puts.push(View::Vrf(row))?;
+            Ok(())
+        }
+        View::Prefix {
+            row,
+            depth,
+            children,
+        } => {
+            let row = row.copy()?;
+            puts.push(View::Prefix {
+                row,
+                depth: *depth,
+                children: *children,
+            })?;
+            Ok(())
+        }
+        _ => Ok(()),
+    }
+}
+
+/// Copies of the rows of the two kinds. `Err` means out of memory.
+fn listed_of(alloc: Global, views: &[View]) -> Result<Vec<View>, AllocError>
+    ensures { IfOk result (λ v. v.items ≡ filter is_listed views.now) }
+{
+    let mut puts = Vec::new(alloc);
+    for view in views {
+        push_listed(view, &mut puts)?;
+    }
+    Ok(puts)
+}
+
+impl SnapshotRows {
+    /// No rows. It takes no memory.
+    pub fn new(alloc: Global) -> SnapshotRows
+        ensures { result ≡ record { vrfs = []; prefixes = [] } }
+    {
+        SnapshotRows {
+            tables: RowTables::new(alloc, false),
+        }
+    }
+
+    /// Takes an update in: its rows and cuts of the two kinds. `Err` leaves the rows. It means out of memory, or an update that no
+    /// register makes: a row whose id is 0, or is not there and not above all ids so far.
+    pub fn take_in(&mut self, change: &Update) -> Result<(), AllocError>
+        ensures ok { OnOk result (self.new ≡ after_update self.old change.now) }
+        ensures err { OnErr result (self.new ≡ self.old) }
+    {
+        let alloc = self.tables.allocator();
+        let puts = listed_of(alloc, change.puts.as_slice())?;
+        let cuts = change.cuts.copy(alloc)?;
+        if !all_fit(&self.tables, puts.as_slice()) || is_huge(&self.tables) {
+            return Err(AllocError);
+        }
+        self.tables.reserve(puts.as_slice())?;
+        ids_are_kept(cuts.as_slice());
+        let _spent = self.tables.spent();
+        self.tables.update(Update {
+            puts: Views::of(puts),
+            cuts,
+            next: Ids::of(Vec::new(alloc)),
+            spent: 0,
+        });
+        Ok(())
+    }
+
+    /// Answers `Get` of a VRF or a prefix, as each register with these rows does. `Err` means out of memory, or another call.
+    pub fn answer(&self, call: &Call) -> Result<Reply, AllocError>
+        ensures { IfOk result (λ r. IsReplyTo self.now call.now r) }
+    {
+        match call {
+            Call::Get { kind, id } => match kind {
+                Kind::Vrfs => self.one(Kind::Vrfs, *id),
+                Kind::Prefixes => self.one(Kind::Prefixes, *id),
+                _ => Err(AllocError),
+            },
+            _ => Err(AllocError),
+        }
+    }
+
+    /// The row of an id. `Err` means out of memory.
+    fn one(&self, kind: Kind, id: u32) -> Result<Reply, AllocError>
+        requires { IsListsCall (Call.Get kind id) }
+        ensures { IfOk result (λ r. IsReplyTo self.now (Call.Get kind id) r) }
+    {
+        match plan_one(&self.tables, kind, id)? {
+            Planned::Refused(refusal) => Ok(Reply::Refused(refusal)),
+            Planned::Read(reply) => Ok(self.tables.answered(reply)),
+            Planned::Change(update, reply) => {
+                drop(update);
+                drop(reply);
+                Err(AllocError)
+            }
+        }
+    }
+}
+
+/// The lists of the state after an update are those that the update makes of the lists before it. A law.
+pub fn lists_follow()
+    ensures { (s : State) (u : Update) → lists_of (updated s u) ≡ after_update (lists_of s) u }
+{}
+
+/// The same of updates one after another: the lists follow a whole history. A law.
+pub fn lists_follow_history()
+    ensures { (s : State) (history : List Update) → lists_of (fold updated s history) ≡ fold after_update (lists_of s) history }
+{}
