@@ -95,28 +95,3 @@ pub(crate) fn told_lines<T: Trial>(alloc: Global, lines: &str) -> Result<String,
     }
     Ok(told)
 }
-
-/// What is done over a connection, whatever its store, which is then given back.
-pub(crate) trait Deed {
-    /// Does it, and says whether all was as it should be.
-    fn over<S: Alter + Drop>(alloc: Global, conn: Connection<S>) -> (bool, Connection<S>);
-}
-
-/// Whether the file of a database has these bytes, after all that is committed was put into it.
-fn is_as_before(conn: Connection<FileStore<Memory>>, bytes: &[u8]) -> bool {
-    match conn.close_files() {
-        Ok(files) => files.db.bytes() == bytes,
-        Err(_) => false,
-    }
-}
-
-/// Whether a deed over the database in a file of these bytes was as it should be, and whether the file has the same bytes then.
-pub(crate) fn done_and_left<D: Deed>(
-    alloc: Global,
-    digits: &str,
-) -> Result<(bool, bool), AllocError> {
-    let bytes = bytes_of(alloc, digits)?;
-    let conn = connection_of(alloc, bytes.as_slice())?;
-    let (is_done, conn) = D::over(alloc, conn);
-    Ok((is_done, is_as_before(conn, bytes.as_slice())))
-}

@@ -88,7 +88,7 @@ fn written(alloc: Global, tables: &PoolTables) -> Result<String, AllocError> {
 }
 
 /// What is loaded, or why not.
-fn loaded<K: PoolKeeper>(alloc: Global, keeper: &mut K) -> Result<String, AllocError> {
+pub(crate) fn loaded<K: PoolKeeper>(alloc: Global, keeper: &mut K) -> Result<String, AllocError> {
     match keeper.load() {
         Ok(tables) => written(alloc, &tables),
         Err(fault) => format!(in alloc; "{fault:?}"),

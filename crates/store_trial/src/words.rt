@@ -21,11 +21,3 @@ pub(crate) fn word_of(answer: Result<(), KeepFault>) -> &'static str {
         Err(KeepFault::Memory) => "Memory",
     }
 }
-
-/// Whether a keeper failed.
-pub(crate) fn is_failed(fault: KeepFault) -> bool {
-    match fault {
-        KeepFault::Failed => true,
-        KeepFault::Memory => false,
-    }
-}
