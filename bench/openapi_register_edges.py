@@ -18,6 +18,8 @@ ROWS = [("vrfs", {"name": "one"}), ("vrfs", {"name": "two", "rd": "1:1"}), ("rir
         ("roles", {"name": "one", "slug": "one"}), ("aggregates", {"prefix": "198.51.100.0/24", "rir": 2}), ("prefixes", {"prefix": "10.0.0.0/8"}),
         ("prefixes", {"prefix": "fd00::/64"}), ("ip-ranges", {"start_address": "fd00:1::/64", "end_address": "fd00:1::ffff/64"}),
         ("ip-addresses", {"address": "fd00:2::1/64"})]
+# a table that has a block twice, and is not to enforce uniqueness: its VRF is the third one
+TWICE = [("vrfs", {"name": "three", "enforce_unique": False})] + [("prefixes", {"prefix": "10.9.0.0/24", "vrf": 3})] * 2
 # bodies that are accepted; one member at a time is put to an edge
 VALID = {"NewVrf": {"name": "n"}, "NewRir": {"name": "n", "slug": "n"}, "NewRole": {"name": "n", "slug": "n"},
          "NewAggregate": {"prefix": "192.0.2.0/24", "rir": 1}, "NewPrefix": {"prefix": "192.0.2.0/24"},
@@ -94,7 +96,11 @@ class RegisterEdges(Edges):
             yield place.edge(f"of {count} addresses", body, 400 if code else success_of(place.operation), code)
 
     def own_edges(self):
-        """Kinds that are full, or full but for one record, and ids that are used up."""
+        """Kinds that are full, or full but for one record, ids that are used up, and a table with a block twice that is to enforce uniqueness."""
+        target = API + "vrfs/{id}/"
+        for enforced, status, code in ((False, 200, None), (True, 400, "coincide")):
+            yield Edge(f"a table with a block twice, to enforce {enforced}", request("PATCH", target.replace("{id}", "3"), {"enforce_unique": enforced}), status, code,
+                       "twice", self.document.paths[target]["patch"])
         for kind in self.document.limits["records"]:
             create, target = self.document.paths[API + kind + "/"]["post"], API + kind + "/"
             body = self.body_of(target, "post")
@@ -105,13 +111,12 @@ class RegisterEdges(Edges):
             yield Edge(f"no id is left for {kind}", request("POST", target, body), 507, "limit", "last", create)
 
     def make(self, folder):
-        """`small`; `last`, whose first records have the last id; `named`, where VRFs, RIRs and roles do; and those of a kind that is full, or full but for
-        one record."""
-        sent = b"".join(request("POST", API + kind + "/", row) for kind, row in ROWS)
-        small = os.path.join(folder, "small")
-        done = subprocess.run([self.program, "session", "--db", small], input=sent, capture_output=True)
-        if done.returncode != 0 or done.stdout.count(b"HTTP/1.1 201 Created") != len(ROWS):
-            sys.exit(f"openapi: the register of the edges: {done.stdout[-2000:]!r}")
+        """`small`; `twice`, which has a block twice besides; `last`, whose first records have the last id; `named`, where VRFs, RIRs and roles do; and those of
+        a kind that is full, or full but for one record."""
+        small, twice = (os.path.join(folder, name) for name in ("small", "twice"))
+        self.create(small, ROWS)
+        shutil.copy(small, twice)
+        self.create(twice, TWICE)
         last, rows = self.document.limits["ids"], self.document.limits["records"]
         for name, tables in (("last", TABLES), ("named", TABLES[:3])):
             shutil.copy(small, os.path.join(folder, name))
@@ -125,6 +130,12 @@ class RegisterEdges(Edges):
             for name, count in ((f"{kind} but one", rows[kind] - 1), (f"{kind} all", rows[kind])):
                 shutil.copy(small, os.path.join(folder, name))
                 self.fill(os.path.join(folder, name), kind, count - sum(one == kind for one, _ in ROWS))
+
+    def create(self, path, rows):
+        sent = b"".join(request("POST", API + kind + "/", row) for kind, row in rows)
+        done = subprocess.run([self.program, "session", "--db", path], input=sent, capture_output=True)
+        if done.returncode != 0 or done.stdout.count(b"HTTP/1.1 201 Created") != len(rows):
+            sys.exit(f"openapi: the register of the edges: {done.stdout[-2000:]!r}")
 
     def fill(self, path, kind, count):
         """So many records more, by an import."""

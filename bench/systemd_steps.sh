@@ -117,10 +117,10 @@ listens
 step 0 '^Ipam-Place: 0.?$' "curl -s -o /dev/null -D - 'http://127.0.0.1:8080/api/ipam/vrfs/?limit=1' | grep Ipam-Place"
 
 # other words, by an editor that writes them
-printf '#!/bin/sh\nprintf "[Service]\\nExecStart=\\nExecStart=/usr/local/bin/ipamd serve --bind 127.0.0.1:8081 --workers 4 --db /var/lib/ipamd/register.db\\n" > "$1"\n' > /root/editor
+printf '#!/bin/sh\nprintf "[Service]\\nExecStart=\\nExecStart=/usr/local/bin/ipamd serve --bind 127.0.0.1:8082 --workers 4 --db /var/lib/ipamd/register.db\\n" > "$1"\n' > /root/editor
 chmod +x /root/editor
 look 0 '' 'script -qec "SYSTEMD_EDITOR=/root/editor systemctl edit ipamd" /dev/null; systemctl restart ipamd; sleep 1'
-look 0 '^\{"count":2,' 'curl -s http://127.0.0.1:8081/api/ipam/prefixes/'
+look 0 '^\{"count":2,' 'curl -s http://127.0.0.1:8082/api/ipam/prefixes/'
 look 0 '' 'systemctl revert ipamd; systemctl restart ipamd'
 listens
 
