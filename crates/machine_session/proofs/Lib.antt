@@ -6,4 +6,5 @@ pub mod Counting
 pub mod OwnCalls
 pub mod Plainly
 pub mod Starved
+pub mod Tagged
 pub mod Talks

@@ -56,6 +56,10 @@ answers_alone {C = C} {W = W} {E = E} P =
       refuses = P.misread;
     }
 
+-- the same answers beside something that stays as it is
+abbrev pub tagged : {S T : Type 0} → May S → May (S × T)
+tagged may = record { answers = λ s request answer t. may.answers s.0 request answer t.0 × (t.1 ≡ s.1); refuses = may.refuses }
+
 -- the machine, and how many calls were answered by a fault so far
 pub record Counted (S C : Type 0) : Type 0 where
   pub now : Owned S C

@@ -14,14 +14,20 @@ pub trait Follower<M: Machine> {
     /// What it keeps to while the machine is in this state, after these changes.
     ghost keeps: { Self → Plain M.State M.Said → Type 0 };
 
-    /// That is a fact, with one proof at most.
+    /// What of it stays the same while it follows, such as the readers that it shows the machine to.
+    ghost Tag: { Type 0 };
+
+    ghost tag: { Self → Tag };
+
+    /// That it keeps to this is a fact, with one proof at most.
     ghost keeps_is_fact: { (f : Self) → (now : Plain M.State M.Said) → IsProp (keeps f now) };
 
     /// Follows the change that the machine accepted last. The one error means out of memory: the change stays, and its answer is lost.
     fn follow(self, alloc: Global, machine: &M) -> (Self, Result<(), AllocError>)
         requires state { M.state machine.now ≡ replay M.step (M.opening machine.now) (M.log machine.now) }
         requires kept { (before : Plain M.State M.Said) × keeps self before × IsChanged M.step before (plain_at M.step (M.opening machine.now) (M.log machine.now)) }
-        ensures { keeps result.0 (plain_at M.step (M.opening machine.now) (M.log machine.now)) };
+        ensures kept { keeps result.0 (plain_at M.step (M.opening machine.now) (M.log machine.now)) }
+        ensures tag { tag result.0 ≡ tag self };
 }
 
 /// Nothing follows the machine.
@@ -32,6 +38,10 @@ impl<M: Machine> Follower<M> for NoFollower {
     ghost use Rattle.std.proofs.Props.{props};
 
     ghost keeps = { λ f now. Unit {0} };
+
+    ghost Tag = { Unit {0} };
+
+    ghost tag = { λ f. tt };
 
     ghost keeps_is_fact = { λ f now. Prim.hlevel props };
 

@@ -8,7 +8,7 @@ ghost use Rattle.http_session.specs.Ends.{IsLeft};
 ghost use Rattle.http_session.specs.Replies.{answer_of};
 ghost use Rattle.machine_session.specs.Protocols.{protocol};
 ghost use Rattle.machine_session.specs.Alone.{plain_at};
-ghost use Rattle.machine_session.specs.Owned.{Owned, owned, IsActed, answers_alone};
+ghost use Rattle.machine_session.specs.Owned.{Owned, owned, tagged, IsActed, answers_alone};
 ghost use Rattle.machine_session.specs.Sessions.{IsOwnSession};
 
 use crate::follower::Follower;
@@ -41,6 +41,7 @@ fn act<M: Machine, V: Service<M>, F: Follower<M>>(
     requires takes { M.takes call }
     requires kept { F.keeps follower (plain_at M.step (M.opening machine.old) (M.log machine.old)) }
     ensures kept { F.keeps result.0 (plain_at M.step (M.opening machine.new) (M.log machine.new)) }
+    ensures tag { F.tag result.0 ≡ F.tag follower }
     ensures acted { (shown : V.Shown) → V.shows along (M.said call) shown
         → IsActed (protocol M.step M.answer M.kind M.fallible V.asks V.tells V.refuses V.misread) (owned (M.opening machine.old) (M.log machine.old) (M.faults machine.old)) (M.said call) shown result.1
         (owned (M.opening machine.new) (M.log machine.new) (M.faults machine.new)) }
@@ -67,11 +68,11 @@ pub struct OwnMachine<'a, M: Machine, V: Service<M>, F: Follower<M>> {
 impl<'a, M: Machine, V: Service<M>, F: Follower<M>> Desk for OwnMachine<'a, M, V, F> {
     type Seat = OwnSeat<M, F>;
 
-    ghost View = { Owned M.State M.Said };
+    ghost View = { Owned M.State M.Said × F.Tag };
 
-    ghost view = { λ s. owned (M.opening s.machine) (M.log s.machine) (M.faults s.machine) };
+    ghost view = { λ s. (owned (M.opening s.machine) (M.log s.machine) (M.faults s.machine), F.tag s.follower) };
 
-    ghost may = { answers_alone (protocol M.step M.answer M.kind M.fallible V.asks V.tells V.refuses V.misread) };
+    ghost may = { tagged (answers_alone (protocol M.step M.answer M.kind M.fallible V.asks V.tells V.refuses V.misread)) };
 
     fn answer(
         &self,
@@ -120,6 +121,7 @@ pub fn serve_own_by<M: Machine, V: Service<M>, F: Follower<M>, So: Source, Si: S
     requires { F.keeps follower (plain_at M.step (M.opening machine) (M.log machine)) }
     ensures session { IsOwnSession (protocol M.step M.answer M.kind M.fallible V.asks V.tells V.refuses V.misread) So.reads (owned (M.opening machine) (M.log machine) (M.faults machine)) (owned (M.opening result.0) (M.log result.0) (M.faults result.0)) source.old source.new (So.left source.old) (So.left source.new) (Si.written sink.old) (Si.written sink.new) result.2 }
     ensures kept { F.keeps result.1 (plain_at M.step (M.opening result.0) (M.log result.0)) }
+    ensures tag { F.tag result.1 ≡ F.tag follower }
     ensures state { M.state result.0 ≡ replay M.step (M.opening result.0) (M.log result.0) }
     ensures source_later { So.faults source.old ≤ So.faults source.new }
     ensures source { result.2 ≡ SessionEnd.SourceFault → Rose (So.faults source.old) (So.faults source.new) }
@@ -152,6 +154,7 @@ pub fn serve_own<M: Machine, V: Service<M>, F: Follower<M>, So: Source, Si: Sink
     requires { F.keeps follower (plain_at M.step (M.opening machine) (M.log machine)) }
     ensures session { IsOwnSession (protocol M.step M.answer M.kind M.fallible V.asks V.tells V.refuses V.misread) So.reads (owned (M.opening machine) (M.log machine) (M.faults machine)) (owned (M.opening result.0) (M.log result.0) (M.faults result.0)) source.old source.new (So.left source.old) (So.left source.new) (Si.written sink.old) (Si.written sink.new) result.2 }
     ensures kept { F.keeps result.1 (plain_at M.step (M.opening result.0) (M.log result.0)) }
+    ensures tag { F.tag result.1 ≡ F.tag follower }
     ensures state { M.state result.0 ≡ replay M.step (M.opening result.0) (M.log result.0) }
     ensures source_later { So.faults source.old ≤ So.faults source.new }
     ensures source { result.2 ≡ SessionEnd.SourceFault → Rose (So.faults source.old) (So.faults source.new) }

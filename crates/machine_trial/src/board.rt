@@ -18,6 +18,10 @@ pub struct Board {
 impl Follower<Tally> for Board {
     ghost keeps = { λ board now. Shows board.up board.sum now.state };
 
+    ghost Tag = { Unit {0} };
+
+    ghost tag = { λ board. tt };
+
     ghost keeps_is_fact = { λ board now. Prim.hlevel props };
 
     fn follow(self, _alloc: Global, machine: &Tally) -> (Board, Result<(), AllocError>) {
