@@ -7,9 +7,8 @@ use Rattle.http_session.specs.declared.reply.Reply.{Reply as Written}
 use Rattle.http_session.specs.Replies.{answer_of}
 use Rattle.http_session.specs.Requests.{Framed}
 use Rattle.http_session.specs.Ends.{IsLeft}
-use Rattle.machine_session.specs.Alone.{Plain, plain_at}
 use Rattle.machine_session.specs.Protocols.{Protocol}
-use Rattle.machine_session.specs.Owned.{IsActed, IsChanged, IsOwnCall, Owned, answers_alone, owned}
+use Rattle.machine_session.specs.Owned.{IsActed, IsBehind, IsOwnCall, Owned, answers_alone, owned}
 use Rattle.machine_session.proofs.Plainly.{grown_replay}
 
 reaches : (kind : ReplyKind) (a b : ℕ) → a ≤ b → (kind ≡ fault → (a < b) ⊎ (last_count ≤ b)) → Reaches (a + failures_of kind) b
@@ -49,22 +48,18 @@ module _ {M S C A : Type 0} (opening state : M → S) (log : M → List (ℕ × 
       }
 
   -- where no change was accepted, what is kept of the machine is kept of it still
-  pub still_kept : (Keeps : Plain S C → Type 0) (m w : M) (call : C) (answer : A) (kind : ReplyKind) → IsAct (meaning opening state log faults step) fallible m w 0 call answer kind
-      → length (log w) ≡ length (log m) → Keeps (plain_at step (opening m) (log m)) → Keeps (plain_at step (opening w) (log w))
+  pub still_kept : (Keeps : S → List (ℕ × C) → Type 0) (m w : M) (call : C) (answer : A) (kind : ReplyKind) → IsAct (meaning opening state log faults step) fallible m w 0 call answer kind
+      → length (log w) ≡ length (log m) → Keeps (opening m) (log m) → Keeps (opening w) (log w)
   still_kept Keeps m w call answer kind a same kept =
       let is : log w ≡ log m = stays kind (0, call) (log m) (log w) a.log_grows same in
-      subst Keeps (λ i. plain_at step (sym a.opening_stays i) (sym is i)) kept
+      subst (λ (x : S × List (ℕ × C)). Keeps x.0 x.1) (λ i. (sym a.opening_stays i, sym is i)) kept
 
-  -- where one was, the machine is a step further
-  pub changed : (m w : M) (call : C) (answer : A) (kind : ReplyKind) → IsAct (meaning opening state log faults step) fallible m w 0 call answer kind
-      → length (log w) ≢ length (log m) → IsChanged step (plain_at step (opening m) (log m)) (plain_at step (opening w) (log w))
-  changed m w call answer kind a other =
+  -- where one was, it is kept of all but the last
+  pub kept_behind : (Keeps : S → List (ℕ × C) → Type 0) (m w : M) (call : C) (answer : A) (kind : ReplyKind) → IsAct (meaning opening state log faults step) fallible m w 0 call answer kind
+      → length (log w) ≢ length (log m) → Keeps (opening m) (log m) → IsBehind (Keeps (opening w)) (log w)
+  kept_behind Keeps m w call answer kind a other kept =
       let is = changes kind (0, call) (log m) (log w) a.log_grows other in
-      record {
-        entry = (0, call);
-        log = is.1;
-        state = ap (λ (o : S). replay step o (log w)) a.opening_stays ∙ (ap (replay step (opening m)) is.1 ∙ grown_replay step accepted (opening m) (log m) 0 call);
-      }
+      (log m, (0, call), is.1, subst (λ (o : S). Keeps o (log m)) (sym a.opening_stays) kept)
 
 module _ {S C A R W E F : Type 0} (P : Protocol S C A R W E) where
   pub acted : (v w : Owned S C) (call : C) (shown : W) (reply : R) (place : ℕ) (result : Result Written F) → IsOwnCall P.step P.fallible v w call (P.answer reply) (P.kind reply) → place ≡ length v.log

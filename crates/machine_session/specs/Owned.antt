@@ -27,11 +27,9 @@ owned_part part v = owned (part v.opening) v.log v.faults
 abbrev pub plain_of_owned : {S C A : Type 0} → (S → C → S × A) → Owned S C → Plain S C
 plain_of_owned step v = plain_at step v.opening v.log
 
--- one change was accepted, and the state is the plain step's
-pub record IsChanged {S C A : Type 0} (step : S → C → S × A) (old new : Plain S C) : Type 0 where
-  pub entry : ℕ × C
-  pub log : new.log ≡ old.log ++ entry ∷ []
-  pub state : new.state ≡ (step old.state entry.1).0
+-- what holds of all accepted changes but the last
+abbrev pub IsBehind : {C : Type 0} → (List (ℕ × C) → Type 0) → List (ℕ × C) → Type 0
+IsBehind {C} holds log = (before : List (ℕ × C)) × (entry : ℕ × C) × (log ≡ before ++ entry ∷ []) × holds before
 
 -- a call was replied to; the caller's number is 0
 pub record IsOwnCall {S C A : Type 0} (step : S → C → S × A) (fallible : A → Bool) (v w : Owned S C) (call : C) (answer : A) (kind : ReplyKind) : Type 0 where

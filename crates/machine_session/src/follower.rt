@@ -1,9 +1,8 @@
 //! What is done behind each change that a machine of one's own accepts.
 
-ghost use Rattle.std.specs.Prelude.{◌≡◌};
+ghost use Rattle.std.specs.Prelude.{◌≡◌, ℕ, List};
 ghost use Rattle.history_lock.specs.Replay.{replay};
-ghost use Rattle.machine_session.specs.Alone.{Plain, plain_at};
-ghost use Rattle.machine_session.specs.Owned.{IsChanged};
+ghost use Rattle.machine_session.specs.Owned.{IsBehind};
 
 use history_lock::Machine;
 use std::alloc::{AllocError, Global};
@@ -11,8 +10,8 @@ use std::alloc::{AllocError, Global};
 /// What follows a machine: behind each accepted change, and before the change is answered, it does something of its own, such as showing
 /// the change to readers.
 pub trait Follower<M: Machine> {
-    /// What it keeps to while the machine is in this state, after these changes.
-    ghost keeps: { Self → Plain M.State M.Said → Type 0 };
+    /// What it keeps to while the machine, opened in this state, has accepted these changes.
+    ghost keeps: { Self → M.State → List (ℕ × M.Said) → Type 0 };
 
     /// What of it stays the same while it follows, such as the readers that it shows the machine to.
     ghost Tag: { Type 0 };
@@ -20,13 +19,13 @@ pub trait Follower<M: Machine> {
     ghost tag: { Self → Tag };
 
     /// That it keeps to this is a fact, with one proof at most.
-    ghost keeps_is_fact: { (f : Self) → (now : Plain M.State M.Said) → IsProp (keeps f now) };
+    ghost keeps_is_fact: { (f : Self) → (opening : M.State) → (log : List (ℕ × M.Said)) → IsProp (keeps f opening log) };
 
     /// Follows the change that the machine accepted last. The one error means out of memory: the change stays, and its answer is lost.
     fn follow(self, alloc: Global, machine: &M) -> (Self, Result<(), AllocError>)
         requires state { M.state machine.now ≡ replay M.step (M.opening machine.now) (M.log machine.now) }
-        requires kept { (before : Plain M.State M.Said) × keeps self before × IsChanged M.step before (plain_at M.step (M.opening machine.now) (M.log machine.now)) }
-        ensures kept { keeps result.0 (plain_at M.step (M.opening machine.now) (M.log machine.now)) }
+        requires kept { IsBehind (keeps self (M.opening machine.now)) (M.log machine.now) }
+        ensures kept { keeps result.0 (M.opening machine.now) (M.log machine.now) }
         ensures tag { tag result.0 ≡ tag self };
 }
 
@@ -37,13 +36,13 @@ pub struct NoFollower;
 impl<M: Machine> Follower<M> for NoFollower {
     ghost use Rattle.std.proofs.Props.{props};
 
-    ghost keeps = { λ f now. Unit {0} };
+    ghost keeps = { λ f opening log. Unit {0} };
 
     ghost Tag = { Unit {0} };
 
     ghost tag = { λ f. tt };
 
-    ghost keeps_is_fact = { λ f now. Prim.hlevel props };
+    ghost keeps_is_fact = { λ f opening log. Prim.hlevel props };
 
     fn follow(self, _alloc: Global, _machine: &M) -> (NoFollower, Result<(), AllocError>) {
         (self, Ok(()))

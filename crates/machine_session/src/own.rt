@@ -7,7 +7,6 @@ ghost use Rattle.http_session.specs.Steps.{framed};
 ghost use Rattle.http_session.specs.Ends.{IsLeft};
 ghost use Rattle.http_session.specs.Replies.{answer_of};
 ghost use Rattle.machine_session.specs.Protocols.{protocol};
-ghost use Rattle.machine_session.specs.Alone.{plain_at};
 ghost use Rattle.machine_session.specs.Owned.{Owned, owned, tagged, IsActed, answers_alone};
 ghost use Rattle.machine_session.specs.Sessions.{IsOwnSession};
 
@@ -26,7 +25,7 @@ const CALLER: u32 = 0;
 pub struct OwnSeat<M: Machine, F: Follower<M>> {
     machine: M,
     follower: F,
-    ghost kept: { F.keeps follower (plain_at M.step (M.opening machine) (M.log machine)) } by { F.keeps_is_fact follower (plain_at M.step (M.opening machine) (M.log machine)) },
+    ghost kept: { F.keeps follower (M.opening machine) (M.log machine) } by { F.keeps_is_fact follower (M.opening machine) (M.log machine) },
 }
 
 /// Lets the machine answer a call, and writes the answer; an accepted change is then followed. The one error means out of memory for the
@@ -39,8 +38,8 @@ fn act<M: Machine, V: Service<M>, F: Follower<M>>(
     along: V::Along,
 ) -> (F, Result<Reply, AllocError>)
     requires takes { M.takes call }
-    requires kept { F.keeps follower (plain_at M.step (M.opening machine.old) (M.log machine.old)) }
-    ensures kept { F.keeps result.0 (plain_at M.step (M.opening machine.new) (M.log machine.new)) }
+    requires kept { F.keeps follower (M.opening machine.old) (M.log machine.old) }
+    ensures kept { F.keeps result.0 (M.opening machine.new) (M.log machine.new) }
     ensures tag { F.tag result.0 ≡ F.tag follower }
     ensures acted { (shown : V.Shown) → V.shows along (M.said call) shown
         → IsActed (protocol M.step M.answer M.kind M.fallible V.asks V.tells V.refuses V.misread) (owned (M.opening machine.old) (M.log machine.old) (M.faults machine.old)) (M.said call) shown result.1
@@ -118,9 +117,9 @@ pub fn serve_own_by<M: Machine, V: Service<M>, F: Follower<M>, So: Source, Si: S
     source: &mut So,
     sink: &mut Si,
 ) -> (M, F, SessionEnd)
-    requires { F.keeps follower (plain_at M.step (M.opening machine) (M.log machine)) }
+    requires { F.keeps follower (M.opening machine) (M.log machine) }
     ensures session { IsOwnSession (protocol M.step M.answer M.kind M.fallible V.asks V.tells V.refuses V.misread) So.reads (owned (M.opening machine) (M.log machine) (M.faults machine)) (owned (M.opening result.0) (M.log result.0) (M.faults result.0)) source.old source.new (So.left source.old) (So.left source.new) (Si.written sink.old) (Si.written sink.new) result.2 }
-    ensures kept { F.keeps result.1 (plain_at M.step (M.opening result.0) (M.log result.0)) }
+    ensures kept { F.keeps result.1 (M.opening result.0) (M.log result.0) }
     ensures tag { F.tag result.1 ≡ F.tag follower }
     ensures state { M.state result.0 ≡ replay M.step (M.opening result.0) (M.log result.0) }
     ensures source_later { So.faults source.old ≤ So.faults source.new }
@@ -151,9 +150,9 @@ pub fn serve_own<M: Machine, V: Service<M>, F: Follower<M>, So: Source, Si: Sink
     source: &mut So,
     sink: &mut Si,
 ) -> (M, F, SessionEnd)
-    requires { F.keeps follower (plain_at M.step (M.opening machine) (M.log machine)) }
+    requires { F.keeps follower (M.opening machine) (M.log machine) }
     ensures session { IsOwnSession (protocol M.step M.answer M.kind M.fallible V.asks V.tells V.refuses V.misread) So.reads (owned (M.opening machine) (M.log machine) (M.faults machine)) (owned (M.opening result.0) (M.log result.0) (M.faults result.0)) source.old source.new (So.left source.old) (So.left source.new) (Si.written sink.old) (Si.written sink.new) result.2 }
-    ensures kept { F.keeps result.1 (plain_at M.step (M.opening result.0) (M.log result.0)) }
+    ensures kept { F.keeps result.1 (M.opening result.0) (M.log result.0) }
     ensures tag { F.tag result.1 ≡ F.tag follower }
     ensures state { M.state result.0 ≡ replay M.step (M.opening result.0) (M.log result.0) }
     ensures source_later { So.faults source.old ≤ So.faults source.new }

@@ -1,6 +1,8 @@
 //! A board that shows a tally's sum.
 ghost use Rattle.std.specs.Prelude.{◌≡◌, true};
 ghost use Rattle.std.proofs.Props.{props};
+ghost use Rattle.history_lock.specs.Replay.{replay};
+ghost use Rattle.lock_trial.specs.Adds.{add_step};
 ghost use Rattle.machine_trial.specs.Boards.{Shows};
 
 use lock_trial::Tally;
@@ -16,13 +18,13 @@ pub struct Board {
 }
 
 impl Follower<Tally> for Board {
-    ghost keeps = { λ board now. Shows board.up board.sum now.state };
+    ghost keeps = { λ board opening log. Shows board.up board.sum (replay add_step opening log) };
 
     ghost Tag = { Unit {0} };
 
     ghost tag = { λ board. tt };
 
-    ghost keeps_is_fact = { λ board now. Prim.hlevel props };
+    ghost keeps_is_fact = { λ board opening log. Prim.hlevel props };
 
     fn follow(self, _alloc: Global, machine: &Tally) -> (Board, Result<(), AllocError>) {
         if self.room == 0 {
