@@ -37,7 +37,7 @@ update_send : IsSend (Option.the_field Update.the_row).row
 update_send = option.the_field_send Update.the_row update.the_send
 
 fields_send : (K : RattleType) (g : keeper.Ghosts K.Denot) → IsSend K → IsSend (inside.the_row K g)
-fields_send K g s = recorded_send (inside.the_field K g).row _ _ (inside.the_type K g).to_one (struct_send (shape (inside.the_type K g)) (books.the_send, (entries_send, (last_send, (update_send, (s, (search crosses depth 20, tt)))))))
+fields_send K g s = recorded_send (inside.the_field K g).row _ _ (inside.the_type K g).to_one (struct_send (shape (inside.the_type K g)) (books.the_send, (entries_send, (last_send, (update_send, (s, (search crosses depth 20, (search crosses depth 20, tt))))))))
 
 register_send : (K : RattleType) (g : keeper.Ghosts K.Denot) → IsSend K → IsSend (Register.the_row K g)
 register_send K g s = view_send (inside.the_row K g) _ _ _ _ (fields_send K g s)

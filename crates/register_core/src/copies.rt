@@ -1,10 +1,18 @@
-//! An update is copied, so that it can be lent after its rows went into the books.
+//! An update is copied where it is to be lent after its rows went into the books.
 
-ghost use Rattle.std.specs.Prelude.{◌≡◌, IfOk};
+ghost use Rattle.std.specs.Prelude.{◌≡◌, IfOk, IfSome};
 
 use ipam_data::replies::{View, Views};
 use ipam_data::update::Update;
 use std::alloc::{AllocError, Global};
+
+/// What a register lends beside its state.
+#[derive(Clone, Copy, Debug, PartialEq, Eq)]
+pub(crate) enum Lending {
+    Nothing,
+    /// The update that its last accepted call made.
+    LastUpdate,
+}
 
 /// The same row with the same figures again. `Err` means out of memory.
 fn copy_view(view: &View) -> Result<View, AllocError>
@@ -40,8 +48,22 @@ fn copy_views(alloc: Global, views: &[View]) -> Result<Vec<View>, AllocError>
     Ok(copies)
 }
 
+/// The update again, where it is lent. `Err` means out of memory.
+pub(crate) fn copy_lent(
+    alloc: Global,
+    lending: Lending,
+    update: &Update,
+) -> Result<Option<Update>, AllocError>
+    ensures { IfOk result (λ copy. IfSome copy (λ u. u ≡ update.now)) }
+{
+    match lending {
+        Lending::Nothing => Ok(None),
+        Lending::LastUpdate => Ok(Some(copy_update(alloc, update)?)),
+    }
+}
+
 /// The same update again. `Err` means out of memory.
-pub(crate) fn copy_update(alloc: Global, update: &Update) -> Result<Update, AllocError>
+fn copy_update(alloc: Global, update: &Update) -> Result<Update, AllocError>
     ensures { IfOk result (λ u. u ≡ update.now) }
 {
     let puts = copy_views(alloc, update.puts.as_slice())?;

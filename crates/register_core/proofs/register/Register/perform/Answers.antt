@@ -29,7 +29,7 @@ invariant_of-self-in-Ok g c =
           (change_leads c.self.inside.books c.commit.new.self c.args.update c.in-Ok.change c.lawful.ensures can c.in-Ok.ensures.ok c.in-Ok.ensures.change)
           (c.in-Ok.ensures.told c.self.invariant.0.tells),
       update_grows c.self.inside.opening.value c.self.inside.books c.commit.new.self c.self.inside.log.items c.push_reserved.new.self.items (record { who = c.args.who; call = c.args.call })
-          c.args.update (Some c.in-Ok.copy) c.self.invariant.0.replayed c.in-Ok.ensures.ok log (ap Some c.in-Ok.ensures.copy),
+          c.args.update c.in-Ok.copy c.self.invariant.0.replayed c.in-Ok.ensures.ok log c.in-Ok.ensures.copy,
     )
 
 pub returns-in-Ok-clause-change : goal.returns-in-Ok-clause-change
