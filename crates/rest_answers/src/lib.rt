@@ -3,6 +3,8 @@
 
 mod answer;
 mod put;
+#[cfg(test)]
+mod tests;
 
 pub use answer::{answer_at, answer_to, place_field};
 pub use put::{PutReply, put_reply};
