@@ -34,7 +34,15 @@ fn written(
         next: None,
         previous: None,
     };
-    let end = put_reply(alloc, &mut sink, b"/api/ipam/vrfs/", reply, &links, place, close);
+    let end = put_reply(
+        alloc,
+        &mut sink,
+        b"/api/ipam/vrfs/",
+        reply,
+        &links,
+        place,
+        close,
+    );
     Ok((end, sink.into_bytes()))
 }
 

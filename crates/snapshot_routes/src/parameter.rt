@@ -49,11 +49,7 @@ fn last_value<'a>(
 
 /// The value of a parameter of this name, where the query has it. `Err` means out of memory.
 #[tactic(auto, unfolding(rest_query::specs::Query::parameter))]
-pub(crate) fn parameter(
-    alloc: Global,
-    query: &[u8],
-    name: &str,
-) -> Result<Option<Text>, AllocError>
+pub(crate) fn parameter(alloc: Global, query: &[u8], name: &str) -> Result<Option<Text>, AllocError>
     ensures { IfOk result (λ r. r ≡ parameter query.now name.now) }
 {
     match last_value(alloc, query, name)? {

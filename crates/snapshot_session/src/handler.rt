@@ -45,11 +45,7 @@ fn answer_read(
 }
 
 /// Answers what a request asks for. The one error means out of memory; after a look was asked the answer is lost.
-fn answer_question(
-    alloc: Global,
-    look: &mut Look,
-    question: Question,
-) -> Result<Answer, AllocError>
+fn answer_question(alloc: Global, look: &mut Look, question: Question) -> Result<Answer, AllocError>
     ensures answer { IfOk result (λ a. IsAnswerTo look.old question (answer_of a) look.new) }
     ensures err { OnErr result ((look.new ≡ look.old) ⊎ ((a : AnswerSeen) × IsAnswerTo look.old question a look.new)) }
 {

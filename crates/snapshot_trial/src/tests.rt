@@ -109,7 +109,7 @@ fn one_prefix(alloc: Global) -> Result<Option<Update>, AllocError> {
 /// What a reader whose connection has one request after another is answered.
 fn answered(
     alloc: Global,
-    look: &mut Look,
+    look: Look,
     cases: &[(&str, &str)],
 ) -> Result<(BytesSink, SessionEnd), AllocError> {
     let mut bytes = Vec::new(alloc);
@@ -119,7 +119,8 @@ fn answered(
     }
     let mut source = BytesSource::new(bytes, Vec::new(alloc), 7);
     let mut sink = BytesSink::new(alloc, Vec::new(alloc), 4096, 100_000)?;
-    let end = serve_reader(alloc, look, &mut source, &mut sink);
+    let (look, end) = serve_reader(alloc, look, &mut source, &mut sink);
+    drop(look);
     Ok((sink, end))
 }
 
@@ -137,11 +138,17 @@ fn texts(alloc: Global, cases: &[(&str, &str)]) -> Result<String, AllocError> {
 fn a_reader_is_answered_from_one_published_change(rt: HostRuntime) -> Result<(), Fail> {
     let alloc = rt.alloc();
     let update = one_prefix(alloc)?.expect(&rt, "an update");
-    let mut feed = Feed::new(&rt, alloc, SnapshotRows::new(alloc), SnapshotRows::new(alloc), 2)?;
+    let mut feed = Feed::new(
+        &rt,
+        alloc,
+        SnapshotRows::new(alloc),
+        SnapshotRows::new(alloc),
+        2,
+    )?;
     let looked = feed.look();
     let published = feed.publish(&rt, update);
     let answers = match looked {
-        Ok(mut look) => answered(alloc, &mut look, CASES),
+        Ok(look) => answered(alloc, look, CASES),
         Err(error) => Err(error),
     };
     feed.close(&rt);
@@ -149,6 +156,9 @@ fn a_reader_is_answered_from_one_published_change(rt: HostRuntime) -> Result<(),
     let (sink, end) = answers?;
     assert_eq!(rt; end, SessionEnd::Closed(11));
     let wanted = texts(alloc, CASES)?;
-    assert_eq!(rt; std::str::from_utf8(sink.into_bytes().as_slice()), Ok(wanted.as_str()));
+    assert_eq!(rt;
+        std::str::from_utf8(sink.into_bytes().as_slice()),
+        Ok(wanted.as_str())
+    );
     Ok(())
 }
