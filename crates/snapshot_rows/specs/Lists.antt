@@ -49,6 +49,10 @@ without_listed lists cut = without_of lists cut.0 cut.1
 abbrev pub after_update : Lists → Update → Lists
 after_update lists u = fold without_listed (fold with_listed lists u.puts) u.cuts
 
+-- the second update does to each lists what the first one does
+abbrev pub AreAlike : Update → Update → Type 0
+AreAlike u v = (lists : Lists) → after_update lists v ≡ after_update lists u
+
 -- a call that is answered from these lists
 abbrev pub IsListsCall : Call → Type 0
 IsListsCall (Get Vrfs n) = Unit {0}

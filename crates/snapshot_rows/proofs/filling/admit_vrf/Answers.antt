@@ -1,0 +1,23 @@
+use Rattle.std.proofs.Common.{rules, ◌≡◌, ◌<◌, ◌≤◌, ap, sym, subst, inr, ◌∙◌}
+use Rattle.ipam_data.specs.declared.vrf.Vrf.{Vrf}
+use Rattle.ipam_data.specs.RowList.{AllBelow}
+use Rattle.ipam_data.specs.Rows.{vrf_id}
+use Rattle.ipam_data.specs.State.{State}
+use Rattle.ipam_data.proofs.RowLists.{with_row_above}
+use Rattle.register_tables.specs.Held.{state_of}
+use Rattle.snapshot_rows.specs.Lists.{Lists, lists_of}
+use Rattle.snapshot_rows.proofs.filling.admit_vrf.Goals as goal
+
+pub admit-requires : goal.admit-requires
+admit-requires c =
+    let same : c.in_ok-row.row ≡ c.args.row.now = search rules in
+    let low : 1 ≤ c.in_ok-row.row.id = subst (λ (r : Vrf). 1 ≤ r.id) (sym same) c.requires.low in
+    let high : c.in_ok-row.row.id < 4294967296 = search rules in
+    record {
+      low = low;
+      high = high;
+      place = inr (subst (λ (r : Vrf). AllBelow vrf_id r.id (state_of c.args.tables.now).vrfs.rows) (sym same) c.requires.above);
+    }
+
+pub returns : goal.returns
+returns c = ?
