@@ -1,6 +1,4 @@
 -- The register and its service, as what is said of any machine sees them.
-use Rattle.std.specs.Prelude.{ℕ}
-use Rattle.http_session.specs.Talk.{Answer}
 use Rattle.ipam_data.specs.declared.calls.Call.{Call}
 use Rattle.ipam_data.specs.declared.replies.Refusal.{Refusal}
 use Rattle.ipam_data.specs.declared.replies.Reply.{Reply}
@@ -10,12 +8,9 @@ use Rattle.ipam_data.specs.Steps.{plain_step}
 use Rattle.ipam_json.specs.declared.replies.Links.{Links}
 use Rattle.machine_session.specs.Protocols.{Protocol, protocol_over}
 use Rattle.register_core.specs.Machines.{Seen, kind_of, seen_step}
-use Rattle.rest_routes.specs.Answers.{IsFramingAnswer, IsRefusedAnswer, end_of, finished_links, reply_answer}
+use Rattle.rest_answers.specs.Told.{told_answer}
+use Rattle.rest_routes.specs.Answers.{IsFramingAnswer, IsRefusedAnswer}
 use Rattle.rest_routes.specs.Requests.{IsRequest}
-
--- the answer to a call with this reply, which stands at this place, and whose page has these links as far as there are rows
-abbrev pub told_answer : Call → Reply → Links → ℕ → Answer
-told_answer call reply links place = reply_answer reply (finished_links reply (end_of call) links) place
 
 -- the plain register over HTTP: a fault, which is a failed keeper's, is told only in place of an accepted change
 abbrev pub register_protocol : Protocol State Call Reply Reply Links Refusal

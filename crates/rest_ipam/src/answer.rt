@@ -2,27 +2,15 @@
 
 ghost use Rattle.std.specs.Prelude.{◌≡◌, false, option_map};
 ghost use Rattle.ipam_edge.specs.Writing.{ByWrites};
-ghost use Rattle.http_session.specs.Replies.{field_of as field_seen};
 ghost use Rattle.http_session.specs.Answers.{HasPutCause, IsPutEnd, answer_text};
-ghost use Rattle.rest_routes.specs.Answers.{json_type, place_field};
+ghost use Rattle.rest_routes.specs.Answers as spec;
+ghost use Rattle.rest_routes.specs.Answers.{json_type};
 ghost use Rattle.rest_ipam.specs.Statuses.{IsStatus};
 
 use http::StatusCode;
-use http_session::{NumberField, PutEnd, put_parts};
+use http_session::{PutEnd, put_parts};
 use ipam_edge::Sink;
-
-/// The field that tells a place, where there is one.
-fn field_of(place: Option<u64>) -> Option<NumberField>
-    ensures { option_map field_seen result ≡ option_map place_field place }
-{
-    match place {
-        Some(number) => Some(NumberField {
-            name: b"Ipam-Place",
-            number,
-        }),
-        None => None,
-    }
-}
+use rest_answers::place_field;
 
 /// Writes an answer: its status, `Content-Type` and `Content-Length` where there is a body, `Allow` where there are methods, its place
 /// where it has one, `Connection: close` where the connection closes, and the body. After `SinkFault`, which comes only where the sink's
@@ -36,7 +24,7 @@ pub fn put_answer<Si: Sink>(
     body: &[u8],
 ) -> PutEnd
     requires { IsStatus status }
-    ensures told { IsPutEnd (Si.written sink.old) (Si.written sink.new) result (answer_text status allow.now (option_map place_field place) json_type close false body.now) }
+    ensures told { IsPutEnd (Si.written sink.old) (Si.written sink.new) result (answer_text status allow.now (option_map spec.place_field place) json_type close false body.now) }
     ensures cause { HasPutCause (Si.faults sink.old) (Si.faults sink.new) result }
     ensures writes { ByWrites Si.writes sink.old sink.new }
 {
@@ -47,7 +35,7 @@ pub fn put_answer<Si: Sink>(
         sink,
         status,
         allow,
-        &field_of(place),
+        &place_field(place),
         b"application/json",
         body,
         close,

@@ -1,9 +1,8 @@
 //! What stands between the register and the requests of its connections.
 
-ghost use Rattle.std.specs.Prelude.{◌≡◌, ◌≢◌, ℕ, Result, IfOk, MatchBool};
-ghost use Rattle.http_session.specs.Steps.{framed};
+ghost use Rattle.std.specs.Prelude.{◌≡◌, ◌≢◌, IfOk};
 ghost use Rattle.http_session.specs.Replies.{answer_of};
-ghost use Rattle.rest_routes.specs.Answers.{IsRefusedAnswer, finished_links, reply_answer};
+ghost use Rattle.rest_routes.specs.Answers.{IsRefusedAnswer};
 
 use http_session::{Fault, HttpRequest, Reply as Answer};
 use ipam_data::calls::Call;
@@ -12,10 +11,8 @@ use ipam_json::Links;
 use ipam_keeper::keeper::Keeper;
 use machine_session::{Service, Wanted};
 use register_core::Register;
-use rest_routes::{
-    Routes, answer_of_fault, answer_of_refusal_by, answer_of_reply, answer_of_want, finish_links,
-    page_end, read_call_by,
-};
+use rest_answers::answer_to;
+use rest_routes::{Routes, answer_of_fault, answer_of_refusal_by, page_end, read_call_by};
 use std::alloc::{AllocError, Global};
 
 /// What is kept of a request until its answer is written: the links of its page, and the number of rows up to the page's end.
@@ -23,44 +20,6 @@ use std::alloc::{AllocError, Global};
 pub struct Page {
     pub links: Links,
     pub end: u64,
-}
-
-/// Whether a refusal means out of memory.
-fn is_want(refusal: &Refusal) -> bool
-    ensures { MatchBool result (refusal.now ≡ Refusal.Memory) (refusal.now ≢ Refusal.Memory) }
-{
-    matches!(refusal, Refusal::Memory)
-}
-
-/// Whether a reply means out of memory.
-fn is_memory(reply: &Reply) -> bool
-    ensures { MatchBool result (reply.now ≡ Reply.Refused Refusal.Memory) (reply.now ≢ Reply.Refused Refusal.Memory) }
-{
-    match reply {
-        Reply::Refused(refusal) => is_want(refusal),
-        _ => false,
-    }
-}
-
-/// The answer of a reply of the register, which stands at this place, and whose page ends with so many rows. `Err` means out of memory,
-/// which no answer tells that the register itself gave.
-fn answer_to(
-    alloc: Global,
-    reply: &Reply,
-    end: u64,
-    links: Links,
-    place: u64,
-) -> Result<Answer, AllocError>
-    ensures { IfOk result (λ a. answer_of a ≡ reply_answer reply.now (finished_links reply.now end links) place) }
-{
-    if is_memory(reply) {
-        drop(links);
-        return Ok(answer_of_want(place));
-    }
-    let links = finish_links(reply, end, links);
-    let answer = answer_of_reply(alloc, reply, &links, place);
-    drop(links);
-    answer
 }
 
 /// Writes the answer to a refused request of this target. The one error means out of memory, in this call or as what was refused.
@@ -87,7 +46,7 @@ impl<K: Keeper> Service<Register<K>> for RegisterService {
     ghost use Rattle.ipam_json.specs.declared.replies.Links.{Links as LinksSeen};
     ghost use Rattle.rest_routes.specs.Requests.{IsRequest};
     ghost use Rattle.rest_routes.specs.Answers.{IsFramingAnswer, IsRefusedAnswer, end_of};
-    ghost use Rattle.rest_ipam.specs.Protocol.{told_answer};
+    ghost use Rattle.rest_answers.specs.Told.{told_answer};
 
     type Table = Routes;
 

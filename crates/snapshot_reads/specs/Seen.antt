@@ -66,9 +66,9 @@ IsAsked call least rows count (Behind n) = (n ≡ count) × (n < least)
 IsAsked call least rows count Memory = Unit {0}
 
 -- what a read answers: the reply on each state with the lists after the n changes that were seen, where n is at least `least`;
--- n alone, where it is below; or out of memory
+-- n alone, where it is below; or out of memory, which leaves the look as it was
 abbrev pub IsAnswered : Call → ℕ → LookView Lists Update → LookView Lists Update → Looked → Type 0
 IsAnswered call least before now (Given reply n) =
     (opening : Lists) × (now.opening ≡ Some opening) × answers (published_lists_of opening now.seen) call reply × IsFound n before now × (least ≤ n)
 IsAnswered call least before now (Behind n) = IsFound n before now × (n < least)
-IsAnswered call least before now Memory = Unit {0}
+IsAnswered call least before now Memory = now ≡ before

@@ -91,7 +91,7 @@ impl Look {
     }
 
     /// Asks the copy that is shown. The reply is that of each state with the lists after the changes that are then seen; `Behind` comes
-    /// exactly where these are fewer than `least`.
+    /// exactly where these are fewer than `least`. `Memory` leaves the look as it was.
     pub fn read(&mut self, call: &Call, least: u64) -> Looked
         ensures grows { Grows self.old self.new }
         ensures answer { IsAnswered call.now least self.old self.new result }
@@ -128,19 +128,30 @@ impl Look {
             ),
             Ok(reading) => {
                 let twin = reading.get();
-                let seen = twin.seen.again();
+                let now = twin.seen.again();
                 let count = twin.count;
-                let answer = asked(twin, call, least);
-                (
-                    Look {
-                        reader: reading.leave(),
-                        seen,
-                        seen_count: count,
-                        told,
-                        told_count,
-                    },
-                    answer,
-                )
+                match asked(twin, call, least) {
+                    Looked::Memory => (
+                        Look {
+                            reader: reading.leave(),
+                            seen,
+                            seen_count,
+                            told,
+                            told_count,
+                        },
+                        Looked::Memory,
+                    ),
+                    answer => (
+                        Look {
+                            reader: reading.leave(),
+                            seen: now,
+                            seen_count: count,
+                            told,
+                            told_count,
+                        },
+                        answer,
+                    ),
+                }
             }
         }
     }

@@ -1,0 +1,9 @@
+use Rattle.std.proofs.Common.{◌∙◌, Some}
+use Rattle.ipam_json.proofs.Pieces.{written_is}
+use Rattle.snapshot_routes.specs.Answers.{words_data}
+use Rattle.snapshot_routes.proofs.answer.words_bytes.Goals as goal
+
+pub returns : goal.returns
+returns c =
+    written_is (Some (words_data c.args.code.now c.args.detail.now)) _ _ _ (c.new-writer.ensures.before ∙ c.new.ensures.items) c.new-writer.ensures.tokens
+    c.in_ok-put_words.ensures c.into_inner.ensures.items
