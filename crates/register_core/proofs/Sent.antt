@@ -14,6 +14,8 @@ use Rattle.history_lock.proofs.lock.Seat.TheSendSync as seat
 use Rattle.history_lock.proofs.lock.Shared.TheSendSync as shared
 use Rattle.ipam_data.specs.contracts.calls.Call as Call
 use Rattle.ipam_data.specs.contracts.replies.Reply as Reply
+use Rattle.ipam_data.specs.contracts.update.Update as Update
+use Rattle.ipam_data.proofs.update.Update.TheSendSync as update
 use Rattle.ipam_keeper.specs.declared.keeper.Keeper as keeper
 use Rattle.stored_tables.specs.contracts.tables.Change as Change
 use Rattle.stored_tables.proofs.tables.Change.TheSendSync as change
@@ -31,8 +33,11 @@ entries_send = Vec-send Entry.the_row entry.the_send
 last_send : IsSend (Option.the_field Change.the_row).row
 last_send = option.the_field_send Change.the_row change.the_send
 
+update_send : IsSend (Option.the_field Update.the_row).row
+update_send = option.the_field_send Update.the_row update.the_send
+
 fields_send : (K : RattleType) (g : keeper.Ghosts K.Denot) → IsSend K → IsSend (inside.the_row K g)
-fields_send K g s = recorded_send (inside.the_field K g).row _ _ (inside.the_type K g).to_one (struct_send (shape (inside.the_type K g)) (books.the_send, (entries_send, (last_send, (s, (search crosses depth 20, tt))))))
+fields_send K g s = recorded_send (inside.the_field K g).row _ _ (inside.the_type K g).to_one (struct_send (shape (inside.the_type K g)) (books.the_send, (entries_send, (last_send, (update_send, (s, (search crosses depth 20, (search crosses depth 20, tt))))))))
 
 register_send : (K : RattleType) (g : keeper.Ghosts K.Denot) → IsSend K → IsSend (Register.the_row K g)
 register_send K g s = view_send (inside.the_row K g) _ _ _ _ (fields_send K g s)

@@ -3,6 +3,7 @@
 #![tactic(auto)]
 
 mod books;
+mod copies;
 mod dispatch;
 mod log;
 mod machine;
@@ -15,3 +16,4 @@ pub use log::Entry;
 pub use machine::SeenState;
 pub use opening::open;
 pub use register::{Register, Settings, begin};
+pub use register_plans::{prefix_answer, vrf_answer};

@@ -1,5 +1,6 @@
 pub mod Verdicts
 pub mod Paging
+pub mod Answering
 pub mod Finds
 mod Drafted
 pub mod Found

@@ -1,4 +1,5 @@
 pub mod Pages
+pub mod Answered
 pub mod Meets
 pub mod Broken
 pub mod Candidates

@@ -17,6 +17,7 @@ ghost use Rattle.register_plans.specs.Meets.{address_meets};
 use crate::calls::plan_replace;
 use crate::candidates::{area_of, ids_asked};
 use crate::filters::{asks_family, asks_name, asks_parent, asks_text};
+use crate::listed::Listed;
 use crate::registered::Registered;
 use inet_num::is_one_address;
 use ip_addresses::AddressRules;
@@ -115,17 +116,13 @@ fn asks_role(wanted: &Option<AddressRole>, role: Option<AddressRole>) -> bool
     }
 }
 
-impl Registered for IpAddress {
+impl Listed for IpAddress {
     ghost rules = { address_rules };
 
     ghost meets = { address_meets };
 
     fn kind() -> Kind {
         Kind::Addresses
-    }
-
-    fn most() -> u32 {
-        MOST_ADDRESSES
     }
 
     fn copied(&self) -> Result<IpAddress, AllocError> {
@@ -155,6 +152,12 @@ impl Registered for IpAddress {
             }
             _ => false,
         }
+    }
+}
+
+impl Registered for IpAddress {
+    fn most() -> u32 {
+        MOST_ADDRESSES
     }
 
     fn found<'a>(row_tables: &'a RowTables, id: u32) -> Option<&'a IpAddress> {

@@ -10,6 +10,7 @@ ghost use Rattle.register_plans.specs.Meets.{aggregate_meets};
 
 use crate::calls::plan_replace;
 use crate::filters::{asks_family, asks_id};
+use crate::listed::Listed;
 use crate::registered::Registered;
 use aggregates::AggregateRules;
 use ipam_data::aggregate::{Aggregate, MOST_AGGREGATES};
@@ -20,17 +21,13 @@ use placed_book::Book;
 use register_tables::{Planned, RowTables, missing_rir};
 use std::alloc::AllocError;
 
-impl Registered for Aggregate {
+impl Listed for Aggregate {
     ghost rules = { aggregate_rules };
 
     ghost meets = { aggregate_meets };
 
     fn kind() -> Kind {
         Kind::Aggregates
-    }
-
-    fn most() -> u32 {
-        MOST_AGGREGATES
     }
 
     fn copied(&self) -> Result<Aggregate, AllocError> {
@@ -48,6 +45,12 @@ impl Registered for Aggregate {
             }
             _ => false,
         }
+    }
+}
+
+impl Registered for Aggregate {
+    fn most() -> u32 {
+        MOST_AGGREGATES
     }
 
     fn found<'a>(row_tables: &'a RowTables, id: u32) -> Option<&'a Aggregate> {

@@ -1,7 +1,7 @@
 //! The calls, planned once for all kinds.
 
 ghost use Rattle.std.specs.Prelude.{◌≡◌, ℕ, ◌<◌, ◌+◌, ◌^◌, ◌++◌, ◌∷◌, ◌&&◌, [], None, Some, IsSome, IfOk, OnOk, count_by, length, slice_get};
-ghost use Rattle.ipam_data.specs.declared.replies.Reply.TheVariants.{Made as MadeReply, Changed as ChangedReply, Gone as GoneReply};
+ghost use Rattle.ipam_data.specs.declared.replies.Reply.TheVariants.{Made as MadeReply, Changed as ChangedReply, Gone as GoneReply, One as OneReply};
 ghost use Rattle.ipam_data.specs.Checks.{first, no_room, no_log};
 ghost use Rattle.ipam_data.specs.Lawful.{IsLawful};
 ghost use Rattle.ipam_data.specs.RowList.{row_at};
@@ -10,9 +10,11 @@ ghost use Rattle.ipam_data.specs.Plans.{create, replace, delete, get, list};
 ghost use Rattle.register_tables.specs.Held.{state_of};
 ghost use Rattle.register_tables.specs.Planned.{IsPlanned};
 ghost use Rattle.register_plans.specs.Pages.{is_paged, one_if, only_if, one_of, only_of, page_of};
+ghost use Rattle.register_plans.specs.Answered.{page_reply};
 ghost use Rattle.register_plans.specs.Candidates.{AreCandidates};
 ghost use Rattle.register_plans.specs.Broken.{first_broken, own_row};
 
+use crate::listed::{Listed, RowsOf};
 use crate::registered::Registered;
 use ipam_data::calls::Filter;
 use ipam_data::kinds::{Kind, LAST_ID, MOST_SPENT};
@@ -202,14 +204,22 @@ pub fn plan_delete<T: Registered>(row_tables: &RowTables, id: u32) -> Result<Pla
     taken_out(row_tables.allocator(), again, T::kind(), id)
 }
 
+/// The answer that shows a row. `Err` means out of memory.
+pub(crate) fn shown<T: Listed>(row: &T) -> Result<Reply, AllocError>
+    ensures { IfOk result (λ r. r ≡ OneReply (T.rules.view row.now)) }
+{
+    let copy = row.copied()?;
+    Ok(Reply::One(copy.into_view()))
+}
+
 /// Reads the row of an id. `Err` means out of memory.
 pub fn plan_get<T: Registered>(row_tables: &RowTables, id: u32) -> Result<Planned, AllocError>
     ensures { IfOk result (λ p. IsPlanned (get T.rules (state_of row_tables.now) id) p) }
 {
     match T::found(row_tables, id) {
         Some(row) => {
-            let row = row.copied()?;
-            Ok(Planned::Read(Reply::One(row.into_view())))
+            let reply = shown(row)?;
+            Ok(Planned::Read(reply))
         }
         None => Ok(Planned::Refused(Refusal::NotFound(T::kind(), id))),
     }
@@ -223,19 +233,19 @@ fn is_on_page(before: u32, limit: u32, offset: u32) -> bool
 }
 
 /// The row at an index that is there.
-pub(crate) fn row_at_index<T: Registered>(row_tables: &RowTables, index: u32) -> &T
-    requires { index < length (T.rules.row_list (state_of row_tables.now)).rows }
-    ensures { Some result.now ≡ slice_get (T.rules.row_list (state_of row_tables.now)).rows index }
+pub(crate) fn row_at_index<T: Listed, R: RowsOf<T>>(among: &R, index: u32) -> &T
+    requires { index < length (R.rows among.now) }
+    ensures { Some result.now ≡ slice_get (R.rows among.now) index }
 {
-    match T::nth(row_tables, index) {
+    match among.nth(index) {
         Some(row) => row,
         None => unreachable!(),
     }
 }
 
-/// Adds a row to a page where it meets the filter and stands on the page, and gives how many meet it now. `Err` is want of
+/// Adds a row to a page where it meets the filter and stands on the page, and gives how many meet it now. `Err` means out of
 /// memory.
-fn take_in<T: Registered>(
+fn take_in<T: Listed>(
     row: &T,
     filter: &Filter,
     met: u32,
@@ -259,8 +269,8 @@ fn take_in<T: Registered>(
 }
 
 /// Adds the row of an id, if there is one, as `take_in` does.
-fn take_by_id<T: Registered>(
-    row_tables: &RowTables,
+fn take_by_id<T: Listed, R: RowsOf<T>>(
+    among: &R,
     id: u32,
     filter: &Filter,
     met: u32,
@@ -269,39 +279,39 @@ fn take_by_id<T: Registered>(
     views: &mut Vec<View>,
 ) -> Result<u32, AllocError>
     requires few { met < 2 ^ 30 }
-    ensures met { IfOk result (λ n. n ≡ met + one_of (T.meets filter.now) (row_at T.rules.id (T.rules.row_list (state_of row_tables.now)).rows id)) }
-    ensures views { OnOk result (views.new.items ≡ views.old.items ++ only_of T.rules.view (T.meets filter.now) met limit offset (row_at T.rules.id (T.rules.row_list (state_of row_tables.now)).rows id)) }
+    ensures met { IfOk result (λ n. n ≡ met + one_of (T.meets filter.now) (row_at T.rules.id (R.rows among.now) id)) }
+    ensures views { OnOk result (views.new.items ≡ views.old.items ++ only_of T.rules.view (T.meets filter.now) met limit offset (row_at T.rules.id (R.rows among.now) id)) }
 {
-    match T::found(row_tables, id) {
+    match among.found(id) {
         Some(row) => take_in(row, filter, met, limit, offset, views),
         None => Ok(met),
     }
 }
 
 /// Adds the rows of a page, where all rows are looked at, and gives how many meet the filter. `Err` means out of memory.
-fn take_all<T: Registered>(
-    row_tables: &RowTables,
+pub(crate) fn take_all<T: Listed, R: RowsOf<T>>(
+    among: &R,
     filter: &Filter,
     limit: u32,
     offset: u32,
     views: &mut Vec<View>,
 ) -> Result<u32, AllocError>
     requires { views.old.items ≡ [] }
-    ensures met { IfOk result (λ n. n ≡ count_by (T.meets filter.now) (T.rules.row_list (state_of row_tables.now)).rows) }
-    ensures views { OnOk result (views.new.items ≡ page_of T.rules.view (T.meets filter.now) limit offset (T.rules.row_list (state_of row_tables.now)).rows) }
+    ensures met { IfOk result (λ n. n ≡ count_by (T.meets filter.now) (R.rows among.now)) }
+    ensures views { OnOk result (views.new.items ≡ page_of T.rules.view (T.meets filter.now) limit offset (R.rows among.now)) }
 {
     let mut met: u32 = 0;
-    let count = T::count(row_tables);
+    let count = among.count();
     'rows: for index in 0..count {
-        let row: &T = row_at_index(row_tables, index);
+        let row: &T = row_at_index(among, index);
         met = take_in(row, filter, met, limit, offset, views)?;
     }
     Ok(met)
 }
 
 /// The same where the rows of some ids are looked at, among which each is that meets the filter.
-fn take_found<T: Registered>(
-    row_tables: &RowTables,
+fn take_found<T: Listed, R: RowsOf<T>>(
+    among: &R,
     ids: &[u32],
     filter: &Filter,
     limit: u32,
@@ -309,16 +319,55 @@ fn take_found<T: Registered>(
     views: &mut Vec<View>,
 ) -> Result<u32, AllocError>
     requires none { views.old.items ≡ [] }
-    requires ids { AreCandidates T.rules.id (T.meets filter.now) (T.rules.row_list (state_of row_tables.now)).rows ids.now }
-    ensures met { IfOk result (λ n. n ≡ count_by (T.meets filter.now) (T.rules.row_list (state_of row_tables.now)).rows) }
-    ensures views { OnOk result (views.new.items ≡ page_of T.rules.view (T.meets filter.now) limit offset (T.rules.row_list (state_of row_tables.now)).rows) }
+    requires ids { AreCandidates T.rules.id (T.meets filter.now) (R.rows among.now) ids.now }
+    ensures met { IfOk result (λ n. n ≡ count_by (T.meets filter.now) (R.rows among.now)) }
+    ensures views { OnOk result (views.new.items ≡ page_of T.rules.view (T.meets filter.now) limit offset (R.rows among.now)) }
 {
     let mut met: u32 = 0;
-    let _count = T::count(row_tables);
+    let _count = among.count();
     'found: for id in ids {
-        met = take_by_id::<T>(row_tables, *id, filter, met, limit, offset, views)?;
+        met = take_by_id::<T, R>(among, *id, filter, met, limit, offset, views)?;
     }
     Ok(met)
+}
+
+/// The page of the rows that meet the filter, past the first `offset`, at most `limit`, and how many meet it. All rows are looked
+/// at. `Err` means out of memory.
+pub(crate) fn page_among<T: Listed, R: RowsOf<T>>(
+    alloc: Global,
+    among: &R,
+    filter: &Filter,
+    limit: u32,
+    offset: u32,
+) -> Result<Reply, AllocError>
+    ensures { IfOk result (λ r. r ≡ page_reply T.rules.view (T.meets filter.now) limit offset (R.rows among.now)) }
+{
+    let mut views = Vec::new(alloc);
+    let count = take_all::<T, R>(among, filter, limit, offset, &mut views)?;
+    Ok(Reply::Page {
+        count,
+        views: Views::of(views),
+    })
+}
+
+/// The same page where the rows of some ids are looked at, among which each is that meets the filter.
+fn page_found<T: Listed, R: RowsOf<T>>(
+    alloc: Global,
+    among: &R,
+    ids: &[u32],
+    filter: &Filter,
+    limit: u32,
+    offset: u32,
+) -> Result<Reply, AllocError>
+    requires { AreCandidates T.rules.id (T.meets filter.now) (R.rows among.now) ids.now }
+    ensures { IfOk result (λ r. r ≡ page_reply T.rules.view (T.meets filter.now) limit offset (R.rows among.now)) }
+{
+    let mut views = Vec::new(alloc);
+    let count = take_found::<T, R>(among, ids, filter, limit, offset, &mut views)?;
+    Ok(Reply::Page {
+        count,
+        views: Views::of(views),
+    })
 }
 
 /// Reads the rows that meet the filter, past the first `offset`, at most `limit`, and how many meet it. `Err` means out of memory.
@@ -331,20 +380,17 @@ pub fn plan_list<T: Registered>(
     requires { IsLawful (state_of row_tables.now) }
     ensures { IfOk result (λ p. IsPlanned (list T.rules (state_of row_tables.now) (T.meets filter.now) limit offset) p) }
 {
-    let mut views = Vec::new(row_tables.allocator());
-    let met = match T::candidates(row_tables, filter)? {
-        Some(ids) => take_found::<T>(
+    let alloc = row_tables.allocator();
+    let reply = match T::candidates(row_tables, filter)? {
+        Some(ids) => page_found::<T, RowTables>(
+            alloc,
             row_tables,
             ids.as_slice(),
             filter,
             limit,
             offset,
-            &mut views,
         )?,
-        None => take_all::<T>(row_tables, filter, limit, offset, &mut views)?,
+        None => page_among::<T, RowTables>(alloc, row_tables, filter, limit, offset)?,
     };
-    Ok(Planned::Read(Reply::Page {
-        count: met,
-        views: Views::of(views),
-    }))
+    Ok(Planned::Read(reply))
 }

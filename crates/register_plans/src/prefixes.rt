@@ -14,6 +14,7 @@ ghost use Rattle.register_plans.specs.Meets.{prefix_meets};
 use crate::calls::plan_replace;
 use crate::candidates::{area_asked, ids_asked};
 use crate::filters::{asks_block, asks_contains, asks_family, asks_inside, asks_name, asks_within};
+use crate::listed::Listed;
 use crate::registered::Registered;
 use ipam_data::calls::{Edit, Filter};
 use ipam_data::kinds::{Kind, Table};
@@ -44,17 +45,13 @@ fn fault(row_tables: &RowTables, row: &Prefix) -> Option<Rule>
     row_tables.prefixes().fault(row, enforcing)
 }
 
-impl Registered for Prefix {
+impl Listed for Prefix {
     ghost rules = { prefix_rules };
 
     ghost meets = { prefix_meets };
 
     fn kind() -> Kind {
         Kind::Prefixes
-    }
-
-    fn most() -> u32 {
-        MOST_PREFIXES
     }
 
     fn copied(&self) -> Result<Prefix, AllocError> {
@@ -92,6 +89,12 @@ impl Registered for Prefix {
             }
             _ => false,
         }
+    }
+}
+
+impl Registered for Prefix {
+    fn most() -> u32 {
+        MOST_PREFIXES
     }
 
     fn found<'a>(row_tables: &'a RowTables, id: u32) -> Option<&'a Prefix> {

@@ -18,6 +18,7 @@ ghost use Rattle.register_plans.specs.Meets.{range_meets};
 
 use crate::calls::{plan_create, plan_replace};
 use crate::filters::{asks_family, asks_name};
+use crate::listed::Listed;
 use crate::registered::Registered;
 use inet_num::{Addr, Block, is_in_run, is_one_family};
 use ipam_data::calls::{Draft, Edit, Filter};
@@ -83,17 +84,13 @@ fn asks_contained(wanted: &Option<Block>, start: Addr, end: Addr) -> bool
     }
 }
 
-impl Registered for IpRange {
+impl Listed for IpRange {
     ghost rules = { range_rules };
 
     ghost meets = { range_meets };
 
     fn kind() -> Kind {
         Kind::Ranges
-    }
-
-    fn most() -> u32 {
-        MOST_RANGES
     }
 
     fn copied(&self) -> Result<IpRange, AllocError> {
@@ -121,6 +118,12 @@ impl Registered for IpRange {
             }
             _ => false,
         }
+    }
+}
+
+impl Registered for IpRange {
+    fn most() -> u32 {
+        MOST_RANGES
     }
 
     fn found<'a>(row_tables: &'a RowTables, id: u32) -> Option<&'a IpRange> {

@@ -10,6 +10,7 @@ ghost use Rattle.register_plans.specs.Meets.{rir_meets};
 
 use crate::calls::plan_replace;
 use crate::filters::asks_text;
+use crate::listed::Listed;
 use crate::registered::Registered;
 use aggregates::{AggregateRules, RirRules};
 use ipam_data::calls::{Edit, Filter};
@@ -20,17 +21,13 @@ use placed_book::Book;
 use register_tables::{Planned, RowTables};
 use std::alloc::AllocError;
 
-impl Registered for Rir {
+impl Listed for Rir {
     ghost rules = { rir_rules };
 
     ghost meets = { rir_meets };
 
     fn kind() -> Kind {
         Kind::Rirs
-    }
-
-    fn most() -> u32 {
-        MOST_RIRS
     }
 
     fn copied(&self) -> Result<Rir, AllocError> {
@@ -48,6 +45,12 @@ impl Registered for Rir {
             }
             _ => false,
         }
+    }
+}
+
+impl Registered for Rir {
+    fn most() -> u32 {
+        MOST_RIRS
     }
 
     fn found<'a>(row_tables: &'a RowTables, id: u32) -> Option<&'a Rir> {

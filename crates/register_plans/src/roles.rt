@@ -14,6 +14,7 @@ ghost use Rattle.register_plans.specs.Meets.{role_meets};
 
 use crate::calls::plan_replace;
 use crate::filters::asks_text;
+use crate::listed::Listed;
 use crate::registered::Registered;
 use crate::same::names;
 use aggregates::RoleRules;
@@ -86,17 +87,13 @@ fn forget_in_ranges(rows: &[IpRange], id: u32, views: &mut Vec<View>) -> Result<
     Ok(())
 }
 
-impl Registered for Role {
+impl Listed for Role {
     ghost rules = { role_rules };
 
     ghost meets = { role_meets };
 
     fn kind() -> Kind {
         Kind::Roles
-    }
-
-    fn most() -> u32 {
-        MOST_ROLES
     }
 
     fn copied(&self) -> Result<Role, AllocError> {
@@ -114,6 +111,12 @@ impl Registered for Role {
             }
             _ => false,
         }
+    }
+}
+
+impl Registered for Role {
+    fn most() -> u32 {
+        MOST_ROLES
     }
 
     fn found<'a>(row_tables: &'a RowTables, id: u32) -> Option<&'a Role> {

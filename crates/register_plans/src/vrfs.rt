@@ -16,6 +16,7 @@ ghost use Rattle.register_plans.specs.Meets.{vrf_meets};
 
 use crate::calls::plan_replace;
 use crate::filters::asks_text;
+use crate::listed::Listed;
 use crate::registered::Registered;
 use crate::same::names;
 use ip_addresses::AddressRules;
@@ -91,17 +92,13 @@ fn asks_distinguisher(wanted: &Option<Text>, rd: &Option<Distinguisher>) -> bool
     }
 }
 
-impl Registered for Vrf {
+impl Listed for Vrf {
     ghost rules = { vrf_rules };
 
     ghost meets = { vrf_meets };
 
     fn kind() -> Kind {
         Kind::Vrfs
-    }
-
-    fn most() -> u32 {
-        MOST_VRFS
     }
 
     fn copied(&self) -> Result<Vrf, AllocError> {
@@ -119,6 +116,12 @@ impl Registered for Vrf {
             }
             _ => false,
         }
+    }
+}
+
+impl Registered for Vrf {
+    fn most() -> u32 {
+        MOST_VRFS
     }
 
     fn found<'a>(row_tables: &'a RowTables, id: u32) -> Option<&'a Vrf> {

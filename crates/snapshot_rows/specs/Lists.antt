@@ -5,7 +5,6 @@ use Rattle.ipam_data.specs.declared.prefix.Prefix.{Prefix}
 use Rattle.ipam_data.specs.declared.kinds.Kind.{Kind}
 use Rattle.ipam_data.specs.declared.kinds.Kind.TheVariants.{Vrfs, Prefixes}
 use Rattle.ipam_data.specs.declared.calls.Call.{Call}
-use Rattle.ipam_data.specs.declared.calls.Call.TheVariants.{Get}
 use Rattle.ipam_data.specs.declared.replies.Reply.{Reply}
 use Rattle.ipam_data.specs.declared.replies.View.{View}
 use Rattle.ipam_data.specs.declared.replies.View.TheVariants.{Vrf as VrfView, Prefix as PrefixView}
@@ -52,12 +51,6 @@ after_update lists u = fold without_listed (fold with_listed lists u.puts) u.cut
 -- the second update does to each lists what the first one does
 abbrev pub AreAlike : Update → Update → Type 0
 AreAlike u v = (lists : Lists) → after_update lists v ≡ after_update lists u
-
--- a call that is answered from these lists
-abbrev pub IsListsCall : Call → Type 0
-IsListsCall (Get Vrfs n) = Unit {0}
-IsListsCall (Get Prefixes n) = Unit {0}
-IsListsCall other = ⊥
 
 -- the reply is that of each state with these lists
 abbrev pub IsReplyTo : Lists → Call → Reply → Type 0

@@ -4,17 +4,16 @@ ghost use Rattle.ipam_data.specs.State.{State};
 ghost use Rattle.ipam_data.specs.Updates.{updated};
 ghost use Rattle.register_tables.specs.Held.{state_of};
 ghost use Rattle.register_plans.specs.Pages.{only_if};
-ghost use Rattle.snapshot_rows.specs.Lists.{lists_of, is_listed, after_update, IsListsCall, IsReplyTo};
-ghost use Rattle.ipam_data.specs.declared.calls.Call.{Call};
+ghost use Rattle.snapshot_rows.specs.Lists.{lists_of, is_listed, after_update, IsReplyTo};
 ghost use Rattle.ipam_data.specs.declared.update.Update.{Update};
 
 use crate::checks::{all_fit, ids_are_kept, is_huge};
-use ipam_data::calls::Call;
+use ipam_data::calls::{Call, Filter};
 use ipam_data::kinds::Kind;
 use ipam_data::replies::{Reply, View, Views};
 use ipam_data::update::{Ids, Update};
-use register_plans::plan_one;
-use register_tables::{Planned, RowTables};
+use register_plans::{prefix_answer, vrf_answer};
+use register_tables::RowTables;
 use std::alloc::{AllocError, Global};
 use std::marker::Model;
 
@@ -71,6 +70,23 @@ pub(crate) fn listed_of(alloc: Global, views: &[View]) -> Result<Vec<View>, Allo
     Ok(puts)
 }
 
+/// Whether the call lists VRFs, or gets one.
+fn is_of_vrfs(call: &Call) -> bool {
+    match call {
+        Call::List {
+            kind: _,
+            filter: Filter::Vrfs { name: _, rd: _ },
+            limit: _,
+            offset: _,
+        } => true,
+        Call::Get {
+            kind: Kind::Vrfs,
+            id: _,
+        } => true,
+        _ => false,
+    }
+}
+
 impl SnapshotRows {
     /// No rows. It takes no memory.
     pub fn new(alloc: Global) -> SnapshotRows
@@ -105,34 +121,32 @@ impl SnapshotRows {
         Ok(())
     }
 
-    /// Answers `Get` of a VRF or a prefix, as each register with these rows does. `Err` means out of memory, or another call.
+    /// Answers `List` or `Get` of VRFs or prefixes, as each register with these rows does. A list looks at all rows. `Err` means out of
+    /// memory, or another call.
     pub fn answer(&self, call: &Call) -> Result<Reply, AllocError>
         ensures { IfOk result (λ r. IsReplyTo self.now call.now r) }
     {
-        match call {
-            Call::Get { kind, id } => match kind {
-                Kind::Vrfs => self.one(Kind::Vrfs, *id),
-                Kind::Prefixes => self.one(Kind::Prefixes, *id),
-                _ => Err(AllocError),
-            },
-            _ => Err(AllocError),
+        if is_of_vrfs(call) {
+            self.of_vrfs(call)
+        } else {
+            self.of_prefixes(call)
         }
     }
 
-    /// The row of an id. `Err` means out of memory.
-    fn one(&self, kind: Kind, id: u32) -> Result<Reply, AllocError>
-        requires { IsListsCall (Call.Get kind id) }
-        ensures { IfOk result (λ r. IsReplyTo self.now (Call.Get kind id) r) }
+    /// The answer from the VRFs. `Err` means out of memory, or a call that asks for something else.
+    fn of_vrfs(&self, call: &Call) -> Result<Reply, AllocError>
+        ensures { IfOk result (λ r. IsReplyTo self.now call.now r) }
     {
-        match plan_one(&self.tables, kind, id)? {
-            Planned::Refused(refusal) => Ok(Reply::Refused(refusal)),
-            Planned::Read(reply) => Ok(self.tables.answered(reply)),
-            Planned::Change(update, reply) => {
-                drop(update);
-                drop(reply);
-                Err(AllocError)
-            }
-        }
+        let reply = vrf_answer(self.tables.allocator(), self.tables.vrfs(), call)?;
+        Ok(reply)
+    }
+
+    /// The answer from the prefixes. `Err` means out of memory, or a call that asks for something else.
+    fn of_prefixes(&self, call: &Call) -> Result<Reply, AllocError>
+        ensures { IfOk result (λ r. IsReplyTo self.now call.now r) }
+    {
+        let reply = prefix_answer(self.tables.allocator(), self.tables.prefixes(), call)?;
+        Ok(reply)
     }
 }
 

@@ -5,7 +5,7 @@ use Rattle.register_tables.specs.Held.{state_of}
 use Rattle.register_plans.proofs.calls.broken_changed.Goals as goal
 
 pub returns-in-Some : goal.returns-in-Some
-returns-in-Some g c = sym (names_none g.T.Registered.rules (state_of c.args.row_tables.now) (own_row g.T.Registered.rules (state_of c.args.row_tables.now) c.args.row.now) c.args.row.now c.in-Some.rule (sym c.missing.ensures ∙ c.in-Some.is))
+returns-in-Some g c = sym (names_none g.T.Listed.rules (state_of c.args.row_tables.now) (own_row g.T.Listed.rules (state_of c.args.row_tables.now) c.args.row.now) c.args.row.now c.in-Some.rule (sym c.missing.ensures ∙ c.in-Some.is))
 
 pub returns-in-None : goal.returns-in-None
-returns-in-None g c = c.fault_changed.ensures ∙ sym (names_all g.T.Registered.rules (state_of c.args.row_tables.now) (own_row g.T.Registered.rules (state_of c.args.row_tables.now) c.args.row.now) c.args.row.now (sym c.missing.ensures ∙ c.in-None.is))
+returns-in-None g c = c.fault_changed.ensures ∙ sym (names_all g.T.Listed.rules (state_of c.args.row_tables.now) (own_row g.T.Listed.rules (state_of c.args.row_tables.now) c.args.row.now) c.args.row.now (sym c.missing.ensures ∙ c.in-None.is))

@@ -6,9 +6,9 @@ use Rattle.register_tables.specs.Held.{state_of}
 use Rattle.register_plans.proofs.imports.checks.check_row.Goals as goal
 
 pub returns-in-Some : goal.returns-in-Some
-returns-in-Some g c = sym (creation_broken g.T.Registered.rules (state_of c.args.row_tables.now) c.args.row.now c.in-Some.rule (sym c.broken.ensures ∙ c.in-Some.is))
+returns-in-Some g c = sym (creation_broken g.T.Listed.rules (state_of c.args.row_tables.now) c.args.row.now c.in-Some.rule (sym c.broken.ensures ∙ c.in-Some.is))
 
 pub returns : goal.returns
 returns g c =
-    let seats : c.no_room_for_one.result ≡ first (no_seats g.T.Registered.rules (state_of c.args.row_tables.now) 1) = (rw (c.kind.ensures, c.most.ensures, c.count.ensures.count, c.next.ensures) at c.no_room_for_one.ensures) in
-    seats ∙ sym (creation_free g.T.Registered.rules (state_of c.args.row_tables.now) c.args.row.now (sym c.broken.ensures ∙ c.in_default.is))
+    let seats : c.no_room_for_one.result ≡ first (no_seats g.T.Listed.rules (state_of c.args.row_tables.now) 1) = (rw (c.kind.ensures, c.most.ensures, c.count.ensures.count, c.next.ensures) at c.no_room_for_one.ensures) in
+    seats ∙ sym (creation_free g.T.Listed.rules (state_of c.args.row_tables.now) c.args.row.now (sym c.broken.ensures ∙ c.in_default.is))

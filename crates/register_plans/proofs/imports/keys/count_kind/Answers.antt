@@ -6,7 +6,7 @@ use Rattle.register_plans.proofs.imports.keys.count_kind.Goals as goal
 
 pub count-requires : goal.count-requires
 count-requires g c = λ n e.
-    let rules = g.T.Registered.rules in
+    let rules = g.T.Listed.rules in
     let rows = (rules.row_list (state_of c.args.row_tables.now)).rows in
     let counted : List (List ℕ) = map (key_of_row rules) (take c.records.index rows) in
     let small : n ≤ length counted = left_small c.records.left c.requires.0 counted c.deref.result.now n (c.records.invariant c.requires.0 c.requires.1) e in
@@ -16,7 +16,7 @@ count-requires g c = λ n e.
 
 pub records-preserved : goal.records-preserved
 records-preserved g c = λ keys left.
-    let rules = g.T.Registered.rules in
+    let rules = g.T.Listed.rules in
     let rows = (rules.row_list (state_of c.args.row_tables.now)).rows in
     let counted : List (List ℕ) = map (key_of_row rules) (take c.records.index rows) in
     count_next rules c.count.new.self keys rows c.records.index c.row_at_index-row.result.now c.deref.result.now

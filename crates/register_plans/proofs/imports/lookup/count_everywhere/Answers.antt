@@ -8,7 +8,7 @@ use Rattle.register_plans.proofs.imports.lookup.count_everywhere.Goals.{then-eq,
 
 pub records-preserved : goal.records-preserved
 records-preserved g c =
-    let rules = g.T.Registered.rules in
+    let rules = g.T.Listed.rules in
     let rows = (rules.row_list (state_of c.args.row_tables.now)).rows in
     let key : List ℕ = c.args.key.now in
     let own : List ℕ = c.as_str.result.now in

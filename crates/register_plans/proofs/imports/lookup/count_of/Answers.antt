@@ -7,7 +7,7 @@ use Rattle.register_plans.proofs.imports.lookup.count_of.Goals as goal
 
 pub returns-in-Some : goal.returns-in-Some
 returns-in-Some g c =
-    let rules = g.T.Registered.rules in
+    let rules = g.T.Listed.rules in
     let rows = (rules.row_list (state_of c.args.row_tables.now)).rows in
     let none = c.requires.ready.none c.in-Some.field-0 c.in-Some.is in
     sym (ap (λ (k : List ℕ). count_by (bytes_eq k) (map (key_of_row rules) rows)) none ∙ none_spelled rules rows c.requires.spelled)

@@ -10,20 +10,20 @@ use Rattle.register_plans.proofs.imports.lookup.look_up.Goals as goal
 
 pub loop-row-init : goal.loop-row-init
 loop-row-init g c =
-    let rules = g.T.Registered.rules in
+    let rules = g.T.Listed.rules in
     c.new-left.ensures (map (key_of_row rules) (rules.row_list (state_of c.args.row_tables.now)).rows)
 
 pub count_of-requires-clause-ready : goal.count_of-requires-clause-ready
 count_of-requires-clause-ready g c =
     let low : c.loop-row.row-index < length c.args.rows.now = omega arith in
-    subst (λ (r : Ready). IsReadied g.T.Registered.rules.kind r) (sym c.row-item.is) (readied_at g.T.Registered.rules.kind c.args.rows.now c.loop-row.row-index c.row-item.result c.requires.ready low)
+    subst (λ (r : Ready). IsReadied g.T.Listed.rules.kind r) (sym c.row-item.is) (readied_at g.T.Listed.rules.kind c.args.rows.now c.loop-row.row-index c.row-item.result c.requires.ready low)
 
 pub loop-row-preserved : goal.loop-row-preserved
 loop-row-preserved g c =
     let i : ℕ = c.loop-row.row-index in
     let rows = c.args.rows.now in
     let row = c.row-item.result in
-    let rules = g.T.Registered.rules in
+    let rules = g.T.Listed.rules in
     let records : List (List ℕ) = map (key_of_row rules) (rules.row_list (state_of c.args.row_tables.now)).rows in
     let low : i < length rows = omega arith in
     let own : string_bytes c.in_ok-key.key ≡ row.key = (let a = c.in_ok-key.ensures.ok in let b = c.as_str.ensures in cc) in
