@@ -64,21 +64,12 @@ module _ (o s : State) (log : List Entry) (before : List (ℕ × Call)) (entry :
   state_now : s ≡ entries_replay o log → s ≡ replay plain_step o (before ++ entry ∷ [])
   state_now r = r ∙ (sym (replay_pairs o log) ∙ ap (replay plain_step o) behind)
 
-  some : 1 ≤ length log
-  some = let n = sym (map_length pair_of log) ∙ (ap length behind ∙ length-append before (entry ∷ [])) in omega arith
-
-  -- the register had an update
-  pub had_update : IsLastUpdate o s log None → ⊥
-  had_update k = let l = k.leads some in absurd (cc l.1)
-
   pub last_lists : (u : Update) → s ≡ entries_replay o log → IsLastUpdate o s log (Some u)
       → lists_of (replay plain_step o (before ++ entry ∷ [])) ≡ after_update (lists_of (replay plain_step o before)) u
   last_lists u r k =
-      let l = k.leads some in
       ap lists_of (sym (state_now r))
-      ∙ (ap lists_of l.2 ∙ (lists_follow (entries_replay o (take (length log - 1) log)) l.0
-      ∙ (ap (λ (x : State). after_update (lists_of x) l.0) state_before
-      ∙ ap (λ (x : Option Update). elim x [ Some v ↦ after_update (lists_of (replay plain_step o before)) v | None ↦ lists_of o ]) (sym l.1))))
+      ∙ (ap lists_of k.1 ∙ (lists_follow (entries_replay o (take (length log - 1) log)) u
+      ∙ ap (λ (x : State). after_update (lists_of x) u) state_before))
 
 -- the first few of a log with one more are those of the log
 first_few : {A : Type 0} (before log : List A) (entry : A) (n : ℕ) → log ≡ before ++ entry ∷ [] → n ≤ length before → take n log ≡ take n before

@@ -35,7 +35,7 @@ fn publish<R: Wait>(
     Ok(())
 }
 
-/// Publishes the change that a register accepted last, as `publish` does.
+/// Publishes the change that a register accepted last, as `publish` does: of one that keeps no update (`lend_updates`) it publishes nothing.
 fn publish_last<R: Wait, K: Keeper>(
     rt: &R,
     alloc: Global,
@@ -53,7 +53,7 @@ fn publish_last<R: Wait, K: Keeper>(
     let _entries = Machine::entries(register);
     match register.last_update() {
         Some(update) => publish(rt, alloc, update, feed),
-        None => unreachable!(),
+        None => Err(AllocError),
     }
 }
 

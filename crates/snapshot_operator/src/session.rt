@@ -52,6 +52,8 @@ pub fn serve_operator<R: Wait, K: Keeper, So: Source, Si: Sink>(
     ensures sink { result.end ≡ SessionEnd.SinkFault → Rose (Si.faults sink.old) (Si.faults sink.new) }
     ensures sink_kept { (result.end ≡ SessionEnd.SinkFault) ⊎ (Si.faults sink.new ≡ Si.faults sink.old) }
 {
+    let mut register = register;
+    register.lend_updates();
     let (register, publisher, end) = serve_own::<
         Register<K>,
         RegisterService,

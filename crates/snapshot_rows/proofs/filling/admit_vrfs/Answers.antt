@@ -4,7 +4,7 @@ use Rattle.ipam_data.specs.RowList.{AllBelow}
 use Rattle.ipam_data.specs.Rows.{vrf_id}
 use Rattle.register_tables.specs.Held.{state_of}
 use Rattle.snapshot_rows.specs.Lists.{Lists}
-use Rattle.snapshot_rows.proofs.Filling.{below_front, one_more}
+use Rattle.snapshot_rows.proofs.Placing.{below_front, one_more}
 use Rattle.snapshot_rows.proofs.filling.admit_vrfs.Goals as goal
 
 pub loop-row-init : goal.loop-row-init
