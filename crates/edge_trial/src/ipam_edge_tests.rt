@@ -30,64 +30,112 @@ fn read_in_ten<S: Source>(
     Ok((bytes, calls))
 }
 
+/// The numbers of a word, a comma between each and the next.
+fn numbers_of(alloc: Global, word: &str) -> Result<Vec<u32>, AllocError> {
+    let mut numbers = Vec::new(alloc);
+    for digits in word.split(',') {
+        if let Ok(number) = digits.parse::<u32>() {
+            numbers.push(number)?;
+        }
+    }
+    Ok(numbers)
+}
+
+/// The word of a case at an index, behind a bar each.
+fn word(case: &str, index: usize) -> &str {
+    case.split('|').nth(index).unwrap_or("")
+}
+
+/// The number of a case at an index.
+fn number(case: &str, index: usize) -> usize {
+    word(case, index).parse::<usize>().unwrap_or(0)
+}
+
+/// What a source has, which of its reads fail, and how many bytes it gives at once but for one; what ten reads of three bytes do, and how
+/// many failed.
+const SOURCES: &str = "\
+register||0|rrrrrrrree|0
+register||2|rrreeeeeee|0
+register||4095|rrreeeeeee|0
+register|0|2|frrreeeeee|1
+register|1,2,5|2|rffrrfeeee|3
+register|9,3|2|rrrfeeeeef|2
+||0|eeeeeeeeee|0
+|1|6|efeeeeeeee|1
+";
+
+/// A source of a case, read as its line says.
+fn told_source(alloc: Global, case: &str) -> Result<String, AllocError> {
+    let bytes = Vec::from_slice(alloc, word(case, 0).as_bytes())?;
+    let fails = numbers_of(alloc, word(case, 1))?;
+    let mut source = BytesSource::new(bytes, fails, number(case, 2) % 4096 + 1);
+    let (read, calls) = read_in_ten(alloc, &mut source, 3)?;
+    let read = String::from_utf8_lossy(alloc, read.as_slice())?;
+    let faults = source.faults();
+    let left = source.left().len();
+    format!(in alloc; "{read} {calls} {faults} {left}")
+}
+
+/// What that should be: all bytes were read, and none is left.
+fn wanted_source(alloc: Global, case: &str) -> Result<String, AllocError> {
+    let text = word(case, 0);
+    let calls = word(case, 3);
+    let faults = word(case, 4);
+    format!(in alloc; "{text} {calls} {faults} 0")
+}
+
 #[test]
 fn a_source_gives_its_bytes(rt: HostRuntime) -> Result<(), Fail> {
-    let cases: [(&str, &[u32], usize, &str, u64); 8] = [
-        ("register", &[], 0, "rrrrrrrree", 0),
-        ("register", &[], 2, "rrreeeeeee", 0),
-        ("register", &[], 4095, "rrreeeeeee", 0),
-        ("register", &[0], 2, "frrreeeeee", 1),
-        ("register", &[1, 2, 5], 2, "rffrrfeeee", 3),
-        ("register", &[9, 3], 2, "rrrfeeeeef", 2),
-        ("", &[], 0, "eeeeeeeeee", 0),
-        ("", &[1], 6, "efeeeeeeee", 1),
-    ];
-    for (text, fails, piece, want, faults) in cases {
-        let bytes = Vec::from_slice(rt.alloc(), text.as_bytes())?;
-        let fails = Vec::from_slice(rt.alloc(), fails)?;
-        let mut source = BytesSource::new(bytes, fails, piece % 4096 + 1);
-        let (read, calls) = read_in_ten(rt.alloc(), &mut source, 3)?;
-        assert_eq!(rt; calls.as_str(), want, "calls of {text} at {piece}");
-        assert_eq!(rt; source.faults(), faults, "faults of {text} at {piece}");
-        assert_eq!(rt;
-            read.as_slice(),
-            text.as_bytes(),
-            "bytes of {text} at {piece}"
-        );
-        assert!(rt; source.left().is_empty(), "left of {text} at {piece}");
+    for case in SOURCES.lines() {
+        let told = told_source(rt.alloc(), case)?;
+        let wanted = wanted_source(rt.alloc(), case)?;
+        assert_eq!(rt; told.as_str(), wanted.as_str(), "{case}");
     }
     Ok(())
 }
 
+/// Which writes of a sink fail, how many bytes it takes at once but for one, and its room; what is there after `register` was written to
+/// it, whether that is all, and how many calls failed.
+const SINKS: &str = "\
+|0|8|register|true|0
+|2|9|register|true|0
+|4095|8|register|true|0
+|4095|7|registe|false|1
+|0|0||false|1
+0|4095|8||false|1
+1|2|8|reg|false|1
+2|2|8|regist|false|1
+3|2|8|register|true|0
+";
+
+/// What is written to a sink of a case, and what it tells of that: whether all was, the faults, its bytes, whether nothing can be written
+/// then, and the bytes that it gives back.
+fn told_sink(alloc: Global, case: &str) -> Result<String, AllocError> {
+    let fails = numbers_of(alloc, word(case, 0))?;
+    let piece = number(case, 1) % 4096 + 1;
+    let mut sink = BytesSink::new(alloc, fails, piece, number(case, 2))?;
+    let written = write_all(&mut sink, b"register").is_ok();
+    let faults = sink.faults();
+    let seen = String::from_utf8_lossy(alloc, sink.bytes())?;
+    let nothing = write_all(&mut sink, b"").is_ok();
+    let bytes = String::from_utf8_lossy(alloc, sink.into_bytes().as_slice())?;
+    format!(in alloc; "{written} {faults} {seen} {nothing} {bytes}")
+}
+
+/// What that should be.
+fn wanted_sink(alloc: Global, case: &str) -> Result<String, AllocError> {
+    let bytes = word(case, 3);
+    let written = word(case, 4);
+    let faults = word(case, 5);
+    format!(in alloc; "{written} {faults} {bytes} true {bytes}")
+}
+
 #[test]
 fn a_sink_takes_its_room(rt: HostRuntime) -> Result<(), Fail> {
-    let cases: [(&[u32], usize, usize, &str, bool, u64); 9] = [
-        (&[], 0, 8, "register", true, 0),
-        (&[], 2, 9, "register", true, 0),
-        (&[], 4095, 8, "register", true, 0),
-        (&[], 4095, 7, "registe", false, 1),
-        (&[], 0, 0, "", false, 1),
-        (&[0], 4095, 8, "", false, 1),
-        (&[1], 2, 8, "reg", false, 1),
-        (&[2], 2, 8, "regist", false, 1),
-        (&[3], 2, 8, "register", true, 0),
-    ];
-    for (fails, piece, room, want, whole, faults) in cases {
-        let fails = Vec::from_slice(rt.alloc(), fails)?;
-        let mut sink = BytesSink::new(rt.alloc(), fails, piece % 4096 + 1, room)?;
-        let written = write_all(&mut sink, b"register").is_ok();
-        assert_eq!(rt; written, whole, "{want} at {piece}");
-        assert_eq!(rt; sink.faults(), faults, "{want} at {piece}");
-        assert_eq!(rt; sink.bytes(), want.as_bytes(), "{want} at {piece}");
-        assert!(rt;
-            write_all(&mut sink, b"").is_ok(),
-            "nothing after {want} at {piece}"
-        );
-        assert_eq!(rt;
-            sink.into_bytes().as_slice(),
-            want.as_bytes(),
-            "{want} at {piece}"
-        );
+    for case in SINKS.lines() {
+        let told = told_sink(rt.alloc(), case)?;
+        let wanted = wanted_sink(rt.alloc(), case)?;
+        assert_eq!(rt; told.as_str(), wanted.as_str(), "{case}");
     }
     Ok(())
 }

@@ -15,8 +15,6 @@ ghost use Rattle.ip_ranges.specs.Tracks.{entry_of, spot_of, passes, one, one_of,
 
 mod crossing;
 mod pieces;
-#[cfg(test)]
-mod tests;
 mod tracks;
 
 use crate::crossing::{least_crossing, least_populated, own_fault};

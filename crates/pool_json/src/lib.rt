@@ -8,8 +8,6 @@ mod laws;
 mod members;
 mod replies;
 mod rows;
-#[cfg(test)]
-mod tests;
 
 pub use bodies::{RangeDraft, RequestRefusal, read_range};
 pub use claims::read_claim;

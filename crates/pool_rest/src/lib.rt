@@ -6,8 +6,6 @@ mod call;
 mod laws;
 mod route;
 mod table;
-#[cfg(test)]
-mod tests;
 
 pub use answer::{answer_of_fault, answer_of_refusal_by, answer_of_reply};
 pub use call::{read_call_by, shape_of};

@@ -120,14 +120,10 @@ fn expect<R: Abort + AllocGlobal>(
 ) -> Result<(), AllocError> {
     let mut want = Vec::from_slice(rt.alloc(), answers)?;
     want.extend_from_slice(refusal)?;
-    let name = input.len();
-    for (written, end, _) in [
-        served(rt.alloc(), input, 1)?,
-        served(rt.alloc(), input, 7)?,
-        served(rt.alloc(), input, 4096)?,
-    ] {
-        assert_eq!(rt; end, SessionEnd::Closed(closed), "{name} bytes");
-        assert_eq!(rt; written.as_slice(), want.as_slice(), "{name} bytes");
+    for piece in [0, 6, 4095] {
+        let (written, end, _) = served(rt.alloc(), input, piece + 1)?;
+        assert_eq!(rt; end, SessionEnd::Closed(closed), "{piece}");
+        assert_eq!(rt; written.as_slice(), want.as_slice(), "{piece}");
     }
     Ok(())
 }

@@ -1,9 +1,9 @@
 //! Databases in memory, of the bytes of files, and what is tried over them. A store is named here alone: what is tried is generic in it.
 
-ghost use Rattle.std.specs.Prelude.{IfOk, IsTrue};
-ghost use Rattle.sqlite_disk.specs.Memory.{memory_is_usable};
+ghost use Rattle.std.specs.Prelude.{IsTrue};
 
-use sqlite::{Alter, Connection, FileStore, Files, Options};
+use crate::files::file_of;
+use sqlite::{Alter, Connection, Files, Options};
 use sqlite_disk::{Disk, Memory};
 use std::alloc::{AllocError, Global};
 
@@ -35,33 +35,6 @@ fn bytes_of(alloc: Global, digits: &str) -> Result<Vec<u8>, AllocError> {
     Ok(bytes)
 }
 
-/// A file in memory of these bytes.
-fn file_of(alloc: Global, bytes: &[u8]) -> Result<Memory, AllocError>
-    ensures { IfOk result (λ file. IsTrue (memory_is_usable file)) }
-{
-    let mut file = Memory::new(alloc);
-    if file.write_at(0, bytes).is_err() {
-        return Err(AllocError);
-    }
-    if file.sync().is_err() {
-        return Err(AllocError);
-    }
-    Ok(file)
-}
-
-/// A connection to the database in a file of these bytes.
-fn connection_of(alloc: Global, bytes: &[u8]) -> Result<Connection<FileStore<Memory>>, AllocError> {
-    let db = file_of(alloc, bytes)?;
-    let files = Files {
-        log: Memory::new(alloc),
-        db,
-    };
-    match Connection::open_files(alloc, files, Options::new(1)) {
-        Ok(conn) => Ok(conn),
-        Err(_) => Err(AllocError),
-    }
-}
-
 /// What is tried over a connection, whatever its store.
 pub(crate) trait Trial {
     /// Tries it with these words, and tells what came of it.
@@ -72,6 +45,27 @@ pub(crate) trait Trial {
     ) -> Result<String, AllocError>;
 }
 
+/// Whether these statements run over a connection.
+pub(crate) fn is_run<S: Alter>(conn: &mut Connection<S>, words: &str) -> bool {
+    conn.execute_batch(words).is_ok()
+}
+
+/// What a trial tells over the database in these files, or that they can't be opened.
+pub(crate) fn over_files<D: Disk + Drop, T: Trial>(
+    alloc: Global,
+    files: Files<D>,
+    seed: u64,
+    words: &str,
+) -> Result<String, AllocError>
+    requires log { IsTrue (D.Disk.is_usable files.log) }
+    requires db { IsTrue (D.Disk.is_usable files.db) }
+{
+    match Connection::open_files(alloc, files, Options::new(seed)) {
+        Ok(conn) => T::over(alloc, conn, words),
+        Err(_) => String::from_str(alloc, "refused"),
+    }
+}
+
 /// What a trial tells over the database in a file of these bytes, which is an empty one where there are none.
 pub(crate) fn over_file<T: Trial>(
     alloc: Global,
@@ -79,8 +73,9 @@ pub(crate) fn over_file<T: Trial>(
     words: &str,
 ) -> Result<String, AllocError> {
     let bytes = bytes_of(alloc, digits)?;
-    let conn = connection_of(alloc, bytes.as_slice())?;
-    T::over(alloc, conn, words)
+    let db = file_of(alloc, bytes.as_slice())?;
+    let log = Memory::new(alloc);
+    over_files::<Memory, T>(alloc, Files { log, db }, 1, words)
 }
 
 /// The lines of a table, each as it should be: what is tried over an empty database, a bar, and what is told then.

@@ -2,7 +2,9 @@
 
 use crate::database::{Trial, over_file};
 use crate::first_file::FILE;
-use crate::tests::{followed, loaded};
+use crate::migrating::is_migrated;
+use crate::tests::followed;
+use crate::told::loaded;
 use ipam_keeper::keeper::Keeper;
 use sqlite::{Alter, Connection};
 use sqlite_keeper::SqliteKeeper;
@@ -41,17 +43,6 @@ fn wanted(alloc: Global, version: u32, mark: &str) -> Result<String, AllocError>
     Ok(text)
 }
 
-/// Migrates what a keeper has, and says whether it did.
-fn is_migrated<K: Keeper>(keeper: &mut K, populated: bool) -> bool {
-    match keeper.load() {
-        Ok(tables) => match migrate(&tables, populated) {
-            Ok(anew) => keeper.upgrade(&anew).is_ok(),
-            Err(_) => false,
-        },
-        Err(_) => false,
-    }
-}
-
 /// Why what a keeper has is not migrated, or that it could be.
 fn refused<K: Keeper>(alloc: Global, keeper: &mut K) -> Result<String, AllocError> {
     match keeper.load() {
@@ -80,14 +71,13 @@ fn told_before<K: Keeper>(
 /// What a keeper loads, and why it is not migrated, each on a line behind this text.
 fn told_after<K: Keeper>(
     alloc: Global,
-    mut text: String,
+    before: Result<String, AllocError>,
     keeper: &mut K,
 ) -> Result<String, AllocError> {
-    text.push('\n')?;
-    text.push_str(loaded(alloc, keeper)?.as_str())?;
-    text.push('\n')?;
-    text.push_str(refused(alloc, keeper)?.as_str())?;
-    Ok(text)
+    let before = before?;
+    let after = loaded(alloc, keeper)?;
+    let why = refused(alloc, keeper)?;
+    format!(in alloc; "{before}\n{after}\n{why}")
 }
 
 /// A migration whose ranges are populated where the words are `yes`: what a keeper loads before it, what one over the same database
@@ -101,9 +91,9 @@ impl Trial for Migrating {
         words: &str,
     ) -> Result<String, AllocError> {
         let mut keeper = SqliteKeeper::adopt(alloc, conn);
-        let text = told_before(alloc, &mut keeper, words == "yes")?;
+        let before = told_before(alloc, &mut keeper, words == "yes");
         let mut keeper = followed(alloc, keeper);
-        told_after(alloc, text, &mut keeper)
+        told_after(alloc, before, &mut keeper)
     }
 }
 

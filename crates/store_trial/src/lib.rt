@@ -1,21 +1,42 @@
-//! The stores over SQLite, tried on databases in memory: what is stored, loaded and refused, of a register and of pools.
+//! The stores over SQLite, tried on databases in memory and on a file of the host: what is stored, loaded and refused, of a register and of
+//! pools, also where a file stops at a call.
 #![tactic(auto)]
 
 #[cfg(test)]
 mod database;
 #[cfg(test)]
+mod files;
+#[cfg(test)]
 mod first;
 #[cfg(test)]
 mod first_file;
+#[cfg(test)]
+mod host_tests;
+#[cfg(test)]
+mod lines;
+#[cfg(test)]
+mod migrating;
 #[cfg(test)]
 mod other_tests;
 #[cfg(test)]
 mod pool_file;
 #[cfg(test)]
+mod pool_lines;
+#[cfg(test)]
 mod pool_tests;
 #[cfg(test)]
 mod register_file;
 #[cfg(test)]
+mod stop_tests;
+#[cfg(test)]
+mod stops;
+#[cfg(test)]
+mod store_kinds;
+#[cfg(test)]
+mod stored;
+#[cfg(test)]
 mod tests;
+#[cfg(test)]
+mod told;
 #[cfg(test)]
 mod words;

@@ -1,9 +1,11 @@
 //! A file of the other program is refused, and its own program loads it as before.
 
 use crate::database::{Trial, over_file};
+use crate::store_kinds::{Pools, Register};
+use crate::told::{loaded, pools_loaded};
 use crate::words::word_of;
-use crate::{first_file, pool_file, pool_tests, register_file, tests};
-use ipam_keeper::keeper::{KeepFault, Keeper};
+use crate::{first_file, pool_file, register_file};
+use ipam_keeper::keeper::Keeper;
 use pool_keeper::keeper::PoolKeeper;
 use sqlite::{Alter, Connection};
 use sqlite_keeper::SqliteKeeper;
@@ -14,47 +16,31 @@ use std::test::Fail;
 /// A keeper failed at its first call, and counts that.
 const REFUSED: &str = "Failed 1: ";
 
-/// What a keeper answered, and how often it failed.
-fn told_answer<T: Drop>(
-    alloc: Global,
-    answer: Result<T, KeepFault>,
-    faults: u64,
-) -> Result<String, AllocError> {
-    let word = match answer {
+/// What a keeper of a register answers where it loads.
+fn answered<K: Keeper>(keeper: &mut K) -> &'static str {
+    match keeper.load() {
         Ok(_) => word_of(Ok(())),
         Err(fault) => word_of(Err(fault)),
-    };
-    format!(in alloc; "{word} {faults}: ")
-}
-
-/// What a keeper of a register loads.
-struct ByRegister;
-
-impl Trial for ByRegister {
-    fn over<S: Alter + Drop>(
-        alloc: Global,
-        conn: Connection<S>,
-        words: &str,
-    ) -> Result<String, AllocError> {
-        let _ = words;
-        let mut keeper = SqliteKeeper::adopt(alloc, conn);
-        tests::loaded(alloc, &mut keeper)
     }
 }
 
-/// What a keeper of pools loads.
-struct ByPools;
-
-impl Trial for ByPools {
-    fn over<S: Alter + Drop>(
-        alloc: Global,
-        conn: Connection<S>,
-        words: &str,
-    ) -> Result<String, AllocError> {
-        let _ = words;
-        let mut keeper = SqlitePools::adopt(alloc, conn);
-        pool_tests::loaded(alloc, &mut keeper)
+/// What a keeper of pools answers where it loads.
+fn pools_answered<K: PoolKeeper>(keeper: &mut K) -> &'static str {
+    match keeper.load() {
+        Ok(_) => word_of(Ok(())),
+        Err(fault) => word_of(Err(fault)),
     }
+}
+
+/// What a keeper answered, how often it failed, and what is loaded behind it.
+fn told_behind(
+    alloc: Global,
+    word: &str,
+    faults: u64,
+    text: Result<String, AllocError>,
+) -> Result<String, AllocError> {
+    let text = text?;
+    format!(in alloc; "{word} {faults}: {text}")
 }
 
 /// What a keeper of pools answers, and what one of a register loads behind it.
@@ -68,12 +54,10 @@ impl Trial for ByPoolsFirst {
     ) -> Result<String, AllocError> {
         let _ = words;
         let mut keeper = SqlitePools::adopt(alloc, conn);
-        let answer = keeper.load();
+        let word = pools_answered(&mut keeper);
         let faults = keeper.faults();
         let mut keeper = SqliteKeeper::adopt(alloc, keeper.into_connection());
-        let mut text = told_answer(alloc, answer, faults)?;
-        text.push_str(tests::loaded(alloc, &mut keeper)?.as_str())?;
-        Ok(text)
+        told_behind(alloc, word, faults, loaded(alloc, &mut keeper))
     }
 }
 
@@ -88,12 +72,10 @@ impl Trial for ByRegisterFirst {
     ) -> Result<String, AllocError> {
         let _ = words;
         let mut keeper = SqliteKeeper::adopt(alloc, conn);
-        let answer = keeper.load();
+        let word = answered(&mut keeper);
         let faults = keeper.faults();
         let mut keeper = SqlitePools::adopt(alloc, keeper.into_connection());
-        let mut text = told_answer(alloc, answer, faults)?;
-        text.push_str(pool_tests::loaded(alloc, &mut keeper)?.as_str())?;
-        Ok(text)
+        told_behind(alloc, word, faults, pools_loaded(alloc, &mut keeper))
     }
 }
 
@@ -107,21 +89,21 @@ fn is_left<T: Trial, U: Trial>(alloc: Global, digits: &str) -> Result<bool, Allo
 
 #[test]
 fn a_file_of_pools_is_refused_by_the_register(rt: HostRuntime) -> Result<(), Fail> {
-    let is_left = is_left::<ByRegisterFirst, ByPools>(rt.alloc(), pool_file::FILE)?;
+    let is_left = is_left::<ByRegisterFirst, Pools>(rt.alloc(), pool_file::FILE)?;
     assert!(rt; is_left);
     Ok(())
 }
 
 #[test]
 fn a_file_of_the_register_is_refused_by_pools(rt: HostRuntime) -> Result<(), Fail> {
-    let is_left = is_left::<ByPoolsFirst, ByRegister>(rt.alloc(), register_file::FILE)?;
+    let is_left = is_left::<ByPoolsFirst, Register>(rt.alloc(), register_file::FILE)?;
     assert!(rt; is_left);
     Ok(())
 }
 
 #[test]
 fn a_file_of_version_1_is_refused_by_pools(rt: HostRuntime) -> Result<(), Fail> {
-    let is_left = is_left::<ByPoolsFirst, ByRegister>(rt.alloc(), first_file::FILE)?;
+    let is_left = is_left::<ByPoolsFirst, Register>(rt.alloc(), first_file::FILE)?;
     assert!(rt; is_left);
     Ok(())
 }

@@ -1,12 +1,13 @@
 //! Keepers of pools over databases: what they load, and that what they hold after changes is what a keeper in memory holds.
 
-use crate::database::{Trial, over_file, told_lines};
+use crate::database::{Trial, is_run, over_file, told_lines};
 use crate::pool_file::FILE;
-use crate::words::{number_of, text_of, word_of};
-use number_pools::{Listed, Member, NumberRange, PoolKind};
+use crate::pool_lines::change_of;
+use crate::told::pools_loaded;
+use crate::words::word_of;
 use pool_keeper::keeper::PoolKeeper;
 use pool_keeper::memory::MemoryPools;
-use pool_keeper::tables::{PoolChange, PoolTables, empty_tables};
+use pool_keeper::tables::empty_tables;
 use sqlite::{Alter, Connection};
 use sqlite_pools::SqlitePools;
 use std::alloc::{AllocError, Global};
@@ -60,41 +61,6 @@ done||many|||39,2000
 done|||2|11|40,41
 ";
 
-/// How many members are many.
-const MANY: u32 = 1_000;
-
-fn push_range(alloc: Global, text: &mut String, range: &NumberRange) -> Result<(), AllocError> {
-    let head = format!(in alloc; "{} {:?} {}", range.id, range.kind, range.name.as_str())?;
-    text.push_str(head.as_str())?;
-    text.push_str(format!(in alloc; " {} {};", range.first, range.last)?.as_str())
-}
-
-fn push_member(alloc: Global, text: &mut String, member: &Member) -> Result<(), AllocError> {
-    let head = format!(in alloc; "{} {} {}", member.id, member.range, member.number)?;
-    text.push_str(head.as_str())?;
-    text.push_str(format!(in alloc; " {};", member.name.as_str())?.as_str())
-}
-
-/// The next ids and the rows of tables.
-fn written(alloc: Global, tables: &PoolTables) -> Result<String, AllocError> {
-    let mut text = format!(in alloc; "{},{}:", tables.next_range, tables.next_member)?;
-    for range in tables.ranges.as_slice() {
-        push_range(alloc, &mut text, range)?;
-    }
-    for member in tables.members.as_slice() {
-        push_member(alloc, &mut text, member)?;
-    }
-    Ok(text)
-}
-
-/// What is loaded, or why not.
-pub(crate) fn loaded<K: PoolKeeper>(alloc: Global, keeper: &mut K) -> Result<String, AllocError> {
-    match keeper.load() {
-        Ok(tables) => written(alloc, &tables),
-        Err(fault) => format!(in alloc; "{fault:?}"),
-    }
-}
-
 /// What the words say, with what makes the tables and what sets the next ids in place of their names.
 fn text_made_of(alloc: Global, words: &str) -> Result<String, AllocError> {
     let text = words.replace(alloc, "made", MADE)?;
@@ -111,11 +77,11 @@ impl Trial for Loading {
         words: &str,
     ) -> Result<String, AllocError> {
         let text = text_made_of(alloc, words)?;
-        if conn.execute_batch(text.as_str()).is_err() {
+        if !is_run(&mut conn, text.as_str()) {
             return Err(AllocError);
         }
         let mut keeper = SqlitePools::adopt(alloc, conn);
-        loaded(alloc, &mut keeper)
+        pools_loaded(alloc, &mut keeper)
     }
 }
 
@@ -126,105 +92,53 @@ fn databases_of_pools_are_loaded(rt: HostRuntime) -> Result<(), Fail> {
     Ok(())
 }
 
-/// The kind of this name.
-fn kind_named(name: Option<&str>) -> PoolKind {
-    match name.unwrap_or("") {
-        "asn" => PoolKind::Asn,
-        _ => PoolKind::Vlan,
-    }
-}
-
-/// A range of these words.
-fn range_of(alloc: Global, words: &str) -> Result<NumberRange, AllocError> {
-    Ok(NumberRange {
-        id: number_of(words.split(',').next()),
-        kind: kind_named(words.split(',').nth(1)),
-        name: text_of(alloc, words.split(',').nth(2).unwrap_or(""))?,
-        first: number_of(words.split(',').nth(3)),
-        last: number_of(words.split(',').nth(4)),
-    })
-}
-
-/// A member of these words.
-fn member_of(alloc: Global, words: &str) -> Result<Member, AllocError> {
-    Ok(Member {
-        id: number_of(words.split(',').next()),
-        range: number_of(words.split(',').nth(1)),
-        number: number_of(words.split(',').nth(2)),
-        name: text_of(alloc, words.split(',').nth(3).unwrap_or(""))?,
-    })
-}
-
-/// The ranges of these texts.
-fn ranges_of(alloc: Global, text: &str) -> Result<Listed<NumberRange>, AllocError> {
-    let mut ranges = Vec::new(alloc);
-    for words in text.split(';').filter(|words| !words.is_empty()) {
-        ranges.push(range_of(alloc, words)?)?;
-    }
-    Ok(Listed::of(ranges))
-}
-
-/// Many members.
-fn many_members(alloc: Global) -> Result<Listed<Member>, AllocError> {
-    let mut members = Vec::new(alloc);
-    for id in 100..100 + MANY {
-        members.push(Member {
-            id,
-            range: 3,
-            number: id + 2_000,
-            name: text_of(alloc, format!(in alloc; "name {id}")?.as_str())?,
-        })?;
-    }
-    Ok(Listed::of(members))
-}
-
-/// The members of these texts.
-fn members_of(alloc: Global, text: &str) -> Result<Listed<Member>, AllocError> {
-    if text == "many" {
-        return many_members(alloc);
-    }
-    let mut members = Vec::new(alloc);
-    for words in text.split(';').filter(|words| !words.is_empty()) {
-        members.push(member_of(alloc, words)?)?;
-    }
-    Ok(Listed::of(members))
-}
-
-/// The number of a word, if there is one.
-fn cut_of(word: Option<&str>) -> Option<u32> {
-    match word.unwrap_or("") {
-        "" => None,
-        word => Some(number_of(Some(word))),
-    }
-}
-
-/// The change of a line.
-fn change_of(alloc: Global, line: &str) -> Result<PoolChange, AllocError> {
-    let next = line.split('|').nth(5).unwrap_or("");
-    Ok(PoolChange {
-        next_range: number_of(next.split(',').next()),
-        next_member: number_of(next.split(',').nth(1)),
-        new_ranges: ranges_of(alloc, line.split('|').nth(1).unwrap_or(""))?,
-        new_members: members_of(alloc, line.split('|').nth(2).unwrap_or(""))?,
-        cut_range: cut_of(line.split('|').nth(3)),
-        cut_member: cut_of(line.split('|').nth(4)),
-    })
-}
-
-/// Whether a keeper over a database answers the change of a line as the line says, and then loads what a keeper in memory loads, which makes the
-/// change where it is done.
-fn is_alike<S: Alter>(
+/// What a keeper loads after the change of a line, and what it answered to it.
+fn told_change<K: PoolKeeper>(
     alloc: Global,
-    keeper: &mut SqlitePools<S>,
-    memory: &mut MemoryPools,
+    keeper: &mut K,
     line: &str,
-) -> Result<bool, AllocError> {
+) -> Result<String, AllocError> {
     let change = change_of(alloc, line)?;
     let answer = word_of(keeper.apply(&change));
-    let is_told = answer != "done" || memory.apply(&change).is_ok();
-    let found = loaded(alloc, keeper)?;
-    let wanted = loaded(alloc, memory)?;
-    Ok(is_told && line.starts_with(answer) && found.as_str() == wanted.as_str())
+    let mut text = pools_loaded(alloc, keeper)?;
+    text.push_str(answer)?;
+    Ok(text)
+}
+
+/// What a keeper in memory loads, and that it failed.
+fn told_failure(alloc: Global, memory: &mut MemoryPools) -> Result<String, AllocError> {
+    let mut text = pools_loaded(alloc, memory)?;
+    text.push_str("Failed")?;
+    Ok(text)
+}
+
+/// What that should be, by a keeper in memory, which makes the change where the line says that it is done.
+fn wanted_change(
+    alloc: Global,
+    memory: &mut MemoryPools,
+    line: &str,
+) -> Result<String, AllocError> {
+    if line.starts_with("done") {
+        told_change(alloc, memory, line)
+    } else {
+        told_failure(alloc, memory)
+    }
+}
+
+/// Puts a line at the end of those that are wrong, where a keeper does not do as a keeper in memory.
+fn note<K: PoolKeeper>(
+    alloc: Global,
+    keeper: &mut K,
+    memory: &mut MemoryPools,
+    line: &str,
+    wrong: &mut String,
+) -> Result<(), AllocError> {
+    let found = told_change(alloc, keeper, line)?;
+    let wanted = wanted_change(alloc, memory, line)?;
+    if found.as_str() == wanted.as_str() {
+        return Ok(());
+    }
+    wrong.push_str(line)
 }
 
 /// A keeper that a second one follows over the same database.
@@ -244,24 +158,38 @@ fn memory_after(alloc: Global, made: usize) -> Result<MemoryPools, AllocError> {
     Ok(memory)
 }
 
-/// The lines whose changes leave other tables in a keeper over a database, where so many are made, than in one in memory.
-fn wrong_lines<S: Alter + Drop>(
+/// Says so where a keeper loads other tables than one in memory.
+fn note_first<K: PoolKeeper>(
+    alloc: Global,
+    keeper: &mut K,
+    memory: &mut MemoryPools,
+    wrong: &mut String,
+) -> Result<(), AllocError> {
+    let found = pools_loaded(alloc, keeper)?;
+    let wanted = pools_loaded(alloc, memory)?;
+    if found.as_str() == wanted.as_str() {
+        return Ok(());
+    }
+    wrong.push_str("other tables at first")
+}
+
+/// Notes the lines whose changes leave other tables in a keeper over a database, where so many are made, than in one in memory. A second
+/// keeper follows behind each.
+fn note_lines<S: Alter + Drop>(
     alloc: Global,
     mut keeper: SqlitePools<S>,
+    memory: &mut MemoryPools,
     made: usize,
-) -> Result<String, AllocError> {
-    let mut memory = memory_after(alloc, made)?;
-    let mut wrong = String::new(alloc);
-    if loaded(alloc, &mut keeper)? != loaded(alloc, &mut memory)? {
-        wrong.push_str("other tables at first")?;
-    }
+    wrong: &mut String,
+) -> Result<(), AllocError> {
+    let mut noted = note_first(alloc, &mut keeper, memory, wrong);
     for line in CHANGES.lines().skip(made) {
-        if !is_alike(alloc, &mut keeper, &mut memory, line)? {
-            wrong.push_str(line)?;
+        if noted.is_ok() {
+            noted = note(alloc, &mut keeper, memory, line, wrong);
         }
         keeper = followed(alloc, keeper);
     }
-    Ok(wrong)
+    noted
 }
 
 /// The changes, as many of which are made as the words say.
@@ -274,7 +202,11 @@ impl Trial for Changing {
         words: &str,
     ) -> Result<String, AllocError> {
         let made = words.parse::<usize>().unwrap_or(0);
-        wrong_lines(alloc, SqlitePools::adopt(alloc, conn), made)
+        let mut memory = memory_after(alloc, made)?;
+        let mut wrong = String::new(alloc);
+        let keeper = SqlitePools::adopt(alloc, conn);
+        note_lines(alloc, keeper, &mut memory, made, &mut wrong)?;
+        Ok(wrong)
     }
 }
 

@@ -1,10 +1,10 @@
 //! Keepers over databases: what they load, and that what they hold after changes is what a keeper in memory holds.
 
-use crate::database::{Trial, over_file, told_lines};
+use crate::database::{Trial, is_run, over_file, told_lines};
+use crate::lines::change_of;
 use crate::register_file::FILE;
-use crate::words::{number_of, text_of, word_of};
-use ipam_data::kinds::Kind;
-use ipam_data::update::Ids;
+use crate::told::loaded;
+use crate::words::word_of;
 use ipam_keeper::empty::empty_tables;
 use ipam_keeper::keeper::Keeper;
 use ipam_keeper::memory::MemoryKeeper;
@@ -12,7 +12,6 @@ use sqlite::{Alter, Connection};
 use sqlite_keeper::SqliteKeeper;
 use std::alloc::{AllocError, Global};
 use std::test::Fail;
-use stored_tables::tables::{Change, Row, Rows, Tables, Texts};
 
 /// What makes a database, a bar, and what its keeper then loads.
 const LOADS: &str = "\
@@ -38,39 +37,6 @@ done|roles,9,MAN,man,13,;prefixes,4,10.3.0.0/16,,active,,false,false,|aggregates
 done|many||vrfs,2000
 ";
 
-/// How many VRFs are many.
-const MANY: u32 = 1_100;
-
-fn push_row(alloc: Global, text: &mut String, row: &Row) -> Result<(), AllocError> {
-    text.push_str(format!(in alloc; "{:?} {}", row.kind, row.id)?.as_str())?;
-    for field in row.fields.as_slice() {
-        text.push(' ')?;
-        text.push_str(field.as_str())?;
-    }
-    text.push(';')
-}
-
-/// The version, the next ids and the rows of tables.
-fn written(alloc: Global, tables: &Tables) -> Result<String, AllocError> {
-    let mut text = format!(in alloc; "{}:", tables.version)?;
-    for next in tables.next.as_slice() {
-        text.push_str(format!(in alloc; "{},", next.1)?.as_str())?;
-    }
-    text.push(':')?;
-    for row in tables.rows.as_slice() {
-        push_row(alloc, &mut text, row)?;
-    }
-    Ok(text)
-}
-
-/// What is loaded, or why not.
-pub(crate) fn loaded<K: Keeper>(alloc: Global, keeper: &mut K) -> Result<String, AllocError> {
-    match keeper.load() {
-        Ok(tables) => written(alloc, &tables),
-        Err(fault) => format!(in alloc; "{fault:?}"),
-    }
-}
-
 /// What a keeper loads of a database that the words make.
 struct Loading;
 
@@ -80,7 +46,7 @@ impl Trial for Loading {
         mut conn: Connection<S>,
         words: &str,
     ) -> Result<String, AllocError> {
-        if conn.execute_batch(words).is_err() {
+        if !is_run(&mut conn, words) {
             return Err(AllocError);
         }
         let mut keeper = SqliteKeeper::adopt(alloc, conn);
@@ -95,87 +61,49 @@ fn databases_are_loaded(rt: HostRuntime) -> Result<(), Fail> {
     Ok(())
 }
 
-/// The kind of this name.
-fn kind_of(name: Option<&str>) -> Kind {
-    match name.unwrap_or("") {
-        "vrfs" => Kind::Vrfs,
-        "rirs" => Kind::Rirs,
-        "roles" => Kind::Roles,
-        "aggregates" => Kind::Aggregates,
-        "prefixes" => Kind::Prefixes,
-        "ip-ranges" => Kind::Ranges,
-        _ => Kind::Addresses,
-    }
-}
-
-/// A row of these words: its kind, its id and its fields.
-fn row_of(alloc: Global, words: &str) -> Result<Row, AllocError> {
-    let mut fields = Vec::new(alloc);
-    for word in words.split(',').skip(2) {
-        fields.push(text_of(alloc, word)?)?;
-    }
-    Ok(Row {
-        kind: kind_of(words.split(',').next()),
-        id: number_of(words.split(',').nth(1)),
-        fields: Texts::of(fields),
-    })
-}
-
-/// Many VRFs.
-fn many_rows(alloc: Global) -> Result<Rows, AllocError> {
-    let mut rows = Vec::new(alloc);
-    for id in 100..100 + MANY {
-        let words = format!(in alloc; "vrfs,{id},name {id},65000:{id},true,row {id}")?;
-        rows.push(row_of(alloc, words.as_str())?)?;
-    }
-    Ok(Rows::of(rows))
-}
-
-/// The rows of these texts.
-fn rows_of(alloc: Global, text: &str) -> Result<Rows, AllocError> {
-    if text == "many" {
-        return many_rows(alloc);
-    }
-    let mut rows = Vec::new(alloc);
-    for words in text.split(';').filter(|words| !words.is_empty()) {
-        rows.push(row_of(alloc, words)?)?;
-    }
-    Ok(Rows::of(rows))
-}
-
-/// The numbers of these texts, each with its kind.
-fn ids_of(alloc: Global, text: &str) -> Result<Ids, AllocError> {
-    let mut ids = Vec::new(alloc);
-    for words in text.split(';').filter(|words| !words.is_empty()) {
-        let kind = kind_of(words.split(',').next());
-        ids.push((kind, number_of(words.split(',').nth(1))))?;
-    }
-    Ok(Ids::of(ids))
-}
-
-/// The change of a line.
-fn change_of(alloc: Global, line: &str) -> Result<Change, AllocError> {
-    Ok(Change {
-        puts: rows_of(alloc, line.split('|').nth(1).unwrap_or(""))?,
-        cuts: ids_of(alloc, line.split('|').nth(2).unwrap_or(""))?,
-        next: ids_of(alloc, line.split('|').nth(3).unwrap_or(""))?,
-    })
-}
-
-/// Whether a keeper over a database answers the change of a line as the line says, and then loads what a keeper in memory loads, which makes the
-/// change where it is done.
-fn is_alike<S: Alter>(
-    alloc: Global,
-    keeper: &mut SqliteKeeper<S>,
-    memory: &mut MemoryKeeper,
-    line: &str,
-) -> Result<bool, AllocError> {
+/// What a keeper loads after the change of a line, and what it answered to it.
+fn told_change<K: Keeper>(alloc: Global, keeper: &mut K, line: &str) -> Result<String, AllocError> {
     let change = change_of(alloc, line)?;
     let answer = word_of(keeper.apply(&change));
-    let is_told = answer != "done" || memory.apply(&change).is_ok();
-    let found = loaded(alloc, keeper)?;
-    let wanted = loaded(alloc, memory)?;
-    Ok(is_told && line.starts_with(answer) && found.as_str() == wanted.as_str())
+    let mut text = loaded(alloc, keeper)?;
+    text.push_str(answer)?;
+    Ok(text)
+}
+
+/// What a keeper in memory loads, and that it failed.
+fn told_failure(alloc: Global, memory: &mut MemoryKeeper) -> Result<String, AllocError> {
+    let mut text = loaded(alloc, memory)?;
+    text.push_str("Failed")?;
+    Ok(text)
+}
+
+/// What that should be, by a keeper in memory, which makes the change where the line says that it is done.
+fn wanted_change(
+    alloc: Global,
+    memory: &mut MemoryKeeper,
+    line: &str,
+) -> Result<String, AllocError> {
+    if line.starts_with("done") {
+        told_change(alloc, memory, line)
+    } else {
+        told_failure(alloc, memory)
+    }
+}
+
+/// Puts a line at the end of those that are wrong, where a keeper does not do as a keeper in memory.
+fn note<K: Keeper>(
+    alloc: Global,
+    keeper: &mut K,
+    memory: &mut MemoryKeeper,
+    line: &str,
+    wrong: &mut String,
+) -> Result<(), AllocError> {
+    let found = told_change(alloc, keeper, line)?;
+    let wanted = wanted_change(alloc, memory, line)?;
+    if found.as_str() == wanted.as_str() {
+        return Ok(());
+    }
+    wrong.push_str(line)
 }
 
 /// A keeper that a second one follows over the same database.
@@ -195,24 +123,38 @@ fn memory_after(alloc: Global, made: usize) -> Result<MemoryKeeper, AllocError> 
     Ok(memory)
 }
 
-/// The lines whose changes leave other tables in a keeper over a database, where so many are made, than in one in memory.
-fn wrong_lines<S: Alter + Drop>(
+/// Says so where a keeper loads other tables than one in memory.
+fn note_first<K: Keeper>(
+    alloc: Global,
+    keeper: &mut K,
+    memory: &mut MemoryKeeper,
+    wrong: &mut String,
+) -> Result<(), AllocError> {
+    let found = loaded(alloc, keeper)?;
+    let wanted = loaded(alloc, memory)?;
+    if found.as_str() == wanted.as_str() {
+        return Ok(());
+    }
+    wrong.push_str("other tables at first")
+}
+
+/// Notes the lines whose changes leave other tables in a keeper over a database, where so many are made, than in one in memory. A second
+/// keeper follows behind each.
+fn note_lines<S: Alter + Drop>(
     alloc: Global,
     mut keeper: SqliteKeeper<S>,
+    memory: &mut MemoryKeeper,
     made: usize,
-) -> Result<String, AllocError> {
-    let mut memory = memory_after(alloc, made)?;
-    let mut wrong = String::new(alloc);
-    if loaded(alloc, &mut keeper)? != loaded(alloc, &mut memory)? {
-        wrong.push_str("other tables at first")?;
-    }
+    wrong: &mut String,
+) -> Result<(), AllocError> {
+    let mut noted = note_first(alloc, &mut keeper, memory, wrong);
     for line in CHANGES.lines().skip(made) {
-        if !is_alike(alloc, &mut keeper, &mut memory, line)? {
-            wrong.push_str(line)?;
+        if noted.is_ok() {
+            noted = note(alloc, &mut keeper, memory, line, wrong);
         }
         keeper = followed(alloc, keeper);
     }
-    Ok(wrong)
+    noted
 }
 
 /// The changes, as many of which are made as the words say.
@@ -225,7 +167,11 @@ impl Trial for Changing {
         words: &str,
     ) -> Result<String, AllocError> {
         let made = words.parse::<usize>().unwrap_or(0);
-        wrong_lines(alloc, SqliteKeeper::adopt(alloc, conn), made)
+        let mut memory = memory_after(alloc, made)?;
+        let mut wrong = String::new(alloc);
+        let keeper = SqliteKeeper::adopt(alloc, conn);
+        note_lines(alloc, keeper, &mut memory, made, &mut wrong)?;
+        Ok(wrong)
     }
 }
 

@@ -1,17 +1,17 @@
 //! A keeper over files that stop, and what is found when they are opened again.
 
 ghost use Rattle.std.specs.Prelude.{IsTrue};
-ghost use Rattle.sqlite_disk.specs.Memory.{memory_is_usable};
 
-use crate::files::{Stop, found_files, stopping_files};
-use crate::store_kinds::StoreKind;
+use crate::database::over_files;
+use crate::files::{Stop, found_files};
+use crate::store_kinds::{StoreKind, Stores};
 use sqlite::{Connection, Files, Options};
-use sqlite_disk::{Fuse, Memory};
+use sqlite_disk::{Disk, Fuse, Memory};
 use std::alloc::{AllocError, Global};
 
 /// What came of a stop.
 #[derive(Clone, Copy, Debug, PartialEq, Eq)]
-pub enum Ending {
+pub(crate) enum Ending {
     /// The tables are those before the change that was being made, or after it.
     Whole,
     /// The tables are others, or can't be loaded.
@@ -20,13 +20,15 @@ pub enum Ending {
     Beyond,
 }
 
-/// How many changes were stored before a file stopped, and both files then.
-fn stopped<K: StoreKind>(
+/// How many changes were stored over these files before one stopped, and both files then.
+pub(crate) fn stopped<D: Disk + Drop, K: Stores>(
     alloc: Global,
     changes: u32,
-    stop: Stop,
-) -> (Result<u32, AllocError>, Files<Fuse<Memory>>) {
-    let files = stopping_files(alloc, stop);
+    files: Files<D>,
+) -> (Result<u32, AllocError>, Files<D>)
+    requires log { IsTrue (D.Disk.is_usable files.log) }
+    requires db { IsTrue (D.Disk.is_usable files.db) }
+{
     match Connection::open_files(alloc, files, Options::new(1)) {
         Ok(conn) => {
             let (stored, files) = K::store(alloc, conn, changes);
@@ -36,18 +38,17 @@ fn stopped<K: StoreKind>(
     }
 }
 
-/// The tables of files, in words. `Err` means out of memory.
-pub(crate) fn tables_of<K: StoreKind>(
+/// How many changes were stored before a file stopped, and the tables that are found then, in words. `Err` means out of memory.
+fn found_after<K: StoreKind>(
     alloc: Global,
-    files: Files<Memory>,
-) -> Result<String, AllocError>
-    requires log { IsTrue (memory_is_usable files.log) }
-    requires db { IsTrue (memory_is_usable files.db) }
-{
-    match Connection::open_files(alloc, files, Options::new(2)) {
-        Ok(conn) => K::tables(alloc, conn),
-        Err(_) => String::from_str(alloc, "refused"),
-    }
+    changes: u32,
+    stop: Stop,
+) -> Result<(u32, String), AllocError> {
+    let files = K::files(alloc, stop)?;
+    let (stored, files) = stopped::<Fuse<Memory>, K>(alloc, changes, files);
+    let found = found_files(alloc, files, stop.found)?;
+    let tables = over_files::<Memory, K>(alloc, found, 2, "")?;
+    Ok((stored?, tables))
 }
 
 /// Whether these are the tables after so many changes.
@@ -57,15 +58,12 @@ fn are_after<K: StoreKind>(alloc: Global, tables: &str, changes: u32) -> Result<
 }
 
 /// What comes of a stop while so many changes are stored. `Err` means out of memory.
-pub fn ending_of<K: StoreKind>(
+pub(crate) fn ending_of<K: StoreKind>(
     alloc: Global,
     changes: u32,
     stop: Stop,
 ) -> Result<Ending, AllocError> {
-    let (stored, files) = stopped::<K>(alloc, changes, stop);
-    let stored = stored?;
-    let files = found_files(alloc, files, stop.found)?;
-    let tables = tables_of::<K>(alloc, files)?;
+    let (stored, tables) = found_after::<K>(alloc, changes, stop)?;
     let is_before = are_after::<K>(alloc, tables.as_str(), stored)?;
     if stored == changes {
         return Ok(if is_before {

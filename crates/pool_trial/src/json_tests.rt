@@ -1,9 +1,10 @@
-//! Bodies and replies byte for byte, a case to a line.
+//! Bodies and replies of pools, byte for byte, a case to a line.
 
-use crate::{RequestRefusal, Shape, read_claim, read_range, reply_bytes, request_refusal_bytes};
 use ipam_data::calls::Answered;
-use ipam_data::replies::Refusal;
 use number_pools::{Listed, Member, NumberRange, PoolKind, PoolRefusal, PoolReply, Quantity};
+use pool_json::{
+    RequestRefusal, Shape, read_claim, read_range, reply_bytes, request_refusal_bytes,
+};
 use std::alloc::{AllocError, Global};
 use std::test::Fail;
 use stored_tables::tables::Text;

@@ -1,9 +1,9 @@
-//! Requests and answers, a case to a line.
+//! Requests of pools and the answers to them, a case to a line.
 
-use crate::{Routes, answer_of_fault, answer_of_refusal_by, answer_of_reply, read_call_by};
 use http_session::{Fault, Reply as Answer};
 use number_pools::{Listed, Member, PoolKind, PoolRefusal, PoolReply, Quantity};
 use pool_json::{RequestRefusal, Shape};
+use pool_rest::{Routes, answer_of_fault, answer_of_refusal_by, answer_of_reply, read_call_by};
 use std::alloc::{AllocError, Global};
 use std::process::Abort;
 use std::test::Fail;

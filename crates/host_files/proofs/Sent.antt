@@ -19,7 +19,7 @@ use Rattle.sqlite_keeper.specs.contracts.keeper.SqliteKeeper as SqliteKeeper
 use Rattle.sqlite_keeper.proofs.keeper.SqliteKeeper.TheSendSync as sqlite_keeper
 use Rattle.sqlite_keeper.specs.contracts.opener.StoreKeeper as StoreKeeper
 use Rattle.sqlite_keeper.proofs.opener.StoreKeeper.TheSendSync as store_keeper
-use Rattle.ipamd.specs.contracts.files.HostKeeper as HostKeeper
+use Rattle.host_files.specs.contracts.files.HostKeeper as HostKeeper
 
 record_send : IsSend Record.the_row
 record_send = owning_send Record.the_type (search sendable, tt) (λ d. tt) (λ k x w. tt)

@@ -12,7 +12,7 @@ const SECTOR: usize = 512;
 
 /// Which of the two files of a database stops.
 #[derive(Clone, Copy, Debug)]
-pub enum Side {
+pub(crate) enum Side {
     Log,
     Database,
 }
@@ -20,7 +20,7 @@ pub enum Side {
 /// How files are found after a stop: with all that was written; with what was synced alone, so that the rest is lost; or torn, with
 /// every second sector as it was written and the others as they were synced.
 #[derive(Clone, Copy, Debug)]
-pub enum Found {
+pub(crate) enum Found {
     Written,
     Lost,
     Torn,
@@ -28,10 +28,10 @@ pub enum Found {
 
 /// A stop: this file fails at the call behind so many, and at each one after it.
 #[derive(Clone, Copy, Debug)]
-pub struct Stop {
-    pub side: Side,
-    pub calls: u64,
-    pub found: Found,
+pub(crate) struct Stop {
+    pub(crate) side: Side,
+    pub(crate) calls: u64,
+    pub(crate) found: Found,
 }
 
 /// A file without bytes that fails behind so many calls.
@@ -78,7 +78,7 @@ pub(crate) fn stopping_over(files: Files<Memory>, stop: Stop) -> Files<Fuse<Memo
 }
 
 /// A file of these bytes. `Err` means out of memory.
-fn file_of(alloc: Global, bytes: &[u8]) -> Result<Memory, AllocError>
+pub(crate) fn file_of(alloc: Global, bytes: &[u8]) -> Result<Memory, AllocError>
     ensures { IfOk result (λ file. IsTrue (memory_is_usable file)) }
 {
     let mut file = Memory::new(alloc);

@@ -7,8 +7,8 @@ ghost use Rattle.ipam_data.specs.RowList.{AllBelow};
 ghost use Rattle.ipam_data.specs.Rows.{range_id};
 ghost use Rattle.ipam_data.specs.Lawful.{IsRange};
 
-use crate::{RangeBook, SpanKind};
 use inet_num::{Addr, Family};
+use ip_ranges::{RangeBook, SpanKind};
 use ipam_data::host::Ends;
 use ipam_data::kinds::Table;
 use ipam_data::range::{IpRange, RangeStatus};

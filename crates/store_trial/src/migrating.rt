@@ -3,12 +3,13 @@
 ghost use Rattle.std.specs.Prelude.{IfOk, IsTrue};
 ghost use Rattle.sqlite_disk.specs.Memory.{memory_is_usable};
 
+use crate::database::{Trial, is_run, over_files};
 use crate::files::{Found, Side, Stop, found_files, stopping_files, stopping_over};
-use crate::stops::{Ending, tables_of};
-use crate::store_kinds::Register;
+use crate::stops::stopped;
+use crate::store_kinds::{Register, StoreKind, Stores};
 use ipam_keeper::keeper::Keeper;
-use sqlite::{Alter, Connection, Files, Options};
-use sqlite_disk::{Fuse, Memory};
+use sqlite::{Alter, Connection, Files};
+use sqlite_disk::{Disk, Fuse, Memory};
 use sqlite_keeper::SqliteKeeper;
 use std::alloc::{AllocError, Global};
 use stored_tables::migration::migrate;
@@ -41,26 +42,54 @@ const NEVER: Stop = Stop {
     found: Found::Written,
 };
 
+/// What makes the tables of version 1.
+struct First;
+
+impl Stores for First {
+    fn store<S: Alter + Drop>(
+        alloc: Global,
+        mut conn: Connection<S>,
+        changes: u32,
+    ) -> (Result<u32, AllocError>, S) {
+        let _ = (alloc, changes);
+        let made = if is_run(&mut conn, FIRST) {
+            Ok(1)
+        } else {
+            Err(AllocError)
+        };
+        (made, conn.into_store())
+    }
+}
+
+/// The files that something stores into where nothing stops. `Err` means out of memory.
+fn whole_files<K: Stores>(
+    alloc: Global,
+    files: Files<Fuse<Memory>>,
+) -> Result<Files<Memory>, AllocError>
+    requires log { IsTrue (⟦<Fuse<Memory> as Disk>⟧.is_usable files.log) }
+    requires db { IsTrue (⟦<Fuse<Memory> as Disk>⟧.is_usable files.db) }
+    ensures found_log { IfOk result (λ files. IsTrue (memory_is_usable files.log)) }
+    ensures found_db { IfOk result (λ files. IsTrue (memory_is_usable files.db)) }
+{
+    let (stored, files) = stopped::<Fuse<Memory>, K>(alloc, 1, files);
+    match stored {
+        Ok(1) => found_files(alloc, files, Found::Written),
+        _ => Err(AllocError),
+    }
+}
+
 /// The files of a database with the tables of version 1. `Err` means out of memory.
 fn first_files(alloc: Global) -> Result<Files<Memory>, AllocError>
     ensures log { IfOk result (λ files. IsTrue (memory_is_usable files.log)) }
     ensures db { IfOk result (λ files. IsTrue (memory_is_usable files.db)) }
 {
-    match Connection::open_files(alloc, stopping_files(alloc, NEVER), Options::new(1)) {
-        Ok(mut conn) => {
-            if conn.execute_batch(FIRST).is_err() {
-                return Err(AllocError);
-            }
-            found_files(alloc, conn.into_store().close(), Found::Written)
-        }
-        Err(_) => Err(AllocError),
-    }
+    whole_files::<First>(alloc, stopping_files(alloc, NEVER))
 }
 
 /// Migrates what a keeper has, and says whether it did.
-fn is_migrated<K: Keeper>(keeper: &mut K) -> bool {
+pub(crate) fn is_migrated<K: Keeper>(keeper: &mut K, populated: bool) -> bool {
     match keeper.load() {
-        Ok(tables) => match migrate(&tables, true) {
+        Ok(tables) => match migrate(&tables, populated) {
             Ok(anew) => keeper.upgrade(&anew).is_ok(),
             Err(_) => false,
         },
@@ -68,45 +97,53 @@ fn is_migrated<K: Keeper>(keeper: &mut K) -> bool {
     }
 }
 
-/// Migrates over a connection, says whether it did, and gives its store back.
-fn migrated_over<S: Alter + Drop>(alloc: Global, conn: Connection<S>) -> (bool, S) {
-    let mut keeper = SqliteKeeper::adopt(alloc, conn);
-    let done = is_migrated(&mut keeper);
-    (done, keeper.into_connection().into_store())
-}
+/// The migration of a file of version 1, which is the one change.
+pub(crate) struct Migration;
 
-/// Whether the migration was done before a file stopped, and both files then.
-fn stopped(alloc: Global, stop: Stop) -> Result<(bool, Files<Fuse<Memory>>), AllocError> {
-    let files = stopping_over(first_files(alloc)?, stop);
-    match Connection::open_files(alloc, files, Options::new(1)) {
-        Ok(conn) => {
-            let (done, files) = migrated_over(alloc, conn);
-            Ok((done, files.close()))
-        }
-        Err((_, left)) => Ok((false, left.into_files())),
+impl Stores for Migration {
+    fn store<S: Alter + Drop>(
+        alloc: Global,
+        conn: Connection<S>,
+        changes: u32,
+    ) -> (Result<u32, AllocError>, S) {
+        let _ = changes;
+        let mut keeper = SqliteKeeper::adopt(alloc, conn);
+        let stored = if is_migrated(&mut keeper, true) { 1 } else { 0 };
+        (Ok(stored), keeper.into_connection().into_store())
     }
 }
 
-/// The tables of the file where nothing stops, in words: before the migration, and after it.
-fn both_tables(alloc: Global) -> Result<(String, String), AllocError> {
-    let before = tables_of::<Register>(alloc, first_files(alloc)?)?;
-    let (_, files) = stopped(alloc, NEVER)?;
-    let after = tables_of::<Register>(alloc, found_files(alloc, files, Found::Written)?)?;
-    Ok((before, after))
+impl Trial for Migration {
+    fn over<S: Alter + Drop>(
+        alloc: Global,
+        conn: Connection<S>,
+        words: &str,
+    ) -> Result<String, AllocError> {
+        Register::over(alloc, conn, words)
+    }
 }
 
-/// What comes of a stop while the file is migrated. `Err` means out of memory.
-pub fn migration_ending_of(alloc: Global, stop: Stop) -> Result<Ending, AllocError> {
-    let (before, after) = both_tables(alloc)?;
-    let (done, files) = stopped(alloc, stop)?;
-    let tables = tables_of::<Register>(alloc, found_files(alloc, files, stop.found)?)?;
-    let is_after = tables.as_str() == after.as_str();
-    if done && is_after {
-        return Ok(Ending::Beyond);
+/// The files after the migration. `Err` means out of memory.
+fn migrated_files(alloc: Global) -> Result<Files<Memory>, AllocError>
+    ensures log { IfOk result (λ files. IsTrue (memory_is_usable files.log)) }
+    ensures db { IfOk result (λ files. IsTrue (memory_is_usable files.db)) }
+{
+    let files = first_files(alloc)?;
+    whole_files::<Migration>(alloc, stopping_over(files, NEVER))
+}
+
+impl StoreKind for Migration {
+    fn files(alloc: Global, stop: Stop) -> Result<Files<Fuse<Memory>>, AllocError> {
+        let files = first_files(alloc)?;
+        Ok(stopping_over(files, stop))
     }
-    Ok(if !done && (is_after || tables.as_str() == before.as_str()) {
-        Ending::Whole
-    } else {
-        Ending::Broken
-    })
+
+    fn tables_after(alloc: Global, changes: u32) -> Result<String, AllocError> {
+        let files = if changes == 0 {
+            first_files(alloc)?
+        } else {
+            migrated_files(alloc)?
+        };
+        over_files::<Memory, Register>(alloc, files, 2, "")
+    }
 }

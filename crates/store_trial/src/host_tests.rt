@@ -1,0 +1,65 @@
+//! A file of the host, by the opener of `ipamd`: what was put into it is there when it is opened again, and nobody else opens it meanwhile.
+
+use crate::lines::change_of;
+use crate::told::loaded;
+use crate::words::text_of;
+use host_files::HostFiles;
+use ipam_keeper::keeper::{KeepFault, Keeper, KeeperOpener};
+use sqlite_keeper::SqliteOpener;
+use std::alloc::Global;
+use std::fs;
+use std::test::Fail;
+use stored_tables::tables::{Change, Text};
+
+const FOLDER: &str = "ipamd_files_test";
+
+/// The change that makes the role 7.
+const ONE_ROLE: &str = "done|roles,7,LAN,lan,10,cables||roles,8";
+
+/// What a file holds when it is opened, behind which a change is made.
+fn held_before<O: KeeperOpener>(
+    alloc: Global,
+    opener: &mut O,
+    path: &Text,
+    change: &Change,
+) -> Result<String, KeepFault> {
+    let mut keeper = opener.start(Some(path))?;
+    let told = loaded(alloc, &mut keeper);
+    let applied = keeper.apply(change);
+    opener.done(keeper);
+    applied?;
+    Ok(told?)
+}
+
+/// Whether a second opener is refused the file that a first one has open.
+fn is_refused<O: KeeperOpener, P: KeeperOpener>(
+    first: &mut O,
+    second: &mut P,
+    path: &Text,
+) -> Result<bool, KeepFault> {
+    let keeper = first.start(Some(path))?;
+    let is_refused = matches!(second.start(Some(path)), Err(KeepFault::Failed));
+    first.done(keeper);
+    Ok(is_refused)
+}
+
+#[test]
+fn a_file_on_disk_keeps_what_was_put(rt: HostRuntime) -> Result<(), Fail> {
+    let alloc = rt.alloc();
+    let _ = fs::remove_dir_all(&rt, FOLDER);
+    fs::create_dir(&rt, FOLDER)?;
+    let path = text_of(alloc, "ipamd_files_test/a.db")?;
+    let change = change_of(alloc, ONE_ROLE)?;
+    let mut opener = SqliteOpener::new(alloc, HostFiles::of(&rt));
+    let first = held_before(alloc, &mut opener, &path, &change);
+    let mut other = SqliteOpener::new(alloc, HostFiles::of(&rt));
+    let second = held_before(alloc, &mut other, &path, &change);
+    let refused = is_refused(&mut opener, &mut other, &path);
+    fs::remove_dir_all(&rt, FOLDER)?;
+    assert!(rt; first.is_ok_and(|told| told.as_str() == "2:1,1,1,1,1,1,1,:"));
+    assert!(rt;
+        second.is_ok_and(|told| told.as_str() == "2:1,1,8,1,1,1,1,:Roles 7 LAN lan 10 cables;")
+    );
+    assert!(rt; refused.is_ok_and(|refused| refused));
+    Ok(())
+}

@@ -1,0 +1,77 @@
+//! Changes of a register, each a line of text.
+
+use crate::words::{number_of, text_of};
+use ipam_data::kinds::Kind;
+use ipam_data::update::Ids;
+use std::alloc::{AllocError, Global};
+use stored_tables::tables::{Change, Row, Rows, Texts};
+
+/// How many VRFs are many.
+const MANY: u32 = 1_100;
+
+/// The kind of this name.
+fn kind_of(name: Option<&str>) -> Kind {
+    match name.unwrap_or("") {
+        "vrfs" => Kind::Vrfs,
+        "rirs" => Kind::Rirs,
+        "roles" => Kind::Roles,
+        "aggregates" => Kind::Aggregates,
+        "prefixes" => Kind::Prefixes,
+        "ip-ranges" => Kind::Ranges,
+        _ => Kind::Addresses,
+    }
+}
+
+/// A row of these words: its kind, its id and its fields.
+fn row_of(alloc: Global, words: &str) -> Result<Row, AllocError> {
+    let mut fields = Vec::new(alloc);
+    for word in words.split(',').skip(2) {
+        fields.push(text_of(alloc, word)?)?;
+    }
+    Ok(Row {
+        kind: kind_of(words.split(',').next()),
+        id: number_of(words.split(',').nth(1)),
+        fields: Texts::of(fields),
+    })
+}
+
+/// Many VRFs.
+fn many_rows(alloc: Global) -> Result<Rows, AllocError> {
+    let mut rows = Vec::new(alloc);
+    for id in 100..100 + MANY {
+        let words = format!(in alloc; "vrfs,{id},name {id},65000:{id},true,row {id}")?;
+        rows.push(row_of(alloc, words.as_str())?)?;
+    }
+    Ok(Rows::of(rows))
+}
+
+/// The rows of these texts.
+fn rows_of(alloc: Global, text: &str) -> Result<Rows, AllocError> {
+    if text == "many" {
+        return many_rows(alloc);
+    }
+    let mut rows = Vec::new(alloc);
+    for words in text.split(';').filter(|words| !words.is_empty()) {
+        rows.push(row_of(alloc, words)?)?;
+    }
+    Ok(Rows::of(rows))
+}
+
+/// The numbers of these texts, each with its kind.
+fn ids_of(alloc: Global, text: &str) -> Result<Ids, AllocError> {
+    let mut ids = Vec::new(alloc);
+    for words in text.split(';').filter(|words| !words.is_empty()) {
+        let kind = kind_of(words.split(',').next());
+        ids.push((kind, number_of(words.split(',').nth(1))))?;
+    }
+    Ok(Ids::of(ids))
+}
+
+/// The change of a line: behind its first bar the rows that come, behind the second one the ids that go, and then the next ids.
+pub(crate) fn change_of(alloc: Global, line: &str) -> Result<Change, AllocError> {
+    Ok(Change {
+        puts: rows_of(alloc, line.split('|').nth(1).unwrap_or(""))?,
+        cuts: ids_of(alloc, line.split('|').nth(2).unwrap_or(""))?,
+        next: ids_of(alloc, line.split('|').nth(3).unwrap_or(""))?,
+    })
+}

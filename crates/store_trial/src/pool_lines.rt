@@ -1,0 +1,95 @@
+//! Changes of pools, each a line of text.
+
+use crate::words::{number_of, text_of};
+use number_pools::{Listed, Member, NumberRange, PoolKind};
+use pool_keeper::tables::PoolChange;
+use std::alloc::{AllocError, Global};
+
+/// How many members are many.
+const MANY: u32 = 1_000;
+
+/// The kind of this name.
+fn kind_named(name: Option<&str>) -> PoolKind {
+    match name.unwrap_or("") {
+        "asn" => PoolKind::Asn,
+        _ => PoolKind::Vlan,
+    }
+}
+
+/// A range of these words.
+fn range_of(alloc: Global, words: &str) -> Result<NumberRange, AllocError> {
+    Ok(NumberRange {
+        id: number_of(words.split(',').next()),
+        kind: kind_named(words.split(',').nth(1)),
+        name: text_of(alloc, words.split(',').nth(2).unwrap_or(""))?,
+        first: number_of(words.split(',').nth(3)),
+        last: number_of(words.split(',').nth(4)),
+    })
+}
+
+/// A member of these words.
+fn member_of(alloc: Global, words: &str) -> Result<Member, AllocError> {
+    Ok(Member {
+        id: number_of(words.split(',').next()),
+        range: number_of(words.split(',').nth(1)),
+        number: number_of(words.split(',').nth(2)),
+        name: text_of(alloc, words.split(',').nth(3).unwrap_or(""))?,
+    })
+}
+
+/// The ranges of these texts.
+fn ranges_of(alloc: Global, text: &str) -> Result<Listed<NumberRange>, AllocError> {
+    let mut ranges = Vec::new(alloc);
+    for words in text.split(';').filter(|words| !words.is_empty()) {
+        ranges.push(range_of(alloc, words)?)?;
+    }
+    Ok(Listed::of(ranges))
+}
+
+/// Many members.
+fn many_members(alloc: Global) -> Result<Listed<Member>, AllocError> {
+    let mut members = Vec::new(alloc);
+    for id in 100..100 + MANY {
+        members.push(Member {
+            id,
+            range: 3,
+            number: id + 2_000,
+            name: text_of(alloc, format!(in alloc; "name {id}")?.as_str())?,
+        })?;
+    }
+    Ok(Listed::of(members))
+}
+
+/// The members of these texts.
+fn members_of(alloc: Global, text: &str) -> Result<Listed<Member>, AllocError> {
+    if text == "many" {
+        return many_members(alloc);
+    }
+    let mut members = Vec::new(alloc);
+    for words in text.split(';').filter(|words| !words.is_empty()) {
+        members.push(member_of(alloc, words)?)?;
+    }
+    Ok(Listed::of(members))
+}
+
+/// The number of a word, if there is one.
+fn cut_of(word: Option<&str>) -> Option<u32> {
+    match word.unwrap_or("") {
+        "" => None,
+        word => Some(number_of(Some(word))),
+    }
+}
+
+/// The change of a line: behind its first bar the ranges that come, then the members that come, the range and the member that go, and the
+/// next ids.
+pub(crate) fn change_of(alloc: Global, line: &str) -> Result<PoolChange, AllocError> {
+    let next = line.split('|').nth(5).unwrap_or("");
+    Ok(PoolChange {
+        next_range: number_of(next.split(',').next()),
+        next_member: number_of(next.split(',').nth(1)),
+        new_ranges: ranges_of(alloc, line.split('|').nth(1).unwrap_or(""))?,
+        new_members: members_of(alloc, line.split('|').nth(2).unwrap_or(""))?,
+        cut_range: cut_of(line.split('|').nth(3)),
+        cut_member: cut_of(line.split('|').nth(4)),
+    })
+}
