@@ -17,7 +17,7 @@ use Rattle.snapshot_reads.specs.Published.{answers, published_lists_of}
 use Rattle.snapshot_reads.specs.Seen.{FeedView}
 use Rattle.snapshot_rows.specs.Lists.{AreAlike, Lists, after_update, lists_of}
 use Rattle.snapshot_rows.proofs.Following.{lists_follow}
-use Rattle.snapshot_operator.specs.Shown.{Follows, HasPublished, IsFollowing, IsKept, IsShown, NumbersAreStates}
+use Rattle.snapshot_operator.specs.Shown.{IsFeedOf, HasPublished, IsFollowing, IsKept, IsShown, NumbersAreStates}
 
 split : (n m : ℕ) → (n ≤ m) ⊎ (m < n)
 split zero m = inl (omega arith)
@@ -79,8 +79,8 @@ longer : {A : Type 0} (before log : List A) (entry : A) → log ≡ before ++ en
 longer before log entry behind = ap length behind ∙ length-append before (entry ∷ [])
 
 -- one more change was accepted, and none was published
-pub followed_more : (first : State) (before log : List (ℕ × Call)) (entry : ℕ × Call) (old new : FeedView Lists Update) → Follows first before old
-    → log ≡ before ++ entry ∷ [] → new.opening ≡ old.opening → new.published ≡ old.published → Follows first log new
+pub followed_more : (first : State) (before log : List (ℕ × Call)) (entry : ℕ × Call) (old new : FeedView Lists Update) → IsFeedOf first before old
+    → log ≡ before ++ entry ∷ [] → new.opening ≡ old.opening → new.published ≡ old.published → IsFeedOf first log new
 followed_more first before log entry old new k behind opening same =
     let few = k.changes.few in
     let grown = longer before log entry behind in
@@ -137,7 +137,7 @@ shown_more first before log entry u old new k behind leads live opening p =
 pub published_last : {T E : Type 0} (first : State) (before log : List (ℕ × Call)) (entry : ℕ × Call) (u : Update) (old new : FeedView Lists Update) (result : Result T E) → IsShown first before old
     → log ≡ before ++ entry ∷ [] → lists_of (replay plain_step first (before ++ entry ∷ [])) ≡ after_update (lists_of (replay plain_step first before)) u
     → new.opening ≡ old.opening → OnOk result (new.live ≡ true) → OnOk result (HasPublished u old.published new.published) → OnErr result (new.published ≡ old.published)
-    → Follows first log new × OnOk result (IsShown first log new) × OnErr result (length new.published < length log)
+    → IsFeedOf first log new × OnOk result (IsShown first log new) × OnErr result (length new.published < length log)
 published_last first before log entry u old new (Ok x) k behind leads opening live published same =
     let s = shown_more first before log entry u old new k behind leads live opening published in (s.follows, s, tt)
 published_last first before log entry u old new (Err e) k behind leads opening live published same =
@@ -148,9 +148,14 @@ published_last first before log entry u old new (Err e) k behind leads opening l
 
 -- what is kept then
 pub kept_on : {T E : Type 0} (first : State) (log : List (ℕ × Call)) (feed : FeedView Lists Update) (result : Result T E) (whole : Bool) → whole ≡ is_ok result
-    → Follows first log feed → OnOk result (IsShown first log feed) → OnErr result (length feed.published < length log) → IsKept whole first log feed
+    → IsFeedOf first log feed → OnOk result (IsShown first log feed) → OnErr result (length feed.published < length log) → IsKept whole first log feed
 kept_on first log feed (Ok x) whole is follows shown lacks = record { follows = follows; shown = λ yes. shown; lacks = λ no. absurd (cc (sym is ∙ no)) }
 kept_on first log feed (Err e) whole is follows shown lacks = record { follows = follows; shown = λ yes. absurd (cc (sym is ∙ yes)); lacks = λ no. lacks }
+
+-- a feed that shows the register is kept as one that is whole
+pub kept_whole : (first : State) (log : List (ℕ × Call)) (feed held : FeedView Lists Update) (whole : Bool) → held ≡ feed → whole ≡ true → IsShown first log feed → IsKept whole first log held
+kept_whole first log feed held whole same is shown =
+    let s = subst (IsShown first log) (sym same) shown in record { follows = s.follows; shown = λ yes. s; lacks = λ no. absurd (cc (sym is ∙ no)) }
 
 -- where it lacked changes before, it lacks them still
 pub lacks_on : (first : State) (before log : List (ℕ × Call)) (entry : ℕ × Call) (feed : FeedView Lists Update) (whole : Bool) → whole ≡ false → IsKept whole first before feed

@@ -21,19 +21,19 @@ pub record IsFollowing (first : State) (log : List (ℕ × Call)) (published : L
   pub lists : (n : ℕ) → n ≤ length published → published_lists_of (lists_of first) (take n published) ≡ lists_of (replay plain_step first (take n log))
 
 -- the feed follows a register that was opened in this state and accepted these changes
-pub record Follows (first : State) (log : List (ℕ × Call)) (feed : FeedView Lists Update) : Type 0 where
+pub record IsFeedOf (first : State) (log : List (ℕ × Call)) (feed : FeedView Lists Update) : Type 0 where
   pub opening : feed.opening ≡ Some (lists_of first)
   pub changes : IsFollowing first log feed.published
 
 -- it shows all of the register's changes, and may show more
 pub record IsShown (first : State) (log : List (ℕ × Call)) (feed : FeedView Lists Update) : Type 0 where
-  pub follows : Follows first log feed
+  pub follows : IsFeedOf first log feed
   pub live : feed.live ≡ true
   pub count : length feed.published ≡ length log
 
 -- a feed that follows the register: where it is whole it shows all of its changes, and else it lacks some
 pub record IsKept (whole : Bool) (first : State) (log : List (ℕ × Call)) (feed : FeedView Lists Update) : Type 0 where
-  pub follows : Follows first log feed
+  pub follows : IsFeedOf first log feed
   pub shown : whole ≡ true → IsShown first log feed
   pub lacks : whole ≡ false → length feed.published < length log
 

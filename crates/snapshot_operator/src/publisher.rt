@@ -3,7 +3,7 @@
 ghost use Rattle.std.specs.Prelude.{◌≡◌, ◌^◌, ◌<◌, length, map, true, OnErr, OnOk};
 ghost use Rattle.machine_session.specs.Owned.{IsBehind};
 ghost use Rattle.register_core.specs.Machines.{pair_of};
-ghost use Rattle.snapshot_operator.specs.Shown.{Follows, HasPublished, IsShown};
+ghost use Rattle.snapshot_operator.specs.Shown.{IsFeedOf, HasPublished, IsShown};
 
 use history_lock::Machine;
 use ipam_data::update::Update;
@@ -44,7 +44,7 @@ fn publish_last<R: Wait, K: Keeper>(
 ) -> Result<(), AllocError>
     requires { IsBehind (λ log. IsShown register.now.opening log feed.old) (map pair_of register.now.log) }
     ensures same { (feed.new.book ≡ feed.old.book) × (feed.new.opening ≡ feed.old.opening) }
-    ensures follows { Follows register.now.opening (map pair_of register.now.log) feed.new }
+    ensures follows { IsFeedOf register.now.opening (map pair_of register.now.log) feed.new }
     ensures shown { OnOk result (IsShown register.now.opening (map pair_of register.now.log) feed.new) }
     ensures lacks { OnErr result (length feed.new.published < length (map pair_of register.now.log)) }
 {

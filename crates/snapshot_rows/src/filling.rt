@@ -70,6 +70,19 @@ fn admit_prefixes<S: Space + Drop>(
     Ok(())
 }
 
+/// Puts copies of the rows of two books, where there are none yet. `Err` means out of memory.
+fn admit_all<S: Space + Drop>(
+    tables: &mut RowTables,
+    vrfs: &VrfBook,
+    prefixes: &PrefixBook<S>,
+) -> Result<(), AllocError>
+    requires none_yet { lists_of (state_of tables.old) ≡ record { vrfs = []; prefixes = [] } }
+    ensures { OnOk result (lists_of (state_of tables.new) ≡ record { vrfs = vrfs.now.rows; prefixes = prefixes.now.rows }) }
+{
+    admit_vrfs(tables, vrfs.rows())?;
+    admit_prefixes(tables, prefixes)
+}
+
 impl SnapshotRows {
     /// Copies of the rows of two books. `Err` means out of memory.
     pub fn of<S: Space + Drop>(
@@ -79,9 +92,14 @@ impl SnapshotRows {
     ) -> Result<SnapshotRows, AllocError>
         ensures { IfOk result (λ rows. rows ≡ record { vrfs = vrfs.now.rows; prefixes = prefixes.now.rows }) }
     {
-        let mut tables = RowTables::new(alloc, false);
-        admit_vrfs(&mut tables, vrfs.rows())?;
-        admit_prefixes(&mut tables, prefixes)?;
-        Ok(SnapshotRows { tables })
+        let mut rows = SnapshotRows::new(alloc);
+        // The rows are given away on every way out, so that no path has to take them apart.
+        match admit_all(&mut rows.tables, vrfs, prefixes) {
+            Ok(()) => Ok(rows),
+            Err(AllocError) => {
+                drop(rows);
+                Err(AllocError)
+            }
+        }
     }
 }
