@@ -1,5 +1,5 @@
 -- Rows put behind all others, one after another.
-use Rattle.std.proofs.Common.{◌≡◌, ℕ, zero, suc, ◌<◌, List, [], ◌∷◌, ◌++◌, length, get_or, take, sym, ap, subst, ◌∙◌, arith}
+use Rattle.std.proofs.Common.{◌≡◌, ℕ, zero, suc, ◌+◌, ◌<◌, List, [], ◌∷◌, ◌++◌, length, get_or, take, Result, Ok, Err, OnOk, sym, ap, subst, ◌∙◌, arith}
 use Rattle.std.proofs.lemmas.List.{take_more}
 use Rattle.ipam_data.specs.RowList.{AllBelow, Rises}
 
@@ -15,5 +15,10 @@ module _ {T : Type 0} (id : T → ℕ) where
       ((b, f.0), omega arith)
 
 -- the rows so far with the next one
-pub one_more : {T : Type 0} (xs : List T) (k : ℕ) (x : T) → k < length xs → x ≡ get_or xs k x → take k xs ++ x ∷ [] ≡ take (suc k) xs
+pub one_more : {T : Type 0} (xs : List T) (k : ℕ) (x : T) → k < length xs → x ≡ get_or xs k x → take k xs ++ x ∷ [] ≡ take (k + 1) xs
 one_more {T} xs k x lt e = ap (λ (y : T). take k xs ++ y ∷ []) e ∙ sym (take_more xs k x lt)
+
+-- what is said of a success, by what else is
+pub on_ok : {T E : Type 0} (P Q : Type 0) (r : Result T E) → (P → Q) → OnOk r P → OnOk r Q
+on_ok P Q (Ok x) f k = f k
+on_ok P Q (Err e) f k = tt
