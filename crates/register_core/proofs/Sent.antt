@@ -25,6 +25,7 @@ use Rattle.register_core.specs.contracts.machine.RegisterMachine.TheImpl as mach
 use Rattle.register_core.specs.contracts.register.Register as Register
 use Rattle.register_core.specs.contracts.register.Register.TheInside as inside
 use Rattle.register_core.proofs.books.Books.TheSendSync as books
+use Rattle.register_core.proofs.copies.Lending.TheSendSync as lending
 use Rattle.register_core.proofs.log.Entry.TheSendSync as entry
 
 entries_send : IsSend (Vec.the_field Entry.the_row Heap.the_row ghosts).row
@@ -37,7 +38,7 @@ update_send : IsSend (Option.the_field Update.the_row).row
 update_send = option.the_field_send Update.the_row update.the_send
 
 fields_send : (K : RattleType) (g : keeper.Ghosts K.Denot) → IsSend K → IsSend (inside.the_row K g)
-fields_send K g s = recorded_send (inside.the_field K g).row _ _ (inside.the_type K g).to_one (struct_send (shape (inside.the_type K g)) (books.the_send, (entries_send, (last_send, (update_send, (s, (search crosses depth 20, (search crosses depth 20, tt))))))))
+fields_send K g s = recorded_send (inside.the_field K g).row _ _ (inside.the_type K g).to_one (struct_send (shape (inside.the_type K g)) (books.the_send, (entries_send, (last_send, (update_send, (s, (search crosses depth 20, (lending.the_field_send, tt))))))))
 
 register_send : (K : RattleType) (g : keeper.Ghosts K.Denot) → IsSend K → IsSend (Register.the_row K g)
 register_send K g s = view_send (inside.the_row K g) _ _ _ _ (fields_send K g s)

@@ -70,6 +70,27 @@ const CASES: &[(&str, &str)] = &[
          {\"children\":0,\"depth\":0,\"description\":\"\",\"family\":4,\"id\":1,\"is_pool\":false,\"mark_utilized\":false,\
          \"prefix\":\"10.0.0.0/24\",\"role\":null,\"status\":{\"label\":\"Active\",\"value\":\"active\"},\"vrf\":null}",
     ),
+    (
+        "GET /api/ipam/prefixes/?least=1",
+        "200 OK\r\nContent-Type: application/json\r\nContent-Length: 240\r\nIpam-Place: 1\r\n\r\n\
+         {\"count\":1,\"next\":null,\"previous\":null,\"results\":[{\"children\":0,\"depth\":0,\"description\":\"\",\"family\":4,\"id\":1,\"is_pool\":false,\"mark_utilized\":false,\
+         \"prefix\":\"10.0.0.0/24\",\"role\":null,\"status\":{\"label\":\"Active\",\"value\":\"active\"},\"vrf\":null}]}",
+    ),
+    (
+        "GET /api/ipam/vrfs/",
+        "200 OK\r\nContent-Type: application/json\r\nContent-Length: 52\r\nIpam-Place: 1\r\n\r\n\
+         {\"count\":0,\"next\":null,\"previous\":null,\"results\":[]}",
+    ),
+    (
+        "GET /api/ipam/prefixes/?least=1&limit=1&offset=1",
+        "200 OK\r\nContent-Type: application/json\r\nContent-Length: 86\r\nIpam-Place: 1\r\n\r\n\
+         {\"count\":1,\"next\":null,\"previous\":\"/api/ipam/prefixes/?limit=1&offset=0\",\"results\":[]}",
+    ),
+    (
+        "GET /api/ipam/prefixes/?least=5",
+        "503 Service Unavailable\r\nContent-Type: application/json\r\nContent-Length: 46\r\nIpam-Place: 1\r\n\r\n\
+         {\"code\":\"behind\",\"detail\":\"published up to 1\"}",
+    ),
 ];
 
 /// The update that adds the prefix 10.0.0.0/24.
@@ -154,7 +175,7 @@ fn a_reader_is_answered_from_one_published_change(rt: HostRuntime) -> Result<(),
     feed.close(&rt);
     assert_eq!(rt; published?, 1);
     let (sink, end) = answers?;
-    assert_eq!(rt; end, SessionEnd::Closed(11));
+    assert_eq!(rt; end, SessionEnd::Closed(15));
     let wanted = texts(alloc, CASES)?;
     assert_eq!(rt;
         std::str::from_utf8(sink.into_bytes().as_slice()),
