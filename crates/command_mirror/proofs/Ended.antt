@@ -176,7 +176,7 @@ pub record IsBack {K : Type 0} (told_by : K → Option Tables) (faults_by : K �
   pub silent : new.streams.errors ≡ old.streams.errors
 
 module _ {R K : Type 0} (step : Step R) (told_by : K → Option Tables) (faults_by : K → ℕ) (asked : Mirroring) (old new : Outside) (before after : ListenerView) (first last : Kept K)
-  (b : IsBack told_by faults_by asked.store old new first last) (from to : R) where
+    (b : IsBack told_by faults_by asked.store old new first last) (from to : R) where
   kept_same : last ≡ first → b.kept ≡ first.keeper
   kept_same same = b.same ∙ ap (λ (k : Kept K). k.keeper) same
 

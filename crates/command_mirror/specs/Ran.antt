@@ -26,7 +26,6 @@ use Rattle.command_mirror.specs.Lanes.{HasNoLanes}
 use Rattle.command_mirror.specs.Readers.{AreReadLanes}
 use Rattle.command_mirror.specs.Together.{HasCause}
 
-
 -- the operator was served by a register that was `first` and is `last`, and the lanes are those of the readers beside it: they were answered
 -- from the published changes, which are the first accepted ones, and where it is whole all of them
 pub record HasMirrored {R K : Type 0} (step : Step R) (told_by : K → Option Tables) (faults_by : K → ℕ) (first last : Kept K) (how : SessionEnd) (whole within : Bool) (lanes : List Returned)

@@ -9,11 +9,7 @@ use http_lanes::{Listening, give_back_lanes, take_lanes};
 use ipam_listen::Listener;
 
 /// Takes so many lanes of a listener that is bound, for which there is room. `None` where one does not come: those that came went back.
-fn take_all<L: Listener>(
-    listener: &mut L,
-    wanted: u32,
-    lanes: Vec<L::Door>,
-) -> Option<Vec<L::Door>>
+fn take_all<L: Listener>(listener: &mut L, wanted: u32, lanes: Vec<L::Door>) -> Option<Vec<L::Door>>
     requires none_yet { lanes.items ≡ [] }
     requires room { wanted ≤ vec_capacity lanes }
     ensures came { IfSome result (λ came. HaveCome L.Door.told (L.bound listener.old) wanted

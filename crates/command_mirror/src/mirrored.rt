@@ -80,14 +80,7 @@ fn mirror_all<R: Threads + Wait + Sync, K: Keeper, A: Lane + Send, So: Source, S
         is_whole: true,
         end: SessionEnd::Memory,
     });
-    mirror(
-        rt,
-        alloc,
-        &mut held,
-        input,
-        output,
-        readers.as_mut_slice(),
-    );
+    mirror(rt, alloc, &mut held, input, output, readers.as_mut_slice());
     let Some(operated) = held else { unreachable!() };
     let Operated {
         register,
@@ -107,13 +100,7 @@ fn mirror_all<R: Threads + Wait + Sync, K: Keeper, A: Lane + Send, So: Source, S
 }
 
 /// The same with the lanes of a listener, where all come.
-fn mirror_prepared<
-    R: Threads + Wait + Sync,
-    K: Keeper,
-    L: Listener,
-    So: Source,
-    Si: Sink,
->(
+fn mirror_prepared<R: Threads + Wait + Sync, K: Keeper, L: Listener, So: Source, Si: Sink>(
     rt: &R,
     alloc: Global,
     asked: &Mirroring,

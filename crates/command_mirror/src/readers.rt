@@ -30,14 +30,7 @@ fn read_lane<A: Lane>(alloc: Global, reader: &mut ReaderLane<A>)
     };
     let handler = ReaderHandler::new(alloc);
     // The open gate does not look at the reader's number.
-    reader.look = Some(serve_lane(
-        alloc,
-        &handler,
-        look,
-        &mut reader.lane,
-        &OpenGate,
-        0,
-    ));
+    reader.look = Some(serve_lane(alloc, &handler, look, &mut reader.lane, &OpenGate, 0));
     drop(handler);
 }
 
@@ -104,11 +97,7 @@ fn both(one: bool, other: bool) -> bool
 
 /// Puts the lanes of readers together, the last reader's first, and tells whether the feed published all that each of their looks saw: it
 /// always did, but no clause of a look says so. There is room for the lanes: it takes no memory.
-pub(crate) fn dismiss<A: Lane>(
-    feed: &Feed,
-    readers: Vec<ReaderLane<A>>,
-    lanes: &mut Vec<A>,
-) -> bool
+pub(crate) fn dismiss<A: Lane>(feed: &Feed, readers: Vec<ReaderLane<A>>, lanes: &mut Vec<A>) -> bool
     requires read { All (λ r. IsRead A.told A.accepts (look_of feed.now) r.look r.lane) readers.items }
     requires none_yet { lanes.old.items ≡ [] }
     requires room { vec_len readers ≤ vec_capacity lanes.old }

@@ -82,8 +82,9 @@ pub(crate) fn mirror_opened<
 {
     // Hints to the prover: what holds of every register.
     register.replayed();
-    let (register, ran) =
-        mirror_register::<R, O::Kept, L, So, Si>(rt, alloc, asked, register, input, output, listener);
+    let (register, ran) = mirror_register::<R, O::Kept, L, So, Si>(
+        rt, alloc, asked, register, input, output, listener,
+    );
     register.told();
     register.replayed();
     opener.done(register.into_keeper());

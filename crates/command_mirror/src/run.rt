@@ -45,9 +45,7 @@ pub fn run_mirror<
         (listener_view L.bound L.lanes L.returned L.faults listener.old) (listener_view L.bound L.lanes L.returned L.faults listener.new) result }
 {
     match open_store(alloc, &asked.store, opener) {
-        Ok(register) => mirror_opened(
-            rt, alloc, asked, register, input, output, listener, opener,
-        ),
+        Ok(register) => mirror_opened(rt, alloc, asked, register, input, output, listener, opener),
         Err(fault) => say_fault(alloc, &fault, errors),
     }
 }

@@ -43,13 +43,7 @@ fn operate<R: Wait, K: Keeper, So: Source, Si: Sink>(
 
 /// Lets the operator serve its session in this thread, and the readers the connections of their lanes in others. Where no thread can be had
 /// they run before the operator.
-pub(crate) fn mirror<
-    R: Threads + Wait + Sync,
-    K: Keeper,
-    A: Lane + Send,
-    So: Source,
-    Si: Sink,
->(
+pub(crate) fn mirror<R: Threads + Wait + Sync, K: Keeper, A: Lane + Send, So: Source, Si: Sink>(
     rt: &R,
     alloc: Global,
     held: &mut Option<Operated<K>>,

@@ -193,10 +193,9 @@ serves_with {R} {K} step from to store old new how told_by faults_by first last 
     (λ i. owned (opening i) (map pair_of (none i)) (well i)) plainly in
     let on : last.opening ≡ first.state = ap (λ (s : Seen). s.state) talk.opening ∙ opening in
     let state : last.state ≡ replay plain_step first.state log = replayed ∙ (sym (replay_pairs last.opening last.log) ∙ ap (λ (o : State). replay plain_step o log) on) in
-    let goes_on = still_tells (found_tables store old) (told_by last.keeper) (ap (λ (s : Seen). s.tells) talk.opening ∙ ap is_some starts) in
-    (
+    let goes_on = still_tells (found_tables store old) (told_by last.keeper) (ap (λ (s : Seen). s.tells) talk.opening ∙ ap is_some starts) in (
       serves step from to store old new how first.state (owned last.opening log (faults_by last.keeper)) mid (told_by last.keeper) loaded from_here later raised' goes_on
-      (subst (Tells (told_by last.keeper)) state tells) there silent,
+          (subst (Tells (told_by last.keeper)) state tells) there silent,
       refl,
       refl,
     )

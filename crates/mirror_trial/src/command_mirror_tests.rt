@@ -18,7 +18,8 @@ use std::thread::Threads;
 use stored_tables::tables::{Tables, Text};
 
 /// What the operator asks: two prefixes are made.
-const OPERATOR: &str = "POST /api/ipam/prefixes/ HTTP/1.1\r\nHost: ipam\r\nContent-Length: 24\r\n\r\n{\"prefix\":\"10.1.0.0/16\"}\
+const OPERATOR: &str =
+    "POST /api/ipam/prefixes/ HTTP/1.1\r\nHost: ipam\r\nContent-Length: 24\r\n\r\n{\"prefix\":\"10.1.0.0/16\"}\
      POST /api/ipam/prefixes/ HTTP/1.1\r\nHost: ipam\r\nContent-Length: 24\r\n\r\n{\"prefix\":\"10.2.0.0/16\"}";
 
 /// What each reader is asked.
@@ -93,7 +94,14 @@ fn opener_of(alloc: Global, version: u32) -> Result<MemoryOpener, AllocError> {
 
 /// What is asked for: two readers, with one connection each, over the store `a`.
 fn asked(alloc: Global) -> Result<Mirroring, AllocError> {
-    let words = ["serve", "--bind", "x", "--workers=2", "--connections=1", "--db=a"];
+    let words = [
+        "serve",
+        "--bind",
+        "x",
+        "--workers=2",
+        "--connections=1",
+        "--db=a",
+    ];
     let Some(Command::Serve(serving)) = read_words(alloc, &words)? else {
         return Err(AllocError);
     };
@@ -154,12 +162,20 @@ fn who_is_served_and_who_is_not(rt: HostRuntime) -> Result<(), Fail> {
     let mut listener = listener_of(alloc)?;
     let left = ran(&rt, alloc, &mut listener, &mut opener)?;
     let output = str::from_utf8(left.output.as_slice()).unwrap_or("");
-    assert!(rt; left.status == 0 && left.errors.is_empty(), "{}", left.status);
+    assert!(rt;
+        left.status == 0 && left.errors.is_empty(),
+        "{}",
+        left.status
+    );
     assert_eq!(rt; times(output, "HTTP/1.1 201 Created\r\n"), 2, "{output}");
     let mut told = String::new(alloc);
     tell(&listener, &mut told)?;
     assert_eq!(rt; times(told.as_str(), "HTTP/1.1 200 OK\r\n"), 2, "{told}");
-    assert_eq!(rt; times(told.as_str(), "HTTP/1.1 404 Not Found\r\n"), 2, "{told}");
+    assert_eq!(rt;
+        times(told.as_str(), "HTTP/1.1 404 Not Found\r\n"),
+        2,
+        "{told}"
+    );
     let mut listener = ListListener::new(alloc, Vec::new(alloc))?;
     let left = ran(&rt, alloc, &mut listener, &mut opener)?;
     assert!(rt; left.status == 3 && left.errors.is_empty() && left.output.is_empty());

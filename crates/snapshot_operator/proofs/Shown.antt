@@ -113,21 +113,21 @@ shown_more first before log entry u old new k behind leads live opening p =
           few = omega arith;
           lists = λ n le. elim (split n (length before)) [
             | inl few ↦
-              ap (published_lists_of start) (first_few old.published new.published p.0 n p.1 (omega arith))
-              ∙ (f.lists n (omega arith) ∙ ap state_at (sym (first_few before log entry n behind few)))
+                ap (published_lists_of start) (first_few old.published new.published p.0 n p.1 (omega arith))
+                ∙ (f.lists n (omega arith) ∙ ap state_at (sym (first_few before log entry n behind few)))
             | inr all ↦ (
-              let n_is : n ≡ length before + 1 = omega arith in
-              let here : take n new.published ≡ old.published ++ p.0 ∷ [] =
-              ap (λ (m : ℕ). take m new.published) (n_is ∙ ap (λ (m : ℕ). m + 1) (sym c)) ∙ (ap (take (length old.published + 1)) p.1 ∙ whole old.published p.0) in
-              let there : take n log ≡ before ++ entry ∷ [] = ap (λ (m : ℕ). take m log) n_is ∙ (ap (take (length before + 1)) behind ∙ whole before entry) in
-              let was : published_lists_of start old.published ≡ state_at before =
-              ap (published_lists_of start) (sym (take-length old.published) ∙ ap (λ (m : ℕ). take m old.published) c)
-              ∙ (f.lists (length before) (omega arith) ∙ ap state_at (take-length before)) in
-              ap (published_lists_of start) here
-              ∙ (fold-append after_update start old.published (p.0 ∷ [])
-              ∙ (ap (λ (l : Lists). after_update l p.0) was
-              ∙ (p.2 (state_at before)
-              ∙ (sym leads ∙ ap state_at (sym there))))))
+                let n_is : n ≡ length before + 1 = omega arith in
+                let here : take n new.published ≡ old.published ++ p.0 ∷ [] =
+                ap (λ (m : ℕ). take m new.published) (n_is ∙ ap (λ (m : ℕ). m + 1) (sym c)) ∙ (ap (take (length old.published + 1)) p.1 ∙ whole old.published p.0) in
+                let there : take n log ≡ before ++ entry ∷ [] = ap (λ (m : ℕ). take m log) n_is ∙ (ap (take (length before + 1)) behind ∙ whole before entry) in
+                let was : published_lists_of start old.published ≡ state_at before =
+                ap (published_lists_of start) (sym (take-length old.published) ∙ ap (λ (m : ℕ). take m old.published) c)
+                ∙ (f.lists (length before) (omega arith) ∙ ap state_at (take-length before)) in
+                ap (published_lists_of start) here
+                ∙ (fold-append after_update start old.published (p.0 ∷ [])
+                ∙ (ap (λ (l : Lists). after_update l p.0) was
+                ∙ (p.2 (state_at before)
+                ∙ (sym leads ∙ ap state_at (sym there))))))
           ];
         };
       };

@@ -60,13 +60,7 @@ pub fn serve_operator<R: Wait, K: Keeper, So: Source, Si: Sink>(
         Publisher<'_, R>,
         So,
         Si,
-    >(
-        alloc,
-        register,
-        Publisher::new(rt, feed),
-        source,
-        sink,
-    );
+    >(alloc, register, Publisher::new(rt, feed), source, sink);
     let (feed, is_whole) = publisher.into_parts();
     Operated {
         register,

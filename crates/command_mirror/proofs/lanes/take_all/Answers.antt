@@ -4,8 +4,8 @@ use Rattle.ipam_listen.specs.Connections.{Returned}
 use Rattle.command_mirror.proofs.Coming.{map_length, none_used, rose_on}
 use Rattle.command_mirror.proofs.lanes.take_all.Goals as goal
 
-pub give_back_lanes-_heard-requires : goal.give_back_lanes-_heard-requires
-give_back_lanes-_heard-requires g c =
+pub give_back_lanes-_heard-requires-clause-out : goal.give_back_lanes-_heard-requires-clause-out
+give_back_lanes-_heard-requires-clause-out g c =
     let most = g.met.L.Listener.no_more_back c.args.listener.now in
     let lanes = c.take_lanes.ensures.lanes in
     let same = ap length c.take_lanes.ensures.returned in

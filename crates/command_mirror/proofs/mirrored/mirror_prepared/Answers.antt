@@ -9,8 +9,8 @@ use Rattle.command_mirror.specs.Lanes.{HasNoLanes, HaveCome}
 use Rattle.command_mirror.proofs.Coming.{heard_of, map_length}
 use Rattle.command_mirror.proofs.mirrored.mirror_prepared.Goals as goal
 
-pub give_back_lanes-heard-requires : goal.give_back_lanes-heard-requires
-give_back_lanes-heard-requires g c κs within =
+pub give_back_lanes-heard-requires-clause-out : goal.give_back_lanes-heard-requires-clause-out
+give_back_lanes-heard-requires-clause-out g c κs within =
     let most = g.met.L.Listener.no_more_back c.args.listener.now in
     let came = c.in-Some-lanes.ensures.came in
     let lanes = came.lanes in

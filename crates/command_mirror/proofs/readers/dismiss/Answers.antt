@@ -21,8 +21,8 @@ unreachable-requires g c =
     let p = popped (λ r. IsRead g.A.Lane.told g.A.Lane.accepts (look_of c.args.feed.now) r.look r.lane) c.loop-reader.left.items c.pop.new.self.items c.pop.result c.in-Some.reader c.pop.ensures.items c.in-Some.is c.loop-reader.invariant.read in
     has_look g.A.Lane.told (look_of c.args.feed.now) g.A.Lane.accepts _ _ p.1 c.in_default-look.is
 
-pub is_within-requires : goal.is_within-requires
-is_within-requires g c =
+pub is_within-requires-clause-own : goal.is_within-requires-clause-own
+is_within-requires-clause-own g c =
     let p = popped (λ r. IsRead g.A.Lane.told g.A.Lane.accepts (look_of c.args.feed.now) r.look r.lane) c.loop-reader.left.items c.pop.new.self.items c.pop.result c.in-Some.reader c.pop.ensures.items c.in-Some.is c.loop-reader.invariant.read in
     look_is_of _ c.args.feed.now c.in-Some-look.look (last_look g.A.Lane.told (look_of c.args.feed.now) g.A.Lane.accepts _ _ _ p.1 c.in-Some-look.is)
 

@@ -7,7 +7,7 @@ use Rattle.command_mirror.proofs.run.run_mirror.Goals as goal
 
 pub returns-in-Ok : goal.returns-in-Ok
 returns-in-Ok g c =
-    c.mirror_opened.ensures (stores g.O.KeeperOpener.stored g.O.KeeperOpener.faults c.args.opener.now)
+    c.mirror_opened.ensures.mirror (stores g.O.KeeperOpener.stored g.O.KeeperOpener.faults c.args.opener.now)
     (told g.Se.Sink.written g.Se.Sink.faults c.args.errors.now) c.in-Ok.ensures.lent (sym c.in-Ok.ensures.stays) c.in-Ok.ensures.still c.in-Ok.ensures.fresh c.in-Ok.ensures.state c.in-Ok.ensures.told
 
 pub returns-in-Err : goal.returns-in-Err
