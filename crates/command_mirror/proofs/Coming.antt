@@ -53,8 +53,8 @@ heard_of Whole old mid new same whole broken = whole refl ∙ same
 heard_of Broken old mid new same whole broken = subst (λ (n : ℕ). Rose n new) same (broken refl)
 
 -- what is bound first
-module _ (at : Binding) (old mid after : ListenerView) (bound : mid.bound ≡ at) (lanes : mid.lanes ≡ old.lanes) (returned : mid.returned ≡ old.returned) (faults : mid.faults ≡ old.faults) where
-  pub have_come : {L : Type 0} (told : L → Option (List Connection)) (wanted : ℕ) (came : List L) → HaveCome told mid.bound wanted mid after came → HaveCome told at wanted old after came
+module _ (to : Binding) (old mid after : ListenerView) (bound : mid.bound ≡ to) (lanes : mid.lanes ≡ old.lanes) (returned : mid.returned ≡ old.returned) (faults : mid.faults ≡ old.faults) where
+  pub have_come : {L : Type 0} (told : L → Option (List Connection)) (wanted : ℕ) (came : List L) → HaveCome told mid.bound wanted mid after came → HaveCome told to wanted old after came
   have_come told wanted came k = record {
     fresh = k.fresh;
     many = k.many;
@@ -64,7 +64,7 @@ module _ (at : Binding) (old mid after : ListenerView) (bound : mid.bound ≡ at
     faults = k.faults ∙ faults;
   }
 
-  pub no_lanes : HasNoLanes mid.bound mid after → HasNoLanes at old after
+  pub no_lanes : HasNoLanes mid.bound mid after → HasNoLanes to old after
   no_lanes k = record {
     failed = subst (λ (n : ℕ). Rose n after.faults) faults k.failed;
     back = k.back;
@@ -75,8 +75,8 @@ module _ (at : Binding) (old mid after : ListenerView) (bound : mid.bound ≡ at
   }
 
 -- it could not be bound
-pub not_bound : (at : Binding) (old after : ListenerView) → Rose old.faults after.faults → after.lanes ≡ old.lanes → after.returned ≡ old.returned → HasNoLanes at old after
-not_bound at old after failed lanes returned = record {
+pub not_bound : (to : Binding) (old after : ListenerView) → Rose old.faults after.faults → after.lanes ≡ old.lanes → after.returned ≡ old.returned → HasNoLanes to old after
+not_bound to old after failed lanes returned = record {
   failed = failed;
   back = [];
   returned = returned ∙ sym (right old.returned);

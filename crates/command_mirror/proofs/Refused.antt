@@ -45,25 +45,25 @@ module _ (asked : Mirroring) (old new : Outside) (before : ListenerView) (unused
     listener_later = all.listener_later;
   }
 
-  at : (n status : ℕ) → status ≡ n → IsMirror asked old new before before n → IsMirror asked old new before before status
-  at n status is k = subst (IsMirror asked old new before before) (sym is) k
+  of_status : (n status : ℕ) → status ≡ n → IsMirror asked old new before before n → IsMirror asked old new before before status
+  of_status n status is k = subst (IsMirror asked old new before before) (sym is) k
 
   -- for lack of memory
   starved : (status : ℕ) → status ≡ 5 → new.streams.errors ≡ old.streams.errors → NoCountRises old new → IsMirror asked old new before before status
-  starved status five silent none = at 5 status five (of_memory asked old new before before all silent (inl (record { unused = unused; quiet = none; idle = refl })))
+  starved status five silent none = of_status 5 status five (of_memory asked old new before before all silent (inl (record { unused = unused; quiet = none; idle = refl })))
 
   -- since the store failed
   of_keeper : (status : ℕ) → StoreFailed old new → EndsWith old.streams.errors new.streams.errors (fault_line Keeper) 4 status → IsMirror asked old new before before status
-  of_keeper status cause (inl said) = at 4 status said.0 (failed (record { failed = cause; said = said.1; unused = unused }))
-  of_keeper status cause (inr said) = at 3 status said.0
+  of_keeper status cause (inl said) = of_status 4 status said.0 (failed (record { failed = cause; said = said.1; unused = unused }))
+  of_keeper status cause (inr said) = of_status 3 status said.0
       (of_fault asked old new before before all (inr (inr (record { failed = said.1; fault = Keeper; cause = inr (refl, cause); front = said.2; unused = unused }, refl))))
 
   -- for what the store holds
   of_bad : (status : ℕ) (fault : OpenFault) → IsBadStore asked.store old fault
       → EndsWith old.streams.errors new.streams.errors (fault_line fault) 1 status ⊎ ((status ≡ 5) × (new.streams.errors ≡ old.streams.errors)) → (status ≡ 5 → NoCountRises old new)
       → IsMirror asked old new before before status
-  of_bad status fault bad (inl (inl said)) none = at 1 status said.0 (named (record { fault = fault; bad = bad; said = said.1; unused = unused }))
-  of_bad status fault bad (inl (inr said)) none = at 3 status said.0
+  of_bad status fault bad (inl (inl said)) none = of_status 1 status said.0 (named (record { fault = fault; bad = bad; said = said.1; unused = unused }))
+  of_bad status fault bad (inl (inr said)) none = of_status 3 status said.0
       (of_fault asked old new before before all (inr (inr (record { failed = said.1; fault = fault; cause = inl bad; front = said.2; unused = unused }, refl))))
   of_bad status fault bad (inr said) none = starved status said.0 said.1 (none said.0)
 

@@ -5,6 +5,7 @@ ghost use Rattle.ipam_keeper.specs.Keeping.{started};
 ghost use Rattle.register_core.specs.Opened.{IsOpened};
 ghost use Rattle.command_streams.specs.Streams.{Told, streams, told};
 ghost use Rattle.command_store.specs.Outside.{Stores, outside, stores};
+ghost use Rattle.machine_serving.specs.Serve.{listening_status as heard_status};
 ghost use Rattle.machine_serving.specs.Views.{listener_view};
 ghost use Rattle.command_mirror.specs.Mirror.{IsMirror};
 ghost use Rattle.command_mirror.specs.Ran.{ran_status};
@@ -25,7 +26,7 @@ use std::thread::Threads;
 
 /// The status of a listening that ended so.
 fn listening_status(heard: Listening) -> u8
-    ensures { result ≡ ran_status (Ran.Ended (SessionEnd.Closed 0) true true heard) }
+    ensures { result ≡ heard_status heard }
 {
     match heard {
         Listening::Whole => DONE,
