@@ -15,11 +15,13 @@ admit-requires c =
     let same : c.in_ok-row.row ≡ c.args.row.now = search rules in
     let low : 1 ≤ c.in_ok-row.row.id = subst (λ (r : Prefix). 1 ≤ r.id) (sym same) c.requires.low in
     let high : c.in_ok-row.row.id < 4294967296 = search rules in
-    record { fits = record {
-      low = low;
-      high = high;
-      place = inr (subst (λ (r : Prefix). AllBelow prefix_id r.id (state_of c.args.tables.now).prefixes.rows) (sym same) c.requires.above);
-    } }
+    record {
+      fits = record {
+        low = low;
+        high = high;
+        place = inr (subst (λ (r : Prefix). AllBelow prefix_id r.id (state_of c.args.tables.now).prefixes.rows) (sym same) c.requires.above);
+      };
+    }
 
 pub returns : goal.returns
 returns c =
