@@ -24,4 +24,4 @@ returns-then-is_method_refused-clause-answer c =
     let reply = c.args.reply.now in
     let links = c.args.links.now in
     mapped c.answer_of_refusal.result (IsRefusedAnswer target Method) (IsUnplacedAnswer target reply links)
-      (λ (a : Answer) h. told target reply links a c.if-is_method_refused.ensures.is h) c.answer_of_refusal.ensures
+    (λ (a : Answer) h. told target reply links a c.if-is_method_refused.ensures.is h) c.answer_of_refusal.ensures
