@@ -1,6 +1,6 @@
 //! A reply, written as an answer.
 
-ghost use Rattle.std.specs.Prelude.{◌≡◌, ◌≢◌, IfOk, IsOk, MatchBool, false};
+ghost use Rattle.std.specs.Prelude.{◌≡◌, ◌≢◌, IfOk, IsOk, MatchBool, None, false};
 ghost use Rattle.ipam_edge.specs.Writing.{ByWrites};
 ghost use Rattle.http_session.specs.Replies.{answer_of};
 ghost use Rattle.http_session.specs.Talk.{framed_text};

@@ -1,5 +1,0 @@
-mod Beside
-mod Coming
-mod Worked
-mod Ended
-mod Refused

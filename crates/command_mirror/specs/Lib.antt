@@ -1,5 +1,0 @@
-pub mod Readers
-pub mod Together
-pub mod Lanes
-pub mod Ran
-pub mod Mirror
