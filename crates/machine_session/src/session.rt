@@ -1,6 +1,6 @@
 //! One connection over a machine that many connections share.
 
-ghost use Rattle.std.specs.Prelude.{◌≡◌, ◌≤◌, ◌⊎◌, IfOk, OnErr};
+ghost use Rattle.std.specs.Prelude.{◌≡◌, ◌≤◌, ◌⊎◌, true, IfOk, OnErr};
 ghost use Rattle.ipam_edge.specs.Faults.{Rose};
 ghost use Rattle.history_lock.specs.Seats.{SeatView};
 ghost use Rattle.http_session.specs.Steps.{framed};
@@ -109,6 +109,8 @@ impl<'a, R: Wait + 'a, M: Machine + 'a, V: Service<M>> Desk for SharedMachine<'a
     ghost view = { λ s. s.seat };
 
     ghost may = { answers_in_turn (protocol M.step M.answer M.kind M.fallible V.asks V.tells V.refuses V.misread) };
+
+    ghost whole = { λ s. true };
 
     fn answer(
         &self,
