@@ -1,7 +1,8 @@
 -- The operator's session and the readers beside it, by what was held before and after.
-use Rattle.std.proofs.Common.{◌≡◌, ◌∙◌, ℕ, Bool, List, [], map, Option, Some, sym, ap, subst}
+use Rattle.std.proofs.Common.{◌≡◌, ◌∙◌, ◌⊎◌, ℕ, Bool, true, List, [], map, Option, Some, sym, ap, subst}
 use Rattle.ipam_edge.specs.Reading.{Step}
 use Rattle.http_session.specs.declared.session.SessionEnd.{SessionEnd}
+use Rattle.http_session.specs.declared.session.SessionEnd.TheVariants.{Memory}
 use Rattle.ipam_data.specs.declared.update.Update.{Update}
 use Rattle.machine_session.specs.Owned.{owned}
 use Rattle.machine_session.specs.Sessions.{IsOwnSession}
@@ -23,6 +24,7 @@ pub record IsOperated {R K X : Type 0} (step : Step R) (told_by : K → Option T
   pub session : IsOwnSession seen_protocol step (owned (seen (register before).opening (told_by (register before).keeper)) (map pair_of (register before).log) (faults_by (register before).keeper))
       (owned (seen (register after).opening (told_by (register after).keeper)) (map pair_of (register after).log) (faults_by (register after).keeper)) from to left_old left_new written_old written_new (end after)
   pub kept : IsKept (whole after) (register after).opening (map pair_of (register after).log) (feed after)
+  pub memory : (end after ≡ Memory) ⊎ (whole after ≡ true)
   pub same : ((feed after).book ≡ (feed before).book) × ((feed after).opening ≡ (feed before).opening)
   pub cause : HasCause (end after) read_old read_new wrote_old wrote_new
 
@@ -35,7 +37,7 @@ operated_as {R} {K} {X} step told_by faults_by register feed whole end old new b
     let b = some_same o.before before (sym o.had ∙ was) in
     let a = some_same o.after after (sym o.has ∙ is) in
     subst (λ (x : X × X). IsOperated step told_by faults_by register feed whole end x.0 x.1 from to left_old left_new written_old written_new read_old read_new wrote_old wrote_new) (λ i. (b i, a i))
-    (record { session = o.session; kept = o.kept; same = o.same; cause = o.cause })
+    (record { session = o.session; kept = o.kept; memory = o.memory; same = o.same; cause = o.cause })
 
 -- the first look of a feed stays while more is published
 pub same_look : (f g : FeedView Lists Update) → (g.book ≡ f.book) × (g.opening ≡ f.opening) → look_of f ≡ look_of g

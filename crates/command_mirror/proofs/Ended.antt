@@ -116,7 +116,7 @@ module _ (asked : Mirroring) (old new : Outside) (before after : ListenerView) (
         plain = λ well. prints answers_plainly (opened s.state) (plain_of_owned plain_step s.last.now) _ _ _ _ n s.bytes s.grown (s.plain well);
       }
 
-  exhausts : (how : SessionEnd) (m : Mirrors asked old new before after how) → (length m.published < length m.serves.last.now.log) ⊎ (m.sure ≡ false) → IsMirror asked old new before after 5
+  exhausts : (how : SessionEnd) (m : Mirrors asked old new before after how) → ((how ≡ Memory) × (length m.published < length m.serves.last.now.log)) ⊎ (m.sure ≡ false) → IsMirror asked old new before after 5
   exhausts how m cause = of_memory asked old new before after all m.serves.silent (inr (record { how = how; mirrors = m; cause = inr cause }))
 
   -- by how all ended
@@ -145,12 +145,12 @@ module _ (asked : Mirroring) (old new : Outside) (before after : ListenerView) (
 
   pub by_ran : (how : SessionEnd) (whole within : Bool) (heard : Listening) (m : Mirrors asked old new before after how) → m.sure ≡ within
       → (whole ≡ true → length m.published ≡ length m.serves.last.now.log) → (whole ≡ false → length m.published < length m.serves.last.now.log)
-      → HasCause how old.streams.input.faults new.streams.input.faults old.streams.output.faults new.streams.output.faults
+      → (how ≡ Memory) ⊎ (whole ≡ true) → HasCause how old.streams.input.faults new.streams.input.faults old.streams.output.faults new.streams.output.faults
       → IsListening (NoneFailed before after) (ListeningFailed before after) heard
       → IsMirror asked old new before after (ended_status how whole within heard)
-  by_ran how false within heard m sure every lacks cause listened = exhausts how m (inl (lacks refl))
-  by_ran how true false heard m sure every lacks cause listened = exhausts how m (inr sure)
-  by_ran how true true heard m sure every lacks cause listened = by_end how heard (record { mirrors = m; all = every refl; sure = sure }) cause listened
+  by_ran how false within heard m sure every lacks memory cause listened = exhausts how m (inl (elim memory [ inl is ↦ is | inr whole ↦ absurd (cc whole) ], lacks refl))
+  by_ran how true false heard m sure every lacks memory cause listened = exhausts how m (inr sure)
+  by_ran how true true heard m sure every lacks memory cause listened = by_end how heard (record { mirrors = m; all = every refl; sure = sure }) cause listened
 
 -- ---- the keeper went back
 
@@ -257,4 +257,4 @@ module _ {R K : Type 0} (step : Step R) (told_by : K → Option Tables) (faults_
         bound = λ came. h.bound;
         later = record { streams = record { input = cause.source_later; output = cause.sink_later; errors = errors_later }; stores = stores_later };
         listener_later = heard;
-      }) how whole within listening m.0 m.1 m.2 m.3 cause h.listened)
+      }) how whole within listening m.0 m.1 m.2 m.3 h.mirrored.memory cause h.listened)

@@ -57,13 +57,13 @@ pub record Falters (asked : Mirroring) (old new : Outside) (before after : Liste
   pub cause : ((how ≡ SourceFault) × Failed old.streams.input new.streams.input) ⊎ ((how ≡ SinkFault) × Failed old.streams.output new.streams.output)
       ⊎ (Finishes asked old new before after × ListeningFailed before after)
 
--- memory ran out for the operator's session, and no count rose but the opener's where a call was answered by a failed keeper; or it ran out to
--- publish an accepted change; or it is not sure that all that readers saw was published
+-- memory ran out for the operator's session, and no count rose but the opener's where a call was answered by a failed keeper; or its session
+-- ended so since it ran out to publish an accepted change; or it is not sure that all that readers saw was published
 pub record Exhausts (asked : Mirroring) (old new : Outside) (before after : ListenerView) : Type 0 where
   pub how : SessionEnd
   pub mirrors : Mirrors asked old new before after how
   pub cause : ((how ≡ Memory) × NeverRises old.streams new.streams × ((new.stores.faults ≡ old.stores.faults) ⊎ HasFailedCall asked.store old new Memory))
-      ⊎ (length mirrors.published < length mirrors.serves.last.now.log) ⊎ (mirrors.sure ≡ false)
+      ⊎ ((how ≡ Memory) × (length mirrors.published < length mirrors.serves.last.now.log)) ⊎ (mirrors.sure ≡ false)
 
 -- the listener could not be bound, or a lane did not come: neither operator nor readers ran, and nothing is said
 pub record HasNoPlace (asked : Mirroring) (old new : Outside) (before after : ListenerView) : Type 0 where

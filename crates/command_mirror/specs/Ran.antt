@@ -36,6 +36,7 @@ pub record HasMirrored {R K : Type 0} (step : Step R) (told_by : K → Option Ta
   pub follows : IsFollowing last.opening (map pair_of last.log) published
   pub all : whole ≡ true → length published ≡ length (map pair_of last.log)
   pub lacks : whole ≡ false → length published < length (map pair_of last.log)
+  pub memory : (how ≡ Memory) ⊎ (whole ≡ true)
   pub read : AreReadLanes (Some (lists_of last.opening)) published within lanes
   pub cause : HasCause how read_old.faults read_new.faults wrote_old.faults wrote_new.faults
 

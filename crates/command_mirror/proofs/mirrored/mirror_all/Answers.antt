@@ -40,6 +40,7 @@ returns-clause-mirrored g c =
       follows = o.kept.follows.changes;
       all = λ yes. (o.kept.shown yes).count;
       lacks = o.kept.lacks;
+      memory = o.memory;
       read = subst (λ opening. AreReadLanes opening feed.published c.dismiss-is_within.result (map (returned_as g.A.Lane.told g.A.Lane.accepts) c.dismiss-is_within.new.lanes.items)) o.kept.follows.opening c.dismiss-is_within.ensures.read;
       cause = o.cause;
     }

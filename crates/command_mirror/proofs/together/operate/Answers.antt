@@ -11,6 +11,7 @@ returns g c =
       has = search rules;
       session = c.serve_operator-ended.ensures.session;
       kept = c.serve_operator-ended.ensures.kept;
+      memory = c.serve_operator-ended.ensures.memory;
       same = c.serve_operator-ended.ensures.same;
       cause = record {
         source_later = c.serve_operator-ended.ensures.source_later;
