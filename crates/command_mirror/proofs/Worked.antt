@@ -91,7 +91,7 @@ module _ {L : Type 0} (told : L → Option (List Connection)) (first : Seen) whe
         one_read accepts faults (look (get_or old k d)) (lane (get_or old k d)) (look (get_or new k d)) (lane (get_or new k d)) (worked k d there) (fresh k d there)
 
 -- a look of a reader is one of the feed
-pub look_is_of : {L : Type 0} (told : Option (List Connection)) (feed : FeedView Lists Update) (now : Seen) → HasServed answers_read (look_of feed) now told → IsLookOf feed now
+pub look_is_of : (told : Option (List Connection)) (feed : FeedView Lists Update) (now : Seen) → HasServed answers_read (look_of feed) now told → IsLookOf feed now
 look_is_of told feed now h = let g = served_grows h.connections (look_of feed) now h.served in record { book = g.book; opening = g.opening }
 
 -- ---- lanes that come back
