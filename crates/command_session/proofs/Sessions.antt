@@ -36,7 +36,7 @@ use Rattle.machine_command.specs.Session.{end_status}
 use Rattle.command_session.specs.Session.{Serves, HasFailedCall, IsSession}
 
 -- where the session closed, the output has the answers to all requests of the whole input
-prints : {S : Type 0} (may : May S) (first register : S) (left_old left_new written_old written_new : Option (List ℕ)) (n : ℕ) (bytes : List ℕ)
+pub prints : {S : Type 0} (may : May S) (first register : S) (left_old left_new written_old written_new : Option (List ℕ)) (n : ℕ) (bytes : List ℕ)
     → Grown left_old left_new [] bytes → IsEnd may first register written_old written_new bytes left_new (Closed n)
     → IfSome left_old (λ input. (items : List Item) × (answers : List Answer) × (last : S)
     × AreAllItems input (Unit {0}) items × Run may first items answers last × Appends written_old written_new (texts items answers))
@@ -164,8 +164,9 @@ still_tells (Some first) None still some = absurd (cc still)
 still_tells None (Some tables) still some = absurd (cc still)
 still_tells (Some first) (Some tables) still some = some
 
--- a session that was served, by what is known of the opener that lent its keeper: the register was first and is last
-pub serves_back : {R K : Type 0} (step : Step R) (from to : R) (store : Store) (old new : Outside) (how : SessionEnd) (told_by : K → Option Tables) (faults_by : K → ℕ)
+-- a session that was served, by what is known of the opener that lent its keeper: the register was first and is last, and its changes are those
+-- that the session accepted
+pub serves_with : {R K : Type 0} (step : Step R) (from to : R) (store : Store) (old new : Outside) (how : SessionEnd) (told_by : K → Option Tables) (faults_by : K → ℕ)
     (first last : Kept K) (kept : K) (mid : ℕ) (lent : Option (Option (List ℕ))) (mid_stored : Option (List (List ℕ × Tables)))
     → IsLoaded store old first.state → first.log ≡ [] → first.state ≡ entries_replay first.opening first.log → faults_by first.keeper ≡ 0
     → IsOwnSession seen_protocol step (owned (seen first.opening (told_by first.keeper)) (map pair_of first.log) (faults_by first.keeper))
@@ -174,8 +175,10 @@ pub serves_back : {R K : Type 0} (step : Step R) (from to : R) (store : Store) (
     → told_by first.keeper ≡ found_tables store old → last.state ≡ entries_replay last.opening last.log → Tells (told_by last.keeper) last.state
     → kept ≡ last.keeper → mid ≡ old.stores.faults → IsRaised mid (faults_by kept) new.stores.faults
     → lent ≡ Some store.db → old.stores.stored ≡ mid_stored → IsReturned lent (told_by kept) mid_stored new.stores.stored
-    → new.streams.errors ≡ old.streams.errors → Serves store old new how
-serves_back {R} {K} step from to store old new how told_by faults_by first last kept mid lent mid_stored loaded none begun well talk starts replayed tells same later raised out stays returned silent =
+    → new.streams.errors ≡ old.streams.errors
+    → (s : Serves store old new how) × (s.state ≡ first.state) × (s.last.now.log ≡ map pair_of last.log)
+unfolding serves
+serves_with {R} {K} step from to store old new how told_by faults_by first last kept mid lent mid_stored loaded none begun well talk starts replayed tells same later raised out stays returned silent =
     let raised' = subst (λ (k : K). IsRaised mid (faults_by k) new.stores.faults) same raised in
     let back = subst (λ (k : K). IsReturned lent (told_by k) mid_stored new.stores.stored) same returned in
     let here = subst (λ (l : Option (Option (List ℕ))). IsReturned l (told_by last.keeper) mid_stored new.stores.stored) out back in
@@ -190,6 +193,23 @@ serves_back {R} {K} step from to store old new how told_by faults_by first last 
     (λ i. owned (opening i) (map pair_of (none i)) (well i)) plainly in
     let on : last.opening ≡ first.state = ap (λ (s : Seen). s.state) talk.opening ∙ opening in
     let state : last.state ≡ replay plain_step first.state log = replayed ∙ (sym (replay_pairs last.opening last.log) ∙ ap (λ (o : State). replay plain_step o log) on) in
-    let goes_on = still_tells (found_tables store old) (told_by last.keeper) (ap (λ (s : Seen). s.tells) talk.opening ∙ ap is_some starts) in
-    serves step from to store old new how first.state (owned last.opening log (faults_by last.keeper)) mid (told_by last.keeper) loaded from_here later raised' goes_on
-    (subst (Tells (told_by last.keeper)) state tells) there silent
+    let goes_on = still_tells (found_tables store old) (told_by last.keeper) (ap (λ (s : Seen). s.tells) talk.opening ∙ ap is_some starts) in (
+      serves step from to store old new how first.state (owned last.opening log (faults_by last.keeper)) mid (told_by last.keeper) loaded from_here later raised' goes_on
+          (subst (Tells (told_by last.keeper)) state tells) there silent,
+      refl,
+      refl,
+    )
+
+-- the same without them
+pub serves_back : {R K : Type 0} (step : Step R) (from to : R) (store : Store) (old new : Outside) (how : SessionEnd) (told_by : K → Option Tables) (faults_by : K → ℕ)
+    (first last : Kept K) (kept : K) (mid : ℕ) (lent : Option (Option (List ℕ))) (mid_stored : Option (List (List ℕ × Tables)))
+    → IsLoaded store old first.state → first.log ≡ [] → first.state ≡ entries_replay first.opening first.log → faults_by first.keeper ≡ 0
+    → IsOwnSession seen_protocol step (owned (seen first.opening (told_by first.keeper)) (map pair_of first.log) (faults_by first.keeper))
+    (owned (seen last.opening (told_by last.keeper)) (map pair_of last.log) (faults_by last.keeper)) from to
+    old.streams.input.bytes new.streams.input.bytes old.streams.output.bytes new.streams.output.bytes how
+    → told_by first.keeper ≡ found_tables store old → last.state ≡ entries_replay last.opening last.log → Tells (told_by last.keeper) last.state
+    → kept ≡ last.keeper → mid ≡ old.stores.faults → IsRaised mid (faults_by kept) new.stores.faults
+    → lent ≡ Some store.db → old.stores.stored ≡ mid_stored → IsReturned lent (told_by kept) mid_stored new.stores.stored
+    → new.streams.errors ≡ old.streams.errors → Serves store old new how
+serves_back step from to store old new how told_by faults_by first last kept mid lent mid_stored loaded none begun well talk starts replayed tells same later raised out stays returned silent =
+    (serves_with step from to store old new how told_by faults_by first last kept mid lent mid_stored loaded none begun well talk starts replayed tells same later raised out stays returned silent).0

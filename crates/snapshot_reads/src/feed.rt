@@ -12,7 +12,7 @@ use crate::rule::{All, Begins, Follow, Shows, Takes};
 use core::mem::replace_with;
 use ipam_data::update::Update;
 use left_right::writer::Writer;
-use logbook::Word;
+use logbook::{Seen, Word};
 use snapshot_rows::SnapshotRows;
 use std::alloc::{AllocError, Global};
 use std::marker::Model;
@@ -99,6 +99,13 @@ impl Feed {
         ensures { result ≡ length self.now.published }
     {
         self.writer.published().count
+    }
+
+    /// The history of the changes that it published.
+    pub(crate) fn history(&self) -> &Seen<Update, u64, HistoryRule>
+        ensures { (result.now.book ≡ self.now.book) × (result.now.log ≡ self.now.published) }
+    {
+        &self.writer.published().seen
     }
 
     /// Whether it may publish more.

@@ -1,5 +1,5 @@
 //! The readers.
-ghost use Rattle.std.specs.Prelude.{◌≡◌, ◌<◌, ◌≤◌, length, Some, IfOk, OnOk, OnErr, fold};
+ghost use Rattle.std.specs.Prelude.{◌≡◌, ◌<◌, ◌≤◌, length, true, false, Some, IfOk, OnOk, OnErr, fold};
 ghost use mathlib.Core.List.{IsPrefix};
 ghost use Rattle.left_right.specs.Sides.{view};
 ghost use Rattle.snapshot_reads.specs.Published.{lists};
@@ -184,5 +184,18 @@ impl Look {
         self.told = told;
         self.told_count = told_count;
         Ok(())
+    }
+
+    /// Whether the feed published all that this look saw: else it published fewer changes. A look never sees more, and no clause says so.
+    pub fn is_within(&self, feed: &Feed) -> bool
+        requires own { IsLookOf feed.now self.now }
+        ensures within { result ≡ true → IsPrefix self.now.seen feed.now.published }
+        ensures more { result ≡ false → length feed.now.published < length self.now.seen }
+    {
+        if feed.number() < self.seen_count {
+            return false;
+        }
+        begins(&self.seen, feed.history());
+        true
     }
 }

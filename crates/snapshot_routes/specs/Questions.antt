@@ -1,6 +1,6 @@
 -- What a request asks of a snapshot: the path comes first, then the method, then the number of changes that are asked for at least, and
 -- then the parameters of a list.
-use Rattle.std.specs.Prelude.{◌≡◌, ◌≢◌, ℕ, ◌<◌, Bool, true, false, List, codes, decimal, Option, Some, None, Result, Ok, Err}
+use Rattle.std.specs.Prelude.{◌≡◌, ◌≢◌, ℕ, ◌<◌, Bool, true, false, List, codes, decimal, Option, Some, None, Ok, Err}
 use Rattle.http_session.specs.Requests.{Framed}
 use Rattle.ipam_data.specs.declared.kinds.Kind.{Kind}
 use Rattle.ipam_data.specs.declared.kinds.Kind.TheVariants.{Vrfs, Prefixes}

@@ -1,8 +1,7 @@
 //! What a request asks of a snapshot.
 
-ghost use Rattle.std.specs.Prelude.{◌≡◌, ◌≢◌, IfOk, MatchBool, Some, codes};
+ghost use Rattle.std.specs.Prelude.{◌≡◌, ◌≢◌, IfOk, MatchBool, Some};
 ghost use Rattle.http_session.specs.Steps.{framed};
-ghost use Rattle.rest_query.specs.Query.{parameter, query_in};
 ghost use Rattle.snapshot_routes.specs.Questions.{IsAskedByGet, IsLeast, IsQuestion, IsWellAsked};
 ghost use Rattle.snapshot_routes.specs.Questions as spec;
 

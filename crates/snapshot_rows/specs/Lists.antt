@@ -48,6 +48,10 @@ without_listed lists cut = without_of lists cut.0 cut.1
 abbrev pub after_update : Lists → Update → Lists
 after_update lists u = fold without_listed (fold with_listed lists u.puts) u.cuts
 
+-- the second update does to each lists what the first one does
+abbrev pub AreAlike : Update → Update → Type 0
+AreAlike u v = (lists : Lists) → after_update lists v ≡ after_update lists u
+
 -- the reply is that of each state with these lists
 abbrev pub IsReplyTo : Lists → Call → Reply → Type 0
 IsReplyTo lists call reply = (s : State) → lists_of s ≡ lists → plain_step s call ≡ (s, reply)

@@ -2,7 +2,10 @@
 //! these two kinds alone.
 #![tactic(auto)]
 
+mod changes;
 mod checks;
+mod filling;
 mod rows;
 
+pub use changes::listed;
 pub use rows::{SnapshotRows, lists_follow, lists_follow_history};

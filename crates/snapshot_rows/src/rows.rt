@@ -20,7 +20,7 @@ use std::marker::Model;
 /// VRFs and prefixes, on the register's tables without rows of other kinds. A contract sees the two lists.
 #[derive(Drop)]
 pub struct SnapshotRows {
-    tables: RowTables,
+    pub(crate) tables: RowTables,
 }
 
 impl Model for SnapshotRows {
@@ -60,7 +60,7 @@ fn push_listed(view: &View, puts: &mut Vec<View>) -> Result<(), AllocError>
 }
 
 /// Copies of the rows of the two kinds. `Err` means out of memory.
-fn listed_of(alloc: Global, views: &[View]) -> Result<Vec<View>, AllocError>
+pub(crate) fn listed_of(alloc: Global, views: &[View]) -> Result<Vec<View>, AllocError>
     ensures { IfOk result (λ v. v.items ≡ filter is_listed views.now) }
 {
     let mut puts = Vec::new(alloc);

@@ -1,8 +1,8 @@
 -- The numbers that a reader is told never fall, and a look only grows.
-use Rattle.std.proofs.Common.{◌≡◌, ◌≤◌, ℕ, List, [], ◌∷◌, ◌++◌, length, Option, Some, None, ap, sym, subst, ◌∙◌, refl, arith, length-append}
+use Rattle.std.proofs.Common.{◌≡◌, ◌≤◌, ℕ, List, [], ◌∷◌, length, Option, Some, None, ap, sym, subst, ◌∙◌, refl, arith, length-append}
 use mathlib.Core.List.{IsPrefix}
 use Rattle.http_session.specs.Answers.{NamedNumber}
-use Rattle.http_session.specs.Requests.{Framed, Item, Asks, Refuses}
+use Rattle.http_session.specs.Requests.{Item, Asks, Refuses}
 use Rattle.http_session.specs.Talk.{Answer, Answered, Run}
 use Rattle.rest_routes.specs.Answers.{place_field}
 use Rattle.snapshot_reads.specs.Seen.{Grows, IsAnswered}
@@ -16,8 +16,8 @@ use Rattle.snapshot_routes.specs.declared.question.Question.TheVariants.{Reads, 
 use Rattle.snapshot_routes.specs.declared.question.Unread.{Unread}
 use Rattle.snapshot_routes.specs.declared.question.Unread.TheVariants.{NoRoute, Method, Least, Query}
 use Rattle.snapshot_routes.specs.Answers.{unread_answer}
-use Rattle.snapshot_session.specs.Reads.{Seen, IsAnswerTo, IsReadAnswer, IsToldAnswer, answers_read}
-use Rattle.snapshot_session.specs.Numbers.{AreInOrder, NeverFall, NoneBelow, NumbersNeverFall, number_told}
+use Rattle.snapshot_session.specs.Reads.{Seen, IsAnswerTo, IsToldAnswer, answers_read}
+use Rattle.snapshot_session.specs.Numbers.{NeverFall, NoneBelow, NumbersNeverFall, number_told}
 use Rattle.snapshot_session.proofs.Later.{IsAlong}
 
 prefix_length : {A : Type 0} (a b : List A) → IsPrefix a b → length a ≤ length b

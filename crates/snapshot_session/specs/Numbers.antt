@@ -1,5 +1,5 @@
 -- The numbers of changes that a reader is told, over one connection or several.
-use Rattle.std.specs.Prelude.{◌≤◌, ◌⊎◌, ℕ, List, [], ◌∷◌, length, Option, Some, None}
+use Rattle.std.specs.Prelude.{◌≤◌, ℕ, List, [], ◌∷◌, length, Option, Some, None}
 use Rattle.http_session.specs.Answers.{NamedNumber}
 use Rattle.http_session.specs.Requests.{Item}
 use Rattle.http_session.specs.Talk.{Answer, Run}

@@ -73,7 +73,8 @@ const CASES: &[(&str, &str)] = &[
     (
         "GET /api/ipam/prefixes/?least=1",
         "200 OK\r\nContent-Type: application/json\r\nContent-Length: 240\r\nIpam-Place: 1\r\n\r\n\
-         {\"count\":1,\"next\":null,\"previous\":null,\"results\":[{\"children\":0,\"depth\":0,\"description\":\"\",\"family\":4,\"id\":1,\"is_pool\":false,\"mark_utilized\":false,\
+         {\"count\":1,\"next\":null,\"previous\":null,\"results\":[\
+         {\"children\":0,\"depth\":0,\"description\":\"\",\"family\":4,\"id\":1,\"is_pool\":false,\"mark_utilized\":false,\
          \"prefix\":\"10.0.0.0/24\",\"role\":null,\"status\":{\"label\":\"Active\",\"value\":\"active\"},\"vrf\":null}]}",
     ),
     (

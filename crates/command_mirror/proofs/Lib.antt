@@ -1,0 +1,5 @@
+mod Beside
+mod Coming
+mod Worked
+mod Ended
+mod Refused

@@ -1,0 +1,5 @@
+pub mod Readers
+pub mod Together
+pub mod Lanes
+pub mod Ran
+pub mod Mirror
