@@ -12,7 +12,9 @@ mod readers;
 mod values;
 mod zones;
 
-pub use asked::{Command, KindName, ListAsked, Mirroring, Report, Serving, Store, StyleName, TableName};
+pub use asked::{
+    Command, KindName, ListAsked, Mirroring, Report, Serving, Store, StyleName, TableName,
+};
 use lists::{read_prefix_check, read_prefix_list};
 use migrating::read_migrate;
 use mirroring::read_mirror;
