@@ -121,8 +121,10 @@ class Runs:
         server.operator.make([post(n) for n in range(SOME)], 201)
         reader = Connection(self.port)
         reader.send([request("GET", f"prefixes/1/?least={SOME}")])
-        _, body = reader.answer()
+        status, body = reader.answer()
         reader.end()
+        if status != 200:
+            sys.exit(f"mirror: a reader does not see the operator's changes: {status} {body!r}")
         idle = self.middle(count)
         written = writing(server.operator, SOME, lambda: self.middle(count))
         server.end()
