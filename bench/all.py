@@ -53,6 +53,7 @@ BENCHES = [
     Bench("pools", ["pools.sh"], ["pools.sh"], 1200, [POOLD, "psql", "runuser"]),
     Bench("store", ["store.sh", "3"], ["store.sh", "1"], 600),
     Bench("serve", ["serve.sh", "2"], ["serve.sh", "1"], 900, ["curl"]),
+    Bench("mirror", ["mirror.sh"], ["mirror.sh", "1"], 1200, ["wrk", "nginx"]),
     Bench("full", ["full.sh"], ["full.sh"], 1200),
     Bench("full_log", ["full_log.sh"], ["full_log.sh"], 900),
 ] + [Bench(name, [name], [name], 1800, ["rt"], proves=True)

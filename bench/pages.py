@@ -92,6 +92,12 @@ def serving(folder):
 
 
 POST = r"""printf 'POST /api/ipam/prefixes/ HTTP/1.1\r\nHost: x\r\nContent-Length: 24\r\n\r\n{"prefix":"10.0.0.0/24"}' | ./ipamd session"""
+MIRROR = "\n".join((
+    r"""{ printf 'POST /api/ipam/prefixes/ HTTP/1.1\r\nHost: x\r\nContent-Length: 24\r\n\r\n{"prefix":"10.0.0.0/24"}'; sleep 2; } |""",
+    "  ./ipamd mirror --bind 127.0.0.1:8080 --readers 2 --connections 1 > operator.out &",
+    "sleep 1",
+    "curl -s 'http://127.0.0.1:8080/api/ipam/prefixes/?least=1'",
+    "curl -s http://127.0.0.1:8080/api/ipam/prefixes/1/"))
 SOCAT = "socat TCP-LISTEN:8080,bind=127.0.0.1,reuseaddr,fork EXEC:'./ipamd session' &"
 TWO = """curl -s -d '{"name":"red"}' http://127.0.0.1:8080/api/ipam/vrfs/ --next -s http://127.0.0.1:8080/api/ipam/vrfs/1/"""
 RED = r'\{"description":"","enforce_unique":true,"id":1,"name":"red","rd":null\}'
@@ -127,6 +133,7 @@ STEPS = [
     using("tail -n +2 prefixes.csv | cut -d, -f2 | ./ipamd free 10.0.0.0/8", r"\A10\.192\.0\.0/10\n\Z"),
     using("""python3 -c 'import csv, sys; [print(row["prefix"]) for row in csv.DictReader(sys.stdin)]' < prefixes.csv | ./ipamd free 10.0.0.0/8""", r"\A10\.192\.0\.0/10\n\Z"),
     using(POST, r'\AHTTP/1.1 201 Created\r\n.*"prefix":"10\.0\.0\.0/24"'),
+    using(MIRROR, r'\A\{"count":1,.*"prefix":"10\.0\.0\.0/24".*\}\{"children":0,.*"prefix":"10\.0\.0\.0/24"'),
     using(SOCAT, "", stays=True),
     using(TWO, rf"\A{RED}{RED}\Z"),
     using("U=" + BASE, r"\A\Z"),

@@ -1,6 +1,6 @@
 -- Each command is one of those that clap's definition speaks of.
 use Rattle.std.proofs.Common.{refl}
-use Rattle.command_grammar.specs.Grammar.{IsPlainCommand, free_app, session_app, serve_app, import_app, export_app, report_app, prefix_list_app, prefix_check_app, reverse_app, reverse_read_app, migrate_app, load_app}
+use Rattle.command_grammar.specs.Grammar.{IsPlainCommand, free_app, session_app, serve_app, mirror_app, import_app, export_app, report_app, prefix_list_app, prefix_check_app, reverse_app, reverse_read_app, migrate_app, load_app}
 
 pub free_is_plain : IsPlainCommand free_app
 unfolding IsPlainCommand free_app
@@ -25,6 +25,10 @@ load_is_plain = (refl, refl)
 pub serve_is_plain : IsPlainCommand serve_app
 unfolding IsPlainCommand serve_app
 serve_is_plain = (refl, refl)
+
+pub mirror_is_plain : IsPlainCommand mirror_app
+unfolding IsPlainCommand mirror_app
+mirror_is_plain = (refl, refl)
 
 pub report_is_plain : IsPlainCommand report_app
 unfolding IsPlainCommand report_app

@@ -39,6 +39,11 @@ unfoldable pub serve_app : App
 serve_app = with_store (with_rule (with_rule (with_rule (command_app (codes "serve")) (needed_rule (codes "bind"))) (needed_rule (codes "workers")))
     (option_rule (codes "connections")))
 
+-- `mirror --bind HOST:PORT --readers N`
+unfoldable pub mirror_app : App
+mirror_app = with_store (with_rule (with_rule (with_rule (command_app (codes "mirror")) (needed_rule (codes "bind"))) (needed_rule (codes "readers")))
+    (option_rule (codes "connections")))
+
 -- `import KIND`
 unfoldable pub import_app : App
 import_app = with_store (with_rule (command_app (codes "import")) (place_rule (codes "kind")))

@@ -4,7 +4,7 @@
 ghost use Rattle.std.specs.Prelude.{◌≡◌, ◌↔◌, Option, IfOk, IsTrue, MatchOption, map, option_map, true, false, codes};
 ghost use Rattle.clap.specs.Words.{app_of, first_of, found_of, kind_of, rows_of, rule_of};
 ghost use Rattle.clap.specs.Simple.{App, with_rule};
-ghost use Rattle.command_grammar.specs.Grammar.{IsPlainCommand, Takes, given, command_app, option_rule, needed_rule, place_rule, with_store, list_app, free_app, session_app, serve_app, import_app, export_app, report_app, prefix_list_app, prefix_check_app, reverse_app, reverse_read_app, migrate_app, load_app};
+ghost use Rattle.command_grammar.specs.Grammar.{IsPlainCommand, Takes, given, command_app, option_rule, needed_rule, place_rule, with_store, list_app, free_app, session_app, serve_app, mirror_app, import_app, export_app, report_app, prefix_list_app, prefix_check_app, reverse_app, reverse_read_app, migrate_app, load_app};
 
 use clap::error::ErrorKind;
 use clap::{Arg, ArgAction, ArgMatches, Error};
@@ -83,6 +83,17 @@ pub fn serve_command<'a>(alloc: Global) -> Result<clap::Command<'a>, AllocError>
 {
     let command = with(plain_command(alloc, "serve"), needed(alloc, "bind"))?;
     let command = with(command, needed(alloc, "workers"))?;
+    let command = with(command, option(alloc, "connections"))?;
+    stored(alloc, command)
+}
+
+/// `mirror --bind HOST:PORT --readers N`. `Err` means out of memory.
+#[tactic(auto, unfolding(crate::specs::Grammar::mirror_app))]
+pub fn mirror_command<'a>(alloc: Global) -> Result<clap::Command<'a>, AllocError>
+    ensures { IfOk result (λ c. app_of c ≡ mirror_app) }
+{
+    let command = with(plain_command(alloc, "mirror"), needed(alloc, "bind"))?;
+    let command = with(command, needed(alloc, "readers"))?;
     let command = with(command, option(alloc, "connections"))?;
     stored(alloc, command)
 }

@@ -32,7 +32,7 @@ use Rattle.command_store.specs.Opening.{FailsToSay, IsLoaded, found_tables}
 use Rattle.command_store.proofs.Refused.{back_after, raised_later}
 use Rattle.command_session.specs.Session.{HasFailedCall, Serves}
 use Rattle.command_session.proofs.Sessions.{prints, serves_with}
-use Rattle.command_mirror.specs.declared.asked.Mirroring.{Mirroring}
+use Rattle.command_words.specs.declared.asked.Mirroring.{Mirroring}
 use Rattle.command_mirror.specs.declared.mirrored.Ran.{Ran}
 use Rattle.command_mirror.specs.declared.mirrored.Ran.TheVariants.{Starved, Placeless, Ended}
 use Rattle.command_mirror.specs.Mirror.{Exhausts, Falters, Finishes, HasNoPlace, IsBoundBy, IsMirror, Mirrors, MirrorsAll, Starves}

@@ -9,7 +9,7 @@ use Rattle.command_streams.specs.Streams.{EndsWith}
 use Rattle.command_store.specs.Outside.{Outside, StoreFailed, IsUnused, NoCountFalls, NoCountRises}
 use Rattle.command_store.specs.FaultWords.{IsSaid, fault_line}
 use Rattle.command_store.specs.Opening.{NamesFailure, NamesFault, found_tables, IsBadStore}
-use Rattle.command_mirror.specs.declared.asked.Mirroring.{Mirroring}
+use Rattle.command_words.specs.declared.asked.Mirroring.{Mirroring}
 use Rattle.command_mirror.specs.Mirror.{IsMirror}
 use Rattle.command_mirror.proofs.Ended.{Whatever, not_used, of_fault, of_memory}
 

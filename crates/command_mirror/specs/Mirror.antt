@@ -13,7 +13,7 @@ use Rattle.command_streams.specs.Streams.{Failed, NeverRises}
 use Rattle.command_store.specs.Outside.{AreSame, IsUnused, NoCountFalls, NoCountRises, Outside, StoreFailed}
 use Rattle.command_store.specs.Opening.{FailsToSay, NamesFailure, NamesFault}
 use Rattle.command_session.specs.Session.{HasFailedCall, Prints, Serves}
-use Rattle.command_mirror.specs.declared.asked.Mirroring.{Mirroring}
+use Rattle.command_words.specs.declared.asked.Mirroring.{Mirroring}
 use Rattle.command_mirror.specs.Lanes.{HasNoLanes}
 use Rattle.command_mirror.specs.Readers.{AreReadLanes}
 

@@ -19,7 +19,7 @@ use Rattle.snapshot_operator.specs.Shown.{IsFollowing}
 use Rattle.snapshot_rows.specs.Lists.{Lists, lists_of}
 use Rattle.stored_tables.specs.declared.tables.Tables.{Tables}
 use Rattle.command_streams.specs.Streams.{Told}
-use Rattle.command_mirror.specs.declared.asked.Mirroring.{Mirroring}
+use Rattle.command_words.specs.declared.asked.Mirroring.{Mirroring}
 use Rattle.command_mirror.specs.declared.mirrored.Ran.{Ran}
 use Rattle.command_mirror.specs.declared.mirrored.Ran.TheVariants.{Starved, Placeless, Ended}
 use Rattle.command_mirror.specs.Lanes.{HasNoLanes}

@@ -1,7 +1,6 @@
 //! The command `mirror` over a store: the operator's session over the input and the output, and beside it readers of what is published.
 #![tactic(auto)]
 
-mod asked;
 mod lanes;
 mod mirrored;
 mod prepared;
@@ -10,5 +9,4 @@ mod register;
 mod run;
 mod together;
 
-pub use asked::Mirroring;
 pub use run::run_mirror;

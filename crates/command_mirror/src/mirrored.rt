@@ -9,11 +9,11 @@ ghost use Rattle.snapshot_reads.specs.Seen.{IsNewLook};
 ghost use Rattle.snapshot_operator.specs.Shown.{IsShown};
 ghost use Rattle.command_mirror.specs.Ran.{HasMirrored, HasRun};
 
-use crate::asked::Mirroring;
 use crate::lanes::open_lanes;
 use crate::prepared::{Prepared, prepare};
 use crate::readers::{ReaderLane, dismiss, pair_up};
 use crate::together::mirror;
+use command_words::Mirroring;
 use http_lanes::{Listening, give_back_lanes};
 use http_session::SessionEnd;
 use ipam_edge::{Sink, Source};

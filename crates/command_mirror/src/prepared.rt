@@ -5,8 +5,8 @@ ghost use Rattle.register_core.specs.Machines.{pair_of};
 ghost use Rattle.snapshot_reads.specs.Seen.{IsNewLook};
 ghost use Rattle.snapshot_operator.specs.Shown.{IsShown};
 
-use crate::asked::Mirroring;
 use crate::readers::ReaderLane;
+use command_words::Mirroring;
 use ipam_keeper::keeper::Keeper;
 use register_core::Register;
 use snapshot_operator::begin_feed;

@@ -10,9 +10,9 @@ ghost use Rattle.machine_serving.specs.Views.{listener_view};
 ghost use Rattle.command_mirror.specs.Mirror.{IsMirror};
 ghost use Rattle.command_mirror.specs.Ran.{ran_status};
 
-use crate::asked::Mirroring;
 use crate::mirrored::{Ran, mirror_register};
 use command_streams::{DONE, FAULT, MEMORY};
+use command_words::Mirroring;
 use http_lanes::Listening;
 use http_session::SessionEnd;
 use ipam_edge::{Sink, Source};

@@ -6,9 +6,9 @@ ghost use Rattle.command_store.specs.Outside.{outside, stores};
 ghost use Rattle.machine_serving.specs.Views.{listener_view};
 ghost use Rattle.command_mirror.specs.Mirror.{IsMirror};
 
-use crate::asked::Mirroring;
 use crate::register::mirror_opened;
 use command_store::{open_store, say_fault};
+use command_words::Mirroring;
 use ipam_edge::{Sink, Source};
 use ipam_keeper::keeper::KeeperOpener;
 use ipam_listen::Listener;

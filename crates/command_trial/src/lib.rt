@@ -10,6 +10,8 @@ mod line_tests;
 #[cfg(test)]
 mod migrate_tests;
 #[cfg(test)]
+mod mirror_tests;
+#[cfg(test)]
 mod session_tests;
 #[cfg(test)]
 mod store_tests;

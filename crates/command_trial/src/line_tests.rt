@@ -33,6 +33,15 @@ keeper 1|import prefixes --db a|prefix,vrf,status;10.0.0.0/24,,active;10.0.1.0/2
 lane 0|serve --bind x --workers 1 --connections 2 --db a||3|entries 1;||1|1,10.0.0.0/24,,active,,false,false,;
 nobody|serve --bind x --workers 1|x|3|entries 0;||0|
 nowhere|serve --bind x --workers 1|x|3|||0|
+|mirror --bind x --readers 1 --connections 2 --db a|once|0|HTTP/1.1 201 Created^;Content-Type: application/json^;Content-Length: 188^;Ipam-Place: 0^;^;{"children":0,"depth":0,"description":"","family":4,"id":1,"is_pool":false,"mark_utilized":false,"prefix":"10.0.0.0/24","role":null,"status":{"label":"Active","value":"active"},"vrf":null}||2|1,10.0.0.0/24,,active,,false,false,;
+|mirror --bind x --readers 1 --connections 1|once|0|HTTP/1.1 201 Created^;Content-Type: application/json^;Content-Length: 188^;Ipam-Place: 0^;^;{"children":0,"depth":0,"description":"","family":4,"id":1,"is_pool":false,"mark_utilized":false,"prefix":"10.0.0.0/24","role":null,"status":{"label":"Active","value":"active"},"vrf":null}||1|
+lane 0|mirror --bind x --readers 1 --connections 2 --db a|once|3|HTTP/1.1 201 Created^;Content-Type: application/json^;Content-Length: 188^;Ipam-Place: 0^;^;{"children":0,"depth":0,"description":"","family":4,"id":1,"is_pool":false,"mark_utilized":false,"prefix":"10.0.0.0/24","role":null,"status":{"label":"Active","value":"active"},"vrf":null}||1|1,10.0.0.0/24,,active,,false,false,;
+nobody|mirror --bind x --readers 1 --db a|once|3|||0|
+nowhere|mirror --bind x --readers 1 --db a|once|3|||0|
+|mirror --bind x --readers 2 --db a|once|3|||0|
+input 0|mirror --bind x --readers 1 --connections 1 --db a|once|3|||1|
+output 0|mirror --bind x --readers 1 --connections 1 --db a|once|3|||1|
+keeper 0|mirror --bind x --readers 1 --db a|once|4||store: the store could not be read;|0|
 errors 0|free||3|||0|
 errors 0|load||3|||0|
 |session||0|||0|
@@ -49,6 +58,7 @@ input 0 output 0|Session|x;|2||usage: ipamd COMMAND;|0|
 input 0 output 0|session x|x;|2||usage: ipamd COMMAND;|0|
 input 0 output 0|session --db|x;|2||usage: ipamd COMMAND;|0|
 input 0 output 0|serve --bind 127.0.0.1:0 --workers 33|x;|2||usage: ipamd COMMAND;|0|
+input 0 output 0|mirror --bind 127.0.0.1:0 --readers 17|x;|2||usage: ipamd COMMAND;|0|
 input 0 output 0|import vlans|x;|2||usage: ipamd COMMAND;|0|
 input 0 output 0|export|x;|2||usage: ipamd COMMAND;|0|
 input 0 output 0|report tree --prefix 1|x;|2||usage: ipamd COMMAND;|0|

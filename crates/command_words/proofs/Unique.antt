@@ -1,5 +1,5 @@
 -- Words ask for one command: each value is determined by the text that was given, and the names of commands differ.
-use Rattle.std.proofs.Common.{◌≡◌, ℕ, ◌<◌, ◌^◌, refl, sym, ◌∙◌, ap, ap₂, arith, Bool, true, false, List, Option, Some, None, codes, sum, subst, decimal}
+use Rattle.std.proofs.Common.{◌≡◌, ℕ, ◌+◌, ◌<◌, ◌^◌, refl, sym, ◌∙◌, ap, ap₂, arith, Bool, true, false, List, Option, Some, None, codes, sum, take, subst, decimal}
 use Rattle.std.specs.Str.Parse.{AllDigits}
 use Rattle.std.proofs.lemmas.Fmt.{decimal_injective, digits_decimal}
 use Rattle.std.proofs.lemmas.Str.Parse.{digit_at, numerals_by_value, tells_digits}
@@ -15,6 +15,7 @@ use Rattle.command_words.specs.declared.asked.Report.{Report}
 use Rattle.command_words.specs.declared.asked.Report.TheVariants as report
 use Rattle.command_words.specs.declared.asked.Store.{Store}
 use Rattle.command_words.specs.declared.asked.Serving.{Serving}
+use Rattle.command_words.specs.declared.asked.Mirroring.{Mirroring}
 use Rattle.command_words.specs.declared.asked.TableName.{TableName}
 use Rattle.command_words.specs.declared.asked.TableName.TheVariants.{Global, Vrf}
 use Rattle.command_words.specs.declared.asked.StyleName.{StyleName}
@@ -23,9 +24,9 @@ use Rattle.command_words.specs.declared.asked.ListAsked.{ListAsked}
 use Rattle.command_words.specs.declared.asked.Command.{Command}
 use Rattle.command_words.specs.declared.asked.Command.TheVariants as command
 use Rattle.command_grammar.specs.Grammar.{given}
-use Rattle.command_words.specs.Values.{most_workers, most_connections, most_claims, most_id, IsBlockValue, IsNumberValue, IsNumberOr, IsTextValue, IsYesValue, IsAnswerValue, IsKindValue, IsReportValue, IsTableValue, IsFamilyValue, IsStyleValue, IsNameValue, kind_word, family_word, style_word}
+use Rattle.command_words.specs.Values.{most_workers, most_readers, most_connections, most_claims, most_id, IsBlockValue, IsNumberValue, IsNumberOr, IsTextValue, IsYesValue, IsAnswerValue, IsKindValue, IsReportValue, IsTableValue, IsFamilyValue, IsStyleValue, IsNameValue, kind_word, family_word, style_word}
 use Rattle.word_values.proofs.Unique.{one_number, one_number_or, one_text, same_first}
-use Rattle.command_words.specs.Asked.{name_of, app_for, IsStore, IsServing, IsListAsked, HasValues, WordsAskForOne}
+use Rattle.command_words.specs.Asked.{name_of, app_for, IsStore, IsServing, IsMirroring, IsListAsked, HasValues, WordsAskForOne}
 
 one_block : (text : Option (List ℕ)) (b c : Cidr) → IsBlockValue text b → IsBlockValue text c → b ≡ c
 one_block None b c h k = absurd h
@@ -138,6 +139,17 @@ one_serving rows s t h k =
     ap₂ (λ (b : List ℕ) (w : ℕ). record s { bind = b; workers = w }) bind workers in
     first ∙ ap₂ (λ (c : ℕ) (d : Store). record t { connections = c; store = d }) connections store
 
+one_mirroring : (rows : List Row) (s t : Mirroring) → IsMirroring rows s → IsMirroring rows t → s ≡ t
+one_mirroring rows s t h k =
+    let bind : s.bind ≡ t.bind = one_text (first_of (codes "bind") rows) s.bind t.bind h.bind k.bind in
+    let readers : s.readers ≡ t.readers = one_number most_readers (first_of (codes "readers") rows) s.readers t.readers (omega arith) h.readers k.readers in
+    let connections : s.connections ≡ t.connections =
+    one_number_or most_connections most_connections (first_of (codes "connections") rows) s.connections t.connections (omega arith) h.connections k.connections in
+    let store : s.store ≡ t.store = one_store rows s.store t.store h.store k.store in
+    let first : s ≡ record t { connections = s.connections; store = s.store } =
+    ap₂ (λ (b : List ℕ) (r : ℕ). record s { bind = b; readers = r }) bind readers in
+    first ∙ ap₂ (λ (c : ℕ) (d : Store). record t { connections = c; store = d }) connections store
+
 one_list : (rows : List Row) (a b : ListAsked) → IsListAsked rows a → IsListAsked rows b → a ≡ b
 one_list rows a b h k =
     let table : a.table ≡ b.table = one_table (first_of (codes "table") rows) a.table b.table h.table k.table in
@@ -151,12 +163,17 @@ one_list rows a b h k =
     ap₂ (λ (s : StyleName) (n : List ℕ). record b { style = s; name = n; store = a.store }) style name in
     first ∙ second ∙ ap (λ (s : Store). record b { store = s }) store
 
+-- the sum of a name's letters, its first one twice: it tells the commands' names apart
+abbrev mark : List ℕ → ℕ
+mark name = sum name + sum (take 1 name)
+
 -- with one name they are one
-one_named : (words : List (List ℕ)) (one other : Command) → sum (name_of one) ≡ sum (name_of other) → HasValues (given (app_for one) words) one
+one_named : (words : List (List ℕ)) (one other : Command) → mark (name_of one) ≡ mark (name_of other) → HasValues (given (app_for one) words) one
     → HasValues (given (app_for other) words) other → one ≡ other
 one_named words (command.Free b) (command.Free c) e h k = ap command.Free (one_block _ b c h k)
 one_named words (command.Session s) (command.Session t) e h k = ap command.Session (one_store _ s t h k)
 one_named words (command.Serve s) (command.Serve t) e h k = ap command.Serve (one_serving _ s t h k)
+one_named words (command.Mirror s) (command.Mirror t) e h k = ap command.Mirror (one_mirroring _ s t h k)
 one_named words (command.Import i s) (command.Import j t) e h k = ap₂ command.Import (kinds_are_one _ i j h.0 k.0) (one_store _ s t h.1 k.1)
 one_named words (command.Export i s) (command.Export j t) e h k = ap₂ command.Export (kinds_are_one _ i j h.0 k.0) (one_store _ s t h.1 k.1)
 one_named words (command.Report q s) (command.Report r t) e h k = ap₂ command.Report (one_report _ _ q r h.0 k.0) (one_store _ s t h.1 k.1)
@@ -171,4 +188,4 @@ one_named words one other e h k = absurd (omega arith)
 
 pub words_ask_for_one : WordsAskForOne
 words_ask_for_one = λ words one other h k.
-    one_named words one other (ap sum (same_first (name_of one) (name_of other) h.rest k.rest (sym h.named ∙ k.named))) h.values k.values
+    one_named words one other (ap mark (same_first (name_of one) (name_of other) h.rest k.rest (sym h.named ∙ k.named))) h.values k.values

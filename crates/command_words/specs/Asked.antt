@@ -5,17 +5,19 @@ use Rattle.clap.specs.Walk.{Row}
 use Rattle.clap.specs.Words.{first_of}
 use Rattle.command_words.specs.declared.asked.Store.{Store}
 use Rattle.command_words.specs.declared.asked.Serving.{Serving}
+use Rattle.command_words.specs.declared.asked.Mirroring.{Mirroring}
 use Rattle.command_words.specs.declared.asked.ListAsked.{ListAsked}
 use Rattle.command_words.specs.declared.asked.Command.{Command}
-use Rattle.command_words.specs.declared.asked.Command.TheVariants.{Free, Session, Serve, Import, Export, Report, PrefixList, PrefixCheck, Reverse, ReverseRead, Migrate, Load}
-use Rattle.command_grammar.specs.Grammar.{Takes, given, free_app, session_app, serve_app, import_app, export_app, report_app, prefix_list_app, prefix_check_app, reverse_app, reverse_read_app, migrate_app, load_app}
-use Rattle.command_words.specs.Values.{most_workers, most_connections, most_claims, most_id, IsBlockValue, IsNumberValue, IsNumberOr, IsTextValue, IsTextOrNone, IsYesValue, IsAnswerValue, IsKindValue, IsReportValue, IsTableValue, IsFamilyValue, IsStyleValue, IsNameValue}
+use Rattle.command_words.specs.declared.asked.Command.TheVariants.{Free, Session, Serve, Mirror, Import, Export, Report, PrefixList, PrefixCheck, Reverse, ReverseRead, Migrate, Load}
+use Rattle.command_grammar.specs.Grammar.{Takes, given, free_app, session_app, serve_app, mirror_app, import_app, export_app, report_app, prefix_list_app, prefix_check_app, reverse_app, reverse_read_app, migrate_app, load_app}
+use Rattle.command_words.specs.Values.{most_workers, most_readers, most_connections, most_claims, most_id, IsBlockValue, IsNumberValue, IsNumberOr, IsTextValue, IsTextOrNone, IsYesValue, IsAnswerValue, IsKindValue, IsReportValue, IsTableValue, IsFamilyValue, IsStyleValue, IsNameValue}
 
 -- the first word
 abbrev pub name_of : Command → List ℕ
 name_of (Free block) = codes "free"
 name_of (Session store) = codes "session"
 name_of (Serve serving) = codes "serve"
+name_of (Mirror mirroring) = codes "mirror"
 name_of (Import kind store) = codes "import"
 name_of (Export kind store) = codes "export"
 name_of (Report report store) = codes "report"
@@ -31,6 +33,7 @@ abbrev pub app_for : Command → App
 app_for (Free block) = free_app
 app_for (Session store) = session_app
 app_for (Serve serving) = serve_app
+app_for (Mirror mirroring) = mirror_app
 app_for (Import kind store) = import_app
 app_for (Export kind store) = export_app
 app_for (Report report store) = report_app
@@ -53,6 +56,13 @@ pub record IsServing (rows : List Row) (serving : Serving) : Type 0 where
   pub connections : IsNumberOr most_connections most_connections (first_of (codes "connections") rows) serving.connections
   pub store : IsStore rows serving.store
 
+-- what was given to `mirror`
+pub record IsMirroring (rows : List Row) (mirroring : Mirroring) : Type 0 where
+  pub bind : IsTextValue (first_of (codes "bind") rows) mirroring.bind
+  pub readers : IsNumberValue most_readers (first_of (codes "readers") rows) mirroring.readers
+  pub connections : IsNumberOr most_connections most_connections (first_of (codes "connections") rows) mirroring.connections
+  pub store : IsStore rows mirroring.store
+
 -- what was given to `prefix-list` or `prefix-check`
 pub record IsListAsked (rows : List Row) (asked : ListAsked) : Type 0 where
   pub table : IsTableValue (first_of (codes "table") rows) asked.table
@@ -66,6 +76,7 @@ abbrev pub HasValues : List Row → Command → Type 0
 HasValues rows (Free block) = IsBlockValue (first_of (codes "block") rows) block
 HasValues rows (Session store) = IsStore rows store
 HasValues rows (Serve serving) = IsServing rows serving
+HasValues rows (Mirror mirroring) = IsMirroring rows mirroring
 HasValues rows (Import kind store) = IsKindValue (first_of (codes "kind") rows) kind × IsStore rows store
 HasValues rows (Export kind store) = IsKindValue (first_of (codes "kind") rows) kind × IsStore rows store
 HasValues rows (Report report store) = IsReportValue (first_of (codes "name") rows) (first_of (codes "prefix") rows) report × IsStore rows store

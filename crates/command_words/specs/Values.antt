@@ -15,6 +15,10 @@ use Rattle.command_words.specs.declared.asked.TableName.TheVariants.{Global, Vrf
 use Rattle.command_words.specs.declared.asked.StyleName.{StyleName}
 use Rattle.command_words.specs.declared.asked.StyleName.TheVariants.{Plain, Ios, Junos}
 
+-- the most readers of a mirror
+abbrev pub most_readers : ℕ
+most_readers = 16
+
 -- the most claims of a load, and the greatest id
 abbrev pub most_claims : ℕ
 most_claims = 100000

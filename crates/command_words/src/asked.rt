@@ -40,6 +40,15 @@ pub struct Serving {
     pub store: Store,
 }
 
+/// Where readers listen, how many of them, for how many connections of each, over which register.
+#[derive(Debug, Drop)]
+pub struct Mirroring {
+    pub bind: WordText,
+    pub readers: u32,
+    pub connections: u32,
+    pub store: Store,
+}
+
 /// A table of prefixes: the global one, or that of the VRF with this id.
 #[derive(Clone, Copy, Debug)]
 pub enum TableName {
@@ -74,6 +83,8 @@ pub enum Command {
     Session(Store),
     /// Sessions with all that connect.
     Serve(Serving),
+    /// One session over the input and the output, beside readers with all that connect.
+    Mirror(Mirroring),
     /// The rows of a file into the register.
     Import(KindName, Store),
     /// The rows of a kind out of the register.

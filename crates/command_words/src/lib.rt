@@ -7,13 +7,17 @@ ghost use Rattle.command_words.specs.Asked.{Asks, IsNoCommand, WordsAskForOne};
 mod asked;
 mod lists;
 mod migrating;
+mod mirroring;
 mod readers;
 mod values;
 mod zones;
 
-pub use asked::{Command, KindName, ListAsked, Report, Serving, Store, StyleName, TableName};
+pub use asked::{
+    Command, KindName, ListAsked, Mirroring, Report, Serving, Store, StyleName, TableName,
+};
 use lists::{read_prefix_check, read_prefix_list};
 use migrating::read_migrate;
+use mirroring::read_mirror;
 use readers::{
     read_export, read_free, read_import, read_load, read_report, read_serve, read_session,
 };
@@ -33,6 +37,7 @@ pub fn read_words<'a>(alloc: Global, words: &'a [&'a str]) -> Result<Option<Comm
         name if is_word(name, "free") => read_free(alloc, words),
         name if is_word(name, "session") => read_session(alloc, words),
         name if is_word(name, "serve") => read_serve(alloc, words),
+        name if is_word(name, "mirror") => read_mirror(alloc, words),
         name if is_word(name, "import") => read_import(alloc, words),
         name if is_word(name, "export") => read_export(alloc, words),
         name if is_word(name, "report") => read_report(alloc, words),

@@ -1,10 +1,11 @@
 -- Words ask for one command, so a promise on another one is none; and what a command leaves that uses no opener or no listener.
-use Rattle.std.proofs.Common.{◌≡◌, ℕ, ◌+◌, ◌≤◌, length, refl, sym, ap, subst, arith, inl, Bool, List}
+use Rattle.std.proofs.Common.{◌≡◌, ℕ, ◌+◌, ◌≤◌, ◌⊎◌, length, refl, sym, ap, subst, arith, inl, Bool, List}
 use Rattle.inet_num.specs.Net.{Cidr}
 use Rattle.command_words.specs.declared.asked.KindName.{KindName}
 use Rattle.command_words.specs.declared.asked.Report.{Report as ReportName}
 use Rattle.command_words.specs.declared.asked.Store.{Store}
 use Rattle.command_words.specs.declared.asked.Serving.{Serving}
+use Rattle.command_words.specs.declared.asked.Mirroring.{Mirroring}
 use Rattle.command_words.specs.declared.asked.Command.{Command}
 use Rattle.command_words.specs.declared.asked.Command.TheVariants.{Free, Session, Serve, Import, Export, Report, Migrate, Load}
 use Rattle.command_words.specs.Asked.{Asks}
@@ -12,8 +13,9 @@ use Rattle.command_words.proofs.Unique.{words_ask_for_one}
 use Rattle.command_streams.specs.Streams.{Streams, NeverRises}
 use Rattle.command_store.specs.Outside.{Stores, Outside, NoCountRises}
 use Rattle.machine_serving.specs.Views.{ListenerView, NobodyCame}
+use Rattle.command_mirror.specs.Mirror.{Exhausts}
 use Rattle.ipam_command.specs.Runs.{Answers}
-use Rattle.ipam_command.specs.Clauses.{IsQuiet}
+use Rattle.ipam_command.specs.Clauses.{IsQuiet, AsksMirror}
 
 -- what a command left is what each command left that the words ask for
 pub answers_of : (words : List (List ℕ)) (command one : Command) (old new : Outside) (before after : ListenerView) (status : ℕ) → Asks words command → Asks words one
@@ -116,5 +118,6 @@ pub streams_same : (old new : Streams) → new ≡ old → NeverRises old new
 streams_same old new same = subst (λ (t : Streams). NeverRises old t) (sym same) (record { input = refl; output = refl; errors = refl })
 
 -- nor that of a listener which was not used
-pub quiet_beside : (words : List (List ℕ)) (old new : Outside) (before after : ListenerView) → NoCountRises old new → after ≡ before → IsQuiet words old new before after
-quiet_beside words old new before after none same = record { streams = none.streams; stores = inl none.stores; listener = ap (λ (d : ListenerView). d.faults) same }
+pub quiet_beside : (words : List (List ℕ)) (old new : Outside) (before after : ListenerView) → NoCountRises old new → after ≡ before
+    → IsQuiet words old new before after ⊎ ((mirroring : Mirroring) × AsksMirror words mirroring × Exhausts mirroring old new before after)
+quiet_beside words old new before after none same = inl (record { streams = none.streams; stores = inl none.stores; listener = ap (λ (d : ListenerView). d.faults) same })

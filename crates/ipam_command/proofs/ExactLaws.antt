@@ -13,7 +13,7 @@ use Rattle.ipam_data.specs.Imports.{import_plan}
 use Rattle.csv_import.specs.Files.{IsFileOf}
 use Rattle.csv_import.proofs.OneFile.{file_is_one}
 use Rattle.command_words.specs.declared.asked.Command.{Command}
-use Rattle.command_words.specs.declared.asked.Command.TheVariants.{Session, Serve, Import, Export, Report, PrefixList, PrefixCheck, Reverse, Migrate}
+use Rattle.command_words.specs.declared.asked.Command.TheVariants.{Session, Serve, Mirror, Import, Export, Report, PrefixList, PrefixCheck, Reverse, Migrate}
 use Rattle.command_words.specs.declared.asked.KindName.{KindName}
 use Rattle.command_words.specs.declared.asked.Report.{Report as ReportName}
 use Rattle.command_words.specs.declared.asked.Store.{Store}
@@ -116,8 +116,14 @@ module _ (words : List (List ℕ)) (old new : Outside) (before after : ListenerV
                     | inr asks ↦ not_done (PrefixCheck lists.0) asks (λ z. (
                         let s = ((h.answers (PrefixCheck lists.0) asks).0.done z).of_both in not_loaded lists.0.store old s.0 mine s.2.loaded))
                   ])
-              | inr zones ↦ not_done (Reverse zones.0 store) zones.1 (λ z. (
-                  let s = ((h.answers (Reverse zones.0 store) zones.1).0.done z).1 in not_loaded store old s.0 bad s.1))
+              | inr f ↦ elim f [
+                | inl zones ↦ not_done (Reverse zones.0 store) zones.1 (λ z. (
+                    let s = ((h.answers (Reverse zones.0 store) zones.1).0.done z).1 in not_loaded store old s.0 bad s.1))
+                | inr mirrors ↦ (
+                    let mine : HasBadTables mirrors.0.store old = subst (λ (t : Store). HasBadTables t old) (sym mirrors.2) bad in
+                    not_done (Mirror mirrors.0) mirrors.1 (λ z. (
+                    let s = ((h.mirror mirrors.0 mirrors.1).done z).0.mirrored.mirrors.serves in not_loaded mirrors.0.store old s.state mine s.loaded)))
+              ]
             ]
           ]
         ]

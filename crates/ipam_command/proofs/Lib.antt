@@ -2,6 +2,7 @@ pub mod Empty
 pub mod Apart
 pub mod OfficeLaws
 pub mod OtherLaws
+pub mod MirrorLaws
 pub mod RunLaws
 pub mod Parts
 pub mod LimitLaws

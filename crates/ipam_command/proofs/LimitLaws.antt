@@ -56,6 +56,7 @@ limits_hold = record {
   };
   commands = record {
     workers = refl;
+    readers = refl;
     connections = refl;
     claims = refl;
     id = refl;

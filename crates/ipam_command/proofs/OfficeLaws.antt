@@ -4,7 +4,7 @@ use Rattle.inet_num.specs.Net.{Cidr}
 use Rattle.command_words.specs.declared.asked.KindName.{KindName}
 use Rattle.command_words.specs.declared.asked.Report.{Report as ReportName}
 use Rattle.command_words.specs.declared.asked.Store.{Store}
-use Rattle.command_words.specs.declared.asked.Command.TheVariants.{Free, Session, Serve, Import, Export, Report, Migrate, Load}
+use Rattle.command_words.specs.declared.asked.Command.TheVariants.{Free, Session, Serve, Mirror, Import, Export, Report, Migrate, Load}
 use Rattle.command_words.specs.Asked.{Asks}
 use Rattle.command_words.proofs.Unique.{words_ask_for_one}
 use Rattle.command_streams.specs.Streams.{Failed}
@@ -140,14 +140,15 @@ of_import words old new before after status kind store asks s same_listener = re
   free_fault = λ within a z. absurd (let e = words_ask_for_one words (Free within) (Import kind store) a asks in cc);
   starved = λ other a z output errors. absurd (let e = words_ask_for_one words (Session other) (Import kind store) a asks in cc);
   store_fault = λ z. (nobody before after same_listener, inr (inl (kind, store, asks, s.store_fault z)));
-  memory = λ z. ((s.memory z).1, inr (s.memory z).0.output);
+  memory = λ z. ((s.memory z).1, inr (inl (s.memory z).0.output));
   nothing_else = λ within a. absurd (let e = words_ask_for_one words (Free within) (Import kind store) a asks in cc);
   refuses = λ within number fault a. absurd (let e = words_ask_for_one words (Free within) (Import kind store) a asks in cc);
   no_store = λ within a. absurd (let e = words_ask_for_one words (Free within) (Import kind store) a asks in cc);
-  no_listener = λ none. same_listener;
+  no_listener = λ none others. same_listener;
   lanes_back = lanes_kept before after same_listener;
   session = λ other a. absurd (let e = words_ask_for_one words (Session other) (Import kind store) a asks in cc);
   serve = λ serving a. absurd (let e = words_ask_for_one words (Serve serving) (Import kind store) a asks in cc);
+  mirror = λ mirroring a. absurd (let e = words_ask_for_one words (Mirror mirroring) (Import kind store) a asks in cc);
   load = λ count workers a. absurd (let e = words_ask_for_one words (Load count workers) (Import kind store) a asks in cc);
   import = λ other_kind other a. (same_import words kind other_kind store other (λ k t. IsImport (kind_named k) t old new status) asks a s, same_listener);
   import_whole = λ other_kind other a. import_whole (kind_named other_kind) other old new status
@@ -189,14 +190,15 @@ of_export words old new before after status kind store asks s same_listener = re
   free_fault = λ within a z. absurd (let e = words_ask_for_one words (Free within) (Export kind store) a asks in cc);
   starved = λ other a z output errors. absurd (let e = words_ask_for_one words (Session other) (Export kind store) a asks in cc);
   store_fault = λ z. (nobody before after same_listener, inl (inr (inr (inl (kind, store, asks))), s.store_fault z));
-  memory = λ z. ((s.memory z).0.errors, inr (s.memory z).1);
+  memory = λ z. ((s.memory z).0.errors, inr (inl (s.memory z).1));
   nothing_else = λ within a. absurd (let e = words_ask_for_one words (Free within) (Export kind store) a asks in cc);
   refuses = λ within number fault a. absurd (let e = words_ask_for_one words (Free within) (Export kind store) a asks in cc);
   no_store = λ within a. absurd (let e = words_ask_for_one words (Free within) (Export kind store) a asks in cc);
-  no_listener = λ none. same_listener;
+  no_listener = λ none others. same_listener;
   lanes_back = lanes_kept before after same_listener;
   session = λ other a. absurd (let e = words_ask_for_one words (Session other) (Export kind store) a asks in cc);
   serve = λ serving a. absurd (let e = words_ask_for_one words (Serve serving) (Export kind store) a asks in cc);
+  mirror = λ mirroring a. absurd (let e = words_ask_for_one words (Mirror mirroring) (Export kind store) a asks in cc);
   load = λ count workers a. absurd (let e = words_ask_for_one words (Load count workers) (Export kind store) a asks in cc);
   export = λ other_kind other a. (same_export words kind other_kind store other (λ k t. IsExport (kind_named k) t old new status) asks a s, same_listener);
   export_keeps = λ other_kind other a. printing_keeps (IsExportText (kind_named kind) store old) store old new status s;
@@ -237,14 +239,15 @@ of_report words old new before after status report store asks s same_listener = 
   free_fault = λ within a z. absurd (let e = words_ask_for_one words (Free within) (Report report store) a asks in cc);
   starved = λ other a z output errors. absurd (let e = words_ask_for_one words (Session other) (Report report store) a asks in cc);
   store_fault = λ z. (nobody before after same_listener, inl (inr (inr (inr (inl (report, store, asks)))), s.store_fault z));
-  memory = λ z. ((s.memory z).0.errors, inr (s.memory z).1);
+  memory = λ z. ((s.memory z).0.errors, inr (inl (s.memory z).1));
   nothing_else = λ within a. absurd (let e = words_ask_for_one words (Free within) (Report report store) a asks in cc);
   refuses = λ within number fault a. absurd (let e = words_ask_for_one words (Free within) (Report report store) a asks in cc);
   no_store = λ within a. absurd (let e = words_ask_for_one words (Free within) (Report report store) a asks in cc);
-  no_listener = λ none. same_listener;
+  no_listener = λ none others. same_listener;
   lanes_back = lanes_kept before after same_listener;
   session = λ other a. absurd (let e = words_ask_for_one words (Session other) (Report report store) a asks in cc);
   serve = λ serving a. absurd (let e = words_ask_for_one words (Serve serving) (Report report store) a asks in cc);
+  mirror = λ mirroring a. absurd (let e = words_ask_for_one words (Mirror mirroring) (Report report store) a asks in cc);
   load = λ count workers a. absurd (let e = words_ask_for_one words (Load count workers) (Report report store) a asks in cc);
   report = λ other_report other a. (same_report words report other_report store other (λ r t. IsReport r t old new status) asks a s, same_listener);
   report_keeps = λ other_report other a. report_keeps report store old new status s;

@@ -4,7 +4,7 @@ use Rattle.inet_num.specs.Net.{Cidr}
 use Rattle.command_words.specs.declared.asked.ListAsked.{ListAsked}
 use Rattle.command_words.specs.declared.asked.Store.{Store}
 use Rattle.command_words.specs.declared.asked.Command.{Command}
-use Rattle.command_words.specs.declared.asked.Command.TheVariants.{Free, Session, Serve, Import, Export, Report, PrefixList, PrefixCheck, Reverse, ReverseRead, Migrate, Load}
+use Rattle.command_words.specs.declared.asked.Command.TheVariants.{Free, Session, Serve, Mirror, Import, Export, Report, PrefixList, PrefixCheck, Reverse, ReverseRead, Migrate, Load}
 use Rattle.command_words.specs.Asked.{Asks}
 use Rattle.command_words.proofs.Unique.{words_ask_for_one}
 use Rattle.command_streams.specs.Streams.{Streams, Failed, NeverFalls}
@@ -26,6 +26,7 @@ abbrev pub IsOther : Command → Type 0
 IsOther (Free within) = ⊥
 IsOther (Session store) = ⊥
 IsOther (Serve serving) = ⊥
+IsOther (Mirror mirroring) = ⊥
 IsOther (Import kind store) = ⊥
 IsOther (Export kind store) = ⊥
 IsOther (Report report store) = ⊥
@@ -69,7 +70,7 @@ of_other words command old new before after status r = record {
   free_fault = λ within a z. absurd (apart words command (Free within) r.other r.asks a);
   starved = λ store a z output errors. absurd (apart words command (Session store) r.other r.asks a);
   store_fault = λ z. (nobody before after r.same_listener, elim (r.store_fault z) [ inl h ↦ inl h | inr h ↦ inr (inr h) ]);
-  memory = λ z. ((r.memory z).0, inr (r.memory z).1);
+  memory = λ z. ((r.memory z).0, inr (inl (r.memory z).1));
   nothing_else = λ within a. absurd (apart words command (Free within) r.other r.asks a);
   refuses = λ within number fault a. absurd (apart words command (Free within) r.other r.asks a);
   no_store = λ within a. absurd (apart words command (Free within) r.other r.asks a);
@@ -77,6 +78,7 @@ of_other words command old new before after status r = record {
   lanes_back = lanes_kept before after r.same_listener;
   session = λ store a. absurd (apart words command (Session store) r.other r.asks a);
   serve = λ serving a. absurd (apart words command (Serve serving) r.other r.asks a);
+  mirror = λ mirroring a. absurd (apart words command (Mirror mirroring) r.other r.asks a);
   load = λ count workers a. absurd (apart words command (Load count workers) r.other r.asks a);
   import = λ kind store a. absurd (apart words command (Import kind store) r.other r.asks a);
   import_whole = λ kind store a. absurd (apart words command (Import kind store) r.other r.asks a);
@@ -198,7 +200,7 @@ of_reverse words old new before after status prefix store asks s same_listener =
   done = λ z. (let t = s.done z in (inr (inr (inr (inr (inr (inr (inr (inr (inr (inl (prefix, store, asks, t)))))))))), t.3));
   refused = λ z. inr (inr (inr (inr (inr (inr (inr (inr (inl (prefix, store, asks, s.refused z)))))))));
   fault = λ z. elim (s.fault z) [ inl h ↦ inr (inl h.2) | inr more ↦ elim more [ inl h ↦ inr (inr h.failed) | inr h ↦ inr (inr h.failed) ] ];
-  store_fault = λ z. inl (inr (inr (inr (inr (inr (prefix, store, asks))))), s.store_fault z);
+  store_fault = λ z. inl (inr (inr (inr (inr (inr (inl (prefix, store, asks)))))), s.store_fault z);
   memory = λ z. ((s.memory z).1, (s.memory z).0);
   same_listener = same_listener;
   migrate_whole = λ db populated a. absurd (let e = words_ask_for_one words (Migrate db populated) (Reverse prefix store) a asks in cc);
@@ -273,8 +275,8 @@ of_migrate words old new before after status db populated asks s same_listener =
   asks = asks;
   other = tt;
   statuses = s.statuses;
-  done = λ z. (let t = s.done z in (inr (inr (inr (inr (inr (inr (inr (inr (inr (inr (inr (db, populated, asks, t))))))))))), t.silent));
-  refused = λ z. inr (inr (inr (inr (inr (inr (inr (inr (inr (inr (db, populated, asks, s.refused z))))))))));
+  done = λ z. (let t = s.done z in (inr (inr (inr (inr (inr (inr (inr (inr (inr (inr (inr (inl (db, populated, asks, t)))))))))))), t.silent));
+  refused = λ z. inr (inr (inr (inr (inr (inr (inr (inr (inr (inr (inl (db, populated, asks, s.refused z)))))))))));
   fault = λ z. elim (s.fault z) [ inl h ↦ inr (inl h.failed) | inr h ↦ inr (inr h.failed) ];
   store_fault = λ z. inr (db, populated, asks, s.store_fault z);
   memory = λ z. ((s.memory z).1, (s.memory z).0.output);

@@ -1,10 +1,11 @@
 -- What the parts of a run give: words that were read, and a command that was run or does not stand.
 use Rattle.std.proofs.Common.{◌≡◌, ℕ, ◌≤◌, inl, inr, refl, sym, subst, arith, List, Option, Some, None, MatchOption}
 use Rattle.command_words.specs.declared.asked.Serving.{Serving}
+use Rattle.command_words.specs.declared.asked.Mirroring.{Mirroring}
 use Rattle.command_words.specs.declared.asked.Command.{Command}
-use Rattle.command_words.specs.declared.asked.Command.TheVariants.{Serve, Load}
+use Rattle.command_words.specs.declared.asked.Command.TheVariants.{Serve, Mirror, Load}
 use Rattle.command_words.specs.Asked.{Asks, IsNoCommand}
-use Rattle.command_words.specs.Values.{IsNumberOr, IsNumberValue, most_claims, most_workers}
+use Rattle.command_words.specs.Values.{IsNumberOr, IsNumberValue, most_claims, most_readers, most_workers}
 use Rattle.command_store.specs.Outside.{Outside}
 use Rattle.machine_serving.specs.Views.{ListenerView}
 use Rattle.ipam_command.specs.Runs.{Answers, SaysUsage, Runs}
@@ -33,6 +34,11 @@ few most (Some digits) n value = (value.1, value.2)
 
 pub few_workers : (words : List (List ℕ)) (serving : Serving) → Asks words (Serve serving) → (1 ≤ serving.workers) × (serving.workers ≤ 32)
 few_workers words serving asks = few most_workers _ serving.workers asks.values.workers
+
+pub few_readers : (words : List (List ℕ)) (command : Command) (mirroring : Mirroring) → Asks words command → command ≡ Mirror mirroring → mirroring.readers ≤ 16
+few_readers words command mirroring asks is =
+    let a : Asks words (Mirror mirroring) = subst (Asks words) is asks in
+    (few most_readers _ mirroring.readers a.values.readers).1
 
 -- such a number, or the usual one
 few_or : (usual most : ℕ) (text : Option (List ℕ)) (n : ℕ) → (1 ≤ usual) × (usual ≤ most) → IsNumberOr usual most text n → (1 ≤ n) × (n ≤ most)

@@ -5,7 +5,7 @@ use Rattle.http_session.specs.declared.session.SessionEnd.TheVariants.{SourceFau
 use Rattle.command_words.specs.declared.asked.Store.{Store}
 use Rattle.command_words.specs.declared.asked.Serving.{Serving}
 use Rattle.command_words.specs.declared.asked.Command.{Command}
-use Rattle.command_words.specs.declared.asked.Command.TheVariants.{Free, Session, Serve, Import, Export, Report, PrefixList, PrefixCheck, Reverse, ReverseRead, Migrate, Load}
+use Rattle.command_words.specs.declared.asked.Command.TheVariants.{Free, Session, Serve, Mirror, Import, Export, Report, PrefixList, PrefixCheck, Reverse, ReverseRead, Migrate, Load}
 use Rattle.command_words.specs.Asked.{Asks, IsNoCommand}
 use Rattle.command_words.proofs.Unique.{words_ask_for_one}
 use Rattle.command_streams.specs.Streams.{Streams, Told, Gains, Failed, NeverFalls}
@@ -28,6 +28,7 @@ use Rattle.command_files.specs.Files.{kind_named}
 use Rattle.ipam_command.proofs.Empty.{empty_opened}
 use Rattle.ipam_command.proofs.Apart.{free_apart, serve_not_free, serve_not_session, load_not_free, load_not_session, load_not_serve, same_serving, same_load, same_block, same_store, unused, lanes_kept, count_kept, nobody, answers_of, none_rose, quiet_beside, streams_same}
 use Rattle.ipam_command.proofs.OfficeLaws.{import_not_begun, export_not_begun, report_not_begun, tables_stay, none_fell, of_import, of_export, of_report}
+use Rattle.ipam_command.proofs.MirrorLaws.{of_mirror, not_begun as none_mirrored}
 use Rattle.ipam_command.proofs.OtherLaws.{of_prefix_list, of_prefix_check, of_reverse, of_reverse_read, of_migrate, list_not_begun, check_not_begun, reverse_not_begun, read_not_begun, migrate_not_begun}
 use Rattle.command_session.proofs.Refused.{not_begun}
 use Rattle.command_serve.proofs.Unserved.{not_begun as none_served}
@@ -58,7 +59,7 @@ of_free words old new before after status within asks f same_stores same_listene
   free_fault = λ other a z. (let same : within ≡ other = same_block words within other asks a in (subst (λ (b : Cidr). IsFree b old.streams new.streams status) same f).fault z);
   starved = λ store a z output errors. absurd (free_apart words within _ asks a);
   store_fault = λ z. absurd (elim f.statuses [ inl e ↦ omega arith | inr more ↦ elim more [ inl e ↦ omega arith | inr rest ↦ elim rest [ inl e ↦ omega arith | inr e ↦ omega arith ] ] ]);
-  memory = λ z. ((f.memory z).1, inr (f.memory z).0);
+  memory = λ z. ((f.memory z).1, inr (inl (f.memory z).0));
   nothing_else = λ other a. elim f.statuses [
     | inl e ↦ inl e
     | inr more ↦ elim more [
@@ -71,10 +72,11 @@ of_free words old new before after status within asks f same_stores same_listene
   ];
   refuses = λ other number fault a. (let same : within ≡ other = same_block words within other asks a in (subst (λ (b : Cidr). IsFree b old.streams new.streams status) same f).refuses number fault);
   no_store = λ other a. same_stores;
-  no_listener = λ none. same_listener;
+  no_listener = λ none others. same_listener;
   lanes_back = lanes_kept before after same_listener;
   session = λ store a. absurd (free_apart words within _ asks a);
   serve = λ serving a. absurd (serve_not_free words serving within a asks);
+  mirror = λ mirroring a. absurd (let e = words_ask_for_one words (Mirror mirroring) (Free within) a asks in cc);
   load = λ count workers a. absurd (load_not_free words count workers within a asks);
   migrate_whole = λ db populated a. absurd (let e = words_ask_for_one words (Migrate db populated) (Free within) a asks in cc);
   answers = λ one a. answers_of words (Free within) one old new before after status asks a (f, same_stores, same_listener);
@@ -151,9 +153,10 @@ of_session words old new before after status store asks s same_listener = record
   nothing_else = λ within a. absurd (free_apart words within store a asks);
   refuses = λ within number fault a. absurd (free_apart words within store a asks);
   no_store = λ within a. absurd (free_apart words within store a asks);
-  no_listener = λ none. same_listener;
+  no_listener = λ none others. same_listener;
   lanes_back = lanes_kept before after same_listener;
   serve = λ serving a. absurd (serve_not_session words serving store a asks);
+  mirror = λ mirroring a. absurd (let e = words_ask_for_one words (Mirror mirroring) (Session store) a asks in cc);
   load = λ count workers a. absurd (load_not_session words count workers store a asks);
   session = λ other a. subst (λ (t : Store). IsSession t old new status) (same_store words store other asks a) s;
   migrate_whole = λ db populated a. absurd (let e = words_ask_for_one words (Migrate db populated) (Session store) a asks in cc);
@@ -178,11 +181,11 @@ of_session words old new before after status store asks s same_listener = record
   exact = λ within a well. absurd (free_apart words within store a asks);
   later = s.later;
   listener_later = count_kept before after same_listener;
-  quiet = λ z. record {
+  quiet = λ z. inl (record {
     streams = (s.quiet z).0;
     stores = elim (s.quiet z).1 [ inl same ↦ inl same | inr failed ↦ inr (store, asks, failed) ];
     listener = ap (λ (d : ListenerView). d.faults) same_listener;
-  };
+  });
 }
 
 -- ---- a run of `serve`
@@ -219,23 +222,24 @@ of_serve words old new before after status serving asks s = record {
   usage = λ z. absurd (elim s.statuses [ inl e ↦ omega arith | inr a ↦ elim a [ inl e ↦ omega arith | inr b ↦ elim b [ inl e ↦ omega arith | inr c ↦ elim c [ inl e ↦ omega arith | inr e ↦ omega arith ] ] ] ]);
   usage_first = λ n. absurd (n (Serve serving) asks);
   fault = λ z. elim (s.fault z) [
-    | inl h ↦ inr (inr (inr (serving, asks, h.failed)))
+    | inl h ↦ inr (inr (inr (inl (serving, asks, h.failed))))
     | inr more ↦ elim more [
       | inl h ↦ inr (inl h.failed)
-      | inr rest ↦ elim rest [ inl h ↦ inr (inr (inr (serving, asks, h.failed))) | inr h ↦ inr (inr (inl h.0.failed)) ]
+      | inr rest ↦ elim rest [ inl h ↦ inr (inr (inr (inl (serving, asks, h.failed)))) | inr h ↦ inr (inr (inl h.0.failed)) ]
     ]
   ];
   free_fault = λ within a z. absurd (serve_not_free words serving within asks a);
   starved = λ store a z output errors. absurd (serve_not_session words serving store asks a);
   store_fault = λ z. (nobody before after (s.store_fault z).1, inl (inr (inl (serving, asks)), (s.store_fault z).0));
-  memory = λ z. (let t = (s.memory z).0.streams in (ap (λ (u : Streams). u.errors) t, inr (ap (λ (u : Streams). u.output) t)));
+  memory = λ z. (let t = (s.memory z).0.streams in (ap (λ (u : Streams). u.errors) t, inr (inl (ap (λ (u : Streams). u.output) t))));
   nothing_else = λ within a. absurd (serve_not_free words serving within asks a);
   refuses = λ within number fault a. absurd (serve_not_free words serving within asks a);
   no_store = λ within a. absurd (serve_not_free words serving within asks a);
-  no_listener = λ none. absurd (none serving asks);
+  no_listener = λ none others. absurd (none serving asks);
   lanes_back = s.lanes_back;
   session = λ store a. absurd (serve_not_session words serving store asks a);
   serve = λ other a. subst (λ (t : Serving). IsServe t old new before after status) (same_serving words serving other asks a) s;
+  mirror = λ mirroring a. absurd (let e = words_ask_for_one words (Mirror mirroring) (Serve serving) a asks in cc);
   load = λ count workers a. absurd (load_not_serve words count workers serving a asks);
   migrate_whole = λ db populated a. absurd (let e = words_ask_for_one words (Migrate db populated) (Serve serving) a asks in cc);
   answers = λ one a. answers_of words (Serve serving) one old new before after status asks a s;
@@ -268,14 +272,15 @@ of_load words old new before after status count workers asks l same_input same_e
   free_fault = λ within a z. absurd (load_not_free words count workers within asks a);
   starved = λ store a z output errors. absurd (load_not_session words count workers store asks a);
   store_fault = λ z. absurd (elim l.statuses [ inl e ↦ omega arith | inr a ↦ elim a [ inl e ↦ omega arith | inr e ↦ omega arith ] ]);
-  memory = λ z. (same_errors, inr (l.memory z));
+  memory = λ z. (same_errors, inr (inl (l.memory z)));
   nothing_else = λ within a. absurd (load_not_free words count workers within asks a);
   refuses = λ within number fault a. absurd (load_not_free words count workers within asks a);
   no_store = λ within a. same_stores;
-  no_listener = λ none. same_listener;
+  no_listener = λ none others. same_listener;
   lanes_back = lanes_kept before after same_listener;
   session = λ store a. absurd (load_not_session words count workers store asks a);
   serve = λ serving a. absurd (load_not_serve words count workers serving asks a);
+  mirror = λ mirroring a. absurd (let e = words_ask_for_one words (Mirror mirroring) (Load count workers) a asks in cc);
   load = λ n m a. (
     same_load words count workers n m (λ x y. IsLoad x y old.streams.output new.streams.output status) asks a l,
     same_input,
@@ -330,9 +335,10 @@ of_none words old new before after status none (u, same_stores, same_listener) =
   nothing_else = λ within a. absurd (none (Free within) a);
   refuses = λ within number fault a. absurd (none (Free within) a);
   no_store = λ within a. absurd (none (Free within) a);
-  no_listener = λ apart. same_listener;
+  no_listener = λ apart others. same_listener;
   lanes_back = lanes_kept before after same_listener;
   serve = λ serving a. absurd (none (Serve serving) a);
+  mirror = λ mirroring a. absurd (none (Mirror mirroring) a);
   load = λ count workers a. absurd (none (Load count workers) a);
   session = λ store a. absurd (none (Session store) a);
   migrate_whole = λ db populated a. absurd (none (Migrate db populated) a);
@@ -371,6 +377,7 @@ not_begun_of (Free within) old new before after status five same same_listener =
     (free_not_begun within old.streams new.streams status five (ap (λ (t : Outside). t.streams) same), ap (λ (t : Outside). t.stores) same, same_listener)
 not_begun_of (Session store) old new before after status five same same_listener = (not_begun store old new status five same, same_listener)
 not_begun_of (Serve serving) old new before after status five same same_listener = none_served serving old new before after status five same same_listener
+not_begun_of (Mirror mirroring) old new before after status five same same_listener = none_mirrored mirroring old new before after status five same same_listener
 not_begun_of (Import kind store) old new before after status five same same_listener = (import_not_begun (kind_named kind) store old new status five same, same_listener)
 not_begun_of (Export kind store) old new before after status five same same_listener = (export_not_begun (kind_named kind) store old new status five same, same_listener)
 not_begun_of (Report report store) old new before after status five same same_listener = (report_not_begun report store old new status five same, same_listener)
@@ -407,14 +414,15 @@ of_memory words old new before after status five same same_listener =
       free_fault = λ within a z. absurd (omega arith);
       starved = λ store a z o e. absurd (omega arith);
       store_fault = λ z. absurd (omega arith);
-      memory = λ z. (errors, inr output);
+      memory = λ z. (errors, inr (inl output));
       nothing_else = λ within a. inr (inl output);
       refuses = λ within number fault a. always old.streams.input.bytes _ (λ bytes h. inr (inr five));
       no_store = λ within a. same_stores;
-      no_listener = λ apart. same_listener;
+      no_listener = λ apart others. same_listener;
       lanes_back = lanes_kept before after same_listener;
       load = λ count workers a. (unprinted count workers old.streams.output new.streams.output status five output, input, errors, same_stores, same_listener);
       serve = λ serving a. none_served serving old new before after status five same same_listener;
+      mirror = λ mirroring a. none_mirrored mirroring old new before after status five same same_listener;
       session = λ store a. not_begun store old new status five same;
       migrate_whole = λ db populated a. inl (tables_stay old new same_stores, (λ z. omega arith));
       answers = λ one a. not_begun_of one old new before after status five same same_listener;
@@ -437,6 +445,7 @@ pub runs_have_clauses : RunsHaveClauses
 runs_have_clauses words old new before after status (inl (Free within, asks, f)) = of_free words old new before after status within asks f.0 f.1 f.2
 runs_have_clauses words old new before after status (inl (Session store, asks, s)) = of_session words old new before after status store asks s.0 s.1
 runs_have_clauses words old new before after status (inl (Serve serving, asks, s)) = of_serve words old new before after status serving asks s
+runs_have_clauses words old new before after status (inl (Mirror mirroring, asks, s)) = of_mirror words old new before after status mirroring asks s
 runs_have_clauses words old new before after status (inl (Import kind store, asks, s)) = of_import words old new before after status kind store asks s.0 s.1
 runs_have_clauses words old new before after status (inl (Export kind store, asks, s)) = of_export words old new before after status kind store asks s.0 s.1
 runs_have_clauses words old new before after status (inl (Report report store, asks, s)) = of_report words old new before after status report store asks s.0 s.1

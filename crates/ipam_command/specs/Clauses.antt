@@ -5,11 +5,12 @@ use Rattle.http_session.specs.declared.session.SessionEnd.TheVariants.{SourceFau
 use Rattle.ipam_data.specs.State.{State, empty_state}
 use Rattle.rest_ipam.specs.Answered.{answers_kept, answers_plainly, fresh, opened}
 use Rattle.command_words.specs.declared.asked.Command.{Command}
-use Rattle.command_words.specs.declared.asked.Command.TheVariants.{Free, Session, Serve, Import, Export, Report, PrefixList, PrefixCheck, Reverse, ReverseRead, Migrate, Load}
+use Rattle.command_words.specs.declared.asked.Command.TheVariants.{Free, Session, Serve, Mirror, Import, Export, Report, PrefixList, PrefixCheck, Reverse, ReverseRead, Migrate, Load}
 use Rattle.command_words.specs.declared.asked.KindName.{KindName}
 use Rattle.command_words.specs.declared.asked.Report.{Report as ReportName}
 use Rattle.command_words.specs.declared.asked.Store.{Store}
 use Rattle.command_words.specs.declared.asked.Serving.{Serving}
+use Rattle.command_words.specs.declared.asked.Mirroring.{Mirroring}
 use Rattle.command_words.specs.declared.asked.ListAsked.{ListAsked}
 use Rattle.command_words.specs.Asked.{Asks, IsNoCommand}
 use Rattle.command_streams.specs.Streams.{Gains, Failed, NeverRises, usage_text}
@@ -21,6 +22,7 @@ use Rattle.command_store.specs.Opening.{IsLoaded, NamesFault, NamesFailure}
 use Rattle.command_session.specs.Session.{Prints, Serves, HasFailedCall, IsSession}
 use Rattle.machine_serving.specs.Views.{ListenerView, ListeningFailed, NobodyCame}
 use Rattle.command_serve.specs.Serve.{Counts, IsServe}
+use Rattle.command_mirror.specs.Mirror.{Exhausts, Finishes, IsMirror}
 use Rattle.command_load.specs.LoadText.{load_text}
 use Rattle.command_load.specs.Load.{IsLoad}
 use Rattle.command_files.specs.Files.{kind_named}
@@ -49,6 +51,10 @@ AsksStore words store = Asks words (Session store)
 -- the words ask for all that connect to be served
 abbrev pub AsksServe : List (List ℕ) → Serving → Type 0
 AsksServe words serving = Asks words (Serve serving)
+
+-- the words ask for an operator to be served, beside readers
+abbrev pub AsksMirror : List (List ℕ) → Mirroring → Type 0
+AsksMirror words mirroring = Asks words (Mirror mirroring)
 
 -- the words ask for so many claims by so many workers
 abbrev pub AsksLoad : List (List ℕ) → ℕ → ℕ → Type 0
@@ -90,13 +96,14 @@ AsksRegister words =
     ((store : Store) × AsksStore words store) ⊎ ((serving : Serving) × AsksServe words serving) ⊎ ((kind : KindName) × (store : Store) × AsksExport words kind store)
     ⊎ ((report : ReportName) × (store : Store) × AsksReport words report store)
     ⊎ ((asked : ListAsked) × (AsksPrefixList words asked ⊎ AsksPrefixCheck words asked))
-    ⊎ ((prefix : ℕ) × (store : Store) × AsksReverse words prefix store)
+    ⊎ ((prefix : ℕ) × (store : Store) × AsksReverse words prefix store) ⊎ ((mirroring : Mirroring) × AsksMirror words mirroring)
 
 -- the command is one that uses the listener, which failed meanwhile
 abbrev pub ListenerFailed : Command → ListenerView → ListenerView → Type 0
 ListenerFailed (Free within) before after = ⊥
 ListenerFailed (Session store) before after = ⊥
 ListenerFailed (Serve serving) before after = ListeningFailed before after
+ListenerFailed (Mirror mirroring) before after = ListeningFailed before after
 ListenerFailed (Import kind store) before after = ⊥
 ListenerFailed (Export kind store) before after = ⊥
 ListenerFailed (Report report store) before after = ⊥
@@ -112,7 +119,8 @@ abbrev pub IsServed : Store → Outside → Outside → Type 0
 IsServed store old new = (state : State) × IsLoaded store old state × Prints answers_kept (fresh state) old new
     × ((¬ StoreFailed old new) → Prints answers_plainly (opened state) old new)
 
--- what the words ask for is on the output; of `serve` that is the count of the changes, once all that connect were served
+-- what the words ask for is on the output; of `serve` that is the count of the changes, once all that connect were served; of `mirror` the
+-- operator's answers, once all that connect to its readers were served too, from its published changes
 abbrev pub IsDone : List (List ℕ) → Outside → Outside → ListenerView → ListenerView → Type 0
 IsDone words old new before after =
     ((within : Cidr) × AsksFree words within × PrintsFree within old.streams.input new.streams.input old.streams.output new.streams.output)
@@ -127,6 +135,7 @@ IsDone words old new before after =
     ⊎ ((prefix : ℕ) × (store : Store) × AsksReverse words prefix store × PrintsZone prefix store old new)
     ⊎ (AsksReverseRead words × PrintsPairs old.streams new.streams)
     ⊎ ((db : List ℕ) × (populated : Bool) × AsksMigrate words db populated × PrintsMigrated db populated old new)
+    ⊎ ((mirroring : Mirroring) × AsksMirror words mirroring × Finishes mirroring old new before after)
 
 -- a line of the input is refused, or the tables of the store have a fault; the messages say which, and the output was left alone
 abbrev pub IsNamed : List (List ℕ) → Outside → Outside → Type 0
@@ -142,6 +151,7 @@ IsNamed words old new =
     ⊎ ((prefix : ℕ) × (store : Store) × AsksReverse words prefix store × (NamesFault store old new ⊎ NamesZoneRefusal prefix store old new))
     ⊎ (AsksReverseRead words × NamesRead old.streams new.streams)
     ⊎ ((db : List ℕ) × (populated : Bool) × AsksMigrate words db populated × NamesUnfit db old new)
+    ⊎ ((mirroring : Mirroring) × AsksMirror words mirroring × NamesFault mirroring.store old new)
 
 -- the status says whether a line of these bytes is refused: 1 where one is, 0 where none is, and 5 for lack of memory
 abbrev pub IsExact : Cidr → ℕ → List ℕ → Type 0
@@ -172,9 +182,9 @@ pub record HasClauses (words : List (List ℕ)) (old new : Outside) (before afte
   -- memory ran out to read the words and nothing was said
   pub usage_first : IsNoCommand words → (new.streams.input ≡ old.streams.input) × (new.streams.output ≡ old.streams.output) × (new.stores ≡ old.stores) × (after ≡ before)
       × ((status ≡ 2) ⊎ ((status ≡ 3) × Failed old.streams.errors new.streams.errors) ⊎ ((status ≡ 5) × (new.streams.errors ≡ old.streams.errors)))
-  -- 3: the input, the output or the messages failed in this call, or, for `serve`, the listener did
+  -- 3: the input, the output or the messages failed in this call, or, for `serve` and `mirror`, the listener did
   pub fault : status ≡ 3 → Failed old.streams.input new.streams.input ⊎ Failed old.streams.output new.streams.output ⊎ Failed old.streams.errors new.streams.errors
-      ⊎ ((serving : Serving) × AsksServe words serving × ListeningFailed before after)
+      ⊎ ((serving : Serving) × AsksServe words serving × ListeningFailed before after) ⊎ ((mirroring : Mirroring) × AsksMirror words mirroring × ListeningFailed before after)
   -- 3, for `free`: the object that failed, with what was written
   pub free_fault : (within : Cidr) → AsksFree words within → status ≡ 3
       → FailsToRead old.streams new.streams ⊎ FailsToPrint within old.streams new.streams ⊎ FailsToSay within old.streams new.streams
@@ -186,8 +196,9 @@ pub record HasClauses (words : List (List ℕ)) (old new : Outside) (before afte
   pub store_fault : status ≡ 4 → NobodyCame before after
       × ((AsksRegister words × NamesFailure old new) ⊎ ((kind : KindName) × (store : Store) × AsksImport words kind store × (NamesUnread old new ⊎ NamesUnwritten (kind_named kind) store old new))
       ⊎ ((db : List ℕ) × (populated : Bool) × AsksMigrate words db populated × (NamesFailure old new ⊎ NamesUnwrittenFile db old new)))
-  -- 5: out of memory. Nothing was said, and only a session has anything on the output
-  pub memory : status ≡ 5 → (new.streams.errors ≡ old.streams.errors) × (((store : Store) × AsksStore words store) ⊎ (new.streams.output ≡ old.streams.output))
+  -- 5: out of memory. Nothing was said, and only a session, or that of a mirror's operator, has anything on the output
+  pub memory : status ≡ 5 → (new.streams.errors ≡ old.streams.errors)
+      × (((store : Store) × AsksStore words store) ⊎ (new.streams.output ≡ old.streams.output) ⊎ ((mirroring : Mirroring) × AsksMirror words mirroring))
   -- `free` has nothing on the output unless the status is 0 or a write of it failed
   pub nothing_else : (within : Cidr) → AsksFree words within
       → (status ≡ 0) ⊎ (new.streams.output ≡ old.streams.output) ⊎ Failed old.streams.output new.streams.output
@@ -196,14 +207,16 @@ pub record HasClauses (words : List (List ℕ)) (old new : Outside) (before afte
       → IfSome old.streams.input.bytes (λ bytes. IsRefusedLine within bytes number fault → (status ≡ 1) ⊎ (status ≡ 3) ⊎ (status ≡ 5))
   -- `free` uses no store
   pub no_store : (within : Cidr) → AsksFree words within → new.stores ≡ old.stores
-  -- only `serve` uses the listener
-  pub no_listener : ((serving : Serving) → ¬ AsksServe words serving) → after ≡ before
+  -- only `serve` and `mirror` use the listener
+  pub no_listener : ((serving : Serving) → ¬ AsksServe words serving) → ((mirroring : Mirroring) → ¬ AsksMirror words mirroring) → after ≡ before
   -- every lane that was handed out was given back
   pub lanes_back : length after.returned + before.lanes ≡ length before.returned + after.lanes
   -- `session`: with each status, which requests were answered, in order, how, what the output gained, and what the store holds
   pub session : (store : Store) → AsksStore words store → IsSession store old new status
   -- `serve`: with each status, what was served, behind which history, what was printed, and what the store holds
   pub serve : (serving : Serving) → AsksServe words serving → IsServe serving old new before after status
+  -- `mirror`: with each status, what the operator was answered, what its readers were answered from, and what the store holds
+  pub mirror : (mirroring : Mirroring) → AsksMirror words mirroring → IsMirror mirroring old new before after status
   -- `import`: with each status, what was read, printed and said, and what the store holds
   pub import : (kind : KindName) (store : Store) → AsksImport words kind store → IsImport (kind_named kind) store old new status × (after ≡ before)
   -- and with each status told tables are as they were, or those of the state after the whole import; they are as they were unless the
@@ -237,8 +250,8 @@ pub record HasClauses (words : List (List ℕ)) (old new : Outside) (before afte
   -- no count of faults falls
   pub later : NoCountFalls old new
   pub listener_later : before.faults ≤ after.faults
-  -- 5: none rose, but as said of `session`
-  pub quiet : status ≡ 5 → IsQuiet words old new before after
+  -- 5: none rose, but as said of `session`; or the words ask for a mirror that ran, whose record says for which lack of memory it ended
+  pub quiet : status ≡ 5 → IsQuiet words old new before after ⊎ ((mirroring : Mirroring) × AsksMirror words mirroring × Exhausts mirroring old new before after)
 
 -- a run has all of these
 abbrev pub RunsHaveClauses : Type 0

@@ -18,6 +18,7 @@ use Rattle.command_words.specs.declared.asked.Report.{Report as ReportName}
 use Rattle.command_words.specs.declared.asked.Store.{Store}
 use Rattle.command_words.specs.declared.asked.ListAsked.{ListAsked}
 use Rattle.command_words.specs.declared.asked.Serving.{Serving}
+use Rattle.command_words.specs.declared.asked.Mirroring.{Mirroring}
 use Rattle.command_words.specs.Asked.{Asks}
 use Rattle.command_store.specs.Outside.{Outside, AnyFailed}
 use Rattle.command_store.specs.Opening.{found_tables}
@@ -26,7 +27,7 @@ use Rattle.command_files.specs.Files.{kind_named}
 use Rattle.command_files.specs.Report.{IsAbsentIn}
 use Rattle.command_migrate.specs.Migrate.{tables_of_file}
 use Rattle.ipam_command.specs.Runs.{Runs}
-use Rattle.ipam_command.specs.Clauses.{AsksStore, AsksServe, AsksImport, AsksExport, AsksReport, AsksPrefixList, AsksPrefixCheck, AsksReverse, AsksMigrate, ListenerFailed}
+use Rattle.ipam_command.specs.Clauses.{AsksStore, AsksServe, AsksMirror, AsksImport, AsksExport, AsksReport, AsksPrefixList, AsksPrefixCheck, AsksReverse, AsksMigrate, ListenerFailed}
 
 -- the words ask for a command that opens the register of this store
 abbrev pub Opens : List (List ℕ) → Store → Type 0
@@ -34,6 +35,7 @@ Opens words store =
     AsksStore words store ⊎ ((serving : Serving) × AsksServe words serving × (serving.store ≡ store)) ⊎ ((kind : KindName) × AsksImport words kind store)
     ⊎ ((kind : KindName) × AsksExport words kind store) ⊎ ((report : ReportName) × AsksReport words report store)
     ⊎ ((asked : ListAsked) × (AsksPrefixList words asked ⊎ AsksPrefixCheck words asked) × (asked.store ≡ store)) ⊎ ((prefix : ℕ) × AsksReverse words prefix store)
+    ⊎ ((mirroring : Mirroring) × AsksMirror words mirroring × (mirroring.store ≡ store))
 
 -- the tables that the store tells have a fault
 pub record HasBadTables (store : Store) (old : Outside) : Type 0 where

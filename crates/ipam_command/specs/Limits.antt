@@ -16,7 +16,7 @@ use Rattle.stored_tables.specs.Stored.{stored_version}
 use Rattle.stored_tables.specs.Migration.{first_version}
 use Rattle.csv_import.specs.Files.{most_bytes}
 use Rattle.rest_query.specs.Readings.{most_listed}
-use Rattle.command_words.specs.Values.{most_workers, most_connections, most_claims, most_id}
+use Rattle.command_words.specs.Values.{most_workers, most_readers, most_connections, most_claims, most_id}
 use Rattle.command_free.specs.Free.{most_lines}
 use Rattle.command_files.specs.Report.{most_blocks}
 
@@ -41,6 +41,7 @@ pub record HasRegisterLimits : Type 0 where
 -- what words, lines, files, lists and reports have at most
 pub record HasCommandLimits : Type 0 where
   pub workers : most_workers ≡ 32
+  pub readers : most_readers ≡ 16
   pub connections : most_connections ≡ 1000000000
   pub claims : most_claims ≡ 100000
   pub id : most_id ≡ 4294967295

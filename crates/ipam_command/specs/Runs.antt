@@ -1,7 +1,7 @@
 -- What a run of the program promises: by what its words ask for, one relation for each command.
 use Rattle.std.specs.Prelude.{◌≡◌, ℕ, ◌⊎◌, ◌++◌, List, [], ◌∷◌, codes}
 use Rattle.command_words.specs.declared.asked.Command.{Command}
-use Rattle.command_words.specs.declared.asked.Command.TheVariants.{Free, Session, Serve, Import, Export, Report, PrefixList, PrefixCheck, Reverse, ReverseRead, Migrate, Load}
+use Rattle.command_words.specs.declared.asked.Command.TheVariants.{Free, Session, Serve, Mirror, Import, Export, Report, PrefixList, PrefixCheck, Reverse, ReverseRead, Migrate, Load}
 use Rattle.command_words.specs.Asked.{Asks, IsNoCommand}
 use Rattle.command_streams.specs.Streams.{Streams, IsUsage}
 use Rattle.command_free.specs.Run.{IsFree}
@@ -9,6 +9,7 @@ use Rattle.command_store.specs.Outside.{Outside}
 use Rattle.command_session.specs.Session.{IsSession}
 use Rattle.machine_serving.specs.Views.{ListenerView}
 use Rattle.command_serve.specs.Serve.{IsServe}
+use Rattle.command_mirror.specs.Mirror.{IsMirror}
 use Rattle.command_load.specs.Load.{IsLoad}
 use Rattle.command_files.specs.Files.{kind_named}
 use Rattle.command_files.specs.Import.{IsImport}
@@ -25,6 +26,7 @@ abbrev pub Answers : Command → Outside → Outside → ListenerView → Listen
 Answers (Free within) old new before after status = IsFree within old.streams new.streams status × (new.stores ≡ old.stores) × (after ≡ before)
 Answers (Session store) old new before after status = IsSession store old new status × (after ≡ before)
 Answers (Serve serving) old new before after status = IsServe serving old new before after status
+Answers (Mirror mirroring) old new before after status = IsMirror mirroring old new before after status
 Answers (Import kind store) old new before after status = IsImport (kind_named kind) store old new status × (after ≡ before)
 Answers (Export kind store) old new before after status = IsExport (kind_named kind) store old new status × (after ≡ before)
 Answers (Report report store) old new before after status = IsReport report store old new status × (after ≡ before)

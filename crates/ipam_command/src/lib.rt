@@ -18,6 +18,7 @@ use command_free::run_free;
 use command_lists::{run_prefix_check, run_prefix_list};
 use command_load::run_load;
 use command_migrate::run_migrate;
+use command_mirror::run_mirror;
 use command_serve::run_serve;
 use command_session::run_session;
 use command_streams::{MEMORY, say_usage};
@@ -62,6 +63,9 @@ fn run_command<
         Command::Free(within) => run_free(alloc, within, input, output, errors),
         Command::Session(store) => run_session(alloc, store, input, output, errors, opener),
         Command::Serve(serving) => run_serve(rt, alloc, serving, output, errors, listener, opener),
+        Command::Mirror(mirroring) => run_mirror(
+            rt, alloc, mirroring, input, output, errors, listener, opener,
+        ),
         Command::Import(kind, store) => {
             run_import(
                 alloc,

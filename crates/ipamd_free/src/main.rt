@@ -37,6 +37,7 @@ fn run_command<So: Source, Si: Sink, Se: Sink>(
         Command::Free(within) => run_free(alloc, within, input, output, errors),
         Command::Session(_) => say_usage(errors),
         Command::Serve(_) => say_usage(errors),
+        Command::Mirror(_) => say_usage(errors),
         Command::Import(_, _) => say_usage(errors),
         Command::Export(_, _) => say_usage(errors),
         Command::Report(_, _) => say_usage(errors),

@@ -2,8 +2,8 @@
 ghost use Rattle.std.specs.Prelude.{◌≡◌, [], IfOk};
 ghost use Rattle.ipam_listen.specs.ListLanes.{lane_told};
 
-use command_mirror::{Mirroring, run_mirror};
-use command_words::{Command, read_words};
+use command_mirror::run_mirror;
+use command_words::{Command, Mirroring, read_words};
 use ipam_edge::{BytesSink, BytesSource};
 use ipam_keeper::empty::empty_tables;
 use ipam_keeper::memory::MemoryKeeper;
@@ -95,22 +95,17 @@ fn opener_of(alloc: Global, version: u32) -> Result<MemoryOpener, AllocError> {
 /// What is asked for: two readers, with one connection each, over the store `a`.
 fn asked(alloc: Global) -> Result<Mirroring, AllocError> {
     let words = [
-        "serve",
+        "mirror",
         "--bind",
         "x",
-        "--workers=2",
+        "--readers=2",
         "--connections=1",
         "--db=a",
     ];
-    let Some(Command::Serve(serving)) = read_words(alloc, &words)? else {
-        return Err(AllocError);
-    };
-    Ok(Mirroring {
-        bind: serving.bind,
-        readers: serving.workers,
-        connections: serving.connections,
-        store: serving.store,
-    })
+    match read_words(alloc, &words)? {
+        Some(Command::Mirror(asked)) => Ok(asked),
+        _ => Err(AllocError),
+    }
 }
 
 /// Runs `mirror` for as many readers as may be asked for.

@@ -41,6 +41,22 @@ serve --bind h:1 --workers 1 --connections 0 | None
 serve --bind h:1 --workers 1 --connections 1000000001 | None
 serve --bind h:1 --workers 32 | Some(Serve(Serving { bind: WordText { string: \"h:1\" }, workers: 32, connections: 1000000000, store: Store { db: None, global_unique: true } }))
 serve --global-unique no --connections=1000000000 --db f --workers=1 --bind h | Some(Serve(Serving { bind: WordText { string: \"h\" }, workers: 1, connections: 1000000000, store: Store { db: Some(WordText { string: \"f\" }), global_unique: false } }))
+mirror | None
+mirror --readers 1 | None
+mirror --bind h:1 | None
+mirror --bind  --readers 1 | None
+mirror --bind h:1 --readers 0 | None
+mirror --bind h:1 --readers 17 | None
+mirror --bind h:1 --readers 01 | None
+mirror --bind h:1 --readers 1 --readers 1 | None
+mirror --bind h:1 --readers 1 --workers 1 | None
+mirror --bind h:1 --readers 1 --connections 0 | None
+mirror --bind h:1 --readers 1 --connections 1000000001 | None
+mirror --bind h:1 --readers 1 --db= | None
+mirror --bind h:1 --readers 1 --global-unique maybe | None
+mirror --bind h:1 --readers 1 x | None
+mirror --bind h:1 --readers 16 | Some(Mirror(Mirroring { bind: WordText { string: \"h:1\" }, readers: 16, connections: 1000000000, store: Store { db: None, global_unique: true } }))
+mirror --global-unique no --connections=1000000000 --db f --readers=1 --bind h | Some(Mirror(Mirroring { bind: WordText { string: \"h\" }, readers: 1, connections: 1000000000, store: Store { db: Some(WordText { string: \"f\" }), global_unique: false } }))
 import | None
 import Vrfs | None
 import ranges | None

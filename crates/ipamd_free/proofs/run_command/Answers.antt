@@ -6,6 +6,9 @@ returns-in-Session-clause-usage g c = λ _. c.say_usage.ensures _ _
 pub returns-in-Serve-clause-usage : goal.returns-in-Serve-clause-usage
 returns-in-Serve-clause-usage g c = λ _. c.say_usage-in-Serve.ensures _ _
 
+pub returns-in-Mirror-clause-usage : goal.returns-in-Mirror-clause-usage
+returns-in-Mirror-clause-usage g c = λ _. c.say_usage-in-Mirror.ensures _ _
+
 pub returns-in-Import-clause-usage : goal.returns-in-Import-clause-usage
 returns-in-Import-clause-usage g c = λ _. c.say_usage-in-Import.ensures _ _
 
