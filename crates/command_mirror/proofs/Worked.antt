@@ -81,6 +81,10 @@ module _ {L : Type 0} (told : L → Option (List Connection)) (first : Seen) whe
     has_look look lane k is = absurd (cc (sym k.has ∙ is))
 
   module _ {X : Type 0} (look : X → Option Seen) (lane : X → L) where
+    -- the same of equal readers
+    pub all_fresh : (rs others : List X) → rs ≡ others → All (λ r. IsFresh told first (look r) (lane r)) others → All (λ r. IsFresh told first (look r) (lane r)) rs
+    all_fresh rs others same fresh = subst (All {X = X} (λ r. IsFresh told first (look r) (lane r))) (sym same) fresh
+
     pub all_ready : (rs : List X) → All (λ r. IsFresh told first (look r) (lane r)) rs → All (λ r. IsReady told (look r) (lane r)) rs
     all_ready rs fresh = λ k d lt. ready (look (get_or rs k d)) (lane (get_or rs k d)) (fresh k d lt)
 

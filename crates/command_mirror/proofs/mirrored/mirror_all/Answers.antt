@@ -3,7 +3,7 @@ use Rattle.http_lanes.specs.Listened.{returned_as}
 use Rattle.snapshot_rows.specs.Lists.{Lists}
 use Rattle.command_mirror.specs.Readers.{AreReadLanes, IsRead, IsReady, look_of}
 use Rattle.command_mirror.proofs.Beside.{operated_as, same_look}
-use Rattle.command_mirror.proofs.Worked.{all_from, all_over, all_read, all_ready}
+use Rattle.command_mirror.proofs.Worked.{all_fresh, all_from, all_over, all_read, all_ready}
 use Rattle.command_mirror.proofs.mirrored.mirror_all.Goals as goal
 
 pub mirror-requires-clause-held : goal.mirror-requires-clause-held
@@ -24,7 +24,7 @@ dismiss-is_within-requires-clause-read g c κs within =
     let accepts = g.A.Lane.accepts in
     let o = operated_as _ _ _ (λ o. o.register) (λ o. o.feed) (λ o. o.is_whole) (λ o. o.end) _ _ _ c.in-Some.operated _ _ _ _ _ _ _ _ _ _ refl c.in-Some.is c.mirror.ensures.operated in
     let read = all_read told (look_of c.args.feed) (λ r. r.look) (λ r. r.lane) accepts g.A.Lane.faults c.as_mut_slice.result.now c.mirror.new.readers c.mirror.ensures.all c.mirror.ensures.read
-    (subst (All _) (sym c.as_mut_slice.ensures.value) c.pair_up.ensures.fresh) in
+    (all_fresh told (look_of c.args.feed) (λ r. r.look) (λ r. r.lane) _ _ c.as_mut_slice.ensures.value c.pair_up.ensures.fresh) in
     all_from told accepts (λ r. r.look) (λ r. r.lane) _ _ _ (same_look c.args.feed c.in-Some.operated.feed o.same)
     (all_over told accepts (λ r. r.look) (λ r. r.lane) (look_of c.args.feed) c.mirror.new.readers _ _ (search rules) read)
 
