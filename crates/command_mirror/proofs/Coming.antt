@@ -26,7 +26,7 @@ if_none P Q (Some x) f k = tt
 
 -- a count that rises exactly where something failed stays where it did not
 pub stays_put : (failed : Type 0) (old new : ℕ) → ¬ failed → RisesExactly failed old new → new ≡ old
-stays_put failed old new no k = let later = k.later in elim (split new old) [ inl le ↦ omega arith | inr lt ↦ absurd (no (k.only lt)) ]
+stays_put failed old new never k = let later = k.later in elim (split new old) [ inl le ↦ omega arith | inr lt ↦ absurd (never (k.only lt)) ]
 
 pub rose_on : (a b c : ℕ) → Rose a b → b ≤ c → Rose a c
 rose_on a b c k le = elim k [ inl lt ↦ inl (omega arith) | inr most ↦ inr (omega arith) ]

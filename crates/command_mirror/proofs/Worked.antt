@@ -12,11 +12,12 @@ use Rattle.ipam_data.specs.declared.update.Update.{Update}
 use Rattle.ipam_listen.specs.Connections.{Connection, Returned}
 use Rattle.snapshot_rows.specs.Lists.{Lists}
 use Rattle.snapshot_reads.specs.Seen.{FeedView, Grows, IsLookOf, IsNewLook}
+use Rattle.snapshot_reads.proofs.Lists.{prefix_trans}
 use Rattle.snapshot_reads.proofs.Reading.{grows_same, grows_trans}
 use Rattle.snapshot_session.specs.Reads.{Seen, answers_read}
 use Rattle.snapshot_session.proofs.Later.{end_later}
 use Rattle.snapshot_session.proofs.Numbers.{answers_go_along}
-use Rattle.command_mirror.specs.Readers.{AllHaveRead, AreReadLanes, HasRead, IsFresh, IsRead, IsReadLane, IsReady, look_of}
+use Rattle.command_mirror.specs.Readers.{AllHaveRead, AreReadLanes, AreWithin, HasRead, IsFresh, IsRead, IsReadLane, IsReady, look_of}
 
 abbrev value_or : {A : Type 0} → A → Option A → A
 value_or d None = d
@@ -48,6 +49,12 @@ pub served_grows : (cs : List Connection) (s t : Seen) → AreServed answers_rea
 served_grows [] s t h = grows_same s t h
 served_grows (c ∷ cs) s t h =
     grows_trans s h.0 t (end_later answers_read Grows answers_go_along s h.0 c.before.written h.1.0.written h.1.2.bytes h.1.0.left h.1.2.how h.1.2.talk) (served_grows cs h.0 t h.2)
+
+-- where the last look is within the published changes, that at the end of each connection is
+within_each : (published : List Update) (cs : List Connection) (s t : Seen) → AreServed answers_read cs s t → IsPrefix t.seen published → AreWithin published cs s t
+within_each published [] s t h begins = h
+within_each published (c ∷ cs) s t h begins =
+    (h.0, h.1, prefix_trans h.0.seen t.seen published (served_grows cs h.0 t h.2).seen begins, within_each published cs h.0 t h.2 begins)
 
 -- ---- readers
 
@@ -84,7 +91,7 @@ module _ {L : Type 0} (told : L → Option (List Connection)) (first : Seen) whe
         one_read accepts faults (look (get_or old k d)) (lane (get_or old k d)) (look (get_or new k d)) (lane (get_or new k d)) (worked k d there) (fresh k d there)
 
 -- a look of a reader is one of the feed
-pub look_is_of : {L : Type 0} (told : Option (List Connection)) (feed : FeedView Lists Update) (now : Seen) → HasServed answers_read (look_of feed) now told → IsLookOf feed now
+pub look_is_of : (told : Option (List Connection)) (feed : FeedView Lists Update) (now : Seen) → HasServed answers_read (look_of feed) now told → IsLookOf feed now
 look_is_of told feed now h = let g = served_grows h.connections (look_of feed) now h.served in record { book = g.book; opening = g.opening }
 
 -- ---- lanes that come back
@@ -101,6 +108,7 @@ lane_of told accepts feed lane now sure h none begins =
       told_are = h.told_are;
       served = h.served;
       begins = begins;
+      each = λ yes. within_each feed.published h.connections (look_of feed) now h.served (begins yes);
       none_left = none;
     }
 
@@ -116,6 +124,7 @@ less_sure opening published one other r less k =
       told_are = k.told_are;
       served = k.served;
       begins = λ yes. k.begins (less yes);
+      each = λ yes. k.each (less yes);
       none_left = k.none_left;
     }
 

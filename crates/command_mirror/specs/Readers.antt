@@ -1,9 +1,9 @@
 -- Readers before their work and after it, and what is said of the lanes that they leave.
-use Rattle.std.specs.Prelude.{◌≡◌, ◌<◌, ◌≤◌, ℕ, Bool, true, List, [], All, length, Option, Some, IfSome, slice_index_or}
+use Rattle.std.specs.Prelude.{◌≡◌, ◌<◌, ◌≤◌, ℕ, Bool, true, List, [], ◌∷◌, All, length, Option, Some, IfSome, slice_index_or}
 use mathlib.Core.List.{IsPrefix}
 use Rattle.ipam_data.specs.declared.update.Update.{Update}
 use Rattle.ipam_listen.specs.Connections.{Connection, Returned}
-use Rattle.http_lanes.specs.Served.{AreServed, HasServed}
+use Rattle.http_lanes.specs.Served.{AreServed, HasServed, IsServedWhole}
 use Rattle.snapshot_rows.specs.Lists.{Lists}
 use Rattle.snapshot_reads.specs.Seen.{FeedView}
 use Rattle.snapshot_session.specs.Reads.{Seen, answers_read}
@@ -46,8 +46,13 @@ pub record IsRead {L : Type 0} (told : L → Option (List Connection)) (accepts 
   pub served : HasServed answers_read first last (told lane)
   pub none_left : accepts lane ≡ 0
 
+-- connections were answered from one look, one after another, and all that it had seen at the end of each begins these changes
+abbrev pub AreWithin : List Update → List Connection → Seen → Seen → Type 0
+AreWithin published [] s t = t ≡ s
+AreWithin published (c ∷ cs) s t = (mid : Seen) × IsServedWhole answers_read c s mid × IsPrefix mid.seen published × AreWithin published cs mid t
+
 -- the connections of a lane that came back were answered, one after another, from one look: at the opening lists, as more and more changes
--- left them. Where it is sure, all that it saw begins the published changes
+-- left them. Where it is sure, all that it had seen at the end of each connection begins the published changes
 pub record IsReadLane (opening : Option Lists) (published : List Update) (sure : Bool) (r : Returned) : Type 0 where
   pub first : Seen
   pub last : Seen
@@ -57,6 +62,7 @@ pub record IsReadLane (opening : Option Lists) (published : List Update) (sure :
   pub told_are : IfSome r.told (λ all. all ≡ connections)
   pub served : AreServed answers_read connections first last
   pub begins : sure ≡ true → IsPrefix last.seen published
+  pub each : sure ≡ true → AreWithin published connections first last
   pub none_left : r.accepts ≡ 0
 
 abbrev pub AreReadLanes : Option Lists → List Update → Bool → List Returned → Type 0

@@ -1,5 +1,5 @@
 //! One connection, from its first byte to its end.
-ghost use Rattle.std.specs.Prelude.{◌≡◌, ◌⊎◌, ◌≤◌, ◌<◌, ℕ, List, [], Option, IfOk, OnErr};
+ghost use Rattle.std.specs.Prelude.{◌≡◌, ◌⊎◌, ◌≤◌, ◌<◌, ℕ, Bool, true, List, [], Option, IfOk, OnErr, OnOk};
 ghost use Rattle.ipam_edge.specs.Faults.{Rose};
 ghost use Rattle.http_session.specs.Steps.{framed};
 ghost use Rattle.http_session.specs.Talk.{May, is_head};
@@ -26,6 +26,10 @@ pub trait Desk {
     /// that are refused may be answered so.
     ghost may: { May View };
 
+    /// Whether nothing that the seat promised is missing. With an answer it stays so; a session over a seat that has lost something ends
+    /// as `Memory`.
+    ghost whole: { Self.Seat → Bool };
+
     /// Answers a request. After `AllocError` the seat is seen as before, or the request was acted
     /// on and its answer is lost.
     fn answer(
@@ -35,7 +39,8 @@ pub trait Desk {
         request: &HttpRequest,
     ) -> (Self::Seat, Result<Reply, AllocError>)
         ensures answer { IfOk result.1 (λ r. may.answers (view seat) (framed request.now) (answer_of r) (view result.0)) }
-        ensures err { OnErr result.1 (IsLeft may (view seat) (framed request.now) (view result.0)) };
+        ensures err { OnErr result.1 (IsLeft may (view seat) (framed request.now) (view result.0)) }
+        ensures whole { whole seat ≡ true → OnOk result.1 (whole result.0 ≡ true) };
 
     /// Answers bytes that are refused in the place of a request, without a seat. It takes no memory.
     fn refuse(&self, fault: Fault) -> Reply
@@ -70,6 +75,7 @@ pub fn serve_line<D: Desk, L: Line>(
 ) -> (D::Seat, SessionEnd)
     ensures session { IsLineSession D.may L.reads L.writes L.left L.written (D.view seat) (D.view result.0) line.old line.new result.1 }
     ensures cause { HasEndCause (⟦<L as Source>⟧.faults line.old) (⟦<L as Source>⟧.faults line.new) (⟦<L as Sink>⟧.faults line.old) (⟦<L as Sink>⟧.faults line.new) result.1 }
+    ensures whole { D.whole seat ≡ true → (result.1 ≡ SessionEnd.Memory) ⊎ (D.whole result.0 ≡ true) }
 {
     let mut inbox = Inbox::new(alloc);
     let mut seat = seat;
@@ -119,6 +125,7 @@ fn serve_both<D: Desk, R: Source, W: Sink>(
     ensures sink_later { W.faults line.old.sink.now ≤ W.faults line.new.sink.now }
     ensures sink { result.1 ≡ SessionEnd.SinkFault → Rose (W.faults line.old.sink.now) (W.faults line.new.sink.now) }
     ensures sink_kept { (result.1 ≡ SessionEnd.SinkFault) ⊎ (W.faults line.new.sink.now ≡ W.faults line.old.sink.now) }
+    ensures whole { D.whole seat ≡ true → (result.1 ≡ SessionEnd.Memory) ⊎ (D.whole result.0 ≡ true) }
 {
     serve_line(alloc, desk, seat, line)
 }
@@ -142,6 +149,7 @@ pub fn serve<D: Desk, R: Source, W: Sink>(
     ensures sink_later { W.faults sink.old ≤ W.faults sink.new }
     ensures sink { result.1 ≡ SessionEnd.SinkFault → Rose (W.faults sink.old) (W.faults sink.new) }
     ensures sink_kept { (result.1 ≡ SessionEnd.SinkFault) ⊎ (W.faults sink.new ≡ W.faults sink.old) }
+    ensures whole { D.whole seat ≡ true → (result.1 ≡ SessionEnd.Memory) ⊎ (D.whole result.0 ≡ true) }
 {
     let mut line = Both { source, sink };
     serve_both(alloc, desk, seat, &mut line)

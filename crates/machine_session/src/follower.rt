@@ -1,6 +1,6 @@
 //! What is done behind each change that a machine of one's own accepts.
 
-ghost use Rattle.std.specs.Prelude.{◌≡◌, ℕ, List};
+ghost use Rattle.std.specs.Prelude.{◌≡◌, ℕ, Bool, true, List, OnOk};
 ghost use Rattle.history_lock.specs.Replay.{replay};
 ghost use Rattle.machine_session.specs.Owned.{IsBehind};
 
@@ -18,6 +18,9 @@ pub trait Follower<M: Machine> {
 
     ghost tag: { Self → Tag };
 
+    /// Whether it could follow every change so far.
+    ghost whole: { Self → Bool };
+
     /// That it keeps to this is a fact, with one proof at most.
     ghost keeps_is_fact: { (f : Self) → (opening : M.State) → (log : List (ℕ × M.Said)) → IsProp (keeps f opening log) };
 
@@ -26,7 +29,8 @@ pub trait Follower<M: Machine> {
         requires state { M.state machine.now ≡ replay M.step (M.opening machine.now) (M.log machine.now) }
         requires kept { IsBehind (keeps self (M.opening machine.now)) (M.log machine.now) }
         ensures kept { keeps result.0 (M.opening machine.now) (M.log machine.now) }
-        ensures tag { tag result.0 ≡ tag self };
+        ensures tag { tag result.0 ≡ tag self }
+        ensures whole { whole self ≡ true → OnOk result.1 (whole result.0 ≡ true) };
 }
 
 /// Nothing follows the machine.
@@ -41,6 +45,8 @@ impl<M: Machine> Follower<M> for NoFollower {
     ghost Tag = { Unit {0} };
 
     ghost tag = { λ f. tt };
+
+    ghost whole = { λ f. true };
 
     ghost keeps_is_fact = { λ f opening log. Prim.hlevel props };
 

@@ -1,6 +1,6 @@
 //! One connection that has a machine for itself.
 
-ghost use Rattle.std.specs.Prelude.{◌≡◌, ◌≤◌, ◌⊎◌, IfOk, OnErr};
+ghost use Rattle.std.specs.Prelude.{◌≡◌, ◌≤◌, ◌⊎◌, true, IfOk, OnErr, OnOk};
 ghost use Rattle.ipam_edge.specs.Faults.{Rose};
 ghost use Rattle.history_lock.specs.Replay.{replay};
 ghost use Rattle.http_session.specs.Steps.{framed};
@@ -41,6 +41,7 @@ fn act<M: Machine, V: Service<M>, F: Follower<M>>(
     requires kept { F.keeps follower (M.opening machine.old) (M.log machine.old) }
     ensures kept { F.keeps result.0 (M.opening machine.new) (M.log machine.new) }
     ensures tag { F.tag result.0 ≡ F.tag follower }
+    ensures whole { F.whole follower ≡ true → OnOk result.1 (F.whole result.0 ≡ true) }
     ensures acted { (shown : V.Shown) → V.shows along (M.said call) shown
         → IsActed (protocol M.step M.answer M.kind M.fallible V.asks V.tells V.refuses V.misread) (owned (M.opening machine.old) (M.log machine.old) (M.faults machine.old)) (M.said call) shown result.1
         (owned (M.opening machine.new) (M.log machine.new) (M.faults machine.new)) }
@@ -72,6 +73,8 @@ impl<'a, M: Machine, V: Service<M>, F: Follower<M>> Desk for OwnMachine<'a, M, V
     ghost view = { λ s. (owned (M.opening s.machine) (M.log s.machine) (M.faults s.machine), F.tag s.follower) };
 
     ghost may = { tagged (answers_alone (protocol M.step M.answer M.kind M.fallible V.asks V.tells V.refuses V.misread)) };
+
+    ghost whole = { λ s. F.whole s.follower };
 
     fn answer(
         &self,
@@ -108,7 +111,7 @@ impl<'a, M: Machine, V: Service<M>, F: Follower<M>> Desk for OwnMachine<'a, M, V
 
 /// Serves one connection with a machine of its own, from its first byte to its end, and notes its changes under the number 0. What follows
 /// the machine does so behind each accepted change. The ends are those of `serve_session`, and `Memory` also where memory ran out for what
-/// follows. The table is lent.
+/// follows: with any other end the follower could follow every change. The table is lent.
 pub fn serve_own_by<M: Machine, V: Service<M>, F: Follower<M>, So: Source, Si: Sink>(
     alloc: Global,
     table: &V::Table,
@@ -121,6 +124,7 @@ pub fn serve_own_by<M: Machine, V: Service<M>, F: Follower<M>, So: Source, Si: S
     ensures session { IsOwnSession (protocol M.step M.answer M.kind M.fallible V.asks V.tells V.refuses V.misread) So.reads (owned (M.opening machine) (M.log machine) (M.faults machine)) (owned (M.opening result.0) (M.log result.0) (M.faults result.0)) source.old source.new (So.left source.old) (So.left source.new) (Si.written sink.old) (Si.written sink.new) result.2 }
     ensures kept { F.keeps result.1 (M.opening result.0) (M.log result.0) }
     ensures tag { F.tag result.1 ≡ F.tag follower }
+    ensures whole { F.whole follower ≡ true → (result.2 ≡ SessionEnd.Memory) ⊎ (F.whole result.1 ≡ true) }
     ensures state { M.state result.0 ≡ replay M.step (M.opening result.0) (M.log result.0) }
     ensures source_later { So.faults source.old ≤ So.faults source.new }
     ensures source { result.2 ≡ SessionEnd.SourceFault → Rose (So.faults source.old) (So.faults source.new) }
@@ -154,6 +158,7 @@ pub fn serve_own<M: Machine, V: Service<M>, F: Follower<M>, So: Source, Si: Sink
     ensures session { IsOwnSession (protocol M.step M.answer M.kind M.fallible V.asks V.tells V.refuses V.misread) So.reads (owned (M.opening machine) (M.log machine) (M.faults machine)) (owned (M.opening result.0) (M.log result.0) (M.faults result.0)) source.old source.new (So.left source.old) (So.left source.new) (Si.written sink.old) (Si.written sink.new) result.2 }
     ensures kept { F.keeps result.1 (M.opening result.0) (M.log result.0) }
     ensures tag { F.tag result.1 ≡ F.tag follower }
+    ensures whole { F.whole follower ≡ true → (result.2 ≡ SessionEnd.Memory) ⊎ (F.whole result.1 ≡ true) }
     ensures state { M.state result.0 ≡ replay M.step (M.opening result.0) (M.log result.0) }
     ensures source_later { So.faults source.old ≤ So.faults source.new }
     ensures source { result.2 ≡ SessionEnd.SourceFault → Rose (So.faults source.old) (So.faults source.new) }

@@ -1,6 +1,6 @@
 //! One connection over a machine that many connections share.
 
-ghost use Rattle.std.specs.Prelude.{◌≡◌, ◌≤◌, ◌⊎◌, IfOk, OnErr};
+ghost use Rattle.std.specs.Prelude.{◌≡◌, ◌≤◌, ◌⊎◌, true, IfOk, OnErr, OnOk};
 ghost use Rattle.ipam_edge.specs.Faults.{Rose};
 ghost use Rattle.history_lock.specs.Seats.{SeatView};
 ghost use Rattle.http_session.specs.Steps.{framed};
@@ -110,6 +110,8 @@ impl<'a, R: Wait + 'a, M: Machine + 'a, V: Service<M>> Desk for SharedMachine<'a
 
     ghost may = { answers_in_turn (protocol M.step M.answer M.kind M.fallible V.asks V.tells V.refuses V.misread) };
 
+    ghost whole = { λ s. true };
+
     fn answer(
         &self,
         alloc: Global,
@@ -118,6 +120,7 @@ impl<'a, R: Wait + 'a, M: Machine + 'a, V: Service<M>> Desk for SharedMachine<'a
     ) -> (Sitting<'a, R, M, V>, Result<Reply, AllocError>)
         ensures answer { IfOk result.1 (λ r. (answers_in_turn (protocol M.step M.answer M.kind M.fallible V.asks V.tells V.refuses V.misread)).answers seat.entry.seat (framed request.now) (answer_of r) result.0.seat) }
         ensures err { OnErr result.1 (IsLeft (answers_in_turn (protocol M.step M.answer M.kind M.fallible V.asks V.tells V.refuses V.misread)) seat.entry.seat (framed request.now) result.0.seat) }
+        ensures whole { true ≡ true → OnOk result.1 (true ≡ true) }
     {
         let Sitting {
             rt,

@@ -24,6 +24,8 @@ impl Follower<Tally> for Board {
 
     ghost tag = { λ board. tt };
 
+    ghost whole = { λ board. board.up };
+
     ghost keeps_is_fact = { λ board opening log. Prim.hlevel props };
 
     fn follow(self, _alloc: Global, machine: &Tally) -> (Board, Result<(), AllocError>) {

@@ -19,4 +19,4 @@ pub use asked::{Available, Listing};
 pub use laws::{limit_is_one, listing_is_one};
 pub use lists::{link_query, read_limit, read_listing};
 pub use numbers::number_below;
-pub use query::cut;
+pub use query::{cut, parameter_value};

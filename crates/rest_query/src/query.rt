@@ -61,9 +61,10 @@ fn last_value<'a>(
     Ok(found)
 }
 
-/// The value of a parameter of this text, where the query has it.
+/// The value of a parameter of this name, the last one where the query has more than one: decoded as `application/x-www-form-urlencoded`,
+/// the form of the WHATWG URL standard. The one error means out of memory.
 #[tactic(auto, unfolding(crate::specs::Query::parameter))]
-fn parameter_value(alloc: Global, query: &[u8], name: &str) -> Result<Option<Text>, AllocError>
+pub fn parameter_value(alloc: Global, query: &[u8], name: &str) -> Result<Option<Text>, AllocError>
     ensures { IfOk result (λ r. r ≡ parameter query.now name.now) }
 {
     match last_value(alloc, query, name)? {

@@ -34,6 +34,8 @@ impl Desk for Echo {
 
     ghost may = { record { answers = λ s r a t. Unit {0}; refuses = λ fault a. Unit {0} } };
 
+    ghost whole = { λ s. true };
+
     fn answer(
         &self,
         alloc: Global,

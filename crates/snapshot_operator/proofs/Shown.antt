@@ -1,5 +1,5 @@
 -- What a feed shows of a register after one more accepted change.
-use Rattle.std.proofs.Common.{◌≡◌, ℕ, zero, suc, ◌+◌, ◌-◌, ◌≤◌, ◌<◌, ◌⊎◌, Bool, true, List, [], ◌∷◌, ◌++◌, Option, Some, None, Result, Ok, Err, OnOk, OnErr, is_ok, false, length, length-append, map, map-append, take, fold, refl, sym, ap, ◌∙◌, subst, inl, inr, arith}
+use Rattle.std.proofs.Common.{◌≡◌, ℕ, zero, suc, ◌+◌, ◌-◌, ◌≤◌, ◌<◌, ◌⊎◌, Bool, true, List, [], ◌∷◌, ◌++◌, Option, Some, None, Result, Ok, Err, OnOk, OnErr, is_ok, false, length, length-append, map, take, fold, refl, sym, ap, ◌∙◌, subst, inl, inr, arith}
 use Rattle.std.proofs.lemmas.List.Sums.{fold-append}
 use Rattle.std.proofs.Math.Seq.{take-append_seam, take-length}
 use Rattle.history_lock.specs.Replay.{replay}
@@ -28,11 +28,10 @@ split (suc n) (suc m) = elim (split n m) [ inl le ↦ inl (omega arith) | inr lt
 front : {A : Type 0} (n : ℕ) (xs ys : List A) → n ≤ length xs → take n (xs ++ ys) ≡ take n xs
 front zero xs ys le = refl
 front (suc n) [] ys le = absurd (omega arith)
-front (suc n) (x ∷ xs) ys le = ap (λ (l : List A). x ∷ l) (front n xs ys (omega arith))
+front {A} (suc n) (x ∷ xs) ys le = ap (λ (l : List A). x ∷ l) (front n xs ys (omega arith))
 
 whole : {A : Type 0} (xs : List A) (x : A) → take (length xs + 1) (xs ++ x ∷ []) ≡ xs ++ x ∷ []
-whole [] x = refl
-whole (y ∷ xs) x = ap (λ (l : List A). y ∷ l) (whole xs x)
+whole xs x = ap (λ (n : ℕ). take n (xs ++ x ∷ [])) (sym (length-append xs (x ∷ []))) ∙ take-length (xs ++ x ∷ [])
 
 -- all but the last
 butlast : {A : Type 0} (xs : List A) (x : A) → take (length (xs ++ x ∷ []) - 1) (xs ++ x ∷ []) ≡ xs
@@ -43,7 +42,7 @@ butlast xs x =
 map_take : {A B : Type 0} (f : A → B) (n : ℕ) (xs : List A) → map f (take n xs) ≡ take n (map f xs)
 map_take f zero xs = refl
 map_take f (suc n) [] = refl
-map_take f (suc n) (x ∷ xs) = ap (λ (l : List B). f x ∷ l) (map_take f n xs)
+map_take {B = B} f (suc n) (x ∷ xs) = ap (λ (l : List B). f x ∷ l) (map_take f n xs)
 
 map_length : {A B : Type 0} (f : A → B) (xs : List A) → length (map f xs) ≡ length xs
 map_length f [] = refl
@@ -75,7 +74,7 @@ module _ (o s : State) (log : List Entry) (before : List (ℕ × Call)) (entry :
 first_few : {A : Type 0} (before log : List A) (entry : A) (n : ℕ) → log ≡ before ++ entry ∷ [] → n ≤ length before → take n log ≡ take n before
 first_few before log entry n behind few = ap (take n) behind ∙ front n before (entry ∷ []) few
 
-longer : {A : Type 0} (before log : List A) (entry : A) → log ≡ before ++ entry ∷ [] → length log ≡ length before + 1
+pub longer : {A : Type 0} (before log : List A) (entry : A) → log ≡ before ++ entry ∷ [] → length log ≡ length before + 1
 longer before log entry behind = ap length behind ∙ length-append before (entry ∷ [])
 
 -- one more change was accepted, and none was published
@@ -149,23 +148,23 @@ published_last first before log entry u old new (Err e) k behind leads opening l
 -- what is kept then
 pub kept_on : {T E : Type 0} (first : State) (log : List (ℕ × Call)) (feed : FeedView Lists Update) (result : Result T E) (whole : Bool) → whole ≡ is_ok result
     → IsFeedOf first log feed → OnOk result (IsShown first log feed) → OnErr result (length feed.published < length log) → IsKept whole first log feed
-kept_on first log feed (Ok x) whole is follows shown lacks = record { follows = follows; shown = λ yes. shown; lacks = λ no. absurd (cc (sym is ∙ no)) }
-kept_on first log feed (Err e) whole is follows shown lacks = record { follows = follows; shown = λ yes. absurd (cc (sym is ∙ yes)); lacks = λ no. lacks }
+kept_on first log feed (Ok x) whole is follows shown lacks = record { follows = follows; shown = λ good. shown; lacks = λ lost. absurd (cc (sym is ∙ lost)) }
+kept_on first log feed (Err e) whole is follows shown lacks = record { follows = follows; shown = λ good. absurd (cc (sym is ∙ good)); lacks = λ lost. lacks }
 
 -- a feed that shows the register is kept as one that is whole
 pub kept_whole : (first : State) (log : List (ℕ × Call)) (feed held : FeedView Lists Update) (whole : Bool) → held ≡ feed → whole ≡ true → IsShown first log feed → IsKept whole first log held
 kept_whole first log feed held whole same is shown =
-    let s = subst (IsShown first log) (sym same) shown in record { follows = s.follows; shown = λ yes. s; lacks = λ no. absurd (cc (sym is ∙ no)) }
+    let s = subst (IsShown first log) (sym same) shown in record { follows = s.follows; shown = λ good. s; lacks = λ lost. absurd (cc (sym is ∙ lost)) }
 
 -- where it lacked changes before, it lacks them still
 pub lacks_on : (first : State) (before log : List (ℕ × Call)) (entry : ℕ × Call) (feed : FeedView Lists Update) (whole : Bool) → whole ≡ false → IsKept whole first before feed
     → log ≡ before ++ entry ∷ [] → IsKept whole first log feed
-lacks_on first before log entry feed whole no k behind =
-    let fewer = k.lacks no in
+lacks_on first before log entry feed whole lost k behind =
+    let fewer = k.lacks lost in
     let grown = longer before log entry behind in
     record {
       follows = followed_more first before log entry feed feed k.follows behind refl refl;
-      shown = λ yes. absurd (cc (sym no ∙ yes));
+      shown = λ good. absurd (cc (sym lost ∙ good));
       lacks = λ _. omega arith;
     }
 

@@ -95,15 +95,18 @@ impl<'a, R: Wait + 'a, K: Keeper> Follower<Register<K>> for Publisher<'a, R> {
     ghost use Rattle.std.proofs.Props.{props};
     ghost use Rattle.logbook.specs.Pages.{Book};
     ghost use Rattle.snapshot_rows.specs.Lists.{Lists};
+    ghost use Rattle.snapshot_operator.specs.Sets.{Lists-set};
     ghost use Rattle.snapshot_operator.specs.Shown.{IsKept};
 
     ghost keeps = { λ p opening log. IsKept p.is_whole opening.state log p.feed };
 
-    ghost keeps_is_fact = { λ p opening log. Prim.hlevel props };
+    ghost keeps_is_fact = { λ p opening log. Prim.hlevel (props, Lists-set) };
 
     ghost Tag = { Book × Option Lists };
 
     ghost tag = { λ p. (p.feed.book, p.feed.opening) };
+
+    ghost whole = { λ p. p.is_whole };
 
     fn follow(
         self,

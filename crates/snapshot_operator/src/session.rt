@@ -44,6 +44,7 @@ pub fn serve_operator<R: Wait, K: Keeper, So: Source, Si: Sink>(
         (owned (seen result.register.opening (K.told result.register.keeper)) (map pair_of result.register.log) (K.faults result.register.keeper))
         source.old source.new (So.left source.old) (So.left source.new) (Si.written sink.old) (Si.written sink.new) result.end }
     ensures kept { IsKept result.is_whole result.register.opening (map pair_of result.register.log) result.feed }
+    ensures memory { (result.end ≡ SessionEnd.Memory) ⊎ (result.is_whole ≡ true) }
     ensures same { (result.feed.book ≡ feed.book) × (result.feed.opening ≡ feed.opening) }
     ensures source_later { So.faults source.old ≤ So.faults source.new }
     ensures source { result.end ≡ SessionEnd.SourceFault → Rose (So.faults source.old) (So.faults source.new) }

@@ -2,7 +2,6 @@
 #![tactic(auto)]
 
 mod answer;
-mod parameter;
 mod question;
 
 pub use answer::{behind_answer, unread_answer};

@@ -5,14 +5,13 @@ ghost use Rattle.http_session.specs.Steps.{framed};
 ghost use Rattle.snapshot_routes.specs.Questions.{IsAskedByGet, IsLeast, IsQuestion, IsWellAsked};
 ghost use Rattle.snapshot_routes.specs.Questions as spec;
 
-use crate::parameter::parameter;
 use http_session::HttpRequest;
 use ipam_data::calls::Call;
 use ipam_data::kinds::Kind;
 use ipam_data::replies::Refusal;
 use ipam_data::text::Text;
 use ipam_json::Links;
-use rest_query::{cut, number_below};
+use rest_query::{cut, number_below, parameter_value};
 use rest_routes::{Method, Route, Routes, read_call_by};
 use std::alloc::{AllocError, Global};
 
@@ -127,7 +126,7 @@ fn question_of_get(
     ensures well_made { IfOk result IsWellAsked }
 {
     let (_, query) = cut(&request.target);
-    let text = parameter(alloc, query, "least")?;
+    let text = parameter_value(alloc, query, "least")?;
     match least_of(&text) {
         Some(least) => question_after(alloc, routes, request, least),
         None => Ok(Question::Refused(Unread::Least)),

@@ -1,6 +1,6 @@
 //! The request handler of a reader.
 
-ghost use Rattle.std.specs.Prelude.{◌≡◌, ◌⊎◌, IfOk, OnErr};
+ghost use Rattle.std.specs.Prelude.{◌≡◌, ◌⊎◌, true, IfOk, OnErr};
 ghost use Rattle.http_session.specs.Ends.{IsLeft};
 ghost use Rattle.http_session.specs.Replies.{answer_of};
 ghost use Rattle.http_session.specs.Steps.{framed};
@@ -126,6 +126,8 @@ impl Desk for ReaderHandler {
     ghost view = { λ look. look };
 
     ghost may = { answers_read };
+
+    ghost whole = { λ s. true };
 
     fn answer(
         &self,

@@ -17,6 +17,7 @@ give_back_lanes-heard-requires-clause-out g c κs within =
     let same = ap length came.returned in
     let many = came.many in
     let kept = c.mirror_all.ensures.many in
+    let counted = c.in-Some-lanes.lanes.ok.0 in
     omega arith
 
 pub returns-in_default-lanes-clause-ran : goal.returns-in_default-lanes-clause-ran
@@ -33,6 +34,8 @@ returns-clause-ran g c =
     let many = map_length (returned_as g.L.Door.Lane.told g.L.Door.Lane.accepts) c.mirror_all.result.lanes.items in
     let all = came.many in
     let kept = c.mirror_all.ensures.many in
+    let counted = c.in-Some-lanes.lanes.ok.0 in
+    let kept_counted = c.mirror_all.result.lanes.ok.0 in
     record {
       back = back;
       mirrored = c.mirror_all.ensures.mirrored;

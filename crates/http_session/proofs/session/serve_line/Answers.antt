@@ -1,7 +1,7 @@
 use Rattle.std.proofs.Common.{[], ◌++◌, ◌∙◌, ap, refl, inl, arith}
 use Rattle.std.proofs.KnownBytes.{Appends-nil}
 use Rattle.ipam_edge.proofs.FaultLemmas.{unless}
-use Rattle.http_session.specs.declared.session.SessionEnd.TheVariants.{Closed, SourceFault, SinkFault, Memory}
+use Rattle.http_session.specs.declared.session.SessionEnd.TheVariants.{Closed, SinkFault, Memory}
 use Rattle.http_session.specs.declared.answer.PutEnd.TheVariants as put
 use Rattle.http_session.specs.Requests.{Asks, Refuses}
 use Rattle.http_session.specs.Steps.{framed}
@@ -66,6 +66,7 @@ loop-request-preserved g c =
       talk = (so_far.0 ++ item.1.got, line_total g.D.Desk.may g.L.Source.reads g.L.Sink.writes g.L.Source.left g.L.Sink.written g.met.L.Line.read_writes_nothing g.met.L.Line.write_reads_nothing _ _ c.args.line.now c.loop-request.line _ _ _ so_far.2 so_far.4 so_far.1 so_far.3 _ item.0 item.1 item.3 item.4.0 item.4.2 _ c.in-Whole.ensures.writes, on.0, line_needed g.D.Desk.may g.L.Source.reads g.L.Sink.writes g.L.Source.left g.L.Sink.written g.met.L.Line.read_writes_nothing g.met.L.Line.write_reads_nothing _ _ c.args.line.now c.loop-request.line _ _ _ so_far.2 so_far.4 so_far.1 so_far.3 _ item.0 item.1 item.3 item.4.0 item.4.2, on.1);
       source = source_put g.L.Source.reads g.L.Sink.writes g.L.Source.faults g.L.Sink.faults g.met.L.Line.read_counts_for_itself g.met.L.Line.write_counts_for_itself c.args.line.now c.loop-request.line _ _ item.0 item.4.0 item.4.2 c.loop-request.invariant.source c.loop-request.invariant.sink (unless (λ e. cc e) c.in-Request.ensures.kept) _ c.in-Whole.ensures.writes;
       sink = sink_put g.L.Source.reads g.L.Sink.writes g.L.Source.faults g.L.Sink.faults g.met.L.Line.read_counts_for_itself g.met.L.Line.write_counts_for_itself c.args.line.now c.loop-request.line _ _ item.0 item.4.0 item.4.2 c.loop-request.invariant.source c.loop-request.invariant.sink (unless (λ e. cc e) c.in-Request.ensures.kept) _ c.in-Whole.ensures.cause;
+      whole = λ h. rw c.in-Ok.is at c.answer-next.ensures.whole (c.loop-request.invariant.whole h);
     }
 
 pub returns-in-SinkFault-put_answer-clause-session : goal.returns-in-SinkFault-put_answer-clause-session
@@ -148,4 +149,5 @@ loop-request-init g c =
       );
       source = refl;
       sink = refl;
+      whole = λ h. h;
     }

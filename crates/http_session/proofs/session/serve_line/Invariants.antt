@@ -1,4 +1,4 @@
-use Rattle.std.proofs.Common.{◌≡◌, ◌-◌, ℕ, List, []}
+use Rattle.std.proofs.Common.{◌≡◌, ◌-◌, ℕ, true, List, []}
 use Rattle.http_session.specs.Steps.{Grown}
 use Rattle.http_session.specs.Ends.{IsBetween, IsReadAsNeeded}
 use Rattle.http_session.specs.Turns.{Rounds}
@@ -13,6 +13,7 @@ invariant-loop-request g l =
           × Rounds g.D.Desk.may g.L.Source.reads g.L.Sink.writes g.L.Sink.written 0 (g.D.Desk.view l.initial.seat) l.initial.line [] between.items between.talk.answers (g.D.Desk.view l.seat) l.line bytes;
       source : g.L.Source.faults l.line ≡ g.L.Source.faults l.initial.line;
       sink : g.L.Sink.faults l.line ≡ g.L.Sink.faults l.initial.line;
+      whole : g.D.Desk.whole l.initial.seat ≡ true → g.D.Desk.whole l.seat ≡ true;
     }
 
 abbrev pub decreases-loop-request : goal.decreases-loop-request

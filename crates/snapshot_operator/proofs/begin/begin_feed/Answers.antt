@@ -6,8 +6,8 @@ use Rattle.snapshot_rows.specs.Lists.{Lists, lists_of}
 use Rattle.snapshot_operator.proofs.Shown.{shown_first}
 use Rattle.snapshot_operator.proofs.begin.begin_feed.Goals as goal
 
-pub new-feed-requires-clause-alike : goal.new-feed-requires-clause-alike
-new-feed-requires-clause-alike g c =
+pub new-requires-clause-alike : goal.new-requires-clause-alike
+new-requires-clause-alike g c =
     c.in_ok-first.ensures
     ∙ ((λ i. record { vrfs = (c.vrfs.ensures ∙ sym c.vrfs-2.ensures) i; prefixes = (c.prefixes.ensures.rows ∙ sym c.prefixes-2.ensures.rows) i })
     ∙ sym c.in_ok-second.ensures)
@@ -18,7 +18,7 @@ returns-in-Ok-clause-shown g c =
     let same = c.take_looks.ensures.same in
     let rows : c.in_ok-first.first ≡ lists_of kept.state = c.in_ok-first.ensures ∙ (λ i. record { vrfs = c.vrfs.ensures i; prefixes = c.prefixes.ensures.rows i }) in
     let state : kept.state ≡ kept.opening = c.replayed.ensures ∙ ap (replay kept.opening) c.requires.fresh in
-    shown_first _ _ _ (ap (map pair_of) c.requires.fresh) (ap (λ f. f.opening) same ∙ (c.in_ok-feed.ensures.opening ∙ ap Some (rows ∙ ap lists_of state)))
+    shown_first kept.opening (map pair_of kept.log) c.take_looks.new.feed (ap (map pair_of) c.requires.fresh) (ap (λ f. f.opening) same ∙ (c.in_ok-feed.ensures.opening ∙ ap Some (rows ∙ ap lists_of state)))
     (ap (λ f. f.published) same ∙ c.in_ok-feed.ensures.published) (ap (λ f. f.live) same ∙ c.in_ok-feed.ensures.live)
 
 pub returns-in-Ok-clause-looks : goal.returns-in-Ok-clause-looks

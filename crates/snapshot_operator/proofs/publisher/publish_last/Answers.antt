@@ -11,8 +11,8 @@ pub publish-requires-clause-few : goal.publish-requires-clause-few
 publish-requires-clause-few g c =
     let count = c.requires.3.count in
     let grown = longer c.requires.0 (map pair_of c.args.register.now.log) c.requires.1 c.requires.2 in
-    let entries = c.entries-_entries.ensures.count.0 in
-    let few = c.entries-_entries.ensures.count.1 in
+    let entries = c.entries-entries.ensures.count.0 in
+    let few = c.entries-entries.ensures.count.1 in
     omega arith
 
 pub returns-in-Some-clause-follows : goal.returns-in-Some-clause-follows

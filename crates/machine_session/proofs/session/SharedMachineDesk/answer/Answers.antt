@@ -1,5 +1,6 @@
 use Rattle.std.proofs.Common.{Err, refl}
 use Rattle.http_session.specs.Steps.{framed}
+use Rattle.http_session.proofs.Talks.{with_answer}
 use Rattle.machine_session.specs.Protocols.{protocol}
 use Rattle.machine_session.proofs.Asked.{lost_in_turn, told_in_turn}
 use Rattle.machine_session.proofs.session.SharedMachineDesk.answer.Goals as goal
@@ -20,3 +21,6 @@ pub returns-in-Refused-clause-answer : goal.returns-in-Refused-clause-answer
 returns-in-Refused-clause-answer g c =
     let w = rw c.in-Refused.is at c.in-Ok.ensures in
     (Err w.0, w.1, (w.2, refl))
+
+pub returns-in-Call-clause-whole : goal.returns-in-Call-clause-whole
+returns-in-Call-clause-whole g c = λ h. with_answer c.ask-seat.result.1 h
