@@ -40,7 +40,7 @@ module _ {X : Type 0} (P : X → Type 0) where
   pushed xs zs x e all one = subst (All P) (sym e) (All-push P xs x all one)
 
 -- a list that is written over one that is as long
-pub over : {X : Type 0} (P : List X → Type 0) (xs ys : List X) (n : ℕ) → n ≡ length xs → P xs → P (take n (xs ++ ys))
+over : {X : Type 0} (P : List X → Type 0) (xs ys : List X) (n : ℕ) → n ≡ length xs → P xs → P (take n (xs ++ ys))
 over P xs ys n is all = subst P (sym (ap (λ m. take m (xs ++ ys)) is ∙ take-append_seam xs ys)) all
 
 -- ---- a look grows over the connections that were answered from it
@@ -81,6 +81,10 @@ module _ {L : Type 0} (told : L → Option (List Connection)) (first : Seen) whe
     has_look look lane k is = absurd (cc (sym k.has ∙ is))
 
   module _ {X : Type 0} (look : X → Option Seen) (lane : X → L) where
+    -- the same of equal readers
+    pub all_fresh : (rs others : List X) → rs ≡ others → All (λ r. IsFresh told first (look r) (lane r)) others → All (λ r. IsFresh told first (look r) (lane r)) rs
+    all_fresh rs others same fresh = subst (All {X = X} (λ r. IsFresh told first (look r) (lane r))) (sym same) fresh
+
     pub all_ready : (rs : List X) → All (λ r. IsFresh told first (look r) (lane r)) rs → All (λ r. IsReady told (look r) (lane r)) rs
     all_ready rs fresh = λ k d lt. ready (look (get_or rs k d)) (lane (get_or rs k d)) (fresh k d lt)
 
@@ -89,6 +93,16 @@ module _ {L : Type 0} (told : L → Option (List Connection)) (first : Seen) whe
     all_read accepts faults old new same worked fresh = λ k d lt.
         let there = subst (λ (n : ℕ). k < n) same lt in
         one_read accepts faults (look (get_or old k d)) (lane (get_or old k d)) (look (get_or new k d)) (lane (get_or new k d)) (worked k d there) (fresh k d there)
+
+-- the same of readers that were written over as many
+pub all_over : {L X : Type 0} (told : L → Option (List Connection)) (accepts : L → ℕ) (look : X → Option Seen) (lane : X → L) (first : Seen) (rs old : List X) (n : ℕ) → n ≡ length rs
+    → All (λ r. IsRead told accepts first (look r) (lane r)) rs → All (λ r. IsRead told accepts first (look r) (lane r)) (take n (rs ++ old))
+all_over {L} {X} told accepts look lane first rs old n is all = over (All {X = X} (λ r. IsRead told accepts first (look r) (lane r))) rs old n is all
+
+-- the same of an equal first look
+pub all_from : {L X : Type 0} (told : L → Option (List Connection)) (accepts : L → ℕ) (look : X → Option Seen) (lane : X → L) (first other : Seen) (rs : List X) → first ≡ other
+    → All (λ r. IsRead told accepts first (look r) (lane r)) rs → All (λ r. IsRead told accepts other (look r) (lane r)) rs
+all_from {L} {X} told accepts look lane first other rs same all = subst (λ (s : Seen). All {X = X} (λ r. IsRead told accepts s (look r) (lane r)) rs) same all
 
 -- a look of a reader is one of the feed
 pub look_is_of : (told : Option (List Connection)) (feed : FeedView Lists Update) (now : Seen) → HasServed answers_read (look_of feed) now told → IsLookOf feed now

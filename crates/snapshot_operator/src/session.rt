@@ -1,6 +1,6 @@
 //! The operator's session.
 
-ghost use Rattle.std.specs.Prelude.{◌≡◌, ◌≤◌, ◌⊎◌, map};
+ghost use Rattle.std.specs.Prelude.{◌≡◌, ◌≤◌, ◌⊎◌, true, map};
 ghost use Rattle.ipam_edge.specs.Faults.{Rose};
 ghost use Rattle.machine_session.specs.Owned.{owned};
 ghost use Rattle.machine_session.specs.Sessions.{IsOwnSession};

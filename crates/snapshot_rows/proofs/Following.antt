@@ -1,12 +1,12 @@
 -- The lists follow the state.
-use Rattle.std.proofs.Common.{◌≡◌, ℕ, ◌+◌, Bool, true, false, List, [], ◌∷◌, ◌++◌, fold, filter, Option, Some, None, refl, ap, sym, subst, ◌∙◌, arith}
+use Rattle.std.proofs.Common.{◌≡◌, ℕ, List, [], ◌∷◌, fold, filter, refl, ap, ◌∙◌}
 use Rattle.ipam_data.specs.declared.kinds.Kind.{Kind}
 use Rattle.ipam_data.specs.declared.kinds.Kind.TheVariants.{Vrfs, Rirs, Roles, Aggregates, Prefixes, Ranges, Addresses}
 use Rattle.ipam_data.specs.declared.replies.View.{View}
 use Rattle.ipam_data.specs.declared.replies.View.TheVariants.{Vrf as VrfView, Rir as RirView, Role as RoleView, Aggregate as AggregateView, Prefix as PrefixView, IpRange as RangeView, IpAddress as AddressView}
 use Rattle.ipam_data.specs.declared.update.Update.{Update}
 use Rattle.ipam_data.specs.State.{State}
-use Rattle.ipam_data.specs.Updates.{with_view, without_row, with_next, with_spent, updated}
+use Rattle.ipam_data.specs.Updates.{with_view, without_row, with_next, updated}
 use Rattle.snapshot_rows.specs.Lists.{Lists, lists_of, is_listed, with_listed, without_listed, after_update}
 
 one_put : (s : State) (view : View) → lists_of (with_view s view) ≡ with_listed (lists_of s) view

@@ -1,5 +1,5 @@
 -- The VRFs and the prefixes of a state, what an update makes of them, and which replies depend on them alone.
-use Rattle.std.specs.Prelude.{◌≡◌, ℕ, ◌<◌, Bool, true, false, List, [], ◌∷◌, fold, filter, if◌then◌else◌}
+use Rattle.std.specs.Prelude.{◌≡◌, ℕ, Bool, true, false, List, fold}
 use Rattle.ipam_data.specs.declared.vrf.Vrf.{Vrf}
 use Rattle.ipam_data.specs.declared.prefix.Prefix.{Prefix}
 use Rattle.ipam_data.specs.declared.kinds.Kind.{Kind}
@@ -10,7 +10,7 @@ use Rattle.ipam_data.specs.declared.replies.View.{View}
 use Rattle.ipam_data.specs.declared.replies.View.TheVariants.{Vrf as VrfView, Prefix as PrefixView}
 use Rattle.ipam_data.specs.declared.update.Update.{Update}
 use Rattle.ipam_data.specs.Rows.{vrf_id, prefix_id}
-use Rattle.ipam_data.specs.RowList.{row_at, with_row, without}
+use Rattle.ipam_data.specs.RowList.{with_row, without}
 use Rattle.ipam_data.specs.State.{State}
 use Rattle.ipam_data.specs.Steps.{plain_step}
 

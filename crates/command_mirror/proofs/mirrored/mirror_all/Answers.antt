@@ -1,10 +1,9 @@
 use Rattle.std.proofs.Common.{rules, ◌≡◌, ◌∙◌, All, Some, length, map, refl, sym, ap, subst, arith}
 use Rattle.http_lanes.specs.Listened.{returned_as}
 use Rattle.snapshot_rows.specs.Lists.{Lists}
-use Rattle.snapshot_session.specs.Reads.{Seen}
 use Rattle.command_mirror.specs.Readers.{AreReadLanes, IsRead, IsReady, look_of}
 use Rattle.command_mirror.proofs.Beside.{operated_as, same_look}
-use Rattle.command_mirror.proofs.Worked.{all_read, all_ready, over}
+use Rattle.command_mirror.proofs.Worked.{all_fresh, all_from, all_over, all_read, all_ready}
 use Rattle.command_mirror.proofs.mirrored.mirror_all.Goals as goal
 
 pub mirror-requires-clause-held : goal.mirror-requires-clause-held
@@ -16,24 +15,23 @@ mirror-requires-clause-ready g c κs within =
     (all_ready g.A.Lane.told (look_of c.args.feed) (λ r. r.look) (λ r. r.lane) _ c.pair_up.ensures.fresh)
 
 pub unreachable-requires : goal.unreachable-requires
-unreachable-requires g c = absurd (cc (sym c.mirror.ensures.operated.has ∙ c.in_default-operated.is))
+unreachable-requires g c = absurd (cc (sym c.mirror.ensures.operated.has ∙ c.in_default.is))
 
 -- the readers behind their work, whose looks are of the feed as it is then
 pub dismiss-is_within-requires-clause-read : goal.dismiss-is_within-requires-clause-read
 dismiss-is_within-requires-clause-read g c κs within =
     let told = g.A.Lane.told in
     let accepts = g.A.Lane.accepts in
-    let o = operated_as _ _ _ (λ o. o.register) (λ o. o.feed) (λ o. o.is_whole) (λ o. o.end) _ _ _ c.in-Some-operated.operated _ _ _ _ _ _ _ _ _ _ refl c.in-Some-operated.is c.mirror.ensures.operated in
-    let fresh = subst (All (λ r. IsReady told r.look r.lane)) (sym c.as_mut_slice.ensures.value) (all_ready told (look_of c.args.feed) (λ r. r.look) (λ r. r.lane) _ c.pair_up.ensures.fresh) in
+    let o = operated_as _ _ _ (λ o. o.register) (λ o. o.feed) (λ o. o.is_whole) (λ o. o.end) _ _ _ c.in-Some.operated _ _ _ _ _ _ _ _ _ _ refl c.in-Some.is c.mirror.ensures.operated in
     let read = all_read told (look_of c.args.feed) (λ r. r.look) (λ r. r.lane) accepts g.A.Lane.faults c.as_mut_slice.result.now c.mirror.new.readers c.mirror.ensures.all c.mirror.ensures.read
-    (subst (All _) (sym c.as_mut_slice.ensures.value) c.pair_up.ensures.fresh) in
-    subst (λ (first : Seen). All (λ r. IsRead told accepts first r.look r.lane) _) (same_look c.args.feed c.in-Some-operated.operated.feed o.same)
-    (over (All (λ r. IsRead told accepts (look_of c.args.feed) r.look r.lane)) c.mirror.new.readers _ _ (search rules) read)
+    (all_fresh told (look_of c.args.feed) (λ r. r.look) (λ r. r.lane) _ _ c.as_mut_slice.ensures.value c.pair_up.ensures.fresh) in
+    all_from told accepts (λ r. r.look) (λ r. r.lane) _ _ _ (same_look c.args.feed c.in-Some.operated.feed o.same)
+    (all_over told accepts (λ r. r.look) (λ r. r.lane) (look_of c.args.feed) c.mirror.new.readers _ _ (search rules) read)
 
 pub returns-clause-mirrored : goal.returns-clause-mirrored
 returns-clause-mirrored g c =
-    let o = operated_as _ _ _ (λ o. o.register) (λ o. o.feed) (λ o. o.is_whole) (λ o. o.end) _ _ _ c.in-Some-operated.operated _ _ _ _ _ _ _ _ _ _ refl c.in-Some-operated.is c.mirror.ensures.operated in
-    let feed = c.in-Some-operated.operated.feed in
+    let o = operated_as _ _ _ (λ o. o.register) (λ o. o.feed) (λ o. o.is_whole) (λ o. o.end) _ _ _ c.in-Some.operated _ _ _ _ _ _ _ _ _ _ refl c.in-Some.is c.mirror.ensures.operated in
+    let feed = c.in-Some.operated.feed in
     record {
       session = o.session;
       published = feed.published;

@@ -21,10 +21,10 @@ unreachable-requires g c =
     let p = popped (λ r. IsRead g.A.Lane.told g.A.Lane.accepts (look_of c.args.feed.now) r.look r.lane) c.loop-reader.left.items c.pop.new.self.items c.pop.result c.in-Some.reader c.pop.ensures.items c.in-Some.is c.loop-reader.invariant.read in
     has_look g.A.Lane.told (look_of c.args.feed.now) g.A.Lane.accepts _ _ p.1 c.in_default-look.is
 
-pub is_within-requires-clause-own : goal.is_within-requires-clause-own
-is_within-requires-clause-own g c =
+pub is_within-requires : goal.is_within-requires
+is_within-requires g c =
     let p = popped (λ r. IsRead g.A.Lane.told g.A.Lane.accepts (look_of c.args.feed.now) r.look r.lane) c.loop-reader.left.items c.pop.new.self.items c.pop.result c.in-Some.reader c.pop.ensures.items c.in-Some.is c.loop-reader.invariant.read in
-    look_is_of _ c.args.feed.now c.in-Some-look.look (last_look g.A.Lane.told (look_of c.args.feed.now) g.A.Lane.accepts _ _ _ p.1 c.in-Some-look.is)
+    record { own = look_is_of _ c.args.feed.now c.in-Some-look.look (last_look g.A.Lane.told (look_of c.args.feed.now) g.A.Lane.accepts _ _ _ p.1 c.in-Some-look.is) }
 
 pub loop-reader-preserved : goal.loop-reader-preserved
 loop-reader-preserved g c =
@@ -40,8 +40,8 @@ loop-reader-preserved g c =
     let capacity = c.push_reserved.ensures.capacity in
     record {
       read = p.0;
-      done = one_back told accepts c.args.feed.now c.loop-reader.lanes.items c.push_reserved.new.self.items c.in-Some.reader.lane c.in-Some-look.look c.is_within.result c.loop-reader.within c.both.result
-          c.both.ensures c.push_reserved.ensures.items served p.1.none_left c.is_within.ensures.within i.done;
+      done = one_back told accepts c.args.feed.now c.loop-reader.lanes.items c.push_reserved.new.self.items c.in-Some.reader.lane c.in-Some-look.look c.is_within.result c.loop-reader.within c.both-within.result
+          c.both-within.ensures c.push_reserved.ensures.items served p.1.none_left c.is_within.ensures.within i.done;
       count = omega arith;
       room = omega arith;
     }

@@ -10,9 +10,9 @@ loop-lane-preserved g c =
     let told = g.A.Lane.told in
     let i = c.loop-lane.invariant in
     let lane = popped (λ lane. IfSome (told lane) (λ connections. connections ≡ [])) c.loop-lane.lanes.items c.pop.new.self.items c.pop.result c.in-Some.lane c.pop.ensures.items c.in-Some.is i.waiting in
-    let look = popped (λ look. IsNewLook c.args.feed.now look) c.loop-lane.looks.items c.pop-2.new.self.items c.pop-2.result c.in-Some-look.look c.pop-2.ensures.items c.in-Some-look.is i.looks in
+    let look = popped (λ look. IsNewLook c.args.feed.now look) c.loop-lane.looks.items c.pop-in-Some.new.self.items c.pop-in-Some.result c.in-Some-pop.look c.pop-in-Some.ensures.items c.in-Some-pop.is i.looks in
     let fewer : length c.loop-lane.lanes.items ≡ length c.pop.new.self.items + 1 = ap length (c.pop.ensures.items ∙ ap (λ o. c.pop.new.self.items ++ option_to_list o) c.in-Some.is) ∙ length-append c.pop.new.self.items (c.in-Some.lane ∷ []) in
-    let less : length c.loop-lane.looks.items ≡ length c.pop-2.new.self.items + 1 = ap length (c.pop-2.ensures.items ∙ ap (λ o. c.pop-2.new.self.items ++ option_to_list o) c.in-Some-look.is) ∙ length-append c.pop-2.new.self.items (c.in-Some-look.look ∷ []) in
+    let less : length c.loop-lane.looks.items ≡ length c.pop-in-Some.new.self.items + 1 = ap length (c.pop-in-Some.ensures.items ∙ ap (λ o. c.pop-in-Some.new.self.items ++ option_to_list o) c.in-Some-pop.is) ∙ length-append c.pop-in-Some.new.self.items (c.in-Some-pop.look ∷ []) in
     let more : length c.push_reserved.new.self.items ≡ length c.loop-lane.readers.items + 1 = ap length c.push_reserved.ensures.items ∙ length-append c.loop-lane.readers.items _ in
     let many = i.many in
     let count = i.count in
@@ -25,7 +25,7 @@ loop-lane-preserved g c =
       waiting = lane.0;
       many = omega arith;
       paired = pushed (λ r. IsFresh told (look_of c.args.feed.now) r.look r.lane) c.loop-lane.readers.items c.push_reserved.new.self.items _ c.push_reserved.ensures.items i.paired
-          (record { has = ap Some (first_of c.args.feed.now c.in-Some-look.look c.requires.none look.1); none_told = lane.1 });
+          (record { has = ap Some (first_of c.args.feed.now c.in-Some-pop.look c.requires.none look.1); none_told = lane.1 });
       count = omega arith;
       room = omega arith;
       kept_room = kept_capacity ∙ kept_room;

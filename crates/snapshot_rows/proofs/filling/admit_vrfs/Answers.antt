@@ -1,4 +1,4 @@
-use Rattle.std.proofs.Common.{◌≡◌, List, ◌∷◌, ◌++◌, [], ap, sym, subst, ◌∙◌}
+use Rattle.std.proofs.Common.{List, ◌∷◌, ◌++◌, [], ap, sym, subst, ◌∙◌}
 use Rattle.ipam_data.specs.declared.vrf.Vrf.{Vrf}
 use Rattle.ipam_data.specs.RowList.{AllBelow}
 use Rattle.ipam_data.specs.Rows.{vrf_id}

@@ -1,8 +1,6 @@
-use Rattle.std.proofs.Common.{rules, ◌≡◌, ℕ, ◌<◌, List, [], fold, filter, sym, ap, ◌∙◌, arith}
-use Rattle.ipam_data.specs.declared.replies.View.{View}
+use Rattle.std.proofs.Common.{rules, ◌≡◌, ◌<◌, [], fold, filter, ap, ◌∙◌, arith}
 use Rattle.ipam_data.specs.declared.update.Update.{Update}
 use Rattle.ipam_data.specs.State.{State}
-use Rattle.ipam_data.specs.declared.kinds.Kind.{Kind}
 use Rattle.register_tables.specs.Held.{state_of}
 use Rattle.snapshot_rows.specs.Lists.{Lists, lists_of, is_listed, with_listed, without_listed, after_update}
 use Rattle.snapshot_rows.proofs.Following.{lists_follow, only_listed, none_spent}
