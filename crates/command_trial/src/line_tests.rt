@@ -40,7 +40,7 @@ nobody|mirror --bind x --readers 1 --db a|once|3|||0|
 nowhere|mirror --bind x --readers 1 --db a|once|3|||0|
 |mirror --bind x --readers 2 --db a|once|3|||0|
 input 0|mirror --bind x --readers 1 --connections 1 --db a|once|3|||1|
-output 0|mirror --bind x --readers 1 --connections 1 --db a|once|3|||1|
+output 0|mirror --bind x --readers 1 --connections 1 --db a|once|3|||1|1,10.0.0.0/24,,active,,false,false,;
 keeper 0|mirror --bind x --readers 1 --db a|once|4||store: the store could not be read;|0|
 errors 0|free||3|||0|
 errors 0|load||3|||0|
