@@ -9,12 +9,12 @@ import tempfile
 import threading
 import time
 
-from full import Connection, Server, make, request, text_of
+from full import EACH, Connection, Server, make, request, text_of
 
 READERS = [1, 4, 16]
 SOME, FULL, ROWS = 10_000, 200_000, 10_000
-# how many changes the operator makes a second, and at once
-PACE, BURST = 1_000, 10
+# how many changes the operator makes a second: beside GETs, and beside lists; how many at once; and how many claims are one request
+PACE, SLOW_PACE, BURST, CLAIMS = 1_000, 100, 10, 1_000
 # what is to hold: 4 readers to 1 beside nginx, answers while the operator writes, seconds of a list, GB of two copies, GB of the whole
 SCALES, SLOWED, LIST, COPIES, WHOLE = 0.9, 0.9, 0.010, 1.0, 6.0
 
@@ -36,16 +36,17 @@ def listens(port, process):
 
 
 class Operator(Connection):
-    """The operator's requests over the input and the output of a process."""
+    """The operator's requests over the input and the output of a process. A session ends with its thousandth answer."""
 
     def __init__(self, process):
-        self.process, self.file = process, process.stdout
+        self.process, self.file, self.left = process, process.stdout, EACH
 
     def send(self, requests):
         self.process.stdin.write(b"".join(requests))
         self.process.stdin.flush()
 
     def make(self, requests, wanted):
+        self.left -= len(requests)
         for at in range(0, len(requests), 100):
             some = requests[at:at + 100]
             self.send(some)
@@ -54,13 +55,21 @@ class Operator(Connection):
                 if status != wanted:
                     sys.exit(f"mirror: {one!r} {status} {body!r}")
 
-    def write(self, prefixes, until):
-        """Changes the prefixes one after another, so many a second, until the event is set; gives how many a second there were."""
+    def fill(self, count):
+        """Makes a block, and so many in it by lists of claims."""
+        self.make([request("POST", "prefixes/", {"prefix": "10.0.0.0/8"})], 201)
+        claims = [{"prefix_length": 24}] * CLAIMS
+        for _ in range(count // CLAIMS):
+            self.make([request("POST", "prefixes/1/available-prefixes/", claims)], 201)
+
+    def write(self, prefixes, pace, until):
+        """Changes the prefixes one after another, so many a second, until the event is set or the session is at its end; gives how many a
+        second there were."""
         begun, made = time.perf_counter(), 0
-        while not until.is_set():
+        while not until.is_set() and self.left > BURST:
             self.make([request("PATCH", f"prefixes/{(made + n) % prefixes + 1}/", {"description": f"{made + n}"}) for n in range(BURST)], 200)
             made += BURST
-            time.sleep(max(0.0, begun + made / PACE - time.perf_counter()))
+            time.sleep(max(0.0, begun + made / pace - time.perf_counter()))
         return made / (time.perf_counter() - begun)
 
 
@@ -115,20 +124,26 @@ class Runs:
     def middle(self, count, path="/api/ipam/prefixes/1/"):
         return statistics.median(rate(self.port, count, path, self.seconds) for _ in range(self.runs))
 
-    def mirrored(self, count):
+    def mirrored_once(self, count):
         """The figures of an idle operator and of one that writes, and the body of an answer."""
         server = Mirror(self.program, self.port, count)
-        server.operator.make([post(n) for n in range(SOME)], 201)
+        server.operator.fill(SOME)
         reader = Connection(self.port)
-        reader.send([request("GET", f"prefixes/1/?least={SOME}")])
+        reader.send([request("GET", f"prefixes/1/?least={SOME // CLAIMS}")])
         status, body = reader.answer()
         reader.end()
         if status != 200:
             sys.exit(f"mirror: a reader does not see the operator's changes: {status} {body!r}")
-        idle = self.middle(count)
-        written = writing(server.operator, SOME, lambda: self.middle(count))
+        path = "/api/ipam/prefixes/1/"
+        idle = rate(self.port, count, path, self.seconds)
+        written = writing(server.operator, SOME, PACE, lambda: rate(self.port, count, path, 1))
         server.end()
         return idle, written[0], written[1], body
+
+    def mirrored(self, count):
+        """The medians of these figures: each run has an operator of its own, since a session ends with its thousandth answer."""
+        found = [self.mirrored_once(count) for _ in range(self.runs)]
+        return [statistics.median(one[n] for one in found) for n in range(3)] + [found[0][3]]
 
     def served(self, count):
         server = Serve(self.program, self.port, count)
@@ -144,10 +159,10 @@ class Runs:
         return found
 
 
-def writing(operator, prefixes, what):
+def writing(operator, prefixes, pace, what):
     """What is found while the operator writes, and how many changes a second it made."""
     until, made = threading.Event(), []
-    writer = threading.Thread(target=lambda: made.append(operator.write(prefixes, until)))
+    writer = threading.Thread(target=lambda: made.append(operator.write(prefixes, pace, until)))
     writer.start()
     found = what()
     until.set()
@@ -206,7 +221,7 @@ def whole(runs, folder):
     server = Mirror(runs.program, runs.port, 4, "--db", store)
     for path in (f"prefixes/?limit=1&offset={FULL - 1}", "prefixes/?limit=1000", "prefixes/?status=reserved"):
         idle = longest(runs.port, path)
-        busy, _ = writing(server.operator, FULL, lambda path=path: longest(runs.port, path))
+        busy, _ = writing(server.operator, FULL, SLOW_PACE, lambda path=path: longest(runs.port, path))
         print(f"the longest answer to {path} over {FULL:,} prefixes: {idle * 1e3:.1f} ms; while the operator writes {busy * 1e3:.1f} ms", flush=True)
         if max(idle, busy) > LIST:
             wrong.append(f"{path} takes more than {LIST * 1e3:.0f} ms")
