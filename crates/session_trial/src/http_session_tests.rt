@@ -1,5 +1,5 @@
 //! Tables of inputs and what is written for each, at pieces of 1, 7 and 4,096 bytes.
-ghost use Rattle.std.specs.Prelude.{ℕ, ◌<◌};
+ghost use Rattle.std.specs.Prelude.{ℕ, ◌<◌, true};
 
 use arrayvec::ArrayVec;
 use http::StatusCode;
