@@ -136,3 +136,7 @@ module _ {S C A R W E : Type 0} (P : Protocol S C A R W E) where
     last_is = refl;
     reads = record { pieces = []; reads = refl; grown = refl };
   }
+
+  -- nor with a machine that comes back as it was
+  pub own_returned : {Z : Type 0} (step : Step Z) (v w : Owned S C) (from : Z) (left written : Option (List ℕ)) → w ≡ v → IsOwnSession P step v w from from left left written written Memory
+  own_returned step v w from left written same = subst (λ (x : Owned S C). IsOwnSession P step v x from from left left written written Memory) (sym same) (own_starved step v from left written)

@@ -15,17 +15,17 @@ use crate::service::{Service, Wanted, read_by};
 use history_lock::Machine;
 use http_session::{Desk, Fault, HttpRequest, Reply, SessionEnd, serve};
 use ipam_edge::{Sink, Source};
-use std::alloc::{AllocError, Global};
+use std::alloc::{AllocError, AllocFailed, Global};
 use std::marker::PhantomData;
 
 /// The number under which the one caller's changes are noted.
 const CALLER: u32 = 0;
 
-/// A machine and what follows it.
+/// A machine, in a box so that no request moves it, and what follows it.
 pub struct OwnSeat<M: Machine, F: Follower<M>> {
-    machine: M,
+    machine: Box<M>,
     follower: F,
-    ghost kept: { F.keeps follower (M.opening machine) (M.log machine) } by { F.keeps_is_fact follower (M.opening machine) (M.log machine) },
+    ghost kept: { F.keeps follower (M.opening machine.value) (M.log machine.value) } by { F.keeps_is_fact follower (M.opening machine.value) (M.log machine.value) },
 }
 
 /// Lets the machine answer a call, and writes the answer; an accepted change is then followed. The one error means out of memory for the
@@ -70,7 +70,7 @@ impl<'a, M: Machine, V: Service<M>, F: Follower<M>> Desk for OwnMachine<'a, M, V
 
     ghost View = { Owned M.State M.Said × F.Tag };
 
-    ghost view = { λ s. (owned (M.opening s.machine) (M.log s.machine) (M.faults s.machine), F.tag s.follower) };
+    ghost view = { λ s. (owned (M.opening s.machine.value) (M.log s.machine.value) (M.faults s.machine.value), F.tag s.follower) };
 
     ghost may = { tagged (answers_alone (protocol M.step M.answer M.kind M.fallible V.asks V.tells V.refuses V.misread)) };
 
@@ -91,7 +91,7 @@ impl<'a, M: Machine, V: Service<M>, F: Follower<M>> Desk for OwnMachine<'a, M, V
                 Wanted::Call(call, along) => {
                     let (follower, answer) = act::<M, V, F>(
                         alloc,
-                        &mut machine,
+                        machine.as_mut(),
                         follower,
                         call,
                         along,
@@ -110,8 +110,9 @@ impl<'a, M: Machine, V: Service<M>, F: Follower<M>> Desk for OwnMachine<'a, M, V
 }
 
 /// Serves one connection with a machine of its own, from its first byte to its end, and notes its changes under the number 0. What follows
-/// the machine does so behind each accepted change. The ends are those of `serve_session`, and `Memory` also where memory ran out for what
-/// follows: with any other end the follower could follow every change. The table is lent.
+/// the machine does so behind each accepted change. The ends are those of `serve_session`, and `Memory` also where memory ran out for the
+/// box that the machine is put into, with nothing read, or for what follows: with any other end the follower could follow every change. The
+/// table is lent.
 pub fn serve_own_by<M: Machine, V: Service<M>, F: Follower<M>, So: Source, Si: Sink>(
     alloc: Global,
     table: &V::Table,
@@ -133,16 +134,26 @@ pub fn serve_own_by<M: Machine, V: Service<M>, F: Follower<M>, So: Source, Si: S
     ensures sink { result.2 ≡ SessionEnd.SinkFault → Rose (Si.faults sink.old) (Si.faults sink.new) }
     ensures sink_kept { (result.2 ≡ SessionEnd.SinkFault) ⊎ (Si.faults sink.new ≡ Si.faults sink.old) }
 {
-    let handler: OwnMachine<'_, M, V, F> = OwnMachine {
-        table,
-        of: PhantomData,
-    };
-    let (seat, end) = serve(alloc, &handler, OwnSeat { machine, follower }, source, sink);
-    let OwnMachine { table: _, of: _ } = handler;
-    let OwnSeat { machine, follower } = seat;
-    // Its clauses say that the machine's state is the replay of its accepted changes.
-    let _ = machine.entries();
-    (machine, follower, end)
+    match Box::new(alloc, machine) {
+        Ok(machine) => {
+            let handler: OwnMachine<'_, M, V, F> = OwnMachine {
+                table,
+                of: PhantomData,
+            };
+            let seat = OwnSeat { machine, follower };
+            let (seat, end) = serve(alloc, &handler, seat, source, sink);
+            let OwnMachine { table: _, of: _ } = handler;
+            let OwnSeat { machine, follower } = seat;
+            let machine = Box::into_inner(machine);
+            // Its clauses say that the machine's state is the replay of its accepted changes.
+            let _ = machine.entries();
+            (machine, follower, end)
+        }
+        Err(AllocFailed { value: machine }) => {
+            let _ = machine.entries();
+            (machine, follower, SessionEnd::Memory)
+        }
+    }
 }
 
 /// The same with a table of its own, which is made before the first read: where memory runs out for it, the session ends
