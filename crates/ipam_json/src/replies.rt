@@ -102,6 +102,9 @@ fn put_refusal_with(writer: &mut Writer, refusal: &Refusal, detail: &str) -> Res
     writer.end_object()
 }
 
+/// Bytes of room for the text of a record, so that it is not moved while it grows.
+pub const RECORD_ROOM: usize = 512;
+
 /// Writes a reply, and nothing where it has no value.
 fn put_reply(
     alloc: Global,
@@ -133,7 +136,7 @@ fn put_reply(
 pub fn reply_bytes(alloc: Global, reply: &Reply, links: &Links) -> Result<Vec<u8>, AllocError>
     ensures { IfOk result (λ v. v.items ≡ reply_text reply.now links.now) }
 {
-    let mut writer = Writer::new(Vec::new(alloc));
+    let mut writer = Writer::new(Vec::with_capacity(alloc, RECORD_ROOM)?);
     put_reply(alloc, &mut writer, reply, links)?;
     Ok(writer.into_inner())
 }
@@ -142,7 +145,7 @@ pub fn reply_bytes(alloc: Global, reply: &Reply, links: &Links) -> Result<Vec<u8
 pub fn refusal_bytes(alloc: Global, refusal: &Refusal) -> Result<Vec<u8>, AllocError>
     ensures { IfOk result (λ v. v.items ≡ refusal_text refusal.now) }
 {
-    let mut writer = Writer::new(Vec::new(alloc));
+    let mut writer = Writer::new(Vec::with_capacity(alloc, RECORD_ROOM)?);
     put_refusal(alloc, &mut writer, refusal)?;
     Ok(writer.into_inner())
 }

@@ -9,7 +9,7 @@ ghost use Rattle.pool_json.specs.Words.{detail_of};
 use crate::bodies::RequestRefusal;
 use crate::details::{code, detail};
 use crate::rows::{put_member, put_members, put_numbers, put_range, put_ranges};
-use ipam_json::refusal_bytes;
+use ipam_json::{RECORD_ROOM, refusal_bytes};
 use json::Writer;
 use number_pools::{Member, PoolKind, PoolRefusal, PoolReply};
 use std::alloc::{AllocError, Global};
@@ -93,7 +93,7 @@ fn put_reply(
 pub fn reply_bytes(alloc: Global, shape: Shape, reply: &PoolReply) -> Result<Vec<u8>, AllocError>
     ensures { IfOk result (λ v. v.items ≡ reply_text shape reply.now) }
 {
-    let mut writer = Writer::new(Vec::new(alloc));
+    let mut writer = Writer::new(Vec::with_capacity(alloc, RECORD_ROOM)?);
     put_reply(alloc, &mut writer, shape, reply)?;
     Ok(writer.into_inner())
 }
@@ -102,7 +102,7 @@ pub fn reply_bytes(alloc: Global, shape: Shape, reply: &PoolReply) -> Result<Vec
 fn words_bytes(alloc: Global, code: &str, detail: &str) -> Result<Vec<u8>, AllocError>
     ensures { IfOk result (λ v. v.items ≡ compact_text (words_data code.now detail.now)) }
 {
-    let mut writer = Writer::new(Vec::new(alloc));
+    let mut writer = Writer::new(Vec::with_capacity(alloc, RECORD_ROOM)?);
     put_words(&mut writer, code, detail)?;
     Ok(writer.into_inner())
 }

@@ -5,5 +5,5 @@ use Rattle.ipam_json.proofs.replies.refusal_bytes.Goals as goal
 
 pub returns : goal.returns
 returns c =
-    written_is (Some (refusal_data c.args.refusal.now)) _ _ _ (c.new-writer.ensures.before ∙ c.new.ensures.items) c.new-writer.ensures.tokens
+    written_is (Some (refusal_data c.args.refusal.now)) _ _ _ (c.new-writer.ensures.before ∙ c.in_ok-with_capacity.ensures.items) c.new-writer.ensures.tokens
     c.in_ok-put_refusal.ensures c.into_inner.ensures.items
