@@ -49,6 +49,7 @@ BENCHES = [
     Bench("migrate", ["migrate.sh"], ["migrate.sh", "20000", "50000", "2000"], 600),
     Bench("growths", ["growths.py"], ["growths.py", "free", "post"], 1800, ["cc"]),
     Bench("register", ["register.sh", "40"], ["register.sh", "5"], 600),
+    Bench("instructions", ["instructions.sh"], ["instructions.sh", "get"], 900, ["valgrind"]),
     Bench("claims", ["claims.sh"], ["claims.sh"], 1200, ["psql", "runuser"]),
     Bench("pools", ["pools.sh"], ["pools.sh"], 1200, [POOLD, "psql", "runuser"]),
     Bench("store", ["store.sh", "3"], ["store.sh", "1"], 600),

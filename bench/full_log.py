@@ -1,4 +1,5 @@
-"""A log that is filled; bench/full_log.sh says how. Half of its items are spent by claims of 1,000 addresses, the others by changes of nothing."""
+"""A log that is filled, or what it takes in memory; bench/full_log.sh says how. Half of the items of the first are spent by claims of 1,000 addresses, the others by
+changes of nothing."""
 import json
 import os
 import re
@@ -39,6 +40,35 @@ def place_of(port):
     return int(re.search(rb"Ipam-Place: (\d+)", head)[1])
 
 
+def history(program, port, name, first, changes):
+    """What the history of these changes takes in memory: the process before it, behind it, and behind a restart that has the same records and no history."""
+    with tempfile.TemporaryDirectory(dir="/dev/shm") as folder:
+        path = os.path.join(folder, "office.db")
+        server = Server(program, port, "--db", path)
+        answers(port, [first])
+        before = server.memory()[0]
+        for at in range(0, len(changes), 100_000):
+            _, refused = answers(port, changes[at:at + 100_000])
+            if refused:
+                sys.exit(f"full_log: {name}: {refused}")
+        behind, place = server.memory()[0], place_of(port)
+        server.end()
+        server = Server(program, port, "--db", path)
+        page, _ = answers(port, [request("GET", "prefixes/?limit=1")])
+        if page[0] != 200:
+            sys.exit(f"full_log: {name}: behind a restart: {page}")
+        left = server.memory()[0]
+        server.end()
+    print(f"{name}: {before:.3f} GB, {behind:.3f} GB behind {place - 1:,} changes, {left:.3f} GB behind a restart: {(behind - left) * 1e9 / (place - 1):,.0f} bytes a change", flush=True)
+
+
+def memory(program, port):
+    prefix = request("POST", "prefixes/", {"prefix": "10.0.0.0/8"})
+    history(program, port, "claims of one address", prefix, [request("POST", "prefixes/1/available-ips/", {})] * 500_000)
+    texts = [request("PATCH", "prefixes/1/", {"description": letter * 200}) for letter in "ab"]
+    history(program, port, "changed descriptions of 200 characters", prefix, [texts[n % 2] for n in range(MOST - 1)])
+
+
 def main(program, port):
     with tempfile.TemporaryDirectory(dir="/dev/shm") as folder:
         path, start = os.path.join(folder, "office.db"), time.monotonic()
@@ -73,4 +103,4 @@ def main(program, port):
 
 
 if __name__ == "__main__":
-    main(sys.argv[1], int(sys.argv[2]))
+    {"log": main, "memory": memory}[sys.argv[1]](sys.argv[2], int(sys.argv[3]))
