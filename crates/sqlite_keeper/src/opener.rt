@@ -2,23 +2,22 @@
 
 ghost use Rattle.std.specs.Prelude.{◌≡◌, ℕ, ◌≤◌, ◌⊎◌, Some, None, option_map, option_copied, IfOk, OnOk, OnErr, IsErrOf};
 ghost use Rattle.stored_tables.specs.Stored.{changed, stored_version};
-ghost use Rattle.stored_tables.specs.Order.{AreTables, empty_tables as no_rows};
+ghost use Rattle.stored_tables.specs.Order.{AreTables};
 ghost use Rattle.ipam_keeper.specs.Keeping.{Rose, IsRaised, IsTold, replaced_by, started, IsReturned};
 ghost use Rattle.sqlite_keeper.specs.Either.{told_of, faults_of};
 
 use crate::connects::{Connects, CountedKeeper};
-use ipam_keeper::empty::empty_tables;
 use ipam_keeper::keeper::{KeepFault, Keeper, KeeperOpener};
-use ipam_keeper::memory::MemoryKeeper;
+use kind_keeper::KindKeeper;
 use sqlite_calls::{StoreFault, refused};
-use std::alloc::{AllocError, Global};
+use std::alloc::Global;
 use stored_tables::tables::{Change, Tables, Text};
 
 /// A keeper that was started with a path, over its file, or without one, in memory.
 #[derive(Drop)]
 pub enum StoreKeeper<F> {
     File(F),
-    Memory(MemoryKeeper),
+    Memory(KindKeeper),
 }
 
 impl<F: Keeper> Keeper for StoreKeeper<F> {
@@ -55,15 +54,6 @@ pub struct SqliteOpener<C: Connects> {
     connects: C,
     lent: Option<Option<Text>>,
     faults: u64,
-}
-
-/// A keeper of empty tables in memory, none of whose calls fails.
-fn empty_keeper(alloc: Global) -> Result<MemoryKeeper, AllocError>
-    ensures tables { IfOk result (λ k. k.tables ≡ no_rows) }
-    ensures faults { IfOk result (λ k. k.faults ≡ 0) }
-{
-    let tables = empty_tables(alloc)?;
-    Ok(MemoryKeeper::new(tables, Vec::new(alloc)))
 }
 
 impl<C: Connects> SqliteOpener<C> {
@@ -109,7 +99,7 @@ where
     /// else has it open; each time it comes the count rises by one.
     fn start(&mut self, path: Option<&Text>) -> Result<StoreKeeper<C::Kept>, KeepFault> {
         let Some(path) = path else {
-            let keeper = empty_keeper(self.alloc)?;
+            let keeper = KindKeeper::new(self.alloc)?;
             self.lent = Some(None);
             return Ok(StoreKeeper::Memory(keeper));
         };
@@ -130,9 +120,7 @@ where
                 self.faults = self.faults.saturating_add(keeper.failures());
                 self.connects.close(keeper);
             }
-            StoreKeeper::Memory(keeper) => {
-                self.faults = self.faults.saturating_add(keeper.faults());
-            }
+            StoreKeeper::Memory(_) => {}
         }
     }
 }

@@ -1,0 +1,8 @@
+//! A keeper in memory that has a list for each kind, so that what comes of one kind moves no row of another.
+#![tactic(auto)]
+
+mod keeper;
+mod places;
+mod shelves;
+
+pub use keeper::KindKeeper;
