@@ -25,7 +25,7 @@ pub(crate) fn role_columns() -> &'static [&'static str]
 pub(crate) fn write_role(alloc: Global, row: &Role) -> Result<Row, AllocError>
     ensures { IfOk result (λ r. r ≡ stored_role row.now) }
 {
-    let mut fields = Vec::new(alloc);
+    let mut fields = Vec::with_capacity(alloc, 4)?;
     fields.push(words(alloc, row.name.as_str())?)?;
     fields.push(words(alloc, row.slug.as_str())?)?;
     fields.push(number_words(alloc, row.weight.get() as u32)?)?;
@@ -48,16 +48,16 @@ pub(crate) fn read_role(id: u32, fields: &[Text]) -> Result<Option<Role>, AllocE
     let [name, slug, weight, description] = fields else {
         return Ok(None);
     };
-    let Some(name) = read_text::<NameBounds>(name)? else {
+    let Some(name) = read_text::<NameBounds>(alloc, name)? else {
         return Ok(None);
     };
-    let Some(slug) = read_text::<SlugBounds>(slug)? else {
+    let Some(slug) = read_text::<SlugBounds>(alloc, slug)? else {
         return Ok(None);
     };
     let Some(weight) = read_weight(weight) else {
         return Ok(None);
     };
-    let Some(description) = read_text::<DescriptionBounds>(description)? else {
+    let Some(description) = read_text::<DescriptionBounds>(alloc, description)? else {
         return Ok(None);
     };
     Ok(Some(Role {

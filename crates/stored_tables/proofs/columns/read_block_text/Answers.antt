@@ -5,7 +5,7 @@ use Rattle.stored_tables.proofs.columns.read_block_text.Goals as goal
 pub returns-in-Ok : goal.returns-in-Ok
 returns-in-Ok c = λ b h e.
     no_canonical c.args.text.now c.as_bytes.result.now c.as_str-in-Ok-2.result.now c.as_str-in-Ok.result.now c.in-Ok.block b
-    (c.as_bytes.ensures.value ∙ c.as_str.ensures) c.as_str-in-Ok-2.ensures c.in-Ok.ensures.ok h e (c.as_str-in-Ok.ensures.value ∙ c.in_ok-written-in-Ok.ensures)
+    (c.as_bytes.ensures.value ∙ c.as_str.ensures) c.as_str-in-Ok-2.ensures c.in-Ok.ensures.ok h e (c.as_str-in-Ok.ensures.value ∙ c.block_text-written-in-Ok.ensures)
     (sym c.eq.ensures ∙ c.if-eq.false)
 
 pub returns : goal.returns
