@@ -1,5 +1,5 @@
 -- The text of an address in groups is ASCII, so it is text.
-use Rattle.std.proofs.Common.{ℕ, zero, suc, ◌^◌, ◌<◌, get_or, [], ◌∷◌, ◌++◌, decimal, All, IsAscii, IsUtf8, arith, inl, inr}
+use Rattle.std.proofs.Common.{ℕ, zero, suc, ◌^◌, ◌<◌, get_or, [], ◌∷◌, ◌++◌, decimal, All, IsUtf8, arith, inl, inr}
 use Rattle.std.specs.Int.{w128, to_be_bytes}
 use Rattle.std.specs.Net.Addr.{segments_of}
 use Rattle.std.proofs.NetLemmas.Alphabet.{IsHexOrColon, All-hex_groups_text}
