@@ -2,6 +2,6 @@
 use Rattle.std.specs.Prelude.{List, ℕ, string_bytes}
 use Rattle.stored_tables.specs.declared.tables.Characters.{Characters}
 
-pub text_bytes : Characters → List ℕ
+abbrev pub text_bytes : Characters → List ℕ
 text_bytes (Characters.Fixed word) = word.now
 text_bytes (Characters.Owned string) = string_bytes string

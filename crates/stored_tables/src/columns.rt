@@ -268,14 +268,20 @@ pub(crate) fn read_ends(start: &Text, end: &Text) -> Option<Ends>
 // ---- texts
 
 /// The text within bounds that a text is. `Err` means out of memory.
-pub(crate) fn read_text<B: Tested>(alloc: Global, text: &Text) -> Result<Option<Bounded<B>>, AllocError>
+pub(crate) fn read_text<B: Tested>(
+    alloc: Global,
+    text: &Text,
+) -> Result<Option<Bounded<B>>, AllocError>
     ensures { IfOk result (λ n. IsRead B.admits (λ bytes. bytes) text.now n) }
 {
     Ok(Bounded::<B>::of(text.to_string(alloc)?))
 }
 
 /// The route distinguisher of a text that may be empty. `Err` means out of memory.
-pub(crate) fn read_distinguisher(alloc: Global, text: &Text) -> Result<Option<Option<Distinguisher>>, AllocError>
+pub(crate) fn read_distinguisher(
+    alloc: Global,
+    text: &Text,
+) -> Result<Option<Option<Distinguisher>>, AllocError>
     ensures { IfOk result (λ n. IsRead (IsAbsentOr IsDistinguisher) optional_text text.now n) }
 {
     if text.as_str().is_empty() {

@@ -38,7 +38,7 @@ pub(crate) fn write_rir(alloc: Global, row: &Rir) -> Result<Row, AllocError>
 }
 
 /// An RIR of an id and its texts. `Err` means out of memory.
-pub(crate) fn read_rir(id: u32, fields: &[Text]) -> Result<Option<Rir>, AllocError>
+pub(crate) fn read_rir(alloc: Global, id: u32, fields: &[Text]) -> Result<Option<Rir>, AllocError>
     requires { 1 ≤ id }
     ensures { IfOk result (λ r. IsRead IsTypedRir stored_rir (row_of Kind.Rirs id fields.now) r) }
 {

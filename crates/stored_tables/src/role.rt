@@ -38,7 +38,7 @@ pub(crate) fn write_role(alloc: Global, row: &Role) -> Result<Row, AllocError>
 }
 
 /// A role of an id and its texts. `Err` means out of memory.
-pub(crate) fn read_role(id: u32, fields: &[Text]) -> Result<Option<Role>, AllocError>
+pub(crate) fn read_role(alloc: Global, id: u32, fields: &[Text]) -> Result<Option<Role>, AllocError>
     requires { 1 ≤ id }
     ensures { IfOk result (λ r. IsRead IsTypedRole stored_role (row_of Kind.Roles id fields.now) r) }
 {

@@ -38,7 +38,7 @@ pub(crate) fn write_vrf(alloc: Global, row: &Vrf) -> Result<Row, AllocError>
 }
 
 /// A VRF of an id and its texts. `Err` means out of memory.
-pub(crate) fn read_vrf(id: u32, fields: &[Text]) -> Result<Option<Vrf>, AllocError>
+pub(crate) fn read_vrf(alloc: Global, id: u32, fields: &[Text]) -> Result<Option<Vrf>, AllocError>
     requires { 1 ≤ id }
     ensures { IfOk result (λ r. IsRead IsTypedVrf stored_vrf (row_of Kind.Vrfs id fields.now) r) }
 {

@@ -1,8 +1,7 @@
 //! Rows and updates as they are stored.
 
-ghost use Rattle.std.specs.Prelude.{◌≡◌, ◌≤◌, IfOk, string_bytes, decimal, codes, map};
-ghost use Rattle.inet_num.specs.Net.{IsAddress};
-ghost use Rattle.inet_num.specs.Text.{block_text_of, canonical_text_of};
+ghost use Rattle.std.specs.Prelude.{◌≡◌, ◌≤◌, IfOk, decimal, codes, map};
+ghost use Rattle.inet_num.specs.Text.{block_text_of};
 ghost use Rattle.stored_tables.specs.Stored.{flag_text, optional_text, reference_text, host_text, prefix_status_text, range_status_text, address_status_text, address_role_text, stored_columns, stored_row, change_of};
 
 use crate::address::{address_columns, write_address};
@@ -13,7 +12,7 @@ use crate::rir::{rir_columns, write_rir};
 use crate::role::{role_columns, write_role};
 use crate::tables::{Change, Row, Rows, Text};
 use crate::vrf::{vrf_columns, write_vrf};
-use inet_num::{Addr, Block, write_addr, write_block};
+use inet_num::{Addr, Block, block_text, host_text};
 use ipam_data::address::{AddressRole, AddressStatus};
 use ipam_data::kinds::Kind;
 use ipam_data::prefix::PrefixStatus;
@@ -39,7 +38,7 @@ pub(crate) fn block_words(alloc: Global, block: Block) -> Result<Text, AllocErro
 
 /// An address with its mask.
 pub(crate) fn host_words(alloc: Global, addr: Addr, len: u8) -> Result<Text, AllocError>
-    ensures { IfOk result (λ t. t ≡ stored.host_text addr len) }
+    ensures { IfOk result (λ t. t ≡ host_text addr len) }
 {
     words(alloc, host_text(addr, len).as_str())
 }

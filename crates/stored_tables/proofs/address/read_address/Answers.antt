@@ -46,12 +46,12 @@ pub returns : goal.returns
 unfolding address_texts
 returns c =
     let xs = c.args.fields.now in
-    let host = was_read IsMasked masked_text c.host-item.result c.read_host_text.result c.in-Some-read_host_text.host c.in-Some-read_host_text.is c.read_host_text.ensures in
+    let host = was_read IsMasked masked_text c.host-item.result c.read_host_text.result c.in-Some.host c.in-Some.is c.read_host_text.ensures in
     let vrf = was_read (IsAbsentOr IsWord) reference_text c.vrf-item.result c.read_reference.result c.in-Some-read_reference.vrf c.in-Some-read_reference.is c.read_reference.ensures in
     let status = was_read IsAny address_status_text c.status-item.result c.read_address_status.result c.in-Some-read_address_status.status c.in-Some-read_address_status.is c.read_address_status.ensures in
     let role = was_read IsAny address_role_text c.role-item.result c.read_address_role.result c.in-Some-read_address_role.role c.in-Some-read_address_role.is c.read_address_role.ensures in
-    let dns_name = was_read IsLowered (λ n. n) c.dns_name-item.result c.in_ok-dns_name.field-0 c.in-Some.dns_name c.in-Some.is c.in_ok-dns_name.ensures in
-    let description = was_read IsDescription (λ n. n) c.description-item.result c.in_ok-description.field-0 c.in-Some-2.description c.in-Some-2.is c.in_ok-description.ensures in (
+    let dns_name = was_read IsLowered (λ n. n) c.dns_name-item.result c.in_ok-dns_name.field-0 c.in-Some-2.dns_name c.in-Some-2.is c.in_ok-dns_name.ensures in
+    let description = was_read IsDescription (λ n. n) c.description-item.result c.in_ok-description.field-0 c.in-Some-3.description c.in-Some-3.is c.in_ok-description.ensures in (
       record { low = c.requires; high = omega arith; vrf = vrf.0; bounds = record { host = host.0; dns_name = dns_name.0; description = description.0 } },
       ap (row_of Addresses c.args.id) (
           next_column xs 0 c.host-item.result (omega arith) c.host-item.is host.1 (

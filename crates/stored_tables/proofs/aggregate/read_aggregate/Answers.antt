@@ -32,9 +32,9 @@ pub returns : goal.returns
 unfolding aggregate_texts
 returns c =
     let xs = c.args.fields.now in
-    let block = was_read IsBlock block_text_of c.block-item.result c.read_block_text.result c.in-Some-read_block_text.block c.in-Some-read_block_text.is c.read_block_text.ensures in
+    let block = was_read IsBlock block_text_of c.block-item.result c.read_block_text.result c.in-Some.block c.in-Some.is c.read_block_text.ensures in
     let rir = was_read IsWord decimal c.rir-item.result c.read_number.result c.in-Some-read_number.rir c.in-Some-read_number.is c.read_number.ensures in
-    let description = was_read IsDescription (λ n. n) c.description-item.result c.in_ok-description.field-0 c.in-Some.description c.in-Some.is c.in_ok-description.ensures in (
+    let description = was_read IsDescription (λ n. n) c.description-item.result c.in_ok-description.field-0 c.in-Some-2.description c.in-Some-2.is c.in_ok-description.ensures in (
       record { low = c.requires; high = omega arith; rir = rir.0; bounds = record { block = block.0; description = description.0 } },
       ap (row_of Aggregates c.args.id) (
           next_column xs 0 c.block-item.result (omega arith) c.block-item.is block.1 (

@@ -52,13 +52,13 @@ pub returns : goal.returns
 unfolding prefix_texts
 returns c =
     let xs = c.args.fields.now in
-    let block = was_read IsBlock block_text_of c.block-item.result c.read_block_text.result c.in-Some-read_block_text.block c.in-Some-read_block_text.is c.read_block_text.ensures in
+    let block = was_read IsBlock block_text_of c.block-item.result c.read_block_text.result c.in-Some.block c.in-Some.is c.read_block_text.ensures in
     let vrf = was_read (IsAbsentOr IsWord) reference_text c.vrf-item.result c.read_reference.result c.in-Some-read_reference.vrf c.in-Some-read_reference.is c.read_reference.ensures in
     let status = was_read IsAny prefix_status_text c.status-item.result c.read_prefix_status.result c.in-Some-read_prefix_status.status c.in-Some-read_prefix_status.is c.read_prefix_status.ensures in
     let role = was_read (IsAbsentOr IsWord) reference_text c.role-item.result c.read_reference-2.result c.in-Some-read_reference-2.role c.in-Some-read_reference-2.is c.read_reference-2.ensures in
     let is_pool = was_read IsAny flag_text c.is_pool-item.result c.read_flag.result c.in-Some-read_flag.is_pool c.in-Some-read_flag.is c.read_flag.ensures in
     let mark_utilized = was_read IsAny flag_text c.mark_utilized-item.result c.read_flag-2.result c.in-Some-read_flag-2.mark_utilized c.in-Some-read_flag-2.is c.read_flag-2.ensures in
-    let description = was_read IsDescription (λ n. n) c.description-item.result c.in_ok-description.field-0 c.in-Some.description c.in-Some.is c.in_ok-description.ensures in (
+    let description = was_read IsDescription (λ n. n) c.description-item.result c.in_ok-description.field-0 c.in-Some-2.description c.in-Some-2.is c.in_ok-description.ensures in (
       record { low = c.requires; high = omega arith; vrf = vrf.0; role = role.0; bounds = record { block = block.0; description = description.0 } },
       ap (row_of Prefixes c.args.id) (
           next_column xs 0 c.block-item.result (omega arith) c.block-item.is block.1 (

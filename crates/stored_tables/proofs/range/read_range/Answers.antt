@@ -51,15 +51,15 @@ pub returns : goal.returns
 unfolding range_texts
 returns c =
     let xs = c.args.fields.now in
-    let ends = was_read AreEnds ends_texts (c.start-item.result ∷ c.end-item.result ∷ []) c.read_ends.result c.in-Some-read_ends.ends c.in-Some-read_ends.is c.read_ends.ensures in
-    let start : host_text c.in-Some-read_ends.ends.start c.in-Some-read_ends.ends.len ≡ c.start-item.result = (let both = ends.1 in cc) in
-    let end : host_text c.in-Some-read_ends.ends.end c.in-Some-read_ends.ends.len ≡ c.end-item.result = (let both = ends.1 in cc) in
+    let ends = was_read AreEnds ends_texts (c.start-item.result ∷ c.end-item.result ∷ []) c.read_ends.result c.in-Some.ends c.in-Some.is c.read_ends.ensures in
+    let start : host_text c.in-Some.ends.start c.in-Some.ends.len ≡ c.start-item.result = (let both = ends.1 in cc) in
+    let end : host_text c.in-Some.ends.end c.in-Some.ends.len ≡ c.end-item.result = (let both = ends.1 in cc) in
     let vrf = was_read (IsAbsentOr IsWord) reference_text c.vrf-item.result c.read_reference.result c.in-Some-read_reference.vrf c.in-Some-read_reference.is c.read_reference.ensures in
     let status = was_read IsAny range_status_text c.status-item.result c.read_range_status.result c.in-Some-read_range_status.status c.in-Some-read_range_status.is c.read_range_status.ensures in
     let role = was_read (IsAbsentOr IsWord) reference_text c.role-item.result c.read_reference-2.result c.in-Some-read_reference-2.role c.in-Some-read_reference-2.is c.read_reference-2.ensures in
     let mark_utilized = was_read IsAny flag_text c.mark_utilized-item.result c.read_flag.result c.in-Some-read_flag.mark_utilized c.in-Some-read_flag.is c.read_flag.ensures in
     let mark_populated = was_read IsAny flag_text c.mark_populated-item.result c.read_flag-2.result c.in-Some-read_flag-2.mark_populated c.in-Some-read_flag-2.is c.read_flag-2.ensures in
-    let description = was_read IsDescription (λ n. n) c.description-item.result c.in_ok-description.field-0 c.in-Some.description c.in-Some.is c.in_ok-description.ensures in (
+    let description = was_read IsDescription (λ n. n) c.description-item.result c.in_ok-description.field-0 c.in-Some-2.description c.in-Some-2.is c.in_ok-description.ensures in (
       record { low = c.requires; high = omega arith; vrf = vrf.0; role = role.0; bounds = record { ends = ends.0; description = description.0 } },
       ap (row_of Ranges c.args.id) (
           next_column xs 0 c.start-item.result (omega arith) c.start-item.is start (
