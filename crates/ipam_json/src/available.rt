@@ -37,11 +37,7 @@ fn put_block(writer: &mut Writer, vrf: Option<u32>, block: Block) -> Result<(), 
 }
 
 /// Writes available blocks one after another.
-fn put_each_block(
-    writer: &mut Writer,
-    vrf: Option<u32>,
-    blocks: &[Block],
-) -> Result<(), AllocError>
+fn put_each_block(writer: &mut Writer, vrf: Option<u32>, blocks: &[Block]) -> Result<(), AllocError>
     ensures { Puts result writer.old writer.new (rows_pieces (block_data vrf) blocks.now) }
 {
     for block in blocks {
@@ -82,12 +78,7 @@ fn put_addr_with(
 }
 
 /// Writes an available address of the table of a VRF, or of the global one, with this mask.
-fn put_addr(
-    writer: &mut Writer,
-    vrf: Option<u32>,
-    len: u8,
-    addr: Addr,
-) -> Result<(), AllocError>
+fn put_addr(writer: &mut Writer, vrf: Option<u32>, len: u8, addr: Addr) -> Result<(), AllocError>
     ensures { Puts result writer.old writer.new (pieces_of (addr_data vrf len addr)) }
 {
     put_addr_with(writer, vrf, len, addr, host_text(addr, len).as_str())
