@@ -92,6 +92,7 @@ pub fn put_all<T: HasPlace + Drop>(items: &mut Vec<T>, news: Vec<T>)
 pub fn cut<T: HasPlace + Drop>(items: &mut Vec<T>, here: u64)
     requires { Rises T.number 0 items.old.items }
     ensures items { items.new.items ≡ without T.number items.old.items here }
+    ensures ordered { Rises T.number 0 items.new.items }
 {
     match search(items.as_slice(), here) {
         Ok(at) => {
