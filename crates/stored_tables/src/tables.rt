@@ -2,16 +2,17 @@
 
 ghost use Rattle.std.specs.Prelude.{◌≡◌, IfOk, string_bytes};
 
+use crate::word::Word;
 use ipam_data::kinds::Kind;
 use ipam_data::update::Ids;
 use std::alloc::{AllocError, Global};
 use std::marker::Model;
 
-/// What a text is made of.
+/// What a text is made of. A fixed one has its word and not a `&'static str`: the borrow checker has no rule yet for some uses of a struct that
+/// holds a reference.
 #[derive(Debug, Drop)]
 enum Characters {
-    /// One of the few words of statuses, roles and truth values, which takes no memory.
-    Fixed(&'static str),
+    Fixed(Word),
     Owned(String),
 }
 
@@ -31,6 +32,8 @@ impl Model for Text {
 }
 
 impl Text {
+    ghost use Rattle.stored_tables.specs.Characters.{word_text};
+
     /// The text of these characters. It takes no memory.
     pub fn of(string: String) -> Text
         ensures { result ≡ string_bytes string }
@@ -40,9 +43,9 @@ impl Text {
         }
     }
 
-    /// The text of a word of the program's own. It takes no memory, nor does a copy of it.
-    pub fn fixed(word: &'static str) -> Text
-        ensures { result ≡ word.now }
+    /// The text of a word. It takes no memory, nor does a copy of it.
+    pub(crate) fn fixed(word: Word) -> Text
+        ensures { result ≡ word_text word }
     {
         Text {
             characters: Characters::Fixed(word),
@@ -54,7 +57,7 @@ impl Text {
         ensures { result.now ≡ self.now }
     {
         match &self.characters {
-            Characters::Fixed(word) => word,
+            Characters::Fixed(word) => word.as_str(),
             Characters::Owned(string) => string.as_str(),
         }
     }
@@ -71,7 +74,7 @@ impl Text {
         ensures { IfOk result (λ t. t ≡ self.now) }
     {
         match &self.characters {
-            Characters::Fixed(word) => Ok(Text::fixed(word)),
+            Characters::Fixed(word) => Ok(Text::fixed(*word)),
             Characters::Owned(string) => Ok(Text::of(string.clone()?)),
         }
     }

@@ -12,6 +12,7 @@ use crate::rir::{rir_columns, write_rir};
 use crate::role::{role_columns, write_role};
 use crate::tables::{Change, Row, Rows, Text};
 use crate::vrf::{vrf_columns, write_vrf};
+use crate::word::Word;
 use inet_num::{Addr, Block, block_text, host_text};
 use ipam_data::address::{AddressRole, AddressStatus};
 use ipam_data::kinds::Kind;
@@ -55,9 +56,9 @@ pub(crate) fn flag_words(flag: bool) -> Text
     ensures { result ≡ flag_text flag }
 {
     if flag {
-        Text::fixed("true")
+        Text::fixed(Word::True)
     } else {
-        Text::fixed("false")
+        Text::fixed(Word::False)
     }
 }
 
@@ -66,7 +67,7 @@ pub(crate) fn reference_words(alloc: Global, id: Option<u32>) -> Result<Text, Al
     ensures { IfOk result (λ t. t ≡ reference_text id) }
 {
     match id {
-        None => Ok(Text::fixed("")),
+        None => Ok(Text::fixed(Word::Empty)),
         Some(id) => Ok(Text::of(format!(in alloc; "{id}")?)),
     }
 }
@@ -79,7 +80,7 @@ pub(crate) fn distinguisher_words(
     ensures { IfOk result (λ t. t ≡ optional_text rd.now) }
 {
     match rd {
-        None => Ok(Text::fixed("")),
+        None => Ok(Text::fixed(Word::Empty)),
         Some(rd) => words(alloc, rd.as_str()),
     }
 }
@@ -89,10 +90,10 @@ pub(crate) fn status_words(status: PrefixStatus) -> Text
     ensures { result ≡ prefix_status_text status }
 {
     match status {
-        PrefixStatus::Container => Text::fixed("container"),
-        PrefixStatus::Active => Text::fixed("active"),
-        PrefixStatus::Reserved => Text::fixed("reserved"),
-        PrefixStatus::Deprecated => Text::fixed("deprecated"),
+        PrefixStatus::Container => Text::fixed(Word::Container),
+        PrefixStatus::Active => Text::fixed(Word::Active),
+        PrefixStatus::Reserved => Text::fixed(Word::Reserved),
+        PrefixStatus::Deprecated => Text::fixed(Word::Deprecated),
     }
 }
 
@@ -101,9 +102,9 @@ pub(crate) fn range_status_words(status: RangeStatus) -> Text
     ensures { result ≡ range_status_text status }
 {
     match status {
-        RangeStatus::Active => Text::fixed("active"),
-        RangeStatus::Reserved => Text::fixed("reserved"),
-        RangeStatus::Deprecated => Text::fixed("deprecated"),
+        RangeStatus::Active => Text::fixed(Word::Active),
+        RangeStatus::Reserved => Text::fixed(Word::Reserved),
+        RangeStatus::Deprecated => Text::fixed(Word::Deprecated),
     }
 }
 
@@ -112,11 +113,11 @@ pub(crate) fn address_status_words(status: AddressStatus) -> Text
     ensures { result ≡ address_status_text status }
 {
     match status {
-        AddressStatus::Active => Text::fixed("active"),
-        AddressStatus::Reserved => Text::fixed("reserved"),
-        AddressStatus::Deprecated => Text::fixed("deprecated"),
-        AddressStatus::Dhcp => Text::fixed("dhcp"),
-        AddressStatus::Slaac => Text::fixed("slaac"),
+        AddressStatus::Active => Text::fixed(Word::Active),
+        AddressStatus::Reserved => Text::fixed(Word::Reserved),
+        AddressStatus::Deprecated => Text::fixed(Word::Deprecated),
+        AddressStatus::Dhcp => Text::fixed(Word::Dhcp),
+        AddressStatus::Slaac => Text::fixed(Word::Slaac),
     }
 }
 
@@ -125,15 +126,15 @@ pub(crate) fn address_role_words(role: Option<AddressRole>) -> Text
     ensures { result ≡ address_role_text role }
 {
     match role {
-        None => Text::fixed(""),
-        Some(AddressRole::Loopback) => Text::fixed("loopback"),
-        Some(AddressRole::Secondary) => Text::fixed("secondary"),
-        Some(AddressRole::Anycast) => Text::fixed("anycast"),
-        Some(AddressRole::Vip) => Text::fixed("vip"),
-        Some(AddressRole::Vrrp) => Text::fixed("vrrp"),
-        Some(AddressRole::Hsrp) => Text::fixed("hsrp"),
-        Some(AddressRole::Glbp) => Text::fixed("glbp"),
-        Some(AddressRole::Carp) => Text::fixed("carp"),
+        None => Text::fixed(Word::Empty),
+        Some(AddressRole::Loopback) => Text::fixed(Word::Loopback),
+        Some(AddressRole::Secondary) => Text::fixed(Word::Secondary),
+        Some(AddressRole::Anycast) => Text::fixed(Word::Anycast),
+        Some(AddressRole::Vip) => Text::fixed(Word::Vip),
+        Some(AddressRole::Vrrp) => Text::fixed(Word::Vrrp),
+        Some(AddressRole::Hsrp) => Text::fixed(Word::Hsrp),
+        Some(AddressRole::Glbp) => Text::fixed(Word::Glbp),
+        Some(AddressRole::Carp) => Text::fixed(Word::Carp),
     }
 }
 
