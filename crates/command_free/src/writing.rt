@@ -38,7 +38,7 @@ fn push_line(piece: &mut ArrayVec<u8, ROOM>, block: Block)
     ensures { piece.new.items ≡ piece.old.items ++ line_text_of block }
 {
     let text = block_text(block);
-    match piece.try_extend_from_slice(text.as_slice()) {
+    match piece.try_extend_from_slice(text.as_str().as_bytes()) {
         Ok(()) => {}
         Err(_) => unreachable!(),
     }

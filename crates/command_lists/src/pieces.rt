@@ -103,7 +103,7 @@ fn put_block<Si: Sink>(
     ensures cause { HasCause (Si.faults output.old) (Si.faults output.new) result }
 {
     let text = block_text(block);
-    put_both(output, piece, text.as_slice(), b"\n")
+    put_both(output, piece, text.as_str().as_bytes(), b"\n")
 }
 
 /// Puts a line's number and its block behind the piece.

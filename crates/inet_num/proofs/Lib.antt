@@ -17,3 +17,4 @@ pub mod FaultKinds
 pub mod TextExamples
 pub mod Examples
 pub mod Insides
+pub mod Ascii

@@ -22,7 +22,7 @@ pub use text::{
     TextFault, canonical_text_is_one, one_reading, read_addr, read_block, read_host,
     writing_is_read, written_address_is_read,
 };
-pub use written::{block_text, write_addr, write_block};
+pub use written::{block_text, host_text, write_addr, write_block};
 
 /// A family of addresses: IPv4, whose addresses have 32 bits, or IPv6, whose addresses have 128.
 #[derive(Clone, Copy, Debug, PartialEq, Eq)]

@@ -1,6 +1,6 @@
 //! The canonical text of addresses and blocks (RFC 5952 4).
 
-ghost use Rattle.std.specs.Prelude.{◌≡◌, ◌≤◌, ◌<◌, ◌+◌, ◌*◌, [], ◌∷◌, ◌++◌, length, OnOk, OnErr, Some, decimal};
+ghost use Rattle.std.specs.Prelude.{◌≡◌, ◌≤◌, ◌<◌, ◌+◌, ◌*◌, [], ◌∷◌, ◌++◌, length, OnOk, OnErr, Some, decimal, IsUtf8};
 ghost use Rattle.std.specs.Char.{digit_char};
 ghost use Rattle.std.specs.Net.Addr.{ipv4_octets, ipv6_segments};
 ghost use Rattle.std.specs.Net.Text as Text;
@@ -187,19 +187,39 @@ pub fn write_addr(addr: Addr, out: &mut Vec<u8>) -> Result<(), AllocError>
     }
 }
 
-/// The canonical text of a block, as `10.0.0.0/8` or `2001:db8::/32`. It takes no memory.
-pub fn block_text(block: Block) -> ArrayVec<u8, 48>
-    ensures { result.items ≡ block_text_of block }
+/// The characters of bytes that are text.
+fn characters(bytes: &[u8]) -> ArrayString<48>
+    requires text { IsUtf8 bytes.now }
+    requires room { length bytes.now ≤ 48 }
+    ensures { result.bytes ≡ bytes.now }
 {
-    match block.family {
+    let mut text = ArrayString::new();
+    match std::str::from_utf8(bytes) {
+        Ok(whole) => text.push_str(whole),
+        Err(_) => unreachable!(),
+    }
+    text
+}
+
+/// The canonical text of an address with the length of its mask, as `10.0.0.1/8` or `2001:db8::1/32`. It takes no memory.
+pub fn host_text(addr: Addr, len: u8) -> ArrayString<48>
+    ensures { result.bytes ≡ canonical_text_of addr.family addr.value ++ 47 ∷ decimal len }
+{
+    match addr.family {
         Family::V4 => {
-            let quad = quad_block_text(block.first as u32, block.len);
-            let mut text = ArrayVec::new();
-            push_all(&mut text, quad.as_str().as_bytes());
+            let mut text = ArrayString::new();
+            text.push_str(quad_block_text(addr.value as u32, len).as_str());
             text
         }
-        Family::V6 => groups_block_text(block.first, block.len),
+        Family::V6 => characters(groups_block_text(addr.value, len).as_slice()),
     }
+}
+
+/// The canonical text of a block, as `10.0.0.0/8` or `2001:db8::/32`. It takes no memory.
+pub fn block_text(block: Block) -> ArrayString<48>
+    ensures { result.bytes ≡ block_text_of block }
+{
+    host_text(block.addr(), block.len)
 }
 
 /// Appends the canonical text of a block, as `10.0.0.0/8` or `2001:db8::/32` (RFC 5952 4; an IPv6 block is always written
@@ -209,7 +229,7 @@ pub fn write_block(block: Block, out: &mut Vec<u8>) -> Result<(), AllocError>
     ensures err { OnErr result (out.new.items ≡ out.old.items) }
 {
     let text = block_text(block);
-    out.extend_from_slice(text.as_slice())
+    out.extend_from_slice(text.as_str().as_bytes())
 }
 
 /// The IPv4 address of this number, as std has it.

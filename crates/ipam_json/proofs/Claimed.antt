@@ -1,18 +1,17 @@
 -- Claims: items that are read one after another.
-use Rattle.std.proofs.Common.{◌≡◌, ◌≢◌, ◌⊎◌, if◌then◌else◌, ℕ, zero, suc, ◌+◌, ◌≤◌, ◌<◌, List, [], ◌∷◌, ◌++◌, length, get_or, take, drop, map, Option, Some, None, Result, Ok, Err, inl, inr, sym, ◌∙◌, ap, subst, refl, arith, true, false, Bool}
+use Rattle.std.proofs.Common.{◌≡◌, ◌≢◌, ◌⊎◌, if◌then◌else◌, ℕ, ◌+◌, ◌≤◌, ◌<◌, List, [], ◌∷◌, ◌++◌, length, get_or, take, drop, map, Some, None, Result, Ok, Err, inl, inr, sym, ◌∙◌, ap, refl, arith, true, false, Bool}
 use Rattle.std.proofs.lemmas.List.{map-append, take_more, take-append-drop}
 use Rattle.std.proofs.lemmas.List.Folds.{list_all-map}
 use Rattle.std.specs.List.{list_all}
 use Rattle.ipam_data.specs.declared.calls.Answered.{Answered}
-use Rattle.ipam_data.specs.declared.calls.Answered.TheVariants.{AsOne, AsList}
 use Rattle.ipam_data.specs.declared.replies.Refusal.{Refusal}
 use Rattle.ipam_data.specs.declared.replies.FieldName.TheVariants.{Body}
 use Rattle.ipam_data.specs.declared.replies.Refusal.TheVariants.{BadJson, Field, Memory}
-use Rattle.serde_json.specs.Data.{Data, Items}
+use Rattle.serde_json.specs.Data.{Data}
 use Rattle.serde_json.specs.Find.{as_array}
 use Rattle.serde_json.specs.View.{items_of}
 use Rattle.ipam_json.specs.Outcomes.{OrMemory}
-use Rattle.ipam_json.specs.Claims.{IsJsonText, IsNoJsonText, IsClaimOf, is_object, values_of, list_checked, with_item, items_in, one_claim, list_claim, claim_by, claim_of, HasItems}
+use Rattle.ipam_json.specs.Claims.{IsJsonText, IsClaimOf, is_object, values_of, list_checked, with_item, items_in, one_claim, list_claim, claim_by, claim_of}
 
 -- the values of an array are those that it was made of
 pub values_are : (ds : List Data) → values_of (items_of ds) ≡ ds

@@ -1,6 +1,6 @@
 -- What the body of a claim asks for: its items, and whether it came as one object or as a list of objects; or the refusal that is
 -- answered. The body is one JSON text, as that of a Create.
-use Rattle.std.specs.Prelude.{◌≡◌, ◌⊎◌, ℕ, ◌≤◌, Bool, List, [], ◌∷◌, Option, Some, None, Result, Ok, Err, IsUtf8, is_some, length, if◌then◌else◌}
+use Rattle.std.specs.Prelude.{◌≡◌, ◌⊎◌, ℕ, ◌≤◌, Bool, List, [], ◌∷◌, Option, Some, None, Result, Ok, Err, IsUtf8, is_some, if◌then◌else◌}
 use Rattle.std.specs.List.{list_all}
 use Rattle.ipam_data.specs.declared.calls.Answered.{Answered}
 use Rattle.ipam_data.specs.declared.calls.Answered.TheVariants.{AsOne, AsList}

@@ -1,6 +1,6 @@
 //! Addresses in JSON: the bodies of a Create and of a Change, and the row.
 
-ghost use Rattle.std.specs.Prelude.{◌≡◌, IfOk, string_bytes};
+ghost use Rattle.std.specs.Prelude.{◌≡◌};
 ghost use Rattle.ipam_json.specs.Addresses.{address_data, address_role_data};
 ghost use Rattle.ipam_json.specs.Values.{choice_data};
 ghost use Rattle.ipam_json.specs.Values as values;
@@ -15,8 +15,8 @@ use crate::choices::{address_role, address_status, given_address_role, given_add
 use crate::members::{description, dns_name, given_description, given_dns_name};
 use crate::nets::{given_host, host};
 use crate::numbers::{given_id, id};
-use crate::texts::host_text;
 use crate::writing::{put_choice, put_family, put_id, put_name, put_reference, put_text};
+use inet_num::host_text;
 use ipam_data::address::{AddressRole, AddressStatus, IpAddress};
 use ipam_data::calls::{Draft, Edit};
 use ipam_data::replies::{FieldName, Refusal};
@@ -107,23 +107,10 @@ fn put_address_with(writer: &mut Writer, row: &IpAddress, host: &str) -> Result<
     writer.end_object()
 }
 
-/// The text of the host of an address.
-fn text_of_host(alloc: Global, row: &IpAddress) -> Result<String, AllocError>
-    ensures { IfOk result (λ s. string_bytes s ≡ values.host_text row.now.host.addr row.now.host.len) }
-{
-    host_text(alloc, row.host.addr(), row.host.len())
-}
-
 /// Writes an address.
-pub(crate) fn put_address(
-    alloc: Global,
-    writer: &mut Writer,
-    row: &IpAddress,
-) -> Result<(), AllocError>
+pub(crate) fn put_address(writer: &mut Writer, row: &IpAddress) -> Result<(), AllocError>
     ensures { Puts result writer.old writer.new (pieces_of (address_data row.now)) }
 {
-    match text_of_host(alloc, row) {
-        Ok(host) => put_address_with(writer, row, host.as_str()),
-        Err(error) => Err(error),
-    }
+    let host = host_text(row.host.addr(), row.host.len());
+    put_address_with(writer, row, host.as_str())
 }

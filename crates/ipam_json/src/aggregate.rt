@@ -12,8 +12,8 @@ ghost use Rattle.ipam_data.specs.declared.kinds.Kind.TheVariants.{Aggregates};
 use crate::members::{description, given_description};
 use crate::nets::{block, given_block};
 use crate::numbers::{given_row_id, row_id};
-use crate::texts::block_text;
 use crate::writing::{put_count, put_family, put_id, put_text};
+use inet_num::block_text;
 use ipam_data::aggregate::Aggregate;
 use ipam_data::calls::{Draft, Edit};
 use ipam_data::replies::{FieldName, Refusal};
@@ -64,15 +64,8 @@ fn put_aggregate_with(writer: &mut Writer, row: &Aggregate, block: &str) -> Resu
 }
 
 /// Writes an aggregate.
-pub(crate) fn put_aggregate(
-    alloc: Global,
-    writer: &mut Writer,
-    row: &Aggregate,
-) -> Result<(), AllocError>
+pub(crate) fn put_aggregate(writer: &mut Writer, row: &Aggregate) -> Result<(), AllocError>
     ensures { Puts result writer.old writer.new (pieces_of (aggregate_data row.now)) }
 {
-    match block_text(alloc, row.block) {
-        Ok(block) => put_aggregate_with(writer, row, block.as_str()),
-        Err(error) => Err(error),
-    }
+    put_aggregate_with(writer, row, block_text(row.block).as_str())
 }

@@ -1,17 +1,16 @@
 //! Lists of what is available: blocks, and addresses.
 
-ghost use Rattle.std.specs.Prelude.{◌≡◌, string_bytes};
+ghost use Rattle.std.specs.Prelude.{◌≡◌};
 ghost use Rattle.inet_num.specs.Text.{block_text_of};
 ghost use Rattle.ipam_json.specs.Replies.{addr_data, block_data, list_data};
 ghost use Rattle.ipam_json.specs.Values as spec;
 ghost use Rattle.ipam_json.specs.Written.{Puts, pieces_of, rows_pieces};
 
-use crate::texts::{block_text, host_text};
 use crate::writing::{put_family, put_reference, put_text};
-use inet_num::{Addr, Block};
+use inet_num::{Addr, Block, block_text, host_text};
 use ipam_data::replies::FieldName;
 use json::Writer;
-use std::alloc::{AllocError, Global};
+use std::alloc::AllocError;
 
 /// Writes an available block, which has this text.
 fn put_block_with(
@@ -31,38 +30,24 @@ fn put_block_with(
 }
 
 /// Writes an available block of the table of a VRF, or of the global one.
-fn put_block(
-    alloc: Global,
-    writer: &mut Writer,
-    vrf: Option<u32>,
-    block: Block,
-) -> Result<(), AllocError>
+fn put_block(writer: &mut Writer, vrf: Option<u32>, block: Block) -> Result<(), AllocError>
     ensures { Puts result writer.old writer.new (pieces_of (block_data vrf block)) }
 {
-    match block_text(alloc, block) {
-        Ok(text) => put_block_with(writer, vrf, block, text.as_str()),
-        Err(error) => Err(error),
-    }
+    put_block_with(writer, vrf, block, block_text(block).as_str())
 }
 
 /// Writes available blocks one after another.
-fn put_each_block(
-    alloc: Global,
-    writer: &mut Writer,
-    vrf: Option<u32>,
-    blocks: &[Block],
-) -> Result<(), AllocError>
+fn put_each_block(writer: &mut Writer, vrf: Option<u32>, blocks: &[Block]) -> Result<(), AllocError>
     ensures { Puts result writer.old writer.new (rows_pieces (block_data vrf) blocks.now) }
 {
     for block in blocks {
-        put_block(alloc, writer, vrf, *block)?;
+        put_block(writer, vrf, *block)?;
     }
     Ok(())
 }
 
 /// Writes available blocks as an array.
 pub(crate) fn put_blocks(
-    alloc: Global,
     writer: &mut Writer,
     vrf: Option<u32>,
     blocks: &[Block],
@@ -70,7 +55,7 @@ pub(crate) fn put_blocks(
     ensures { Puts result writer.old writer.new (pieces_of (list_data (block_data vrf) blocks.now)) }
 {
     writer.begin_array()?;
-    put_each_block(alloc, writer, vrf, blocks)?;
+    put_each_block(writer, vrf, blocks)?;
     writer.end_array()
 }
 
@@ -93,24 +78,14 @@ fn put_addr_with(
 }
 
 /// Writes an available address of the table of a VRF, or of the global one, with this mask.
-fn put_addr(
-    alloc: Global,
-    writer: &mut Writer,
-    vrf: Option<u32>,
-    len: u8,
-    addr: Addr,
-) -> Result<(), AllocError>
+fn put_addr(writer: &mut Writer, vrf: Option<u32>, len: u8, addr: Addr) -> Result<(), AllocError>
     ensures { Puts result writer.old writer.new (pieces_of (addr_data vrf len addr)) }
 {
-    match host_text(alloc, addr, len) {
-        Ok(text) => put_addr_with(writer, vrf, len, addr, text.as_str()),
-        Err(error) => Err(error),
-    }
+    put_addr_with(writer, vrf, len, addr, host_text(addr, len).as_str())
 }
 
 /// Writes available addresses one after another.
 fn put_each_addr(
-    alloc: Global,
     writer: &mut Writer,
     vrf: Option<u32>,
     len: u8,
@@ -119,14 +94,13 @@ fn put_each_addr(
     ensures { Puts result writer.old writer.new (rows_pieces (addr_data vrf len) addrs.now) }
 {
     for addr in addrs {
-        put_addr(alloc, writer, vrf, len, *addr)?;
+        put_addr(writer, vrf, len, *addr)?;
     }
     Ok(())
 }
 
 /// Writes available addresses as an array.
 pub(crate) fn put_addrs(
-    alloc: Global,
     writer: &mut Writer,
     vrf: Option<u32>,
     len: u8,
@@ -135,6 +109,6 @@ pub(crate) fn put_addrs(
     ensures { Puts result writer.old writer.new (pieces_of (list_data (addr_data vrf len) addrs.now)) }
 {
     writer.begin_array()?;
-    put_each_addr(alloc, writer, vrf, len, addrs)?;
+    put_each_addr(writer, vrf, len, addrs)?;
     writer.end_array()
 }

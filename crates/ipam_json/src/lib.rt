@@ -20,7 +20,6 @@ mod replies;
 mod rir;
 mod role;
 mod rows;
-mod texts;
 mod vrf;
 mod writing;
 

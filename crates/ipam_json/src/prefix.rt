@@ -15,10 +15,10 @@ use crate::choices::{given_prefix_status, prefix_status};
 use crate::members::{description, flag, given_description, given_flag};
 use crate::nets::{block, given_block};
 use crate::numbers::{given_id, id};
-use crate::texts::block_text;
 use crate::writing::{
     put_choice, put_family, put_flag, put_id, put_name, put_number, put_reference, put_text,
 };
+use inet_num::block_text;
 use ipam_data::calls::{Draft, Edit};
 use ipam_data::prefix::{Prefix, PrefixStatus};
 use ipam_data::replies::{FieldName, Refusal};
@@ -111,7 +111,6 @@ fn put_prefix_with(
 
 /// Writes a prefix.
 pub(crate) fn put_prefix(
-    alloc: Global,
     writer: &mut Writer,
     row: &Prefix,
     depth: u32,
@@ -119,8 +118,5 @@ pub(crate) fn put_prefix(
 ) -> Result<(), AllocError>
     ensures { Puts result writer.old writer.new (pieces_of (prefix_data row.now depth children)) }
 {
-    match block_text(alloc, row.block) {
-        Ok(block) => put_prefix_with(writer, row, block.as_str(), depth, children),
-        Err(error) => Err(error),
-    }
+    put_prefix_with(writer, row, block_text(row.block).as_str(), depth, children)
 }

@@ -1,6 +1,6 @@
 //! Ranges in JSON: the bodies of a Create and of a Change, and the row.
 
-ghost use Rattle.std.specs.Prelude.{◌≡◌, IfOk, string_bytes};
+ghost use Rattle.std.specs.Prelude.{◌≡◌};
 ghost use Rattle.inet_num.specs.Blocks as blocks;
 ghost use Rattle.ipam_json.specs.Ranges.{range_data};
 ghost use Rattle.ipam_json.specs.Sizes as sizes;
@@ -17,11 +17,10 @@ use crate::choices::{given_range_status, range_status};
 use crate::members::{description, flag, given_description, given_flag};
 use crate::nets::{given_host, host};
 use crate::numbers::{given_id, id};
-use crate::texts::host_text;
 use crate::writing::{
     put_choice, put_family, put_flag, put_id, put_name, put_number, put_reference, put_text,
 };
-use inet_num::Family;
+use inet_num::{Family, host_text};
 use ipam_data::calls::{Draft, Edit};
 use ipam_data::host::Ends;
 use ipam_data::range::{IpRange, RangeStatus};
@@ -149,22 +148,11 @@ fn put_range_with(
     writer.end_object()
 }
 
-/// The text of the first address of a range, and of the last.
-fn end_texts(alloc: Global, ends: Ends) -> Result<(String, String), AllocError>
-    ensures start { IfOk result (λ t. string_bytes t.0 ≡ values.host_text ends.start ends.len) }
-    ensures end { IfOk result (λ t. string_bytes t.1 ≡ values.host_text ends.end ends.len) }
-{
-    let start = host_text(alloc, ends.start(), ends.len())?;
-    let end = host_text(alloc, ends.end(), ends.len())?;
-    Ok((start, end))
-}
-
 /// Writes a range.
-pub(crate) fn put_range(alloc: Global, writer: &mut Writer, row: &IpRange) -> Result<(), AllocError>
+pub(crate) fn put_range(writer: &mut Writer, row: &IpRange) -> Result<(), AllocError>
     ensures { Puts result writer.old writer.new (pieces_of (range_data row.now)) }
 {
-    match end_texts(alloc, row.ends) {
-        Ok((start, end)) => put_range_with(writer, row, start.as_str(), end.as_str()),
-        Err(error) => Err(error),
-    }
+    let start = host_text(row.ends.start(), row.ends.len());
+    let end = host_text(row.ends.end(), row.ends.len());
+    put_range_with(writer, row, start.as_str(), end.as_str())
 }

@@ -23,17 +23,16 @@ pub struct Links {
 }
 
 /// Writes rows as an array.
-fn put_views(alloc: Global, writer: &mut Writer, views: &[View]) -> Result<(), AllocError>
+fn put_views(writer: &mut Writer, views: &[View]) -> Result<(), AllocError>
     ensures { Puts result writer.old writer.new (pieces_of (views_data views.now)) }
 {
     writer.begin_array()?;
-    put_rows(alloc, writer, views)?;
+    put_rows(writer, views)?;
     writer.end_array()
 }
 
 /// Writes a page.
 fn put_page(
-    alloc: Global,
     writer: &mut Writer,
     count: u32,
     views: &[View],
@@ -46,7 +45,7 @@ fn put_page(
     put_link(writer, "next", &links.next)?;
     put_link(writer, "previous", &links.previous)?;
     writer.key("results")?;
-    put_views(alloc, writer, views)?;
+    put_views(writer, views)?;
     writer.end_object()
 }
 
@@ -115,19 +114,19 @@ fn put_reply(
     ensures { Puts result writer.old writer.new (value_pieces (reply_data reply.now links.now)) }
 {
     match reply {
-        Reply::Made(view) => put_view(alloc, writer, view),
-        Reply::MadeMany(views) => put_views(alloc, writer, views.as_slice()),
-        Reply::Changed(view) => put_view(alloc, writer, view),
+        Reply::Made(view) => put_view(writer, view),
+        Reply::MadeMany(views) => put_views(writer, views.as_slice()),
+        Reply::Changed(view) => put_view(writer, view),
         Reply::Gone => Ok(()),
         Reply::Imported { created, present } => put_imported(writer, *created, *present),
-        Reply::One(view) => put_view(alloc, writer, view),
-        Reply::Page { count, views } => put_page(alloc, writer, *count, views.as_slice(), links),
+        Reply::One(view) => put_view(writer, view),
+        Reply::Page { count, views } => put_page(writer, *count, views.as_slice(), links),
         Reply::Percent(figure) => put_percent(writer, *figure),
         Reply::Rows(rows) => put_length(writer, "rows", rows.as_slice().len()),
         Reply::Lines(lines) => put_length(writer, "lines", lines.as_slice().len()),
         Reply::Refused(refusal) => put_refusal(alloc, writer, refusal),
-        Reply::Blocks { vrf, list } => put_blocks(alloc, writer, *vrf, list.as_slice()),
-        Reply::Addrs { vrf, len, list } => put_addrs(alloc, writer, *vrf, *len, list.as_slice()),
+        Reply::Blocks { vrf, list } => put_blocks(writer, *vrf, list.as_slice()),
+        Reply::Addrs { vrf, len, list } => put_addrs(writer, *vrf, *len, list.as_slice()),
     }
 }
 

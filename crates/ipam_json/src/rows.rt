@@ -12,33 +12,33 @@ use crate::role::put_role;
 use crate::vrf::put_vrf;
 use ipam_data::replies::View;
 use json::Writer;
-use std::alloc::{AllocError, Global};
+use std::alloc::AllocError;
 
 /// Writes a row.
-pub(crate) fn put_view(alloc: Global, writer: &mut Writer, view: &View) -> Result<(), AllocError>
+pub(crate) fn put_view(writer: &mut Writer, view: &View) -> Result<(), AllocError>
     ensures { Puts result writer.old writer.new (pieces_of (view_data view.now)) }
 {
     match view {
         View::Vrf(row) => put_vrf(writer, row),
         View::Rir(row) => put_rir(writer, row),
         View::Role(row) => put_role(writer, row),
-        View::Aggregate(row) => put_aggregate(alloc, writer, row),
+        View::Aggregate(row) => put_aggregate(writer, row),
         View::Prefix {
             row,
             depth,
             children,
-        } => put_prefix(alloc, writer, row, *depth, *children),
-        View::IpRange(row) => put_range(alloc, writer, row),
-        View::IpAddress(row) => put_address(alloc, writer, row),
+        } => put_prefix(writer, row, *depth, *children),
+        View::IpRange(row) => put_range(writer, row),
+        View::IpAddress(row) => put_address(writer, row),
     }
 }
 
 /// Writes rows one after another.
-pub(crate) fn put_rows(alloc: Global, writer: &mut Writer, views: &[View]) -> Result<(), AllocError>
+pub(crate) fn put_rows(writer: &mut Writer, views: &[View]) -> Result<(), AllocError>
     ensures { Puts result writer.old writer.new (rows_pieces view_data views.now) }
 {
     for view in views {
-        put_view(alloc, writer, view)?;
+        put_view(writer, view)?;
     }
     Ok(())
 }

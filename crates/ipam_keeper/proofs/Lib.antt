@@ -1,3 +1,4 @@
 pub mod FaultLemmas
 pub mod Placing
+pub mod Searching
 pub mod Paths

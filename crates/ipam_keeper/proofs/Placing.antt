@@ -1,12 +1,12 @@
 -- A row in its place, by the index of the place.
-use Rattle.std.proofs.Common.{subst, ◌≡◌, ℕ, zero, suc, ◌+◌, ◌<◌, ◌≤◌, ◌==◌, nat_lt, Bool, true, false, cond, List, [], ◌∷◌, ◌++◌, length, take, drop, get_or, Some, None, MatchBool, refl, ap, sym, ◌∙◌, arith, add-one, if◌then◌else◌}
+use Rattle.std.proofs.Common.{subst, ◌≡◌, ℕ, zero, suc, ◌+◌, ◌<◌, ◌≤◌, ◌==◌, nat_lt, Bool, true, false, cond, List, [], ◌∷◌, ◌++◌, length, take, drop, get_or, Some, None, refl, ap, sym, ◌∙◌, arith, add-one, if◌then◌else◌}
 use Rattle.std.specs.List.{slice_set}
 use Rattle.std.proofs.lemmas.Bool.Decides.{nat_tests}
 use Rattle.ipam_data.specs.RowList.{row_at, placed, Rises}
 use Rattle.ipam_data.proofs.RowLists.{eq_true, eq_false}
 use Rattle.ipam_data.proofs.Placed.{lt_true, lt_false, is_ne, is_eq, is_lt}
 use Rattle.placed_book.specs.RowBook.{place, IsAt}
-use Rattle.placed_book.proofs.RowPlaces.{any_default, is_at, place_from, none_at_place}
+use Rattle.placed_book.proofs.RowPlaces.{any_default}
 
 module _ {T : Type 0} (id : T → ℕ) where
   -- where no row has the id, the row comes before the first whose id is above
@@ -54,23 +54,6 @@ module _ {T : Type 0} (id : T → ℕ) where
           let d = is_ne (id x) (id row) k in
           let g : id x ≤ id row = grind (arith, nat_tests, v) in
           (r.0, ih (omega arith))
-
-  -- the row at the place of a number has it, or no row has it
-  pub found_or_none : (rows : List T) (n k : ℕ) (x : T) (own : ℕ) → Rises id 0 rows → k ≡ place id n rows → k < length rows → x ≡ get_or rows k x → own ≡ id x
-      → MatchBool (own == n) (IsAt id rows n k) (row_at id rows n ≡ None)
-  found_or_none rows n k x own r p h g e = go (own == n) refl
-    where
-      go : (t : Bool) → (own == n) ≡ t → MatchBool t (IsAt id rows n k) (row_at id rows n ≡ None)
-      go true t = is_at id rows n k x h g (sym e ∙ is_eq own n t)
-      go false t =
-          let f = place_from id n rows k x (sym p) h in
-          let d = is_ne own n t in
-          let s = ap id g in
-          none_at_place id 0 n rows k x r (sym p) (λ _. omega arith)
-
-  -- and what stands there has the id
-  pub at_place : (rows : List T) (n k : ℕ) → IsAt id rows n k → (y : T) → id (get_or rows k y) ≡ n
-  at_place rows n k h y = h.same y
 
   -- a row in the place of the one of its id
   pub placed_here : (rows : List T) (row : T) (n k : ℕ) → Rises id 0 rows → n ≡ id row → IsAt id rows n k → placed id rows row ≡ slice_set rows k row

@@ -5,5 +5,5 @@ pub mod empty;
 pub mod keeper;
 pub mod memory;
 pub mod opener;
-mod places;
+pub mod places;
 pub mod unkept;

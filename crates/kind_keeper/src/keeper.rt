@@ -4,12 +4,12 @@ ghost use Rattle.std.specs.Prelude.{◌≡◌, ℕ, Some, IfOk, OnOk, OnErr};
 ghost use Rattle.stored_tables.specs.Stored.{changed};
 ghost use Rattle.stored_tables.specs.Order.{AreTables, empty_tables as no_rows};
 
-use crate::places::put_all;
 use crate::shelves::{copy_rows, cut_rows, empty_shelves, put_rows, reserve};
 use ipam_data::kinds::Kind;
 use ipam_data::update::Ids;
 use ipam_keeper::empty::empty_tables;
 use ipam_keeper::keeper::{KeepFault, Keeper};
+use ipam_keeper::places::put_all;
 use std::alloc::{AllocError, Global};
 use std::marker::Model;
 use stored_tables::tables::{Change, Row, Tables};

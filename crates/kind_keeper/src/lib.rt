@@ -2,7 +2,6 @@
 #![tactic(auto)]
 
 mod keeper;
-mod places;
 mod shelves;
 
 pub use keeper::KindKeeper;

@@ -6,8 +6,8 @@ ghost use Rattle.stored_tables.specs.declared.tables.Row.{Row as StoredRow};
 ghost use Rattle.stored_tables.specs.Stored.{kind_number, row_place, without_stored};
 ghost use Rattle.kind_keeper.specs.Shelves.{all_rows, is_numbered, AreShelves, HaveRoom};
 
-use crate::places::{cut, place_among, put};
 use ipam_data::kinds::Kind;
+use ipam_keeper::places::{cut, place_among, put};
 use std::alloc::{AllocError, Global};
 use stored_tables::tables::{Row, Rows};
 

@@ -13,8 +13,8 @@ use stored_tables::tables::Text;
 /// and its `Allow`.
 const REQUESTS: &[u8] = b"GET /api/ipam/asn-ranges/ - = Ranges { kind: Asn } Asn false
 GET /api/ipam/vlan-groups/?limit=x {} = Ranges { kind: Vlan } Vlan false
-POST /api/ipam/asn-ranges/?limit=x {\"name\":\"lab\",\"start\":64512,\"end\":64521} = AddRange { kind: Asn, name: Text { string: \"lab\" }, first: 64512, last: 64521 } Asn false
-POST /api/ipam/vlan-groups/ {\"name\":\"lab\",\"start\":0,\"end\":4095} = AddRange { kind: Vlan, name: Text { string: \"lab\" }, first: 0, last: 4095 } Vlan false
+POST /api/ipam/asn-ranges/?limit=x {\"name\":\"lab\",\"start\":64512,\"end\":64521} = AddRange { kind: Asn, name: Text { characters: Owned(\"lab\") }, first: 64512, last: 64521 } Asn false
+POST /api/ipam/vlan-groups/ {\"name\":\"lab\",\"start\":0,\"end\":4095} = AddRange { kind: Vlan, name: Text { characters: Owned(\"lab\") }, first: 0, last: 4095 } Vlan false
 POST /api/ipam/asn-ranges/ - = Common(BadJson) 400 
 POST /api/ipam/asn-ranges/ {} = Common(Field(Name)) 400 
 POST /api/ipam/asn-ranges/ {\"name\":\"lab\"} = Start 400 
@@ -41,10 +41,10 @@ GET /api/ipam/asn-ranges/7/available-asns/?limit=0 - = Available { kind: Asn, id
 GET /api/ipam/asn-ranges/7/available-asns/?limit=x&limit=1001 - = Available { kind: Asn, id: 7, limit: 1000 } Asn false
 GET /api/ipam/vlan-groups/7/available-vlans/?limit=01 - = Common(Field(Limit)) 400 
 GET /api/ipam/vlan-groups/7/available-vlans/?limit - = Common(Field(Limit)) 400 
-POST /api/ipam/asn-ranges/7/available-asns/?limit=x {} = Claim { kind: Asn, id: 7, list: false, names: Texts { items: [Text { string: \"\" }] } } Asn false
-POST /api/ipam/asn-ranges/7/available-asns/ [{},{\"name\":5}] = Claim { kind: Asn, id: 7, list: true, names: Texts { items: [Text { string: \"\" }, Text { string: \"\" }] } } Asn true
-POST /api/ipam/vlan-groups/7/available-vlans/ {\"name\":\"red\"} = Claim { kind: Vlan, id: 7, list: false, names: Texts { items: [Text { string: \"red\" }] } } Vlan false
-POST /api/ipam/vlan-groups/7/available-vlans/ [{\"name\":\"red\"}] = Claim { kind: Vlan, id: 7, list: true, names: Texts { items: [Text { string: \"red\" }] } } Vlan true
+POST /api/ipam/asn-ranges/7/available-asns/?limit=x {} = Claim { kind: Asn, id: 7, list: false, names: Texts { items: [Text { characters: Owned(\"\") }] } } Asn false
+POST /api/ipam/asn-ranges/7/available-asns/ [{},{\"name\":5}] = Claim { kind: Asn, id: 7, list: true, names: Texts { items: [Text { characters: Owned(\"\") }, Text { characters: Owned(\"\") }] } } Asn true
+POST /api/ipam/vlan-groups/7/available-vlans/ {\"name\":\"red\"} = Claim { kind: Vlan, id: 7, list: false, names: Texts { items: [Text { characters: Owned(\"red\") }] } } Vlan false
+POST /api/ipam/vlan-groups/7/available-vlans/ [{\"name\":\"red\"}] = Claim { kind: Vlan, id: 7, list: true, names: Texts { items: [Text { characters: Owned(\"red\") }] } } Vlan true
 POST /api/ipam/vlan-groups/7/available-vlans/ {} = Common(Field(Name)) 400 
 POST /api/ipam/vlan-groups/7/available-vlans/ [] = Common(Field(Body)) 400 
 POST /api/ipam/asn-ranges/7/available-asns/ 5 = Common(BadJson) 400 

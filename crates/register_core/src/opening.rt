@@ -19,14 +19,15 @@ use std::alloc::{AllocError, Global};
 use stored_tables::opening::OpenFault;
 use stored_tables::tables::{Tables, VERSION};
 
-/// The tables in memory of the rows of stored tables, or what is first found wrong with the tables. `Err` means out of memory.
+/// The tables in memory of the rows of stored tables, or what is first found wrong with the tables. The texts of the rows, which take more
+/// memory than what is read of them, are gone before the first row is put. `Err` means out of memory.
 fn check(
     alloc: Global,
-    tables: &Tables,
+    tables: Tables,
     global_unique: bool,
 ) -> Result<Result<RowTables, OpenFault>, AllocError>
-    requires { AreTables tables.now }
-    ensures { IfOk result (λ checked. IsChecked tables.now global_unique checked) }
+    requires { AreTables tables }
+    ensures { IfOk result (λ checked. IsChecked tables global_unique checked) }
 {
     if tables.version != VERSION {
         return Ok(Err(OpenFault::Version(tables.version)));
@@ -40,8 +41,10 @@ fn check(
     if let Some(kind) = first_overfull(rows) {
         return Ok(Err(OpenFault::Limit(Which::Kind(kind), most_of(kind) as u64)));
     }
+    let bad_next = first_bad_next(nexts, rows);
     // The tables in memory are given away on every way out, so that no path has to take them apart.
     let mut row_tables = bare(alloc, nexts, global_unique);
+    drop(tables);
     match fill(&mut row_tables, views) {
         Ok(None) => {}
         Ok(Some(breach)) => {
@@ -53,7 +56,7 @@ fn check(
             return Err(AllocError);
         }
     }
-    match first_bad_next(nexts, rows) {
+    match bad_next {
         Some(kind) => {
             drop(row_tables);
             Ok(Err(OpenFault::BadNext(kind)))
@@ -88,7 +91,7 @@ fn load_row_tables<K: Keeper + Drop>(
         Err(KeepFault::Failed) => return Err((keeper, OpenFault::Keeper)),
         Err(KeepFault::Memory) => return Err((keeper, OpenFault::Memory)),
     };
-    let checked = match check(alloc, &tables, settings.global_unique) {
+    let checked = match check(alloc, tables, settings.global_unique) {
         Ok(checked) => checked,
         Err(AllocError) => return Err((keeper, OpenFault::Memory)),
     };

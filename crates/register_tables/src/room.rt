@@ -91,8 +91,27 @@ fn reserve_table_of<T: Located + Drop>(
     }
 }
 
+/// Makes room in the table of a row, where it is of the kind, for that row alone.
+fn reserve_for_one<T: Located + Drop>(
+    book: &mut PlacedBook<T, Tree>,
+    kind: Kind,
+    view: &View,
+) -> Result<(), AllocError>
+    requires order { IsInOrder T.placed book.old }
+    requires few { length book.old.rows + 1 < 2 ^ 30 }
+    ensures order { IsInOrder T.placed book.new }
+    ensures rows { book.new.rows ≡ book.old.rows }
+    ensures spare { book.new.spare ≡ book.old.spare }
+    ensures ok { OnOk result ((t : SeenTable) → is_in kind t view.now ≡ true → 1 ≤ spare_of book.new.tables t) }
+{
+    match table_of_view(view, kind) {
+        Some(table) => book.reserve_table(table, 1),
+        None => Ok(()),
+    }
+}
+
 /// Makes room in the tables of all rows of the kind: each table is asked for all its rows, which are counted in one pass.
-fn reserve_tables<T: Located + Drop>(
+fn reserve_counted<T: Located + Drop>(
     alloc: Global,
     book: &mut PlacedBook<T, Tree>,
     kind: Kind,
@@ -110,6 +129,26 @@ fn reserve_tables<T: Located + Drop>(
         reserve_table_of(book, kind, &counts, view)?;
     }
     Ok(())
+}
+
+/// Makes room in the tables of all rows of the kind. Most updates put one row, for which nothing is counted.
+fn reserve_tables<T: Located + Drop>(
+    alloc: Global,
+    book: &mut PlacedBook<T, Tree>,
+    kind: Kind,
+    views: &[View],
+) -> Result<(), AllocError>
+    requires order { IsInOrder T.placed book.old }
+    requires few { length book.old.rows + length views.now < 2 ^ 30 }
+    ensures order { IsInOrder T.placed book.new }
+    ensures rows { book.new.rows ≡ book.old.rows }
+    ensures spare { book.new.spare ≡ book.old.spare }
+    ensures ok { OnOk result ((t : SeenTable) → count_by (is_in kind t) views.now ≤ spare_of book.new.tables t) }
+{
+    match views {
+        [view] => reserve_for_one(book, kind, view),
+        _ => reserve_counted(alloc, book, kind, views),
+    }
 }
 
 impl RowTables {

@@ -1,4 +1,3 @@
-pub mod Ascii
 pub mod Segments
 pub mod StoredLaws
 pub mod Examples

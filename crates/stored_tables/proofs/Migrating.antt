@@ -1,5 +1,5 @@
 -- Tables of version 1 of a state become the tables of that state with every mark as asked.
-use Rattle.std.proofs.Common.{◌≡◌, ℕ, Bool, true, false, List, [], ◌∷◌, ◌++◌, Option, Some, None, option_map, map, find, refl, ap, ap₂, sym, subst, ◌∙◌, cond}
+use Rattle.std.proofs.Common.{◌≡◌, ℕ, Bool, true, false, List, [], ◌∷◌, ◌++◌, Some, None, option_map, map, find, refl, ap, ap₂, sym, subst, ◌∙◌, cond}
 use Rattle.std.specs.List.{flat_map}
 use Rattle.std.proofs.lemmas.List.{map-append}
 use Rattle.ipam_data.specs.declared.kinds.Kind.{Kind}
@@ -10,7 +10,6 @@ use Rattle.ipam_data.specs.State.{State}
 use Rattle.ipam_data.specs.Marks.{with_mark, marked}
 use Rattle.stored_tables.specs.declared.tables.Row.{Row}
 use Rattle.stored_tables.specs.declared.tables.Tables.{Tables}
-use Rattle.stored_tables.specs.declared.migration.MigrateFault.{MigrateFault}
 use Rattle.stored_tables.specs.declared.migration.MigrateFault.TheVariants.{BadRow}
 use Rattle.stored_tables.specs.Stored.{row_place, stored_vrf, stored_rir, stored_role, stored_aggregate, stored_prefix, stored_range, stored_address, stored_rows, kinds, range_texts}
 use Rattle.stored_tables.specs.Order.{AreTables}

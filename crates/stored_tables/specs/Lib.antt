@@ -1,3 +1,4 @@
+pub mod Characters
 pub mod Stored
 pub mod Order
 pub mod Reading

@@ -37,11 +37,11 @@ pub(crate) fn address_columns() -> &'static [&'static str]
 pub(crate) fn write_address(alloc: Global, row: &IpAddress) -> Result<Row, AllocError>
     ensures { IfOk result (λ r. r ≡ stored_address row.now) }
 {
-    let mut fields = Vec::new(alloc);
+    let mut fields = Vec::with_capacity(alloc, 6)?;
     fields.push(host_words(alloc, row.host.addr(), row.host.len())?)?;
     fields.push(reference_words(alloc, row.vrf)?)?;
-    fields.push(address_status_words(alloc, row.status)?)?;
-    fields.push(address_role_words(alloc, row.role)?)?;
+    fields.push(address_status_words(row.status))?;
+    fields.push(address_role_words(row.role))?;
     fields.push(words(alloc, row.dns_name.as_str())?)?;
     fields.push(words(alloc, row.description.as_str())?)?;
     Ok(Row {
@@ -66,7 +66,7 @@ pub(crate) fn read_address(
     let [host, vrf, status, role, dns_name, description] = fields else {
         return Ok(None);
     };
-    let Some(host) = read_host_text(alloc, host)? else {
+    let Some(host) = read_host_text(host) else {
         return Ok(None);
     };
     let Some(vrf) = read_reference(vrf) else {
@@ -78,10 +78,10 @@ pub(crate) fn read_address(
     let Some(role) = read_address_role(role) else {
         return Ok(None);
     };
-    let Some(dns_name) = read_dns_name(dns_name)? else {
+    let Some(dns_name) = read_dns_name(alloc, dns_name)? else {
         return Ok(None);
     };
-    let Some(description) = read_text::<DescriptionBounds>(description)? else {
+    let Some(description) = read_text::<DescriptionBounds>(alloc, description)? else {
         return Ok(None);
     };
     Ok(Some(IpAddress {

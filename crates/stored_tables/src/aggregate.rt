@@ -25,7 +25,7 @@ pub(crate) fn aggregate_columns() -> &'static [&'static str]
 pub(crate) fn write_aggregate(alloc: Global, row: &Aggregate) -> Result<Row, AllocError>
     ensures { IfOk result (λ r. r ≡ stored_aggregate row.now) }
 {
-    let mut fields = Vec::new(alloc);
+    let mut fields = Vec::with_capacity(alloc, 3)?;
     fields.push(block_words(alloc, row.block)?)?;
     fields.push(number_words(alloc, row.rir)?)?;
     fields.push(words(alloc, row.description.as_str())?)?;
@@ -51,13 +51,13 @@ pub(crate) fn read_aggregate(
     let [block, rir, description] = fields else {
         return Ok(None);
     };
-    let Some(block) = read_block_text(alloc, block)? else {
+    let Some(block) = read_block_text(block) else {
         return Ok(None);
     };
     let Some(rir) = read_number(rir) else {
         return Ok(None);
     };
-    let Some(description) = read_text::<DescriptionBounds>(description)? else {
+    let Some(description) = read_text::<DescriptionBounds>(alloc, description)? else {
         return Ok(None);
     };
     Ok(Some(Aggregate {

@@ -9,8 +9,7 @@ ghost use Rattle.stored_tables.specs.Stored.{flag_text, optional_text, reference
 ghost use Rattle.stored_tables.specs.Reading.{IsRead, IsAny, IsWord, IsAbsentOr, masked_text, ends_texts};
 
 use crate::tables::Text;
-use crate::writing::{block_text, host_words};
-use inet_num::{Addr, Block, read_block, read_host};
+use inet_num::{Addr, Block, block_text, host_text, read_block, read_host};
 use ipam_data::address::{AddressRole, AddressStatus};
 use ipam_data::host::{Ends, Host};
 use ipam_data::prefix::PrefixStatus;
@@ -197,52 +196,47 @@ pub(crate) fn read_address_role(text: &Text) -> Option<Option<AddressRole>>
 
 // ---- blocks and addresses
 
-/// The block of a text. `Err` means out of memory.
-pub(crate) fn read_block_text(alloc: Global, text: &Text) -> Result<Option<Block>, AllocError>
-    ensures { IfOk result (λ b. IsRead IsBlock block_text_of text.now b) }
+/// The block of a text.
+pub(crate) fn read_block_text(text: &Text) -> Option<Block>
+    ensures { IsRead IsBlock block_text_of text.now result }
 {
     match read_block(text.as_str().as_bytes()) {
         Ok(block) => {
-            let written = block_text(alloc, block)?;
+            let written = block_text(block);
             if written.as_str() == text.as_str() {
-                Ok(Some(block))
+                Some(block)
             } else {
-                Ok(None)
+                None
             }
         }
-        Err(_) => Ok(None),
+        Err(_) => None,
     }
 }
 
-/// This address with its mask, where the text is the one that is written of it. `Err` means out of memory.
-fn host_if_written(
-    alloc: Global,
-    addr: Addr,
-    len: u8,
-    text: &Text,
-) -> Result<Option<Host>, AllocError>
+/// This address with its mask, where the text is the one that is written of it.
+fn host_if_written(addr: Addr, len: u8, text: &Text) -> Option<Host>
     requires { IsHostText text.now addr len }
-    ensures { IfOk result (λ h. IsRead IsMasked masked_text text.now h) }
+    ensures { IsRead IsMasked masked_text text.now result }
 {
     let host = match Host::of(addr, len) {
         Some(host) => host,
-        None => return Ok(None),
+        None => return None,
     };
-    let written = host_words(alloc, host.addr(), host.len())?;
+    let written = host_text(host.addr(), host.len());
     if written.as_str() == text.as_str() {
-        Ok(Some(host))
+        Some(host)
     } else {
-        Ok(None)
+        None
     }
 }
 
-/// The address and the mask of a text. `Err` means out of memory.
-pub(crate) fn read_host_text(alloc: Global, text: &Text) -> Result<Option<Host>, AllocError>
-    ensures { IfOk result (λ h. IsRead IsMasked masked_text text.now h) }
+/// The address and the mask of a text.
+pub(crate) fn read_host_text(text: &Text) -> Option<Host>
+    ensures { IsRead IsMasked masked_text text.now result }
 {
     match read_host(text.as_str().as_bytes()) {
-        Ok((addr, len)) => host_if_written(alloc, addr, len, text),
-        Err(_) => Ok(None),
+        Ok((addr, len)) => host_if_written(addr, len, text),
+        Err(_) => None,
     }
 }
 
@@ -256,48 +250,54 @@ fn ends_of(start: Host, end: Host) -> Option<Ends>
     Ends::of(start.addr(), end.addr(), start.len())
 }
 
-/// The ends of a range, of their two texts. `Err` means out of memory.
-pub(crate) fn read_ends(alloc: Global, start: &Text, end: &Text) -> Result<Option<Ends>, AllocError>
-    ensures { IfOk result (λ e. IsRead AreEnds ends_texts (start.now ∷ end.now ∷ []) e) }
+/// The ends of a range, of their two texts.
+pub(crate) fn read_ends(start: &Text, end: &Text) -> Option<Ends>
+    ensures { IsRead AreEnds ends_texts (start.now ∷ end.now ∷ []) result }
 {
-    let first = match read_host_text(alloc, start)? {
+    let first = match read_host_text(start) {
         Some(host) => host,
-        None => return Ok(None),
+        None => return None,
     };
-    let last = match read_host_text(alloc, end)? {
+    let last = match read_host_text(end) {
         Some(host) => host,
-        None => return Ok(None),
+        None => return None,
     };
-    Ok(ends_of(first, last))
+    ends_of(first, last)
 }
 
 // ---- texts
 
 /// The text within bounds that a text is. `Err` means out of memory.
-pub(crate) fn read_text<B: Tested>(text: &Text) -> Result<Option<Bounded<B>>, AllocError>
+pub(crate) fn read_text<B: Tested>(
+    alloc: Global,
+    text: &Text,
+) -> Result<Option<Bounded<B>>, AllocError>
     ensures { IfOk result (λ n. IsRead B.admits (λ bytes. bytes) text.now n) }
 {
-    Ok(Bounded::<B>::of(text.copy()?.into_string()))
+    Ok(Bounded::<B>::of(text.to_string(alloc)?))
 }
 
 /// The route distinguisher of a text that may be empty. `Err` means out of memory.
-pub(crate) fn read_distinguisher(text: &Text) -> Result<Option<Option<Distinguisher>>, AllocError>
+pub(crate) fn read_distinguisher(
+    alloc: Global,
+    text: &Text,
+) -> Result<Option<Option<Distinguisher>>, AllocError>
     ensures { IfOk result (λ n. IsRead (IsAbsentOr IsDistinguisher) optional_text text.now n) }
 {
     if text.as_str().is_empty() {
         return Ok(Some(None));
     }
-    match Distinguisher::of(text.copy()?.into_string()) {
+    match Distinguisher::of(text.to_string(alloc)?) {
         Some(rd) => Ok(Some(Some(rd))),
         None => Ok(None),
     }
 }
 
 /// The name of a host, of a text that is in lower case already. `Err` means out of memory.
-pub(crate) fn read_dns_name(text: &Text) -> Result<Option<DnsName>, AllocError>
+pub(crate) fn read_dns_name(alloc: Global, text: &Text) -> Result<Option<DnsName>, AllocError>
     ensures { IfOk result (λ n. IsRead IsLowered (λ bytes. bytes) text.now n) }
 {
-    let given = match DnsText::of(text.copy()?.into_string()) {
+    let given = match DnsText::of(text.to_string(alloc)?) {
         Some(given) => given,
         None => return Ok(None),
     };

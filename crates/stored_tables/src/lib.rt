@@ -14,4 +14,5 @@ mod rir;
 mod role;
 pub mod tables;
 mod vrf;
+mod word;
 pub mod writing;

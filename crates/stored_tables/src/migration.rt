@@ -104,7 +104,7 @@ fn marked_texts(alloc: Global, texts: &[Text], populated: bool) -> Result<Texts,
     let (front, back) = texts.split_at(6);
     let mut items = Vec::with_capacity(alloc, 8)?;
     add_texts(&mut items, front)?;
-    items.push(flag_words(alloc, populated)?)?;
+    items.push(flag_words(populated))?;
     add_texts(&mut items, back)?;
     Ok(Texts::of(items))
 }

@@ -33,13 +33,13 @@ pub(crate) fn prefix_columns() -> &'static [&'static str]
 pub(crate) fn write_prefix(alloc: Global, row: &Prefix) -> Result<Row, AllocError>
     ensures { IfOk result (λ r. r ≡ stored_prefix row.now) }
 {
-    let mut fields = Vec::new(alloc);
+    let mut fields = Vec::with_capacity(alloc, 7)?;
     fields.push(block_words(alloc, row.block)?)?;
     fields.push(reference_words(alloc, row.vrf)?)?;
-    fields.push(status_words(alloc, row.status)?)?;
+    fields.push(status_words(row.status))?;
     fields.push(reference_words(alloc, row.role)?)?;
-    fields.push(flag_words(alloc, row.is_pool)?)?;
-    fields.push(flag_words(alloc, row.mark_utilized)?)?;
+    fields.push(flag_words(row.is_pool))?;
+    fields.push(flag_words(row.mark_utilized))?;
     fields.push(words(alloc, row.description.as_str())?)?;
     Ok(Row {
         kind: Kind::Prefixes,
@@ -72,7 +72,7 @@ pub(crate) fn read_prefix(
     else {
         return Ok(None);
     };
-    let Some(block) = read_block_text(alloc, block)? else {
+    let Some(block) = read_block_text(block) else {
         return Ok(None);
     };
     let Some(vrf) = read_reference(vrf) else {
@@ -90,7 +90,7 @@ pub(crate) fn read_prefix(
     let Some(mark_utilized) = read_flag(mark_utilized) else {
         return Ok(None);
     };
-    let Some(description) = read_text::<DescriptionBounds>(description)? else {
+    let Some(description) = read_text::<DescriptionBounds>(alloc, description)? else {
         return Ok(None);
     };
     Ok(Some(Prefix {

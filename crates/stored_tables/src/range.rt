@@ -34,14 +34,14 @@ pub(crate) fn range_columns() -> &'static [&'static str]
 pub(crate) fn write_range(alloc: Global, row: &IpRange) -> Result<Row, AllocError>
     ensures { IfOk result (λ r. r ≡ stored_range row.now) }
 {
-    let mut fields = Vec::new(alloc);
+    let mut fields = Vec::with_capacity(alloc, 8)?;
     fields.push(host_words(alloc, row.ends.start(), row.ends.len())?)?;
     fields.push(host_words(alloc, row.ends.end(), row.ends.len())?)?;
     fields.push(reference_words(alloc, row.vrf)?)?;
-    fields.push(range_status_words(alloc, row.status)?)?;
+    fields.push(range_status_words(row.status))?;
     fields.push(reference_words(alloc, row.role)?)?;
-    fields.push(flag_words(alloc, row.mark_utilized)?)?;
-    fields.push(flag_words(alloc, row.mark_populated)?)?;
+    fields.push(flag_words(row.mark_utilized))?;
+    fields.push(flag_words(row.mark_populated))?;
     fields.push(words(alloc, row.description.as_str())?)?;
     Ok(Row {
         kind: Kind::Ranges,
@@ -75,7 +75,7 @@ pub(crate) fn read_range(
     else {
         return Ok(None);
     };
-    let Some(ends) = read_ends(alloc, start, end)? else {
+    let Some(ends) = read_ends(start, end) else {
         return Ok(None);
     };
     let Some(vrf) = read_reference(vrf) else {
@@ -93,7 +93,7 @@ pub(crate) fn read_range(
     let Some(mark_populated) = read_flag(mark_populated) else {
         return Ok(None);
     };
-    let Some(description) = read_text::<DescriptionBounds>(description)? else {
+    let Some(description) = read_text::<DescriptionBounds>(alloc, description)? else {
         return Ok(None);
     };
     Ok(Some(IpRange {

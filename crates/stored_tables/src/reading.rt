@@ -26,15 +26,15 @@ pub fn read_row(alloc: Global, row: &Row) -> Result<Option<View>, AllocError>
     }
     let fields = row.fields.as_slice();
     match row.kind {
-        Kind::Vrfs => match read_vrf(row.id, fields)? {
+        Kind::Vrfs => match read_vrf(alloc, row.id, fields)? {
             Some(row) => Ok(Some(View::Vrf(row))),
             None => Ok(None),
         },
-        Kind::Rirs => match read_rir(row.id, fields)? {
+        Kind::Rirs => match read_rir(alloc, row.id, fields)? {
             Some(row) => Ok(Some(View::Rir(row))),
             None => Ok(None),
         },
-        Kind::Roles => match read_role(row.id, fields)? {
+        Kind::Roles => match read_role(alloc, row.id, fields)? {
             Some(row) => Ok(Some(View::Role(row))),
             None => Ok(None),
         },

@@ -25,10 +25,10 @@ pub(crate) fn rir_columns() -> &'static [&'static str]
 pub(crate) fn write_rir(alloc: Global, row: &Rir) -> Result<Row, AllocError>
     ensures { IfOk result (λ r. r ≡ stored_rir row.now) }
 {
-    let mut fields = Vec::new(alloc);
+    let mut fields = Vec::with_capacity(alloc, 4)?;
     fields.push(words(alloc, row.name.as_str())?)?;
     fields.push(words(alloc, row.slug.as_str())?)?;
-    fields.push(flag_words(alloc, row.is_private)?)?;
+    fields.push(flag_words(row.is_private))?;
     fields.push(words(alloc, row.description.as_str())?)?;
     Ok(Row {
         kind: Kind::Rirs,
@@ -38,7 +38,7 @@ pub(crate) fn write_rir(alloc: Global, row: &Rir) -> Result<Row, AllocError>
 }
 
 /// An RIR of an id and its texts. `Err` means out of memory.
-pub(crate) fn read_rir(id: u32, fields: &[Text]) -> Result<Option<Rir>, AllocError>
+pub(crate) fn read_rir(alloc: Global, id: u32, fields: &[Text]) -> Result<Option<Rir>, AllocError>
     requires { 1 ≤ id }
     ensures { IfOk result (λ r. IsRead IsTypedRir stored_rir (row_of Kind.Rirs id fields.now) r) }
 {
@@ -48,16 +48,16 @@ pub(crate) fn read_rir(id: u32, fields: &[Text]) -> Result<Option<Rir>, AllocErr
     let [name, slug, is_private, description] = fields else {
         return Ok(None);
     };
-    let Some(name) = read_text::<NameBounds>(name)? else {
+    let Some(name) = read_text::<NameBounds>(alloc, name)? else {
         return Ok(None);
     };
-    let Some(slug) = read_text::<SlugBounds>(slug)? else {
+    let Some(slug) = read_text::<SlugBounds>(alloc, slug)? else {
         return Ok(None);
     };
     let Some(is_private) = read_flag(is_private) else {
         return Ok(None);
     };
-    let Some(description) = read_text::<DescriptionBounds>(description)? else {
+    let Some(description) = read_text::<DescriptionBounds>(alloc, description)? else {
         return Ok(None);
     };
     Ok(Some(Rir {

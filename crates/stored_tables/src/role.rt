@@ -25,7 +25,7 @@ pub(crate) fn role_columns() -> &'static [&'static str]
 pub(crate) fn write_role(alloc: Global, row: &Role) -> Result<Row, AllocError>
     ensures { IfOk result (λ r. r ≡ stored_role row.now) }
 {
-    let mut fields = Vec::new(alloc);
+    let mut fields = Vec::with_capacity(alloc, 4)?;
     fields.push(words(alloc, row.name.as_str())?)?;
     fields.push(words(alloc, row.slug.as_str())?)?;
     fields.push(number_words(alloc, row.weight.get() as u32)?)?;
@@ -38,7 +38,7 @@ pub(crate) fn write_role(alloc: Global, row: &Role) -> Result<Row, AllocError>
 }
 
 /// A role of an id and its texts. `Err` means out of memory.
-pub(crate) fn read_role(id: u32, fields: &[Text]) -> Result<Option<Role>, AllocError>
+pub(crate) fn read_role(alloc: Global, id: u32, fields: &[Text]) -> Result<Option<Role>, AllocError>
     requires { 1 ≤ id }
     ensures { IfOk result (λ r. IsRead IsTypedRole stored_role (row_of Kind.Roles id fields.now) r) }
 {
@@ -48,16 +48,16 @@ pub(crate) fn read_role(id: u32, fields: &[Text]) -> Result<Option<Role>, AllocE
     let [name, slug, weight, description] = fields else {
         return Ok(None);
     };
-    let Some(name) = read_text::<NameBounds>(name)? else {
+    let Some(name) = read_text::<NameBounds>(alloc, name)? else {
         return Ok(None);
     };
-    let Some(slug) = read_text::<SlugBounds>(slug)? else {
+    let Some(slug) = read_text::<SlugBounds>(alloc, slug)? else {
         return Ok(None);
     };
     let Some(weight) = read_weight(weight) else {
         return Ok(None);
     };
-    let Some(description) = read_text::<DescriptionBounds>(description)? else {
+    let Some(description) = read_text::<DescriptionBounds>(alloc, description)? else {
         return Ok(None);
     };
     Ok(Some(Role {

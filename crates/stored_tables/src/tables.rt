@@ -2,54 +2,81 @@
 
 ghost use Rattle.std.specs.Prelude.{◌≡◌, IfOk, string_bytes};
 
+use crate::word::Word;
 use ipam_data::kinds::Kind;
 use ipam_data::update::Ids;
 use std::alloc::{AllocError, Global};
 use std::marker::Model;
 
+/// What a text is made of. A fixed one has its word and not a `&'static str`: the borrow checker has no rule yet for some uses of a struct that
+/// holds a reference.
+#[derive(Debug, Drop)]
+enum Characters {
+    Fixed(Word),
+    Owned(String),
+}
+
 /// A text. A contract sees its bytes.
 #[derive(Debug, Drop)]
 pub struct Text {
-    string: String,
+    characters: Characters,
 }
 
 impl Model for Text {
-    ghost use Rattle.std.specs.Prelude.{List, ℕ, string_bytes};
+    ghost use Rattle.std.specs.Prelude.{List, ℕ};
+    ghost use Rattle.stored_tables.specs.Characters.{text_bytes};
 
     ghost Value = { List ℕ };
 
-    ghost view = { λ t. string_bytes t.string };
+    ghost view = { λ t. text_bytes t.characters };
 }
 
 impl Text {
+    ghost use Rattle.stored_tables.specs.Characters.{word_text};
+
     /// The text of these characters. It takes no memory.
     pub fn of(string: String) -> Text
         ensures { result ≡ string_bytes string }
     {
-        Text { string }
+        Text {
+            characters: Characters::Owned(string),
+        }
+    }
+
+    /// The text of a word. It takes no memory, nor does a copy of it.
+    pub(crate) fn fixed(word: Word) -> Text
+        ensures { result ≡ word_text word }
+    {
+        Text {
+            characters: Characters::Fixed(word),
+        }
     }
 
     /// The text as it is printed.
     pub fn as_str(&self) -> &str
         ensures { result.now ≡ self.now }
     {
-        self.string.as_str()
+        match &self.characters {
+            Characters::Fixed(word) => word.as_str(),
+            Characters::Owned(string) => string.as_str(),
+        }
     }
 
-    /// The characters again. It takes no memory.
-    pub fn into_string(self) -> String
-        ensures { string_bytes result ≡ self }
+    /// The characters in a string of their own. `Err` means out of memory.
+    pub fn to_string(&self, alloc: Global) -> Result<String, AllocError>
+        ensures { IfOk result (λ s. string_bytes s ≡ self.now) }
     {
-        self.string
+        String::from_str(alloc, self.as_str())
     }
 
     /// The same text again. `Err` means out of memory.
     pub fn copy(&self) -> Result<Text, AllocError>
         ensures { IfOk result (λ t. t ≡ self.now) }
     {
-        Ok(Text {
-            string: self.string.clone()?,
-        })
+        match &self.characters {
+            Characters::Fixed(word) => Ok(Text::fixed(*word)),
+            Characters::Owned(string) => Ok(Text::of(string.clone()?)),
+        }
     }
 }
 

@@ -25,10 +25,10 @@ pub(crate) fn vrf_columns() -> &'static [&'static str]
 pub(crate) fn write_vrf(alloc: Global, row: &Vrf) -> Result<Row, AllocError>
     ensures { IfOk result (λ r. r ≡ stored_vrf row.now) }
 {
-    let mut fields = Vec::new(alloc);
+    let mut fields = Vec::with_capacity(alloc, 4)?;
     fields.push(words(alloc, row.name.as_str())?)?;
     fields.push(distinguisher_words(alloc, &row.rd)?)?;
-    fields.push(flag_words(alloc, row.enforce_unique)?)?;
+    fields.push(flag_words(row.enforce_unique))?;
     fields.push(words(alloc, row.description.as_str())?)?;
     Ok(Row {
         kind: Kind::Vrfs,
@@ -38,7 +38,7 @@ pub(crate) fn write_vrf(alloc: Global, row: &Vrf) -> Result<Row, AllocError>
 }
 
 /// A VRF of an id and its texts. `Err` means out of memory.
-pub(crate) fn read_vrf(id: u32, fields: &[Text]) -> Result<Option<Vrf>, AllocError>
+pub(crate) fn read_vrf(alloc: Global, id: u32, fields: &[Text]) -> Result<Option<Vrf>, AllocError>
     requires { 1 ≤ id }
     ensures { IfOk result (λ r. IsRead IsTypedVrf stored_vrf (row_of Kind.Vrfs id fields.now) r) }
 {
@@ -48,16 +48,16 @@ pub(crate) fn read_vrf(id: u32, fields: &[Text]) -> Result<Option<Vrf>, AllocErr
     let [name, rd, enforce_unique, description] = fields else {
         return Ok(None);
     };
-    let Some(name) = read_text::<NameBounds>(name)? else {
+    let Some(name) = read_text::<NameBounds>(alloc, name)? else {
         return Ok(None);
     };
-    let Some(rd) = read_distinguisher(rd)? else {
+    let Some(rd) = read_distinguisher(alloc, rd)? else {
         return Ok(None);
     };
     let Some(enforce_unique) = read_flag(enforce_unique) else {
         return Ok(None);
     };
-    let Some(description) = read_text::<DescriptionBounds>(description)? else {
+    let Some(description) = read_text::<DescriptionBounds>(alloc, description)? else {
         return Ok(None);
     };
     Ok(Some(Vrf {

@@ -1,8 +1,7 @@
 //! Rows and updates as they are stored.
 
-ghost use Rattle.std.specs.Prelude.{◌≡◌, ◌≤◌, IfOk, string_bytes, decimal, codes, map};
-ghost use Rattle.inet_num.specs.Net.{IsAddress};
-ghost use Rattle.inet_num.specs.Text.{block_text_of, canonical_text_of};
+ghost use Rattle.std.specs.Prelude.{◌≡◌, ◌≤◌, IfOk, decimal, codes, map};
+ghost use Rattle.inet_num.specs.Text.{block_text_of};
 ghost use Rattle.stored_tables.specs.Stored.{flag_text, optional_text, reference_text, host_text, prefix_status_text, range_status_text, address_status_text, address_role_text, stored_columns, stored_row, change_of};
 
 use crate::address::{address_columns, write_address};
@@ -13,7 +12,8 @@ use crate::rir::{rir_columns, write_rir};
 use crate::role::{role_columns, write_role};
 use crate::tables::{Change, Row, Rows, Text};
 use crate::vrf::{vrf_columns, write_vrf};
-use inet_num::{Addr, Block, write_addr, write_block};
+use crate::word::Word;
+use inet_num::{Addr, Block, block_text, host_text};
 use ipam_data::address::{AddressRole, AddressStatus};
 use ipam_data::kinds::Kind;
 use ipam_data::prefix::PrefixStatus;
@@ -30,47 +30,18 @@ pub(crate) fn words(alloc: Global, text: &str) -> Result<Text, AllocError>
     Ok(Text::of(String::from_str(alloc, text)?))
 }
 
-/// The text of a block.
-pub(crate) fn block_text(alloc: Global, block: Block) -> Result<String, AllocError>
-    ensures { IfOk result (λ s. string_bytes s ≡ block_text_of block) }
-{
-    block.bounds();
-    let mut text = Vec::new(alloc);
-    write_block(block, &mut text)?;
-    match std::str::from_utf8(text.as_slice()) {
-        Ok(text) => String::from_str(alloc, text),
-        Err(_) => unreachable!(),
-    }
-}
-
 /// A block.
 pub(crate) fn block_words(alloc: Global, block: Block) -> Result<Text, AllocError>
     ensures { IfOk result (λ t. t ≡ block_text_of block) }
 {
-    Ok(Text::of(block_text(alloc, block)?))
-}
-
-/// The text of an address.
-fn addr_text(alloc: Global, addr: Addr) -> Result<String, AllocError>
-    requires { IsAddress addr }
-    ensures { IfOk result (λ s. string_bytes s ≡ canonical_text_of addr.family addr.value) }
-{
-    let mut text = Vec::new(alloc);
-    write_addr(addr, &mut text)?;
-    match std::str::from_utf8(text.as_slice()) {
-        Ok(text) => String::from_str(alloc, text),
-        Err(_) => unreachable!(),
-    }
+    words(alloc, block_text(block).as_str())
 }
 
 /// An address with its mask.
 pub(crate) fn host_words(alloc: Global, addr: Addr, len: u8) -> Result<Text, AllocError>
-    requires { IsAddress addr }
     ensures { IfOk result (λ t. t ≡ host_text addr len) }
 {
-    let text = addr_text(alloc, addr)?;
-    let addr = text.as_str();
-    Ok(Text::of(format!(in alloc; "{addr}/{len}")?))
+    words(alloc, host_text(addr, len).as_str())
 }
 
 /// A number.
@@ -81,13 +52,13 @@ pub(crate) fn number_words(alloc: Global, number: u32) -> Result<Text, AllocErro
 }
 
 /// A truth value.
-pub(crate) fn flag_words(alloc: Global, flag: bool) -> Result<Text, AllocError>
-    ensures { IfOk result (λ t. t ≡ flag_text flag) }
+pub(crate) fn flag_words(flag: bool) -> Text
+    ensures { result ≡ flag_text flag }
 {
     if flag {
-        words(alloc, "true")
+        Text::fixed(Word::True)
     } else {
-        words(alloc, "false")
+        Text::fixed(Word::False)
     }
 }
 
@@ -96,7 +67,7 @@ pub(crate) fn reference_words(alloc: Global, id: Option<u32>) -> Result<Text, Al
     ensures { IfOk result (λ t. t ≡ reference_text id) }
 {
     match id {
-        None => words(alloc, ""),
+        None => Ok(Text::fixed(Word::Empty)),
         Some(id) => Ok(Text::of(format!(in alloc; "{id}")?)),
     }
 }
@@ -109,64 +80,61 @@ pub(crate) fn distinguisher_words(
     ensures { IfOk result (λ t. t ≡ optional_text rd.now) }
 {
     match rd {
-        None => words(alloc, ""),
+        None => Ok(Text::fixed(Word::Empty)),
         Some(rd) => words(alloc, rd.as_str()),
     }
 }
 
 /// The status of a prefix.
-pub(crate) fn status_words(alloc: Global, status: PrefixStatus) -> Result<Text, AllocError>
-    ensures { IfOk result (λ t. t ≡ prefix_status_text status) }
+pub(crate) fn status_words(status: PrefixStatus) -> Text
+    ensures { result ≡ prefix_status_text status }
 {
     match status {
-        PrefixStatus::Container => words(alloc, "container"),
-        PrefixStatus::Active => words(alloc, "active"),
-        PrefixStatus::Reserved => words(alloc, "reserved"),
-        PrefixStatus::Deprecated => words(alloc, "deprecated"),
+        PrefixStatus::Container => Text::fixed(Word::Container),
+        PrefixStatus::Active => Text::fixed(Word::Active),
+        PrefixStatus::Reserved => Text::fixed(Word::Reserved),
+        PrefixStatus::Deprecated => Text::fixed(Word::Deprecated),
     }
 }
 
 /// The status of a range.
-pub(crate) fn range_status_words(alloc: Global, status: RangeStatus) -> Result<Text, AllocError>
-    ensures { IfOk result (λ t. t ≡ range_status_text status) }
+pub(crate) fn range_status_words(status: RangeStatus) -> Text
+    ensures { result ≡ range_status_text status }
 {
     match status {
-        RangeStatus::Active => words(alloc, "active"),
-        RangeStatus::Reserved => words(alloc, "reserved"),
-        RangeStatus::Deprecated => words(alloc, "deprecated"),
+        RangeStatus::Active => Text::fixed(Word::Active),
+        RangeStatus::Reserved => Text::fixed(Word::Reserved),
+        RangeStatus::Deprecated => Text::fixed(Word::Deprecated),
     }
 }
 
 /// The status of an address.
-pub(crate) fn address_status_words(alloc: Global, status: AddressStatus) -> Result<Text, AllocError>
-    ensures { IfOk result (λ t. t ≡ address_status_text status) }
+pub(crate) fn address_status_words(status: AddressStatus) -> Text
+    ensures { result ≡ address_status_text status }
 {
     match status {
-        AddressStatus::Active => words(alloc, "active"),
-        AddressStatus::Reserved => words(alloc, "reserved"),
-        AddressStatus::Deprecated => words(alloc, "deprecated"),
-        AddressStatus::Dhcp => words(alloc, "dhcp"),
-        AddressStatus::Slaac => words(alloc, "slaac"),
+        AddressStatus::Active => Text::fixed(Word::Active),
+        AddressStatus::Reserved => Text::fixed(Word::Reserved),
+        AddressStatus::Deprecated => Text::fixed(Word::Deprecated),
+        AddressStatus::Dhcp => Text::fixed(Word::Dhcp),
+        AddressStatus::Slaac => Text::fixed(Word::Slaac),
     }
 }
 
 /// The role of an address, that may be absent.
-pub(crate) fn address_role_words(
-    alloc: Global,
-    role: Option<AddressRole>,
-) -> Result<Text, AllocError>
-    ensures { IfOk result (λ t. t ≡ address_role_text role) }
+pub(crate) fn address_role_words(role: Option<AddressRole>) -> Text
+    ensures { result ≡ address_role_text role }
 {
     match role {
-        None => words(alloc, ""),
-        Some(AddressRole::Loopback) => words(alloc, "loopback"),
-        Some(AddressRole::Secondary) => words(alloc, "secondary"),
-        Some(AddressRole::Anycast) => words(alloc, "anycast"),
-        Some(AddressRole::Vip) => words(alloc, "vip"),
-        Some(AddressRole::Vrrp) => words(alloc, "vrrp"),
-        Some(AddressRole::Hsrp) => words(alloc, "hsrp"),
-        Some(AddressRole::Glbp) => words(alloc, "glbp"),
-        Some(AddressRole::Carp) => words(alloc, "carp"),
+        None => Text::fixed(Word::Empty),
+        Some(AddressRole::Loopback) => Text::fixed(Word::Loopback),
+        Some(AddressRole::Secondary) => Text::fixed(Word::Secondary),
+        Some(AddressRole::Anycast) => Text::fixed(Word::Anycast),
+        Some(AddressRole::Vip) => Text::fixed(Word::Vip),
+        Some(AddressRole::Vrrp) => Text::fixed(Word::Vrrp),
+        Some(AddressRole::Hsrp) => Text::fixed(Word::Hsrp),
+        Some(AddressRole::Glbp) => Text::fixed(Word::Glbp),
+        Some(AddressRole::Carp) => Text::fixed(Word::Carp),
     }
 }
 

@@ -1,4 +1,4 @@
-use Rattle.std.proofs.Common.{◌≢◌, length, sym, ◌∙◌, rules, arith}
+use Rattle.std.proofs.Common.{◌≢◌, length, sym, ◌∙◌, arith}
 use Rattle.std.proofs.lemmas.Bool.Decides.{nat_tests}
 use Rattle.serde_json.specs.View.{view}
 use Rattle.ipam_json.proofs.Claimed.{checked_well, checked_ill}

@@ -1,4 +1,4 @@
-use Rattle.ipam_json.proofs.Pieces.{wrote, after, as_number}
+use Rattle.ipam_json.proofs.Pieces.{wrote, after}
 use Rattle.ipam_json.proofs.replies.put_length.Goals as goal
 
 pub returns : goal.returns

@@ -12,9 +12,9 @@ pub returns-then-fields-ne6 : goal.returns-then-fields-ne6
 unfolding address_texts
 returns-then-fields-ne6 c = λ x h e. c.if-fields-ne6.true (sym (ap length (ap row_texts e)))
 
-pub returns-in_default-2 : goal.returns-in_default-2
+pub returns-in_default-read_host_text : goal.returns-in_default-read_host_text
 unfolding address_texts
-returns-in_default-2 c = λ x h e. unread IsMasked masked_text c.host-item.result c.in_ok-host.field-0 c.in_default-2.is c.in_ok-host.ensures
+returns-in_default-read_host_text c = λ x h e. unread IsMasked masked_text c.host-item.result c.read_host_text.result c.in_default-read_host_text.is c.read_host_text.ensures
     x.host h.bounds.host (column 0 c.host-item.result (ap row_texts e) c.host-item.is)
 
 pub returns-in_default-read_reference : goal.returns-in_default-read_reference
@@ -32,21 +32,21 @@ unfolding address_texts
 returns-in_default-read_address_role c = λ x h e. unread IsAny address_role_text c.role-item.result c.read_address_role.result c.in_default-read_address_role.is c.read_address_role.ensures
     x.role tt (column 3 c.role-item.result (ap row_texts e) c.role-item.is)
 
-pub returns-in_default-3 : goal.returns-in_default-3
+pub returns-in_default-2 : goal.returns-in_default-2
 unfolding address_texts
-returns-in_default-3 c = λ x h e. unread IsLowered (λ n. n) c.dns_name-item.result c.in_ok-dns_name.field-0 c.in_default-3.is c.in_ok-dns_name.ensures
+returns-in_default-2 c = λ x h e. unread IsLowered (λ n. n) c.dns_name-item.result c.in_ok-dns_name.field-0 c.in_default-2.is c.in_ok-dns_name.ensures
     x.dns_name h.bounds.dns_name (column 4 c.dns_name-item.result (ap row_texts e) c.dns_name-item.is)
 
-pub returns-in_default-4 : goal.returns-in_default-4
+pub returns-in_default-3 : goal.returns-in_default-3
 unfolding address_texts
-returns-in_default-4 c = λ x h e. unread IsDescription (λ n. n) c.description-item.result c.in_ok-description.field-0 c.in_default-4.is c.in_ok-description.ensures
+returns-in_default-3 c = λ x h e. unread IsDescription (λ n. n) c.description-item.result c.in_ok-description.field-0 c.in_default-3.is c.in_ok-description.ensures
     x.description h.bounds.description (column 5 c.description-item.result (ap row_texts e) c.description-item.is)
 
 pub returns : goal.returns
 unfolding address_texts
 returns c =
     let xs = c.args.fields.now in
-    let host = was_read IsMasked masked_text c.host-item.result c.in_ok-host.field-0 c.in-Some.host c.in-Some.is c.in_ok-host.ensures in
+    let host = was_read IsMasked masked_text c.host-item.result c.read_host_text.result c.in-Some.host c.in-Some.is c.read_host_text.ensures in
     let vrf = was_read (IsAbsentOr IsWord) reference_text c.vrf-item.result c.read_reference.result c.in-Some-read_reference.vrf c.in-Some-read_reference.is c.read_reference.ensures in
     let status = was_read IsAny address_status_text c.status-item.result c.read_address_status.result c.in-Some-read_address_status.status c.in-Some-read_address_status.is c.read_address_status.ensures in
     let role = was_read IsAny address_role_text c.role-item.result c.read_address_role.result c.in-Some-read_address_role.role c.in-Some-read_address_role.is c.read_address_role.ensures in

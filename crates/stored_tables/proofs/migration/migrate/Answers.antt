@@ -1,6 +1,4 @@
-use Rattle.std.proofs.Common.{◌≡◌}
 use Rattle.stored_tables.specs.declared.tables.Tables.{Tables}
-use Rattle.stored_tables.specs.Migration.{migrated}
 use Rattle.stored_tables.proofs.Migrating.{order_stays}
 use Rattle.stored_tables.proofs.migration.migrate.Goals as goal
 

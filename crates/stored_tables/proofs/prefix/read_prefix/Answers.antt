@@ -13,9 +13,9 @@ pub returns-then-fields-ne7 : goal.returns-then-fields-ne7
 unfolding prefix_texts
 returns-then-fields-ne7 c = λ x h e. c.if-fields-ne7.true (sym (ap length (ap row_texts e)))
 
-pub returns-in_default-2 : goal.returns-in_default-2
+pub returns-in_default-read_block_text : goal.returns-in_default-read_block_text
 unfolding prefix_texts
-returns-in_default-2 c = λ x h e. unread IsBlock block_text_of c.block-item.result c.in_ok-block.field-0 c.in_default-2.is c.in_ok-block.ensures
+returns-in_default-read_block_text c = λ x h e. unread IsBlock block_text_of c.block-item.result c.read_block_text.result c.in_default-read_block_text.is c.read_block_text.ensures
     x.block h.bounds.block (column 0 c.block-item.result (ap row_texts e) c.block-item.is)
 
 pub returns-in_default-read_reference : goal.returns-in_default-read_reference
@@ -43,16 +43,16 @@ unfolding prefix_texts
 returns-in_default-read_flag-2 c = λ x h e. unread IsAny flag_text c.mark_utilized-item.result c.read_flag-2.result c.in_default-read_flag-2.is c.read_flag-2.ensures
     x.mark_utilized tt (column 5 c.mark_utilized-item.result (ap row_texts e) c.mark_utilized-item.is)
 
-pub returns-in_default-3 : goal.returns-in_default-3
+pub returns-in_default-2 : goal.returns-in_default-2
 unfolding prefix_texts
-returns-in_default-3 c = λ x h e. unread IsDescription (λ n. n) c.description-item.result c.in_ok-description.field-0 c.in_default-3.is c.in_ok-description.ensures
+returns-in_default-2 c = λ x h e. unread IsDescription (λ n. n) c.description-item.result c.in_ok-description.field-0 c.in_default-2.is c.in_ok-description.ensures
     x.description h.bounds.description (column 6 c.description-item.result (ap row_texts e) c.description-item.is)
 
 pub returns : goal.returns
 unfolding prefix_texts
 returns c =
     let xs = c.args.fields.now in
-    let block = was_read IsBlock block_text_of c.block-item.result c.in_ok-block.field-0 c.in-Some.block c.in-Some.is c.in_ok-block.ensures in
+    let block = was_read IsBlock block_text_of c.block-item.result c.read_block_text.result c.in-Some.block c.in-Some.is c.read_block_text.ensures in
     let vrf = was_read (IsAbsentOr IsWord) reference_text c.vrf-item.result c.read_reference.result c.in-Some-read_reference.vrf c.in-Some-read_reference.is c.read_reference.ensures in
     let status = was_read IsAny prefix_status_text c.status-item.result c.read_prefix_status.result c.in-Some-read_prefix_status.status c.in-Some-read_prefix_status.is c.read_prefix_status.ensures in
     let role = was_read (IsAbsentOr IsWord) reference_text c.role-item.result c.read_reference-2.result c.in-Some-read_reference-2.role c.in-Some-read_reference-2.is c.read_reference-2.ensures in

@@ -12,9 +12,9 @@ pub returns-then-fields-ne8 : goal.returns-then-fields-ne8
 unfolding range_texts
 returns-then-fields-ne8 c = λ x h e. c.if-fields-ne8.true (sym (ap length (ap row_texts e)))
 
-pub returns-in_default-2 : goal.returns-in_default-2
+pub returns-in_default-read_ends : goal.returns-in_default-read_ends
 unfolding range_texts
-returns-in_default-2 c = λ x h e. unread AreEnds ends_texts (c.start-item.result ∷ c.end-item.result ∷ []) c.in_ok-ends.field-0 c.in_default-2.is c.in_ok-ends.ensures
+returns-in_default-read_ends c = λ x h e. unread AreEnds ends_texts (c.start-item.result ∷ c.end-item.result ∷ []) c.read_ends.result c.in_default-read_ends.is c.read_ends.ensures
     x.ends h.bounds.ends (two_columns 0 c.start-item.result c.end-item.result (ap row_texts e) c.start-item.is c.end-item.is)
 
 pub returns-in_default-read_reference : goal.returns-in_default-read_reference
@@ -42,16 +42,16 @@ unfolding range_texts
 returns-in_default-read_flag-2 c = λ x h e. unread IsAny flag_text c.mark_populated-item.result c.read_flag-2.result c.in_default-read_flag-2.is c.read_flag-2.ensures
     x.mark_populated tt (column 6 c.mark_populated-item.result (ap row_texts e) c.mark_populated-item.is)
 
-pub returns-in_default-3 : goal.returns-in_default-3
+pub returns-in_default-2 : goal.returns-in_default-2
 unfolding range_texts
-returns-in_default-3 c = λ x h e. unread IsDescription (λ n. n) c.description-item.result c.in_ok-description.field-0 c.in_default-3.is c.in_ok-description.ensures
+returns-in_default-2 c = λ x h e. unread IsDescription (λ n. n) c.description-item.result c.in_ok-description.field-0 c.in_default-2.is c.in_ok-description.ensures
     x.description h.bounds.description (column 7 c.description-item.result (ap row_texts e) c.description-item.is)
 
 pub returns : goal.returns
 unfolding range_texts
 returns c =
     let xs = c.args.fields.now in
-    let ends = was_read AreEnds ends_texts (c.start-item.result ∷ c.end-item.result ∷ []) c.in_ok-ends.field-0 c.in-Some.ends c.in-Some.is c.in_ok-ends.ensures in
+    let ends = was_read AreEnds ends_texts (c.start-item.result ∷ c.end-item.result ∷ []) c.read_ends.result c.in-Some.ends c.in-Some.is c.read_ends.ensures in
     let start : host_text c.in-Some.ends.start c.in-Some.ends.len ≡ c.start-item.result = (let both = ends.1 in cc) in
     let end : host_text c.in-Some.ends.end c.in-Some.ends.len ≡ c.end-item.result = (let both = ends.1 in cc) in
     let vrf = was_read (IsAbsentOr IsWord) reference_text c.vrf-item.result c.read_reference.result c.in-Some-read_reference.vrf c.in-Some-read_reference.is c.read_reference.ensures in

@@ -1,7 +1,7 @@
 use Rattle.std.proofs.Common.{rules}
 use Rattle.std.proofs.lemmas.List.Sorted.{answers_always}
-use Rattle.kind_keeper.proofs.Searching.{searched}
-use Rattle.kind_keeper.proofs.places.search.Goals as goal
+use Rattle.ipam_keeper.proofs.Searching.{searched}
+use Rattle.ipam_keeper.proofs.places.search.Goals as goal
 
 pub returns-clause-found : goal.returns-clause-found
 returns-clause-found g c =
