@@ -1,6 +1,7 @@
-use Rattle.std.proofs.Common.{◌≡◌, ◌⊎◌, ℕ, ◌+◌, ◌-◌, ◌*◌, ◌/◌, ◌%◌, ◌^◌, ◌<◌, ◌≤◌, refl, sym, ◌∙◌, ap, arith, inl, inr}
+use Rattle.std.proofs.Common.{◌≡◌, ◌⊎◌, ℕ, ◌+◌, ◌-◌, ◌*◌, ◌/◌, ◌%◌, ◌^◌, ◌<◌, ◌≤◌, refl, sym, ◌∙◌, ap, arith, inl, inr, IsTrue, nat_le, ◌↔◌}
 use Rattle.std.proofs.lemmas.Bool.{cases_lt}
-use Rattle.std.proofs.lemmas.Nat.{pow_pos, div-add-mod', row_fits, mod-pow-add, div-mul-add}
+use Rattle.std.proofs.lemmas.Bool.Decides.{nat_tests}
+use Rattle.std.proofs.lemmas.Nat.{pow_pos, pow_below, div-add-mod', row_fits, mod-pow-add, div-mul-add}
 use Rattle.std.proofs.Math.Nat.{div-lt_iff_lt-mul, add-mod_right, lt-div-mul-add, mul-mod_left}
 use Rattle.inet_num.specs.Net.{width_of, Cidr, IsBlock, size_of, HasAddress, IsInside, low_half_of, high_half_of}
 use Rattle.inet_num.specs.Net.{enclosing_of}
@@ -97,6 +98,24 @@ inside_by_start a b ha hb same le low high =
     let fine : (b.first + size_of b) % 2 ^ (width_of b.family - a.len) ≡ 0 = aligned_smaller _ (width_of b.family) b.len a.len le (omega arith) own in
     let fine_a : (b.first + size_of b) % size_of a ≡ 0 = rw w_is fine in
     inside_by_ends a b same low (multiples_apart a.first (b.first + size_of b) (size_of a) (pow_pos (width_of a.family - a.len)) ha.aligned fine_a high)
+
+-- a block of at least another's length, whose first address is not below the other's, is inside it where it begins in it
+pub start_test : (q p : Cidr) (n : ℕ) → IsBlock q → IsBlock p → q.family ≡ p.family → p.len ≤ q.len → p.first ≤ q.first → n ≡ p.first + size_of p - 1 → IsTrue (nat_le q.first n) ↔ IsInside q p
+start_test q p n hq hp same le low last =
+    let some : 0 < size_of q = pow_pos (width_of q.family - q.len) in
+    let some_p : 0 < size_of p = pow_pos (width_of p.family - p.len) in (
+      (λ t. let at : q.first ≤ n = grind (arith, nat_tests) in inside_by_start q p hq hp same le low (omega arith)),
+      (λ h. let high = (ends_of_inside q p h).1 in let at : q.first ≤ n = omega arith in grind (arith, nat_tests)),
+    )
+
+-- no block of a smaller length is inside another
+pub not_longer : (q p : Cidr) → IsBlock p → q.len < p.len → IsInside q p → ⊥
+not_longer q p hp less h =
+    let ends = ends_of_inside q p h in
+    let short = hp.short in
+    let width_is : width_of q.family ≡ width_of p.family = ap width_of h.family in
+    let bigger = pow_below (width_of p.family - p.len) (width_of q.family - q.len) (omega arith) in
+    omega arith
 
 -- two blocks with an address in common are one inside the other
 pub nested : (a b : Cidr) → IsBlock a → IsBlock b → a.family ≡ b.family → (n : ℕ) → HasAddress a n → HasAddress b n → IsInside a b ⊎ IsInside b a

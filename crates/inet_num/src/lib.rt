@@ -245,10 +245,13 @@ impl Block {
     pub fn contains(&self, other: &Block) -> bool
         ensures { IsTrue result ↔ IsInside other.now self.now }
     {
+        if other.len < self.len {
+            return false;
+        }
         if !self.family.is(other.family) {
             return false;
         }
-        self.first <= other.first && other.last().value <= self.last().value
+        self.first <= other.first && other.first <= self.last().value
     }
 
     /// Whether each address of this block is one of the other, and the two are not one.
@@ -276,9 +279,25 @@ impl Block {
         })
     }
 
-    /// The two blocks of the next length that make up this one, the lower first, or `None` for a single address.
-    pub fn halves(&self) -> Option<(Block, Block)>
-        ensures some { IfSome result (λ p. p ≡ (low_half_of self.now, high_half_of self.now)) }
+    /// The lower one of the two blocks of the next length that make up this one, or `None` for a single address.
+    pub fn low_half(&self) -> Option<Block>
+        ensures some { IfSome result (λ b. b ≡ low_half_of self.now) }
+        ensures cause { IsSome result ↔ (self.now.len < width_of self.now.family) }
+    {
+        if self.len == self.family.width() {
+            return None;
+        }
+        let len = self.len + 1;
+        Some(Block {
+            family: self.family,
+            first: self.first,
+            len,
+        })
+    }
+
+    /// The higher one of the two blocks of the next length that make up this one, or `None` for a single address.
+    pub fn high_half(&self) -> Option<Block>
+        ensures some { IfSome result (λ b. b ≡ high_half_of self.now) }
         ensures cause { IsSome result ↔ (self.now.len < width_of self.now.family) }
     {
         if self.len == self.family.width() {
@@ -286,16 +305,21 @@ impl Block {
         }
         let len = self.len + 1;
         let half = low_ones(self.family, len) + 1;
-        let low = Block {
-            family: self.family,
-            first: self.first,
-            len,
-        };
-        let high = Block {
+        Some(Block {
             family: self.family,
             first: self.first + half,
             len,
-        };
-        Some((low, high))
+        })
+    }
+
+    /// The two blocks of the next length that make up this one, the lower first, or `None` for a single address.
+    pub fn halves(&self) -> Option<(Block, Block)>
+        ensures some { IfSome result (λ p. p ≡ (low_half_of self.now, high_half_of self.now)) }
+        ensures cause { IsSome result ↔ (self.now.len < width_of self.now.family) }
+    {
+        match (self.low_half(), self.high_half()) {
+            (Some(low), Some(high)) => Some((low, high)),
+            _ => None,
+        }
     }
 }

@@ -25,8 +25,13 @@ pub fn half_of(block: &Block, high: bool) -> Block
     requires { HasRoom block.now }
     ensures { result ≡ half high block.now }
 {
-    match block.halves() {
-        Some((lower, upper)) => { if high { upper } else { lower } }
+    let half = if high {
+        block.high_half()
+    } else {
+        block.low_half()
+    };
+    match half {
+        Some(half) => half,
         None => unreachable!(),
     }
 }
