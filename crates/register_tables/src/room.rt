@@ -110,28 +110,8 @@ fn reserve_for_one<T: Located + Drop>(
     }
 }
 
-/// Makes room in the tables of all rows of the kind: each table is asked for all its rows, which are counted in one pass.
-fn reserve_counted<T: Located + Drop>(
-    alloc: Global,
-    book: &mut PlacedBook<T, Tree>,
-    kind: Kind,
-    views: &[View],
-) -> Result<(), AllocError>
-    requires order { IsInOrder T.placed book.old }
-    requires few { length book.old.rows + length views.now < 2 ^ 30 }
-    ensures order { IsInOrder T.placed book.new }
-    ensures rows { book.new.rows ≡ book.old.rows }
-    ensures spare { book.new.spare ≡ book.old.spare }
-    ensures ok { OnOk result ((t : SeenTable) → count_by (is_in kind t) views.now ≤ spare_of book.new.tables t) }
-{
-    let counts = counts_of(alloc, views, kind)?;
-    for view in views {
-        reserve_table_of(book, kind, &counts, view)?;
-    }
-    Ok(())
-}
-
-/// Makes room in the tables of all rows of the kind. Most updates put one row, for which nothing is counted.
+/// Makes room in the tables of all rows of the kind: each table is asked for all its rows, which are counted in one pass. Most updates
+/// put one row, for which nothing is counted.
 fn reserve_tables<T: Located + Drop>(
     alloc: Global,
     book: &mut PlacedBook<T, Tree>,
@@ -146,9 +126,14 @@ fn reserve_tables<T: Located + Drop>(
     ensures ok { OnOk result ((t : SeenTable) → count_by (is_in kind t) views.now ≤ spare_of book.new.tables t) }
 {
     match views {
-        [view] => reserve_for_one(book, kind, view),
-        _ => reserve_counted(alloc, book, kind, views),
+        [view] => return reserve_for_one(book, kind, view),
+        _ => {}
     }
+    let counts = counts_of(alloc, views, kind)?;
+    for view in views {
+        reserve_table_of(book, kind, &counts, view)?;
+    }
+    Ok(())
 }
 
 impl RowTables {

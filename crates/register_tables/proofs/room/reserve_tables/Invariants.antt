@@ -2,7 +2,7 @@ use Rattle.std.proofs.Common.{◌≡◌}
 use Rattle.ipam_data.specs.declared.kinds.Table.{Table}
 use Rattle.placed_book.specs.Book.{spare_of, IsInOrder}
 use Rattle.register_tables.proofs.Counting.{IsReady}
-use Rattle.register_tables.proofs.room.reserve_counted.Given as goal
+use Rattle.register_tables.proofs.room.reserve_tables.Given as goal
 
 abbrev pub invariant-loop-view : goal.invariant-loop-view
 invariant-loop-view g l =
