@@ -34,6 +34,13 @@ use Rattle.radix_tree.proofs.Leasts.{node_least}
 place_lawful : (land : Cidr) (len : ℕ) → IsBlock land → land.len ≤ len → len ≤ width_of land.family → IsBlock (block_at (first_of land) len)
 place_lawful land len hl long short = record { short = short; aligned = aligned_smaller land.first (width_of land.family) land.len len long short hl.aligned; in_range = hl.in_range }
 
+-- nothing fits in a land that ends before
+pub none_from : (land : Cidr) (xs : List Cidr) (len from : ℕ) → land.first + size_of land ≤ from → IsFirstFit land xs len from None
+none_from land xs len from ends = λ b fits.
+    let in_land = fits.inside.each b.first (has_first b) in
+    let from_on = fits.from_on in
+    omega (arith, in_land.1)
+
 pub place_first : (land : Cidr) (len from : ℕ) (r : Option Cidr) → IsBlock land → land.len ≤ len → len ≤ width_of land.family → from ≤ land.first
     → IfSome r (λ b. b ≡ block_at (first_of land) len) → (IsSome r ↔ IsBlock (block_at (first_of land) len)) → IsFirstFit land [] len from r
 place_first land len from None hl long short early some cause = (let f : IsTrue false = cause.1 (place_lawful land len hl long short) in let g : ⊥ = cc in absurd g)

@@ -10,6 +10,7 @@ ghost use Rattle.radix_tree.specs.Listed.{blocks_of};
 ghost use Rattle.radix_tree.specs.Frees.{HasFrees};
 ghost use Rattle.radix_tree.specs.Sound.{IsSound};
 
+use crate::fits::ends_before;
 use crate::halves::half_of;
 use crate::links::{Linked, is_left_out};
 use block_space::Steps;
@@ -44,7 +45,7 @@ impl Linked {
         requires link { IsLink self.now.pool at land }
         ensures { IsFirstAvailable land (counting_of (blocks_of self.now.pool) land false) from result }
     {
-        if land.last().value() < from {
+        if ends_before(&land, from) {
             return None;
         }
         let Some(id) = at else {

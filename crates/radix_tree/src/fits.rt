@@ -2,7 +2,7 @@
 //! that a block of the length is free there.
 
 ghost use Rattle.std.specs.Prelude.{◌≡◌, ℕ, ◌+◌, ◌*◌, ◌<◌, ◌≤◌, ◌↔◌, IsTrue, Some, None, [], IfSome, Option, true, false};
-ghost use Rattle.inet_num.specs.Net.{Cidr, width_of, IsBlock, IsInside};
+ghost use Rattle.inet_num.specs.Net.{Cidr, width_of, size_of, IsBlock, IsInside};
 ghost use Rattle.inet_num.specs.Free.{IsFree};
 ghost use Rattle.block_space.specs.Listed.{counting_of};
 ghost use Rattle.block_space.specs.Fit.{IsFirstFit};
@@ -58,6 +58,14 @@ fn reaches(free: Option<u8>, len: u8) -> bool
     }
 }
 
+/// Whether all addresses of a block are below a number.
+pub fn ends_before(land: &Block, from: u128) -> bool
+    ensures before { result ≡ true → land.now.first + size_of land.now ≤ from }
+    ensures reaches { result ≡ false → from < land.now.first + size_of land.now }
+{
+    land.first().value() < from && land.last().value() < from
+}
+
 /// The lowest block of this length in a block, that does not begin before a number.
 fn place_in(land: Block, len: u8, from: u128) -> Option<Block>
     requires lawful { IsBlock land }
@@ -65,7 +73,7 @@ fn place_in(land: Block, len: u8, from: u128) -> Option<Block>
     requires short { len ≤ width_of land.family }
     ensures { IsFirstFit land [] len from result }
 {
-    if land.last().value() < from {
+    if ends_before(&land, from) {
         return None;
     }
     if from <= land.first().value() {
@@ -158,7 +166,7 @@ impl Linked {
         ensures first { IsFirstFit land (counting_of (blocks_of self.now.pool) land false) len from result }
         ensures quick { IsQuick land from result steps.old steps.new }
     {
-        if land.last().value() < from {
+        if ends_before(&land, from) {
             return None;
         }
         let Some(id) = at else {

@@ -1,18 +1,18 @@
-use Rattle.std.proofs.Common.{true, false, Option, refl, sym, ◌∙◌, ap, subst, arith}
-use Rattle.inet_num.specs.Net.{Cidr, Address, width_of, IsBlock}
+use Rattle.std.proofs.Common.{◌+◌, ◌-◌, true, false, Option, refl, sym, ◌∙◌, ap, subst, arith}
+use Rattle.inet_num.specs.Net.{Cidr, width_of, size_of, IsBlock}
 use Rattle.block_space.specs.Listed.{counting_of}
 use Rattle.radix_tree.specs.Shape.{HasRoom, IsLink}
 use Rattle.radix_tree.specs.Listed.{blocks_of}
-use Rattle.radix_tree.proofs.Sides.{half_family}
+use Rattle.radix_tree.proofs.Sides.{has_first, half_family}
 use Rattle.radix_tree.proofs.Joints.{half_lawful}
 use Rattle.radix_tree.proofs.Lands.{land_free, land_taken}
 use Rattle.radix_tree.proofs.Availing.{whole_available, before_available, single_available, avail_low, avail_high}
 use Rattle.radix_tree.proofs.links.Linked.+available_below.Goals as goal
 
-pub returns-then-value-from : goal.returns-then-value-from
-returns-then-value-from g u c =
-    let last = ap (λ (a : Address). a.value) c.last.ensures in
-    before_available c.args.land (counting_of (blocks_of c.args.self.now.pool) c.args.land false) c.args.from c.value.result (λ a h. omega (arith, last, c.value.ensures.value, h.1)) c.if-value-from.true
+pub returns-then-ends_before : goal.returns-then-ends_before
+returns-then-ends_before g u c =
+    let land = c.args.land in
+    before_available land (counting_of (blocks_of c.args.self.now.pool) land false) c.args.from (land.first + size_of land - 1) (λ a h. omega (arith, h.1)) (omega (arith, c.ends_before.ensures.before c.if-ends_before.true, (has_first land).1))
 
 pub returns-in_default : goal.returns-in_default
 returns-in_default g u c =

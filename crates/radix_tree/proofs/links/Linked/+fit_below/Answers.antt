@@ -1,14 +1,17 @@
 use Rattle.std.proofs.Common.{◌<◌, true, false, Option, refl, sym, ◌∙◌, ap, subst, arith}
-use Rattle.inet_num.specs.Net.{Cidr, Address, width_of, IsBlock}
+use Rattle.inet_num.specs.Net.{Cidr, width_of, IsBlock}
 use Rattle.block_space.specs.Fit.{IsFirstFit}
 use Rattle.block_space.specs.Listed.{counting_of}
 use Rattle.radix_tree.specs.Shape.{HasRoom, IsLink}
 use Rattle.radix_tree.specs.Listed.{blocks_of}
-use Rattle.radix_tree.proofs.Sides.{has_first, half_family}
+use Rattle.radix_tree.proofs.Sides.{half_family}
 use Rattle.radix_tree.proofs.Joints.{half_lawful}
 use Rattle.radix_tree.proofs.Lands.{land_free}
-use Rattle.radix_tree.proofs.Fitting.{fit_agree, none_of_len, some_fits, fit_low, fit_high, quick_high}
+use Rattle.radix_tree.proofs.Fitting.{none_from, fit_agree, none_of_len, some_fits, fit_low, fit_high, quick_high}
 use Rattle.radix_tree.proofs.links.Linked.+fit_below.Goals as goal
+
+pub returns-then-ends_before-clause-first : goal.returns-then-ends_before-clause-first
+returns-then-ends_before-clause-first g u c = none_from c.args.land _ c.args.len c.args.from (c.ends_before.ensures.before c.if-ends_before.true)
 
 pub returns-in_default-clause-first : goal.returns-in_default-clause-first
 returns-in_default-clause-first g u c =
@@ -79,8 +82,7 @@ returns-clause-quick g u c =
     let sides = c.in-Some-fitting_sides.ensures.some in
     let first = fit_high t c.requires.sound land c.requires.lawful c.requires.family room false (λ id m e some k. sides.others id m e some) c.args.len c.args.from less c.half_of.result c.half_of.ensures c.fit_below.result
     c.half_of-2.result c.half_of-2.ensures c.fit_below-2.result c.in_default-fit_below.is c.fit_below.ensures.first c.fit_below-2.ensures.first in
-    let last = ap (λ (a : Address). a.value) c.last.ensures in
     quick_high land c.requires.lawful room c.args.from c.half_of.result c.half_of-2.result c.fit_below.result c.fit_below-2.result c.args.steps.now c.fitting_sides.new.steps c.fit_below.new.steps c.fit_below-2.new.steps
-    (omega (arith, last, c.value.ensures.value, c.if-value-from.false, (has_first land).1)) c.half_of.ensures c.half_of-2.ensures c.in_default-fit_below.is c.fitting_sides.ensures.cost
+    (c.ends_before.ensures.reaches c.if-ends_before.false) c.half_of.ensures c.half_of-2.ensures c.in_default-fit_below.is c.fitting_sides.ensures.cost
     (λ none early. some_fits land (counting_of (blocks_of t.pool) land false) c.args.len c.args.from sides.fits.0 sides.fits.1 sides.fits.2 sides.fits.3 sides.fits.4 c.requires.short early
     (subst (IsFirstFit land (counting_of (blocks_of t.pool) land false) c.args.len c.args.from) none first)) c.fit_below.ensures.quick c.fit_below-2.ensures.quick
