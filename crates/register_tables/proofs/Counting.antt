@@ -1,5 +1,5 @@
 -- Room for rows, table by table.
-use Rattle.std.proofs.Common.{◌≡◌, ℕ, ◌+◌, ◌≤◌, ◌<◌, Bool, true, false, List, [], ◌∷◌, take, length, get_or, ◌⊎◌, inl, inr, refl, ap, sym, ◌∙◌, arith}
+use Rattle.std.proofs.Common.{◌≡◌, ℕ, ◌+◌, ◌≤◌, ◌<◌, Bool, true, false, List, take, length, get_or, ◌⊎◌, inl, inr, refl, ap, sym, ◌∙◌, arith}
 use Rattle.std.proofs.lemmas.List.Sums.{count_by_more_no}
 use Rattle.std.specs.List.{count_by}
 use Rattle.ipam_data.specs.declared.kinds.Kind.{Kind}
@@ -19,10 +19,3 @@ ready_more p views i view old new within is kept room so_far = go (p view) refl 
   go true e h = inr (room e)
   go false e (inl none) = inl (count_by_more_no p views i view within (ap p (sym is) ∙ e) ∙ none)
   go false e (inr le) = inr (omega arith)
-
--- one row alone: its table has room for it
-pub one_ready : (p : View → Bool) (view : View) (spare : ℕ) → (p view ≡ true → 1 ≤ spare) → count_by p (view ∷ []) ≤ spare
-one_ready p view spare room = go (p view) refl where
-  go : (t : Bool) → p view ≡ t → count_by p (view ∷ []) ≤ spare
-  go true e = let one = room e in rw e (omega arith)
-  go false e = rw e (omega arith)
