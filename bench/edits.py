@@ -112,7 +112,7 @@ class Run:
             print(f"{name} is not proved:", *told.splitlines()[-20:], sep="\n", flush=True)
 
     def try_edits(self, name):
-        told = self.rt(name, "must-fail")[1]
+        told = self.rt(name, "must-fail", name)[1]
         lines = sorted(re.findall(r"^(?:rt: )?must-fail (.*)$", told, re.MULTILINE))
         refused = sum(": refused" in it for it in lines)
         with self.telling:
