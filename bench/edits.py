@@ -9,6 +9,7 @@ A crate whose edits were all refused is noted at once, with the checksum of its 
 
 usage: bench/edits.sh [CRATE..]       all crates that have edits, where none is named
 environment: EDITS_IN=FOLDER          where the copy is made, and stays for the next run (none: a new folder, which is removed)
+             GIVEN=1                  bench/given.py has put a run's libraries there, so that no crate has to be checked first
              RT_JOBS=N                how many crates are worked on at once (none: one a processor)
              RT=COMMAND               another command in the place of rt
 """
@@ -72,13 +73,19 @@ def edits_of(name):
     return [it for it in os.listdir(f"{EDITS}/{name}") if it.endswith(".edit")]
 
 
+def bytes_of(name):
+    """How large a crate's sources and proofs are."""
+    return sum(os.path.getsize(path) for part in ("src", "specs", "proofs") for path in edits_tried.files_below(f"{TOP}/crates/{name}/{part}"))
+
+
 class Run:
     """The tasks of a run: the check of a crate, and the tries of its edits behind it."""
 
     def __init__(self, copy, asked, below, needed):
         self.copy, self.below = copy, below
-        self.left = [("check", name) for name in needed] + [("edits", name) for name in asked]
-        self.proved, self.refused, self.behind = set(), 0, {}
+        given = bool(os.environ.get("GIVEN"))
+        self.left = [("check", name) for name in needed if not given] + [("edits", name) for name in asked]
+        self.proved, self.refused, self.behind = set(needed) if given else set(), 0, {}
         # one at a time says how its edits were answered, and notes it
         self.telling = threading.Lock()
 
@@ -89,9 +96,9 @@ class Run:
         return self.behind[name]
 
     def ready(self):
-        """The tasks that may begin: checks before edits, those first that most crates wait for."""
+        """The tasks that may begin: checks before edits, and those first that most crates wait for; of the edits those of small crates."""
         found = [it for it in self.left if (it[1] in self.proved if it[0] == "edits" else all(one in self.proved for one in self.below[it[1]]))]
-        return sorted(found, key=lambda it: (it[0] != "check", -self.chain(it[1])))
+        return sorted(found, key=lambda it: (it[0] != "check", -self.chain(it[1]) if it[0] == "check" else bytes_of(it[1])))
 
     def rt(self, name, *words):
         ran = subprocess.run([RT, *words], cwd=f"{self.copy}/crates/{name}", env={**os.environ, "RT_JOBS": "1"}, stdin=subprocess.DEVNULL, stdout=subprocess.PIPE, stderr=subprocess.STDOUT)
