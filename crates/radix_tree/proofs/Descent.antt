@@ -1,7 +1,10 @@
-use Rattle.std.proofs.Common.{◌≡◌, ℕ, ◌+◌, ◌≤◌, Bool, true, false, not, IsTrue, refl, sym, ◌∙◌, ap, subst, arith, inl, inr, Option, Some, None}
+use Rattle.std.proofs.Common.{◌≡◌, ◌⊎◌, ℕ, ◌+◌, ◌-◌, ◌<◌, ◌≤◌, nat_le, Bool, true, false, refl, sym, ◌∙◌, ap, subst, arith, inl, inr, Option, Some, None}
 use Rattle.std.proofs.lemmas.Bool.{cases_lt}
-use Rattle.inet_num.specs.Net.{Cidr, width_of, IsBlock, IsInside, IsStrictlyInside}
-use Rattle.inet_num.proofs.Numbers.{strictly_by_len, len_of_strictly}
+use Rattle.std.proofs.lemmas.Bool.Decides.{nat_tests}
+use Rattle.std.proofs.lemmas.Nat.{pow_pos}
+use Rattle.inet_num.specs.Net.{Cidr, width_of, size_of, IsBlock, IsInside, IsStrictlyInside}
+use Rattle.inet_num.proofs.Aligned.{inside_half}
+use Rattle.inet_num.proofs.Numbers.{strictly_by_len, len_of_strictly, ends_of_inside}
 use Rattle.inet_num.proofs.Nested.{same_by_len}
 use Rattle.node_pool.specs.Pooled.{node_at}
 use Rattle.radix_tree.specs.declared.Node.{Node}
@@ -11,7 +14,6 @@ use Rattle.radix_tree.specs.declared.links.Linked.{Linked}
 use Rattle.radix_tree.specs.Shape.{half, child, HasRoom, HasLink, IsTree, rank}
 use Rattle.radix_tree.proofs.Sides.{len_of_inside}
 use Rattle.radix_tree.proofs.Order.{some_same, one_node}
-use Rattle.radix_tree.proofs.Joints.{in_other}
 
 -- what stands for a land is at least as far down
 pub rank_land : (t : Linked) → IsTree t → (place : Place) (at : Option ℕ) (land : Cidr) → HasLink t place at land → land.len ≤ width_of land.family → rank t.pool at + land.len ≤ width_of land.family + 1
@@ -35,13 +37,17 @@ pub rank_child : (t : Linked) → IsTree t → (id : ℕ) (n : Node) (s : Bool) 
 rank_child t w id n false e room = let below = rank_land t w (Under id false) (child false n) (half false n.block) (n, e, room, refl, refl) (omega arith) in rw e (omega arith)
 rank_child t w id n true e room = let below = rank_land t w (Under id true) (child true n) (half true n.block) (n, e, room, refl, refl) (omega arith) in rw e (omega arith)
 
--- the half of a node on the side of a block strictly inside it
-pub right_half : (t : Linked) → IsTree t → (block : Cidr) → IsBlock block → (id : ℕ) (n : Node) → node_at t.pool id ≡ Some n → IsStrictlyInside block n.block → (in_low : Bool) (low : Cidr) → low ≡ half false n.block
-    → (IsTrue in_low → IsInside block low) → (IsInside block low → IsTrue in_low) → IsInside block (half (not in_low) n.block)
-right_half t w block hb id n e strict true low is hit from = subst (IsInside block) is (hit refl)
-right_half t w block hb id n e strict false low is hit from =
-    let own = (w.each id n e).lawful in
-    in_other n.block block false own hb strict.inside strict.other (λ i. (let f : IsTrue false = from (subst (IsInside block) (sym is) i) in cc))
+-- a block strictly inside another one is in the high half just where it does not begin before that
+pub half_by_first : (block around : Cidr) → IsBlock block → IsBlock around → IsStrictlyInside block around → (at : ℕ) → at ≡ (half true around).first → IsInside block (half (nat_le at block.first) around)
+half_by_first block around hb ha strict at is = go (nat_le at block.first) refl (inside_half around block ha hb strict.inside (len_of_strictly block around ha.short hb.short strict)) where
+  some : 0 < size_of block
+  some = pow_pos (width_of block.family - block.len)
+
+  go : (t : Bool) → nat_le at block.first ≡ t → (IsInside block (half false around) ⊎ IsInside block (half true around)) → IsInside block (half t around)
+  go true e (inl low) = (let ends = (ends_of_inside block (half false around) low).1 in let from : at ≤ block.first = grind (arith, nat_tests) in absurd (omega (arith, some)))
+  go true e (inr high) = high
+  go false e (inl low) = low
+  go false e (inr high) = (let ends = (ends_of_inside block (half true around) high).0 in let below : block.first < at = grind (arith, nat_tests) in absurd (omega arith))
 
 pub strict_room : (t : Linked) → IsTree t → (block : Cidr) → IsBlock block → (id : ℕ) (n : Node) → node_at t.pool id ≡ Some n → IsStrictlyInside block n.block → HasRoom n.block
 strict_room t w block hb id n e strict =

@@ -217,6 +217,24 @@ both_visits land room from q s1 s2 s3 low high =
       | inr past ↦ (let a = low.past (omega arith) in let b = high.all in omega (arith, a, b, d, e))
     ]
 
+-- a search that visits nothing, one that visits the land's node alone, and one that finds a block in the low half
+pub quick_at_once : (land : Cidr) (from : ℕ) (r : Option Cidr) (s : ℕ) → IsQuick land from r s s
+quick_at_once land from r s = record { past = λ le. refl; none_early = λ none early. omega arith; none = λ none. omega arith; early = λ early. omega arith; all = omega arith }
+
+pub quick_here : (land : Cidr) (from : ℕ) (r : Option Cidr) (s0 s1 : ℕ) → from < land.first + size_of land → s1 ≡ s0 + 1 → IsQuick land from r s0 s1
+quick_here land from r s0 s1 reached one = record { past = λ le. absurd (omega arith); none_early = λ none early. omega arith; none = λ none. omega arith; early = λ early. omega arith; all = omega arith }
+
+pub quick_low : (land : Cidr) → HasRoom land → (from : ℕ) (low : Cidr) (r : Option Cidr) (b : Cidr) (s0 s1 s2 : ℕ) → from < land.first + size_of land → low ≡ half false land → r ≡ Some b → s1 ≡ s0 + 1 → IsQuick low from r s1 s2 → IsQuick land from r s0 s2
+quick_low land room from low r b s0 s1 s2 reached low_is found one h =
+    let l : IsQuick (half false land) from r s1 s2 = subst (λ (x : Cidr). IsQuick x from r s1 s2) low_is h in
+    let some : r ≡ None → ⊥ = λ none. not_both r b none found in record {
+      past = λ le. absurd (omega arith);
+      none_early = λ none early. absurd (some none);
+      none = λ none. absurd (some none);
+      early = λ early. (let le = l.early early in omega arith);
+      all = (let le = l.all in omega arith);
+    }
+
 pub quick_high : (land : Cidr) → IsBlock land → HasRoom land → (from : ℕ) (low high : Cidr) (r q : Option Cidr) (s0 s1 s2 s3 : ℕ) → from < land.first + size_of land → low ≡ half false land → high ≡ half true land → r ≡ None → s1 ≡ s0 + 1
     → (q ≡ None → from ≤ land.first → ⊥) → IsQuick low from r s1 s2 → IsQuick high from q s2 s3 → IsQuick land from q s0 s3
 quick_high land hl room from low high r q s0 s1 s2 s3 reached low_is high_is is one finds h k =

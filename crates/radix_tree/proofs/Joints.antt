@@ -1,4 +1,4 @@
-use Rattle.std.proofs.Common.{◌≡◌, ◌≢◌, Bool, true, false, not, IsTrue, refl, sym, ap, subst, arith, inl, inr}
+use Rattle.std.proofs.Common.{◌≡◌, ◌≢◌, Bool, true, false, not, refl, sym, ap, subst, arith, inl, inr}
 use Rattle.std.proofs.lemmas.Bool.{cases_lt}
 use Rattle.inet_num.specs.Net.{Cidr, width_of, IsBlock, IsInside}
 use Rattle.inet_num.proofs.Nested.{same_by_len, inside_trans}
@@ -53,8 +53,3 @@ no_room a b around ha hr i j apart = elim (cases_lt around.len (width_of around.
       let same : width_of a.family ≡ width_of around.family = ap width_of i.family in
       absurd (not_around a b around apart j (same_by_len a around i (omega arith) ha.short hr.short))
 ]
-
--- the half on whose side a block strictly inside lies
-pub right_side : (b a : Cidr) → IsBlock b → IsBlock a → IsInside a b → a ≢ b → (in_low : Bool) (low : Cidr) → low ≡ half false b → (IsTrue in_low → IsInside a low) → (IsInside a low → IsTrue in_low) → IsInside a (half (not in_low) b)
-right_side b a hb ha i other true low is hit from = subst (IsInside a) is (hit refl)
-right_side b a hb ha i other false low is hit from = in_other b a false hb ha i other (λ j. (let f : IsTrue false = from (subst (IsInside a) (sym is) j) in cc))

@@ -1,5 +1,5 @@
 -- What nodes say of the addresses that the blocks inside them have: it is that number, where their blocks are not those of length 0.
-use Rattle.std.proofs.Common.{◌≡◌, ◌≢◌, ℕ, zero, suc, ◌+◌, ◌%◌, ◌^◌, ◌<◌, ◌≤◌, Bool, true, false, refl, sym, ◌∙◌, ap, subst, arith, Option, Some, None}
+use Rattle.std.proofs.Common.{◌≡◌, ℕ, zero, suc, ◌+◌, ◌^◌, ◌<◌, ◌≤◌, Bool, true, false, refl, sym, ◌∙◌, ap, arith, Option, Some, None}
 use Rattle.inet_num.specs.Net.{Cidr, width_of, size_of, IsInside}
 use Rattle.inet_num.proofs.Nested.{inside_trans}
 use Rattle.block_space.specs.Listed.{counting_of, covered_of}
@@ -15,7 +15,7 @@ use Rattle.radix_tree.specs.Frees.{covered_said, side_covered, wrapped_wide, own
 use Rattle.radix_tree.specs.Sound.{IsSound}
 use Rattle.radix_tree.proofs.Sides.{half_family, half_in, len_of_inside}
 use Rattle.radix_tree.proofs.Covers.{half_len}
-use Rattle.radix_tree.proofs.Covered.{half_short, covered_no_link, covered_node, covered_both, covered_fits, room_of, child_inside, halves_fit}
+use Rattle.radix_tree.proofs.Covered.{half_short, covered_no_link, covered_node, covered_both, covered_fits, room_of, halves_fit}
 use Rattle.radix_tree.proofs.Mending.{child_node}
 
 -- how many addresses of a block the blocks of a land have

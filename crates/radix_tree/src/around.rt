@@ -6,7 +6,7 @@ ghost use Rattle.block_space.specs.Listed.{around_of};
 ghost use Rattle.radix_tree.specs.Listed.{blocks_of};
 ghost use Rattle.radix_tree.specs.Shape.{IsTree};
 
-use crate::halves::{half_of, whole_of};
+use crate::halves::{half_of, is_in_high_half, whole_of};
 use crate::links::{Found, Linked, Place};
 use block_space::Steps;
 use inet_num::Block;
@@ -32,7 +32,7 @@ impl Linked {
                 return count;
             }
             count += node.count.min(1);
-            let right = !half_of(&node.block, false).contains(block);
+            let right = is_in_high_half(block, &node.block);
             found = Found {
                 place: Place::Under(id, right),
                 at: node.link(right),

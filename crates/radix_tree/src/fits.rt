@@ -166,23 +166,29 @@ impl Linked {
         ensures first { IsFirstFit land (counting_of (blocks_of self.now.pool) land false) len from result }
         ensures quick { IsQuick land from result steps.old steps.new }
     {
-        if ends_before(&land, from) {
-            return None;
+        let mut at = at;
+        let mut land = land;
+        'lands: loop {
+            if ends_before(&land, from) {
+                return None;
+            }
+            let Some(id) = at else {
+                return place_in(land, len, from);
+            };
+            // a node's block has a block of the tree in it
+            if land.len() == len {
+                return None;
+            }
+            let Some(sides) = self.fitting_sides(id, &land, len, steps) else {
+                return None;
+            };
+            let low = half_of(&land, false);
+            if let Some(block) = self.fit_below(sides.low, low, len, from, steps) {
+                return Some(block);
+            }
+            at = sides.high;
+            land = half_of(&land, true);
         }
-        let Some(id) = at else {
-            return place_in(land, len, from);
-        };
-        // a node's block has a block of the tree in it
-        if land.len() == len {
-            return None;
-        }
-        let Some(sides) = self.fitting_sides(id, &land, len, steps) else {
-            return None;
-        };
-        if let Some(block) = self.fit_below(sides.low, half_of(&land, false), len, from, steps) {
-            return Some(block);
-        }
-        self.fit_below(sides.high, half_of(&land, true), len, from, steps)
     }
 
     /// The same of a block whose own node does not count, by the links for its halves.

@@ -1,7 +1,7 @@
 //! Halves of blocks, and the block at which two others part.
 
 ghost use Rattle.std.specs.Prelude.{◌≡◌};
-ghost use Rattle.inet_num.specs.Net.{IsBlock, IsInside};
+ghost use Rattle.inet_num.specs.Net.{IsBlock, IsInside, IsStrictlyInside};
 ghost use Rattle.radix_tree.specs.Shape.{half, whole, HasRoom};
 ghost use Rattle.radix_tree.specs.Find.{IsJoint};
 
@@ -32,6 +32,19 @@ pub fn half_of(block: &Block, high: bool) -> Block
     };
     match half {
         Some(half) => half,
+        None => unreachable!(),
+    }
+}
+
+/// Whether a block that lies strictly inside another one lies in its high half, and not in its low one.
+pub fn is_in_high_half(block: &Block, around: &Block) -> bool
+    requires lawful { IsBlock block.now }
+    requires lawful_around { IsBlock around.now }
+    requires inside { IsStrictlyInside block.now around.now }
+    ensures { IsInside block.now (half result around.now) }
+{
+    match around.high_half() {
+        Some(high) => high.first().value() <= block.first().value(),
         None => unreachable!(),
     }
 }

@@ -16,7 +16,7 @@ ghost use Rattle.radix_tree.specs.declared.links.Place.TheVariants.{Root, Under}
 ghost use Rattle.radix_tree.specs.declared.Node.{Node};
 
 use crate::Node;
-use crate::halves::{half_of, join, whole_of};
+use crate::halves::{half_of, is_in_high_half, join, whole_of};
 use block_space::Steps;
 use inet_num::{Block, Family};
 use node_pool::{NodeId, Pool};
@@ -197,7 +197,7 @@ impl Linked {
             if !block.strictly_inside(&node.block) {
                 return found;
             }
-            let right = !half_of(&node.block, false).contains(block);
+            let right = is_in_high_half(block, &node.block);
             found = Found {
                 place: Place::Under(id, right),
                 at: node.link(right),
@@ -229,7 +229,7 @@ impl Linked {
             return;
         }
         if block.contains(&here) {
-            let high = !half_of(&block, false).contains(&here);
+            let high = is_in_high_half(&here, &block);
             self.put_at(found.place, over(block, 1, high, id));
             return;
         }
@@ -320,7 +320,7 @@ impl Linked {
             if node.block.is(block) {
                 return Ok(out);
             }
-            let right = !half_of(&node.block, false).contains(block);
+            let right = is_in_high_half(block, &node.block);
             found = Found {
                 place: Place::Under(id, right),
                 at: node.link(right),

@@ -9,12 +9,21 @@ ghost use Rattle.radix_tree.specs.Sound.{IsSound};
 ghost use Rattle.radix_tree.specs.Frees.{lesser, side_free, free_of, side_total, total_of, side_covered, own_size, covered_in, figures_of, HasFreesBut, HasFreesIn, Refrees, RefreesOne};
 ghost use Rattle.radix_tree.specs.declared.links.Place.{Place};
 
-use crate::halves::half_of;
+use crate::halves::is_in_high_half;
 use crate::links::Linked;
 use block_space::Steps;
 use inet_num::Block;
 use node_pool::NodeId;
 use std::sync::ledger::Ledger;
+
+/// What a node says of the blocks inside its own: the least length of a free block, how many blocks there are, and how many addresses they
+/// have.
+#[derive(Clone, Copy)]
+pub struct Says {
+    pub free: Option<u8>,
+    pub total: u32,
+    pub covered: u128,
+}
 
 /// The lesser of two lengths, where there are any.
 fn lesser_of(a: Option<u8>, b: Option<u8>) -> Option<u8>
@@ -40,86 +49,59 @@ fn own_size(block: &Block) -> u128
 }
 
 impl Linked {
-    /// The least length of a free block in a half of this length, by the topmost node in it.
-    fn side_free<L: Ledger>(&self, len: u8, at: Option<NodeId>, steps: &mut Steps<L>) -> Option<u8>
+    /// What is said of a half of this length, by the topmost node in it.
+    fn side_says<L: Ledger>(&self, len: u8, at: Option<NodeId>, steps: &mut Steps<L>) -> Says
         requires live { (id : ℕ) → at ≡ Some id → IsLive self.now.pool id }
         requires short { len ≤ 129 }
-        ensures { result ≡ side_free self.now.pool len at }
+        ensures free { result.free ≡ side_free self.now.pool len at }
+        ensures total { result.total ≡ side_total self.now.pool at }
+        ensures covered { result.covered ≡ side_covered self.now.pool at }
     {
         let Some(id) = at else {
-            return Some(len);
+            return Says {
+                free: Some(len),
+                total: 0,
+                covered: 0,
+            };
         };
         let node = self.pool.visit(id, steps);
-        if node.block.len() > len {
+        let free = if node.block.len() > len {
             Some(len + 1)
         } else {
             node.free
+        };
+        Says {
+            free,
+            total: node.total,
+            covered: node.covered,
         }
     }
 
-    /// The least length of a free block inside a node's, by its count and its children.
-    fn node_free<L: Ledger>(&self, id: NodeId, steps: &mut Steps<L>) -> Option<u8>
+    /// What follows for a node from its count and its children.
+    fn node_says<L: Ledger>(&self, id: NodeId, steps: &mut Steps<L>) -> Says
         requires sound { IsSound self.now }
         requires live { IsLive self.now.pool id }
-        ensures { (n : _) → node_at self.now.pool id ≡ Some n → result ≡ free_of self.now.pool n }
+        ensures free { (n : _) → node_at self.now.pool id ≡ Some n → result.free ≡ free_of self.now.pool n }
+        ensures total { (n : _) → node_at self.now.pool id ≡ Some n → result.total ≡ total_of self.now.pool n }
+        ensures covered { (n : _) → node_at self.now.pool id ≡ Some n → result.covered ≡ covered_in self.now.pool n }
     {
         let node = self.pool.visit(id, steps);
-        if node.count > 0 {
-            return None;
-        }
         let len = node.block.len() + 1;
-        let low = self.side_free(len, node.low, steps);
-        let high = self.side_free(len, node.high, steps);
-        lesser_of(low, high)
-    }
-
-    /// How many blocks lie in a half, by the topmost node in it.
-    fn side_total<L: Ledger>(&self, at: Option<NodeId>, steps: &mut Steps<L>) -> u32
-        requires live { (id : ℕ) → at ≡ Some id → IsLive self.now.pool id }
-        ensures { result ≡ side_total self.now.pool at }
-    {
-        match at {
-            Some(id) => self.pool.visit(id, steps).total,
-            None => 0,
-        }
-    }
-
-    /// How many blocks lie inside a node's, by its count and its children.
-    fn node_total<L: Ledger>(&self, id: NodeId, steps: &mut Steps<L>) -> u32
-        requires sound { IsSound self.now }
-        requires live { IsLive self.now.pool id }
-        ensures { (n : _) → node_at self.now.pool id ≡ Some n → result ≡ total_of self.now.pool n }
-    {
-        let node = self.pool.visit(id, steps);
-        let low = self.side_total(node.low, steps);
-        let high = self.side_total(node.high, steps);
-        node.count.wrapping_add(low).wrapping_add(high)
-    }
-
-    /// How many addresses the blocks in a half have, by the topmost node in it.
-    fn side_covered<L: Ledger>(&self, at: Option<NodeId>, steps: &mut Steps<L>) -> u128
-        requires live { (id : ℕ) → at ≡ Some id → IsLive self.now.pool id }
-        ensures { result ≡ side_covered self.now.pool at }
-    {
-        match at {
-            Some(id) => self.pool.visit(id, steps).covered,
-            None => 0,
-        }
-    }
-
-    /// How many addresses the blocks inside a node's have, by its count and its children.
-    fn node_covered<L: Ledger>(&self, id: NodeId, steps: &mut Steps<L>) -> u128
-        requires sound { IsSound self.now }
-        requires live { IsLive self.now.pool id }
-        ensures { (n : _) → node_at self.now.pool id ≡ Some n → result ≡ covered_in self.now.pool n }
-    {
-        let node = self.pool.visit(id, steps);
+        let low = self.side_says(len, node.low, steps);
+        let high = self.side_says(len, node.high, steps);
+        let total = node.count.wrapping_add(low.total).wrapping_add(high.total);
         if node.count > 0 {
-            return own_size(&node.block);
+            return Says {
+                free: None,
+                total,
+                covered: own_size(&node.block),
+            };
         }
-        let low = self.side_covered(node.low, steps);
-        let high = self.side_covered(node.high, steps);
-        low.wrapping_add(high)
+        Says {
+            free: lesser_of(low.free, high.free),
+            total,
+            covered: low.covered.wrapping_add(high.covered),
+        }
     }
 
     /// Sets what a node says to what follows from its children, and nothing else.
@@ -128,13 +110,11 @@ impl Linked {
         requires live { IsLive self.old.pool id }
         ensures { (n : _) → node_at self.old.pool id ≡ Some n → RefreesOne self.old self.new id (figures_of self.old.pool n) }
     {
-        let free = self.node_free(id, steps);
-        let total = self.node_total(id, steps);
-        let covered = self.node_covered(id, steps);
+        let says = self.node_says(id, steps);
         let node = self.pool.change(id);
-        node.free = free;
-        node.total = total;
-        node.covered = covered;
+        node.free = says.free;
+        node.total = says.total;
+        node.covered = says.covered;
     }
 
     /// Mends what the nodes around a block say, from a link on down: the deepest first.
@@ -156,7 +136,7 @@ impl Linked {
             self.refree(id, steps);
             return;
         }
-        let high = !half_of(&node.block, false).contains(block);
+        let high = is_in_high_half(block, &node.block);
         let below = node.link(high);
         self.mend(below, block, steps);
         self.refree(id, steps);

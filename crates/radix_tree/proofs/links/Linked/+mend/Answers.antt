@@ -1,9 +1,9 @@
-use Rattle.std.proofs.Common.{ℕ, false, not, IsTrue, Option, refl, sym, ap, subst, arith}
+use Rattle.std.proofs.Common.{ℕ, false, IsTrue, Option, refl, sym, ap, subst, arith}
 use Rattle.inet_num.specs.Net.{IsInside, IsStrictlyInside}
 use Rattle.radix_tree.specs.declared.links.Place.TheVariants.{Under}
 use Rattle.radix_tree.specs.Shape.{half, HasLink, rank}
 use Rattle.radix_tree.specs.Frees.{figures_of, HasFreesIn}
-use Rattle.radix_tree.proofs.Descent.{rank_child, right_half, strict_room}
+use Rattle.radix_tree.proofs.Descent.{rank_child, strict_room}
 use Rattle.radix_tree.proofs.Mending.{refreed_one, refreed_both, refreed_link, refreed_tree, refreed_sound, mended_in, below_own, below_half, in_none, in_apart}
 use Rattle.radix_tree.proofs.links.Linked.+mend.Goals as goal
 
@@ -34,11 +34,11 @@ returns-then-is-clause-frees g u c = λ place land link but.
     let inside : IsInside block n.block = c.contains.ensures.0 c.if-not-contains.false in
     mended_in t c.refree.new.self w id n e (c.refree.ensures n e) block inside but (below_own t w id n e block (c.is.ensures.0 c.if-is.true) but) place land here
 
-pub half_of-requires : goal.half_of-requires
-half_of-requires g u c =
-    let n = c.visit-node.result.now in
-    let strict : IsStrictlyInside c.args.block.now n.block = record { inside = c.contains.ensures.0 c.if-not-contains.false; other = λ same. (let x : IsTrue false = c.if-is.ensures.1 (sym same) in cc) } in
-    strict_room c.args.self.now c.requires.sound.tree c.args.block.now c.requires.lawful c.in-Some.id n c.visit-node.ensures.node strict
+pub is_in_high_half-high-requires-clause-lawful_around : goal.is_in_high_half-high-requires-clause-lawful_around
+is_in_high_half-high-requires-clause-lawful_around g u c = (c.requires.sound.tree.each c.in-Some.id c.visit-node.result.now c.visit-node.ensures.node).lawful
+
+pub is_in_high_half-high-requires-clause-inside : goal.is_in_high_half-high-requires-clause-inside
+is_in_high_half-high-requires-clause-inside g u c = record { inside = c.contains.ensures.0 c.if-not-contains.false; other = λ same. (let x : IsTrue false = c.if-is.ensures.1 (sym same) in cc) }
 
 pub mend-requires : goal.mend-requires
 mend-requires g u c κs lives =
@@ -47,7 +47,7 @@ mend-requires g u c κs lives =
     let e = c.visit-node.ensures.node in
     let strict : IsStrictlyInside c.args.block.now n.block = record { inside = c.contains.ensures.0 c.if-not-contains.false; other = λ same. (let x : IsTrue false = c.if-is.ensures.1 (sym same) in cc) } in
     let room = strict_room t c.requires.sound.tree c.args.block.now c.requires.lawful c.in-Some.id n e strict in
-    let high = not c.contains-high.result in
+    let high = c.is_in_high_half-high.result in
     let less = rank_child t c.requires.sound.tree c.in-Some.id n high e room in
     let at_is = ap (rank t.pool) c.in-Some.is in
     let to_is = ap (rank t.pool) c.link-below.ensures in
@@ -72,8 +72,8 @@ returns-clause-frees g u c = λ place land link but.
     let block = c.args.block.now in
     let strict : IsStrictlyInside block n.block = record { inside = c.contains.ensures.0 c.if-not-contains.false; other = λ same. (let x : IsTrue false = c.if-is.ensures.1 (sym same) in cc) } in
     let room = strict_room t w block c.requires.lawful id n e strict in
-    let high = not c.contains-high.result in
-    let in_half = right_half t w block c.requires.lawful id n e strict c.contains-high.result c.half_of.result c.half_of.ensures c.contains-high.ensures.0 c.contains-high.ensures.1 in
+    let high = c.is_in_high_half-high.result in
+    let in_half = c.is_in_high_half-high.ensures in
     let mid = c.mend.new.self in
     let re = c.mend.ensures.refrees in
     let kept = re.kept id n e in

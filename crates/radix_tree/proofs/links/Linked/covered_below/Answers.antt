@@ -1,4 +1,4 @@
-use Rattle.std.proofs.Common.{◌≡◌, ℕ, Option, sym, subst}
+use Rattle.std.proofs.Common.{ℕ, Option, sym, subst}
 use Rattle.radix_tree.specs.Shape.{HasLink}
 use Rattle.radix_tree.proofs.Covered.{covered_no_link}
 use Rattle.radix_tree.proofs.Summed.{covered_is}

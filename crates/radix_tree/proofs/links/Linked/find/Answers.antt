@@ -1,10 +1,10 @@
-use Rattle.std.proofs.Common.{not, refl, sym, ap, subst, arith}
+use Rattle.std.proofs.Common.{refl, sym, ap, subst, arith}
 use Rattle.inet_num.specs.Net.{Cidr, IsBlock, IsInside, IsStrictlyInside}
 use Rattle.radix_tree.specs.Shape.{rank}
 use Rattle.radix_tree.proofs.Sides.{whole_in, whole_lawful, len_of_inside}
 use Rattle.radix_tree.proofs.Covers.{half_len}
 use Rattle.radix_tree.proofs.Joints.{half_lawful}
-use Rattle.radix_tree.proofs.Descent.{land_len, rank_child, right_half, strict_room}
+use Rattle.radix_tree.proofs.Descent.{land_len, rank_child, strict_room}
 use Rattle.radix_tree.proofs.links.Linked.find.Goals as goal
 
 pub loop-found-init : goal.loop-found-init
@@ -15,6 +15,12 @@ loop-found-init g c = record {
   cost = omega arith;
 }
 
+pub is_in_high_half-right-requires-clause-lawful_around : goal.is_in_high_half-right-requires-clause-lawful_around
+is_in_high_half-right-requires-clause-lawful_around g c = (c.requires.tree.each c.in-Some.id c.visit-node.result.now c.visit-node.ensures.node).lawful
+
+pub is_in_high_half-right-requires-clause-inside : goal.is_in_high_half-right-requires-clause-inside
+is_in_high_half-right-requires-clause-inside g c = c.strictly_inside.ensures.0 c.if-not-strictly_inside.false
+
 pub half_of-requires : goal.half_of-requires
 half_of-requires g c =
     strict_room c.args.self.now c.requires.tree c.args.block.now c.requires.lawful c.in-Some.id c.visit-node.result.now c.visit-node.ensures.node (c.strictly_inside.ensures.0 c.if-not-strictly_inside.false)
@@ -24,7 +30,7 @@ loop-found-smaller g c =
     let n = c.visit-node.result.now in
     let strict : IsStrictlyInside c.args.block.now n.block = c.strictly_inside.ensures.0 c.if-not-strictly_inside.false in
     let room = strict_room c.args.self.now c.requires.tree c.args.block.now c.requires.lawful c.in-Some.id n c.visit-node.ensures.node strict in
-    let less = rank_child c.args.self.now c.requires.tree c.in-Some.id n (not c.contains-right.result) c.visit-node.ensures.node room in
+    let less = rank_child c.args.self.now c.requires.tree c.in-Some.id n c.is_in_high_half-right.result c.visit-node.ensures.node room in
     let at_is = ap (rank c.args.self.now.pool) c.in-Some.is in
     let to_is = ap (rank c.args.self.now.pool) c.link.ensures in
     omega arith
@@ -37,17 +43,17 @@ loop-found-preserved g c =
     let e = c.visit-node.ensures.node in
     let strict : IsStrictlyInside block n.block = c.strictly_inside.ensures.0 c.if-not-strictly_inside.false in
     let room = strict_room t c.requires.tree block c.requires.lawful c.in-Some.id n e strict in
-    let less = rank_child t c.requires.tree c.in-Some.id n (not c.contains-right.result) e room in
+    let less = rank_child t c.requires.tree c.in-Some.id n c.is_in_high_half-right.result e room in
     let at_is = ap (rank t.pool) c.in-Some.is in
     let to_is = ap (rank t.pool) c.link.ensures in
-    let half_is = c.half_of-in-Some.ensures in
+    let half_is = c.half_of.ensures in
     let len_is = ap (λ (b : Cidr). b.len) half_is in
     let own = (c.requires.tree.each c.in-Some.id n e).lawful in
     record {
       here = (n, e, room, c.link.ensures, half_is);
-      inside = subst (IsInside block) (sym half_is) (right_half t c.requires.tree block c.requires.lawful c.in-Some.id n e strict c.contains-right.result c.half_of.result c.half_of.ensures c.contains-right.ensures.0 c.contains-right.ensures.1);
-      lawful = subst IsBlock (sym half_is) (half_lawful (not c.contains-right.result) n.block own room);
-      cost = omega (arith, c.loop-found.invariant.cost, c.visit-node.ensures.cost, land_len t c.requires.tree c.loop-found.found.place c.loop-found.found.at c.loop-found.found.land c.in-Some.id n c.loop-found.invariant.here c.loop-found.invariant.lawful c.in-Some.is e, half_len (not c.contains-right.result) n.block, len_is);
+      inside = subst (IsInside block) (sym half_is) c.is_in_high_half-right.ensures;
+      lawful = subst IsBlock (sym half_is) (half_lawful c.is_in_high_half-right.result n.block own room);
+      cost = omega (arith, c.loop-found.invariant.cost, c.visit-node.ensures.cost, land_len t c.requires.tree c.loop-found.found.place c.loop-found.found.at c.loop-found.found.land c.in-Some.id n c.loop-found.invariant.here c.loop-found.invariant.lawful c.in-Some.is e, half_len c.is_in_high_half-right.result n.block, len_is);
     }
 
 pub returns-then-not-strictly_inside-clause-cost : goal.returns-then-not-strictly_inside-clause-cost

@@ -1,9 +1,8 @@
-use Rattle.std.proofs.Common.{◌≢◌, false, not, IsTrue, None, arith}
+use Rattle.std.proofs.Common.{◌≢◌, false, IsTrue, None, arith}
 use Rattle.inet_num.specs.Net.{IsInside}
 use Rattle.radix_tree.specs.declared.links.Place.TheVariants.{Under}
 use Rattle.radix_tree.specs.Shape.{half}
 use Rattle.radix_tree.proofs.Sides.{longer, room_above}
-use Rattle.radix_tree.proofs.Joints.{right_side}
 use Rattle.radix_tree.proofs.Recount.{count_few, inserted_more}
 use Rattle.radix_tree.proofs.Insert.{placed_leaf, inserted_leaf, inserted_over, open_link, inserted_join}
 use Rattle.radix_tree.proofs.links.Linked.insert.Goals as goal
@@ -22,12 +21,11 @@ overflow_add-count g c =
 pub returns-then-is : goal.returns-then-is
 returns-then-is g c = inserted_more c.args.self.now c.recount.new.self c.args.block c.in-Some.id c.visit-node.result.now c.requires.sound c.visit-node.ensures.node (c.is.ensures.0 c.if-is.true) c.recount.ensures.recounts c.recount.ensures.spare
 
-pub half_of-requires : goal.half_of-requires
-half_of-requires g c =
-    let m = c.visit-node.result.now in
-    let own = (c.requires.sound.tree.each c.in-Some.id m c.visit-node.ensures.node).lawful in
-    let inside : IsInside m.block c.args.block = c.contains.ensures.0 c.if-contains.true in
-    room_above m.block c.args.block own inside (longer m.block c.args.block own c.requires.lawful inside (λ same. (let f : IsTrue false = c.if-is.ensures.1 same in cc)))
+pub is_in_high_half-high-requires-clause-lawful : goal.is_in_high_half-high-requires-clause-lawful
+is_in_high_half-high-requires-clause-lawful g c = (c.requires.sound.tree.each c.in-Some.id c.visit-node.result.now c.visit-node.ensures.node).lawful
+
+pub is_in_high_half-high-requires-clause-inside : goal.is_in_high_half-high-requires-clause-inside
+is_in_high_half-high-requires-clause-inside g c = record { inside = c.contains.ensures.0 c.if-contains.true; other = λ same. (let f : IsTrue false = c.if-is.ensures.1 same in cc) }
 
 pub returns-then-contains : goal.returns-then-contains
 returns-then-contains g c =
@@ -36,8 +34,8 @@ returns-then-contains g c =
     let inside : IsInside m.block c.args.block = c.contains.ensures.0 c.if-contains.true in
     let other : m.block ≢ c.args.block = λ same. (let f : IsTrue false = c.if-is.ensures.1 same in cc) in
     let room = room_above m.block c.args.block own inside (longer m.block c.args.block own c.requires.lawful inside other) in
-    let below = right_side c.args.block m.block c.requires.lawful own inside other c.contains-high.result c.half_of.result c.half_of.ensures c.contains-high.ensures.0 c.contains-high.ensures.1 in
-    inserted_over c.args.self.now c.put_at-then-contains.new.self c.args.block c.find-found.result c.requires.sound c.requires.lawful c.requires.family c.find-found.ensures.found c.in-Some.id m c.over.result (not c.contains-high.result)
+    let below = c.is_in_high_half-high.ensures in
+    inserted_over c.args.self.now c.put_at-then-contains.new.self c.args.block c.find-found.result c.requires.sound c.requires.lawful c.requires.family c.find-found.ensures.found c.in-Some.id m c.over.result c.is_in_high_half-high.result
     c.in-Some.is c.visit-node.ensures.node other room below c.over.ensures c.put_at-then-contains.result c.put_at-then-contains.ensures.put c.put_at-then-contains.ensures.listed c.put_at-then-contains.ensures.tally c.put_at-then-contains.ensures.spare
 
 pub put_at-requires-then-contains-clause-place : goal.put_at-requires-then-contains-clause-place
