@@ -1,5 +1,8 @@
 //! The words behind the program's name.
 
+ghost use Rattle.std.specs.Prelude.{◌≡◌, IfOk, map, string_bytes};
+
+use std::alloc::{AllocError, Global};
 use std::env;
 use std::io::ErrorKind;
 
@@ -26,6 +29,17 @@ pub fn words_given(rt: &HostRuntime) -> Result<Vec<String>, NoArguments> {
         if words.push(word).is_err() {
             return Err(NoArguments::Memory);
         }
+    }
+    Ok(words)
+}
+
+/// The arguments as words. `Err` means out of memory.
+pub fn words_of(alloc: Global, args: &[String]) -> Result<Vec<&str>, AllocError>
+    ensures { IfOk result (λ words. map (λ w. w.now) words.items ≡ map string_bytes args.now) }
+{
+    let mut words = Vec::new(alloc);
+    for arg in args {
+        words.push(arg.as_str())?;
     }
     Ok(words)
 }

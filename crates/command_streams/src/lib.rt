@@ -6,7 +6,7 @@ ghost use Rattle.command_streams.specs.Streams.{EndsWith, IsUsage, Told, streams
 
 mod arguments;
 
-pub use arguments::{NoArguments, words_given};
+pub use arguments::{NoArguments, words_given, words_of};
 use ipam_edge::{Sink, write_all};
 
 /// Done.

@@ -1,6 +1,6 @@
 //! The program: its real objects, and the words behind its name.
 
-ghost use Rattle.std.specs.Prelude.{◌≡◌, IfOk, map, string_bytes};
+ghost use Rattle.std.specs.Prelude.{map, string_bytes};
 ghost use Rattle.std.specs.Process.{exit_status};
 ghost use Rattle.command_streams.specs.Streams.{streams, told};
 ghost use Rattle.machine_command.specs.Outside.{outside, stores};
@@ -9,29 +9,18 @@ ghost use Rattle.pool_command.specs.Program.{IsEnding, RunsOver};
 ghost use Rattle.pool_command.specs.Runs.{Runs};
 
 use crate::run::{run_pools, say_usage};
-use command_streams::{MEMORY, NoArguments, words_given};
+use command_streams::{MEMORY, NoArguments, words_given, words_of};
 use ipam_edge::{
     Sink, Source, StdSink, StdSource, standard_error, standard_input, standard_output,
 };
 use ipam_listen::Listener;
 use pool_keeper::keeper::PoolOpener;
-use std::alloc::{AllocError, Global};
+use std::alloc::Global;
 use std::io::{Printer, Stderr, StdinLock};
 use std::marker::Sync;
 use std::process::ExitCode;
 use std::sync::Wait;
 use std::thread::Threads;
-
-/// The arguments as words. `Err` means out of memory.
-fn words_of(alloc: Global, args: &[String]) -> Result<Vec<&str>, AllocError>
-    ensures { IfOk result (λ words. map (λ w. w.now) words.items ≡ map string_bytes args.now) }
-{
-    let mut words = Vec::new(alloc);
-    for arg in args {
-        words.push(arg.as_str())?;
-    }
-    Ok(words)
-}
 
 /// Runs words over the standard streams. The types say which is which: what `run_pools` writes as messages goes to standard error. The process is to
 /// end with the status of the run.

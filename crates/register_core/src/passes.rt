@@ -1,6 +1,7 @@
 //! The passes over stored tables that are opened, each over all rows before the next begins.
 
-ghost use Rattle.std.specs.Prelude.{◌≡◌, ℕ, ◌<◌, ◌≤◌, ◌==◌, IfOk, OnOk, Some, None, [], find, fold, map, count_by, take, length};
+ghost use Rattle.std.specs.Prelude.{◌≡◌, ◌↔◌, ℕ, ◌+◌, ◌<◌, ◌≤◌, ◌==◌, ◌++◌, IfOk, OnOk, IsSome, Some, None, [], find, fold, map, count_by, take, reverse, length, vec_len};
+ghost use Rattle.std.specs.Option.{option_to_list};
 ghost use Rattle.std.specs.List.{list_any};
 ghost use Rattle.ipam_data.specs.Updates.{with_view, AreFit};
 ghost use Rattle.stored_tables.specs.Stored.{kinds, stored_row};
@@ -170,8 +171,21 @@ fn breach_of(row_tables: &RowTables, view: &View) -> Option<Breach>
     }
 }
 
+/// Takes the first of views that stand in reverse. Half of their room is given back each time that it is empty.
+fn take_first(reversed: &mut Vec<View>) -> Option<View>
+    ensures items { reverse reversed.old.items ≡ option_to_list result ++ reverse reversed.new.items }
+    ensures variant { IsSome result ↔ (0 < vec_len reversed.old) }
+    ensures len { vec_len reversed.new + length (option_to_list result) ≡ vec_len reversed.old }
+{
+    let first = reversed.pop();
+    if reversed.len() <= reversed.capacity() / 2 {
+        reversed.shrink_to_fit();
+    }
+    first
+}
+
 /// Puts rows one after another, as far as each breaks no rule beside those that stand before it; the first that breaks one is
-/// told. `Err` means out of memory.
+/// told. A view is gone as soon as its row is put, so that views and rows do not fill the memory of both. `Err` means out of memory.
 pub(crate) fn fill(
     row_tables: &mut RowTables,
     views: Vec<View>,
@@ -180,8 +194,9 @@ pub(crate) fn fill(
     ensures breach { IfOk result (λ b. first_breach (state_of row_tables.old) views.items ≡ b) }
     ensures state { IfOk result (λ b. b ≡ None → state_of row_tables.new ≡ fold with_view (state_of row_tables.old) views.items) }
 {
-    let mut rest = views.into_iter();
-    while let Some(view) = rest.next() {
+    let mut rest = views;
+    rest.reverse();
+    while let Some(view) = take_first(&mut rest) {
         match breach_of(row_tables, &view) {
             Some(breach) => {
                 drop(view);

@@ -1,5 +1,0 @@
-use Rattle.std.proofs.Common.{◌≡◌, map, take, string_bytes}
-use Rattle.ipam_command.proofs.entry.words_of.Given as goal
-
-abbrev pub invariant-loop-arg : goal.invariant-loop-arg
-invariant-loop-arg l = map (λ w. w.now) l.words.items ≡ map string_bytes (take l.arg-index l.args)
