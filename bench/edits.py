@@ -8,7 +8,7 @@ A crate whose edits were all refused is noted at once, with the checksum of its 
 `bench/edits_tried.py left` prints the crates that are not there with the text that they have now.
 
 usage: bench/edits.sh [CRATE..]       all crates that have edits, where none is named
-environment: EDITS_IN=FOLDER          where the copy is made, and stays for the next run (none: a new folder, which is removed)
+environment: EDITS_IN=FOLDER          where the copy is made, and stays for the next run (none: a new folder, which is removed); one run a folder at a time
              GIVEN=1                  bench/given.py has put a run's libraries there, so that no crate has to be checked first
              RT_JOBS=N                how many crates are worked on at once (none: one a processor)
              RT=COMMAND               another command in the place of rt
