@@ -1,5 +1,6 @@
 -- Addresses that clash: they are rows at one place, of which not both have a shared role.
 use Rattle.std.proofs.Common.{◌≡◌, ℕ, ◌+◌, ◌<◌, ◌≤◌, ◌==◌, ◌&&◌, Bool, true, false, not, cond, List, [], ◌∷◌, drop, drop_of_length-le, length, Option, Some, None, find, slice_get, MatchBool, IsSome, refl, ap, sym, subst, ◌∙◌, arith, option_map}
+use Rattle.std.specs.List.{count_by}
 use Rattle.std.specs.Option.{option_or}
 use Rattle.inet_num.specs.declared.Family.{Family}
 use Rattle.inet_num.specs.declared.Family.TheVariants.{V4, V6}
@@ -7,16 +8,17 @@ use Rattle.inet_num.specs.Net.{Address, block_at, width_of}
 use Rattle.inet_num.specs.Blocks.{same_family, same_block, same_address}
 use Rattle.ipam_data.specs.declared.address.IpAddress.{IpAddress}
 use Rattle.ipam_data.specs.declared.kinds.Table.{Table}
-use Rattle.ipam_data.specs.RowList.{least, least_pair, least_rival, is_rival, Rises}
+use Rattle.ipam_data.specs.RowList.{row_at, least, least_pair, least_rival, is_rival, Rises}
 use Rattle.ipam_data.specs.Rows.{address_id}
 use Rattle.ipam_data.specs.Tables.{table_of, same_table}
 use Rattle.ipam_data.specs.Addresses.{is_shared, clash, clashes, clash_in, clash_of}
 use Rattle.ipam_data.proofs.Kept.{none_from_map}
-use Rattle.placed_book.proofs.RowPlaces.{eq_false}
+use Rattle.placed_book.proofs.RowPlaces.{eq_true, eq_false}
 use Rattle.placed_book.specs.Kinds.{placed_address}
 use Rattle.placed_book.specs.Rivals.{in_one_table, is_rival as is_placed_rival}
 use Rattle.placed_book.proofs.Lookups.{one_table}
-use Rattle.placed_book.proofs.Searches.{some_within, none_drop, never_found, rises_from, pair_step}
+use Rattle.placed_book.proofs.Orders.{count_yes, count_no}
+use Rattle.placed_book.proofs.Searches.{some_within, none_counted, none_drop, never_found, rises_from, pair_step}
 
 -- ---- tests of one row and another
 
@@ -76,6 +78,40 @@ module _ {T : Type 0} (p q : T → Bool) where
     go false true f h ih = (let wrong : false ≡ true = f refl in cc)
     go false false f h ih = ih h
 
+  -- where one row passes the wider test, no other one passes the narrower
+  only_one : ((x : T) → q x ≡ true → p x ≡ true) → (xs : List T) (y : T) → count_by p xs ≡ 1 → find p xs ≡ Some y → find q xs ≡ cond (q y) (Some y) None
+  only_one fewer [] y n f = cc
+  only_one fewer (x ∷ xs) y n f = go (p x) refl f (only_one fewer xs y) where
+    go : (t : Bool) → p x ≡ t → cond t (Some x) (find p xs) ≡ Some y → (count_by p xs ≡ 1 → find p xs ≡ Some y → find q xs ≡ cond (q y) (Some y) None) → cond (q x) (Some x) (find q xs) ≡ cond (q y) (Some y) None
+    go true t f ih =
+        let is : x ≡ y = cc in
+        let sum = count_yes p x xs t in
+        let rest : find q xs ≡ None = none_of_fewer fewer xs (none_counted p xs (omega arith)) in
+        subst (λ (z : T). cond (q x) (Some x) (find q xs) ≡ cond (q z) (Some z) None) is (ap (λ (o : Option T). cond (q x) (Some x) o) rest)
+    go false t f ih =
+        let sum = count_no p x xs t in
+        ap (λ (s : Bool). cond s (Some x) (find q xs)) (denied (q x) (λ s. sym t ∙ fewer x s)) ∙ ih (omega arith) f
+      where
+        denied : (s : Bool) → (s ≡ true → false ≡ true) → s ≡ false
+        denied true f = (let wrong : false ≡ true = f refl in cc)
+        denied false f = refl
+
+  -- a row that is found is the one of its id
+  found_at : (id : T → ℕ) (low : ℕ) (xs : List T) (y : T) → Rises id low xs → find p xs ≡ Some y → (row_at id xs (id y) ≡ Some y) × (low < id y)
+  found_at id low [] y r f = cc
+  found_at id low (x ∷ xs) y r f = go (p x) f (found_at id (id x) xs y r.1) where
+    go : (t : Bool) → cond t (Some x) (find p xs) ≡ Some y → (find p xs ≡ Some y → (row_at id xs (id y) ≡ Some y) × (id x < id y)) → (cond (id x == id y) (Some x) (row_at id xs (id y)) ≡ Some y) × (low < id y)
+    go true f ih =
+        let is : x ≡ y = cc in
+        let same = ap id is in
+        let above = r.0 in
+        (rw (eq_true (id x) (id y) same) (ap Some is), omega arith)
+    go false f ih =
+        let rest = ih f in
+        let later = rest.1 in
+        let above = r.0 in
+        (rw (eq_false (id x) (id y) (omega arith)) rest.0, omega arith)
+
 pub unshared_least : (rows : List IpAddress) (row : IpAddress) → is_shared row ≡ false → least address_id (is_placed_rival address_id placed_address row) rows ≡ least_rival address_id clashes rows row
 unshared_least rows row u = ap (λ (o : Option IpAddress). option_map address_id o) (found_alike (is_placed_rival address_id placed_address row) (is_rival address_id clashes row) (λ x. unshared row x u) rows)
 
@@ -90,6 +126,46 @@ alone_none rows row from b e is =
     let h = alone rows row b e is in
     let none = none_of_fewer (is_placed_rival address_id placed_address row) (is_rival address_id clashes row) (is_there_too row) rows (none_from_map address_id (find (is_placed_rival address_id placed_address row) rows) h) in
     sym (ap (λ (o : Option IpAddress). option_map address_id o) (none_drop (is_rival address_id clashes row) from rows none))
+
+-- ---- where it is one row that may clash
+
+module _ (rows : List IpAddress) (row : IpAddress) where
+  none_clashes : find (is_placed_rival address_id placed_address row) rows ≡ None → None ≡ least_rival address_id clashes rows row
+  none_clashes none = sym (ap (λ (o : Option IpAddress). option_map address_id o) (none_of_fewer (is_placed_rival address_id placed_address row) (is_rival address_id clashes row) (is_there_too row) rows none))
+
+  pub none_there : count_by (is_placed_rival address_id placed_address row) rows ≡ 0 → None ≡ least_rival address_id clashes rows row
+  none_there n = none_clashes (none_counted (is_placed_rival address_id placed_address row) rows n)
+
+  pub none_first : None ≡ least address_id (is_placed_rival address_id placed_address row) rows → None ≡ least_rival address_id clashes rows row
+  none_first none = none_clashes (none_from_map address_id (find (is_placed_rival address_id placed_address row) rows) (sym none))
+
+  found_with : (o : Option IpAddress) (n : ℕ) → Some n ≡ option_map address_id o → (y : IpAddress) × (o ≡ Some y) × (n ≡ y.id)
+  found_with None n e = cc
+  found_with (Some y) n e = (y, refl, cc)
+
+  module _ (rises : Rises address_id 0 rows) (n : ℕ) (first : Some n ≡ least address_id (is_placed_rival address_id placed_address row) rows) where
+    first_row : (y : IpAddress) × (find (is_placed_rival address_id placed_address row) rows ≡ Some y) × (row_at address_id rows n ≡ Some y)
+    first_row =
+        let found = found_with (find (is_placed_rival address_id placed_address row) rows) n first in
+        let at = found_at (is_placed_rival address_id placed_address row) (is_rival address_id clashes row) address_id 0 rows found.0 rises found.1 in
+        (found.0, found.1, ap (λ (k : ℕ). row_at address_id rows k) found.2 ∙ at.0)
+
+    pub is_not_missing : None ≡ row_at address_id rows n → ⊥
+    is_not_missing none = (let there = first_row in let wrong : None ≡ Some there.0 = none ∙ there.2 in cc)
+
+    pub only_it : (other : IpAddress) → Some other ≡ row_at address_id rows n → count_by (is_placed_rival address_id placed_address row) rows ≡ 1
+        → (b : Bool) → b ≡ is_rival address_id clashes row other → cond b (Some other.id) None ≡ least_rival address_id clashes rows row
+    only_it other at one b is =
+        let there = first_row in
+        let same : there.0 ≡ other = (let e : Some other ≡ Some there.0 = at ∙ there.2 in cc) in
+        let alone = only_one (is_placed_rival address_id placed_address row) (is_rival address_id clashes row) (is_there_too row) rows other one (there.1 ∙ ap Some same) in
+        as_id b (is_rival address_id clashes row other) is ∙ sym (ap (λ (o : Option IpAddress). option_map address_id o) alone)
+      where
+        as_id : (b c : Bool) → b ≡ c → cond b (Some other.id) None ≡ option_map address_id (cond c (Some other) None)
+        as_id true true e = refl
+        as_id true false e = cc
+        as_id false true e = cc
+        as_id false false e = refl
 
 -- ---- pairs in a table
 

@@ -1,10 +1,13 @@
 //! Which addresses may not stand beside one another in a table that enforces: those with one host, unless both have a shared role.
 
 ghost use Rattle.std.specs.Prelude.{◌≡◌, ℕ, ◌+◌, ◌<◌, ◌≤◌, ◌&&◌, not, Some, drop, find, length, slice_get, option_map};
+ghost use Rattle.std.specs.List.{count_by};
 ghost use Rattle.ipam_data.specs.declared.address.IpAddress.{IpAddress as SeenAddress};
 ghost use Rattle.ipam_data.specs.RowList.{least, least_rival, is_rival};
 ghost use Rattle.ipam_data.specs.Rows.{address_id};
 ghost use Rattle.ipam_data.specs.Addresses.{is_shared_role, is_shared, clashes, clash_in, is_slaac_of_v4};
+ghost use Rattle.placed_book.specs.Kinds.{placed_address};
+ghost use Rattle.placed_book.specs.Rivals.{is_rival as is_placed_rival};
 ghost use Rattle.ip_addresses.specs.Book.{IsInOrder};
 
 use crate::AddressBook;
@@ -86,15 +89,38 @@ fn clash_behind<S: Space + Drop>(book: &AddressBook<S>, from: u32, row: &IpAddre
     clash_from(book, from, row)
 }
 
+/// The id of the one other row with the row's host in its table, where that clashes with the row.
+fn only_clash<S: Space + Drop>(book: &AddressBook<S>, row: &IpAddress) -> Option<u32>
+    requires order { IsInOrder book.now }
+    requires one { count_by (is_placed_rival address_id placed_address row.now) book.now.rows ≡ 1 }
+    ensures { result ≡ least_rival address_id clashes book.now.rows row.now }
+{
+    book.in_order();
+    let Some(id) = book.rival(row) else {
+        return None;
+    };
+    let Some(other) = book.get(id) else {
+        return None;
+    };
+    if is_clashing(row, other) {
+        return Some(other.id);
+    }
+    None
+}
+
 /// The least id of another row that clashes with the row: any with its host in its table, where its own role is not shared.
 pub fn least_clash<S: Space + Drop>(book: &AddressBook<S>, row: &IpAddress) -> Option<u32>
     requires { IsInOrder book.now }
     ensures { result ≡ least_rival address_id clashes book.now.rows row.now }
 {
-    if shares(row) {
-        return clash_behind(book, 0, row);
+    if !shares(row) {
+        return book.rival(row);
     }
-    book.rival(row)
+    match book.count_rivals(row) {
+        0 => None,
+        1 => only_clash(book, row),
+        _ => clash_from(book, 0, row),
+    }
 }
 
 /// The id of the row at an index and that of the first later one of the table that clashes with it.

@@ -1,5 +1,5 @@
 -- Rows that coincide: what the blocks of their table say of them.
-use Rattle.std.proofs.Common.{◌≡◌, ℕ, ◌+◌, ◌<◌, ◌≤◌, ◌==◌, ◌&&◌, Bool, true, false, not, cond, List, [], ◌∷◌, map, length, drop, drop_of_length-le, Option, Some, None, IsSome, find, slice_get, refl, ap, sym, subst, ◌∙◌, arith, option_map, if◌then◌else◌}
+use Rattle.std.proofs.Common.{◌≡◌, ℕ, ◌+◌, ◌<◌, ◌≤◌, ◌==◌, ◌&&◌, Bool, true, false, not, cond, List, [], ◌∷◌, map, length, drop, drop_of_length-le, Option, Some, None, find, slice_get, refl, ap, sym, subst, ◌∙◌, arith, option_map, if◌then◌else◌}
 use Rattle.std.specs.List.{count_by}
 use Rattle.std.proofs.lemmas.Bool.Decides.{nat_tests}
 use Rattle.std.specs.Option.{option_or}
@@ -15,7 +15,7 @@ use Rattle.placed_book.specs.Rivals.{in_one_table, is_where, own_times, coincide
 use Rattle.placed_book.proofs.Lookups.{one_table}
 use Rattle.placed_book.proofs.Orders.{count_yes, count_no, count_alike, count_map}
 use Rattle.placed_book.proofs.Figures.{through_count}
-use Rattle.placed_book.proofs.Searches.{none_counted, counted_found, none_drop, never_found, rises_from, some_within, pair_step}
+use Rattle.placed_book.proofs.Searches.{none_counted, none_drop, never_found, rises_from, some_within, pair_step}
 use mir.Val.{bool_byte}
 
 -- as many rows are where the row is as the table has its block
@@ -87,7 +87,7 @@ module _ {T : Type 0} (id : T → ℕ) (placed : T → Placed) where
         times_is ∙ ap (λ (u : Table). times_of (blocks_at tables u block.family) block) table_is ∙ ap (λ (c : Cidr). times_of (blocks_at tables (table_of (placed row).vrf) c.family) c) block_is
 
     -- so many rows coincide with it
-    rivals : count_by (is_rival id placed row) rows + own ≡ times
+    pub rivals : count_by (is_rival id placed row) rows + own ≡ times
     rivals =
         let all = where_times (map placed rows) tables (placed row) h in
         let each = count_map placed (is_where (placed row)) rows in
@@ -102,10 +102,6 @@ module _ {T : Type 0} (id : T → ℕ) (placed : T → Placed) where
         let sum = rivals in
         let none = none_counted (is_rival id placed row) rows (omega arith) in
         sym (ap (λ (o : Option T). option_map id o) (none_drop (is_rival id placed row) from rows none))
-
-    -- and else one does
-    pub some_rival : own < times → IsSome (least id (is_rival id placed row) rows)
-    some_rival less = (let sum = rivals in counted_found (is_rival id placed row) id rows (omega arith))
 
   -- ---- pairs in a table
 

@@ -8,6 +8,7 @@
 #![tactic(auto)]
 
 ghost use Rattle.std.specs.Prelude.{◌≡◌, ◌↔◌, ℕ, ◌+◌, ◌^◌, ◌<◌, ◌≤◌, true, false, None, IfSome, IsSome, IfOk, OnOk, OnErr, MatchBool, IsPermutation, length, map, option_copied, slice_get};
+ghost use Rattle.std.specs.List.{count_by};
 ghost use Rattle.inet_num.specs.declared.Family.{Family};
 ghost use Rattle.ipam_data.specs.declared.kinds.Table.{Table};
 ghost use Rattle.ipam_data.specs.RowList.{row_at, row_after, with_row, without, least, least_pair, Rises};
@@ -269,16 +270,23 @@ impl<T: Located + Drop, S: Space + Drop> PlacedBook<T, S> {
         self.rows.cut(id)
     }
 
-    /// Whether no row of another id is in the row's table with the row's block. It takes no memory, and asks the table's space
-    /// once: the table may have the block no more often than the row of the row's id accounts for.
+    /// How many rows of other ids are in the row's table with the row's block. It takes no memory, and asks the table's space once:
+    /// the table has the block so often, and once more where the row of the row's id accounts for it.
+    pub fn count_rivals(&self, row: &T) -> u32
+        requires { IsInOrder T.placed self.now }
+        ensures { result ≡ count_by (is_rival T.id_of T.placed row.now) self.now.rows }
+    {
+        in_order(&self.rows);
+        let own = is_in_place(&self.rows, row) as u32;
+        self.tables.times(Table::of(row.vrf()), row.block()) - own
+    }
+
+    /// Whether no row of another id is in the row's table with the row's block. It takes no memory, and asks the table's space once.
     pub fn is_alone(&self, row: &T) -> bool
         requires { IsInOrder T.placed self.now }
         ensures { MatchBool result (least T.id_of (is_rival T.id_of T.placed row.now) self.now.rows ≡ None) (IsSome (least T.id_of (is_rival T.id_of T.placed row.now) self.now.rows)) }
     {
-        in_order(&self.rows);
-        if self.tables.times(Table::of(row.vrf()), row.block())
-            <= is_in_place(&self.rows, row) as u32
-        {
+        if self.count_rivals(row) == 0 {
             return true;
         }
         false

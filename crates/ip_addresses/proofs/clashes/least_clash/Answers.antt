@@ -1,6 +1,9 @@
 use Rattle.std.proofs.Common.{◌∙◌, sym}
-use Rattle.ip_addresses.proofs.Sharing.{unshared_least}
+use Rattle.ip_addresses.proofs.Sharing.{unshared_least, none_there}
 use Rattle.ip_addresses.proofs.clashes.least_clash.Goals as goal
 
-pub returns : goal.returns
-returns g c = c.rival.ensures ∙ unshared_least c.args.book.now.rows c.args.row.now (sym c.shares.ensures ∙ c.if-shares.false)
+pub returns-then-not-shares : goal.returns-then-not-shares
+returns-then-not-shares g c = c.rival.ensures ∙ unshared_least c.args.book.now.rows c.args.row.now (sym c.shares.ensures ∙ c.if-not-shares.true)
+
+pub returns-in-0 : goal.returns-in-0
+returns-in-0 g c = none_there c.args.book.now.rows c.args.row.now (sym c.count_rivals.ensures ∙ c.in-0.is)

@@ -1,4 +1,4 @@
-use Rattle.std.proofs.Common.{◌≡◌, true, false, List, ◌≤◌, ◌+◌, ◌-◌, ℕ, map, sym, subst, ◌∙◌, ap, arith}
+use Rattle.std.proofs.Common.{◌≡◌, false, List, ◌≤◌, ◌+◌, ◌-◌, ℕ, map, sym, subst, ◌∙◌, ap, arith}
 use Rattle.std.specs.HashMap.{spare}
 use Rattle.inet_num.specs.Net.{Cidr}
 use Rattle.ipam_data.specs.declared.kinds.Table.{Table}

@@ -1,7 +1,7 @@
-use Rattle.std.proofs.Common.{◌≡◌, ◌≢◌, ℕ, ◌+◌, ◌-◌, ◌<◌, ◌/◌, ◌∙◌, length, arith, ap, sym, subst}
+use Rattle.std.proofs.Common.{◌≡◌, ◌≢◌, ℕ, ◌+◌, ◌-◌, ◌<◌, ◌/◌, ◌∙◌, length, arith, ap, sym}
 use Rattle.placed_book.specs.RowBook.{place}
-use Rattle.placed_book.proofs.RowPlaces.{place_short, place_past, place_upto, place_from, none_at_place, nothing_from, is_at}
-use Rattle.placed_book.specs.Keys.{number_of, key_of, IsGapFor}
+use Rattle.placed_book.proofs.RowPlaces.{place_short, place_past, place_upto, place_from, none_at_place, nothing_from}
+use Rattle.placed_book.specs.Keys.{number_of, key_of}
 use Rattle.placed_book.proofs.tables.search.Goals as goal
 
 pub loop-low-init : goal.loop-low-init
