@@ -1,5 +1,5 @@
 -- Addresses that clash: they are rows at one place, of which not both have a shared role.
-use Rattle.std.proofs.Common.{◌≡◌, ℕ, ◌+◌, ◌<◌, ◌≤◌, ◌==◌, ◌&&◌, Bool, true, false, not, cond, List, [], ◌∷◌, drop, drop_of_length-le, length, Option, Some, None, find, slice_get, MatchBool, IsSome, refl, ap, sym, subst, ◌∙◌, arith, option_map}
+use Rattle.std.proofs.Common.{◌≡◌, ℕ, zero, suc, ◌+◌, ◌<◌, ◌≤◌, ◌==◌, nat_lt, ◌&&◌, Bool, true, false, not, cond, List, [], ◌∷◌, drop, drop_of_length-le, length, Option, Some, None, find, slice_get, refl, ap, sym, subst, ◌∙◌, arith, option_map}
 use Rattle.std.specs.List.{count_by}
 use Rattle.std.specs.Option.{option_or}
 use Rattle.inet_num.specs.declared.Family.{Family}
@@ -13,11 +13,12 @@ use Rattle.ipam_data.specs.Rows.{address_id}
 use Rattle.ipam_data.specs.Tables.{table_of, same_table}
 use Rattle.ipam_data.specs.Addresses.{is_shared, clash, clashes, clash_in, clash_of}
 use Rattle.ipam_data.proofs.Kept.{none_from_map}
-use Rattle.placed_book.proofs.RowPlaces.{eq_true, eq_false}
+use Rattle.placed_book.proofs.RowPlaces.{lt_true, lt_false, eq_true, eq_false}
 use Rattle.placed_book.specs.Kinds.{placed_address}
 use Rattle.placed_book.specs.Rivals.{in_one_table, is_rival as is_placed_rival}
 use Rattle.placed_book.proofs.Lookups.{one_table}
-use Rattle.placed_book.proofs.Orders.{count_yes, count_no}
+use Rattle.ip_addresses.specs.Book.{clashes_past}
+use Rattle.placed_book.proofs.Orders.{both, count_yes, count_no}
 use Rattle.placed_book.proofs.Searches.{some_within, none_counted, none_drop, never_found, rises_from, pair_step}
 
 -- ---- tests of one row and another
@@ -112,32 +113,70 @@ module _ {T : Type 0} (p q : T → Bool) where
         let above = r.0 in
         (rw (eq_false (id x) (id y) (omega arith)) rest.0, omega arith)
 
+-- rows past an id
+
+module _ {T : Type 0} (id : T → ℕ) (q : T → Bool) where
+  with_test : (t s : Bool) → s ≡ true → (t && s) ≡ t
+  with_test true true e = refl
+  with_test true false e = cc
+  with_test false s e = refl
+
+  without_test : (t s : Bool) → s ≡ false → (t && s) ≡ false
+  without_test true true e = cc
+  without_test true false e = refl
+  without_test false s e = refl
+
+  -- where all ids are above it, each row is past it
+  all_past : (n low : ℕ) (xs : List T) → n ≤ low → Rises id low xs → find (λ x. q x && nat_lt n (id x)) xs ≡ find q xs
+  all_past n low [] le r = refl
+  all_past n low (x ∷ xs) le r =
+      let above = r.0 in
+      ap (λ (t : Bool). cond t (Some x) (find (λ y. q y && nat_lt n (id y)) xs)) (with_test (q x) (nat_lt n (id x)) (lt_true n (id x) (omega arith)))
+      ∙ ap (λ (o : Option T). cond (q x) (Some x) o) (all_past n (id x) xs (omega arith) r.1)
+
+  above_at : (low : ℕ) (xs : List T) (i : ℕ) (row : T) → Rises id low xs → slice_get xs i ≡ Some row → low < id row
+  above_at low [] i row r e = cc
+  above_at low (x ∷ xs) zero row r e = (let is : x ≡ row = cc in let same = ap id is in let above = r.0 in omega arith)
+  above_at low (x ∷ xs) (suc i) row r e = (let above = r.0 in let rest = above_at (id x) xs i row r.1 e in omega arith)
+
+  -- those behind a row are those of ids above its own
+  past_are_behind : (low : ℕ) (xs : List T) (i : ℕ) (row : T) → Rises id low xs → slice_get xs i ≡ Some row → find (λ x. q x && nat_lt (id row) (id x)) xs ≡ find q (drop (i + 1) xs)
+  past_are_behind low [] i row r e = cc
+  past_are_behind low (x ∷ xs) zero row r e =
+      let is : x ≡ row = cc in
+      let same = ap id is in
+      ap (λ (t : Bool). cond t (Some x) (find (λ y. q y && nat_lt (id row) (id y)) xs)) (without_test (q x) (nat_lt (id row) (id x)) (lt_false (id row) (id x) (omega arith)))
+      ∙ all_past (id row) (id x) xs (omega arith) r.1
+  past_are_behind low (x ∷ xs) (suc i) row r e =
+      let later = above_at (id x) xs i row r.1 e in
+      let next : suc i + 1 ≡ suc (i + 1) = omega arith in
+      ap (λ (t : Bool). cond t (Some x) (find (λ y. q y && nat_lt (id row) (id y)) xs)) (without_test (q x) (nat_lt (id row) (id x)) (lt_false (id row) (id x) (omega arith)))
+      ∙ past_are_behind (id x) xs i row r.1 e
+      ∙ rw next refl
+
 pub unshared_least : (rows : List IpAddress) (row : IpAddress) → is_shared row ≡ false → least address_id (is_placed_rival address_id placed_address row) rows ≡ least_rival address_id clashes rows row
 unshared_least rows row u = ap (λ (o : Option IpAddress). option_map address_id o) (found_alike (is_placed_rival address_id placed_address row) (is_rival address_id clashes row) (λ x. unshared row x u) rows)
 
-alone : (rows : List IpAddress) (row : IpAddress) (b : Bool) → b ≡ true
-    → MatchBool b (least address_id (is_placed_rival address_id placed_address row) rows ≡ None) (IsSome (least address_id (is_placed_rival address_id placed_address row) rows)) → least address_id (is_placed_rival address_id placed_address row) rows ≡ None
-alone rows row true e h = h
-alone rows row false e h = cc
-
-pub alone_none : (rows : List IpAddress) (row : IpAddress) (from : ℕ) (b : Bool) → b ≡ true
-    → MatchBool b (least address_id (is_placed_rival address_id placed_address row) rows ≡ None) (IsSome (least address_id (is_placed_rival address_id placed_address row) rows)) → None ≡ least address_id (is_rival address_id clashes row) (drop from rows)
-alone_none rows row from b e is =
-    let h = alone rows row b e is in
-    let none = none_of_fewer (is_placed_rival address_id placed_address row) (is_rival address_id clashes row) (is_there_too row) rows (none_from_map address_id (find (is_placed_rival address_id placed_address row) rows) h) in
-    sym (ap (λ (o : Option IpAddress). option_map address_id o) (none_drop (is_rival address_id clashes row) from rows none))
-
 -- ---- where it is one row that may clash
 
+past_is_there : (past : ℕ) (row x : IpAddress) → clashes_past past row x ≡ true → is_placed_rival address_id placed_address row x ≡ true
+past_is_there past row x h = is_there_too row x (both (is_rival address_id clashes row x) (nat_lt past x.id) h).0
+
 module _ (rows : List IpAddress) (row : IpAddress) where
-  none_clashes : find (is_placed_rival address_id placed_address row) rows ≡ None → None ≡ least_rival address_id clashes rows row
-  none_clashes none = sym (ap (λ (o : Option IpAddress). option_map address_id o) (none_of_fewer (is_placed_rival address_id placed_address row) (is_rival address_id clashes row) (is_there_too row) rows none))
+  as_ids : (p : IpAddress → Bool) (xs : List IpAddress) → find p xs ≡ None → None ≡ least address_id p xs
+  as_ids p xs none = sym (ap (λ (o : Option IpAddress). option_map address_id o) none)
 
-  pub none_there : count_by (is_placed_rival address_id placed_address row) rows ≡ 0 → None ≡ least_rival address_id clashes rows row
-  none_there n = none_clashes (none_counted (is_placed_rival address_id placed_address row) rows n)
+  -- where none is there, none clashes
+  pub none_there : (from : ℕ) → count_by (is_placed_rival address_id placed_address row) rows ≡ 0 → None ≡ least address_id (is_rival address_id clashes row) (drop from rows)
+  none_there from n =
+      let none = none_of_fewer (is_placed_rival address_id placed_address row) (is_rival address_id clashes row) (is_there_too row) rows (none_counted (is_placed_rival address_id placed_address row) rows n) in
+      as_ids (is_rival address_id clashes row) (drop from rows) (none_drop (is_rival address_id clashes row) from rows none)
 
-  pub none_first : None ≡ least address_id (is_placed_rival address_id placed_address row) rows → None ≡ least_rival address_id clashes rows row
-  none_first none = none_clashes (none_from_map address_id (find (is_placed_rival address_id placed_address row) rows) (sym none))
+  pub none_first : (past : ℕ) → None ≡ least address_id (is_placed_rival address_id placed_address row) rows → None ≡ least address_id (clashes_past past row) rows
+  none_first past none =
+      as_ids (clashes_past past row) rows
+      (none_of_fewer (is_placed_rival address_id placed_address row) (clashes_past past row) (past_is_there past row) rows
+      (none_from_map address_id (find (is_placed_rival address_id placed_address row) rows) (sym none)))
 
   found_with : (o : Option IpAddress) (n : ℕ) → Some n ≡ option_map address_id o → (y : IpAddress) × (o ≡ Some y) × (n ≡ y.id)
   found_with None n e = cc
@@ -153,19 +192,27 @@ module _ (rows : List IpAddress) (row : IpAddress) where
     pub is_not_missing : None ≡ row_at address_id rows n → ⊥
     is_not_missing none = (let there = first_row in let wrong : None ≡ Some there.0 = none ∙ there.2 in cc)
 
-    pub only_it : (other : IpAddress) → Some other ≡ row_at address_id rows n → count_by (is_placed_rival address_id placed_address row) rows ≡ 1
-        → (b : Bool) → b ≡ is_rival address_id clashes row other → cond b (Some other.id) None ≡ least_rival address_id clashes rows row
-    only_it other at one b is =
+    -- the one that is there is the least that clashes, or none does
+    pub only_it : (past : ℕ) (other : IpAddress) → Some other ≡ row_at address_id rows n → count_by (is_placed_rival address_id placed_address row) rows ≡ 1
+        → (b : Bool) → b ≡ clashes_past past row other → cond b (Some other.id) None ≡ least address_id (clashes_past past row) rows
+    only_it past other at one b is =
         let there = first_row in
         let same : there.0 ≡ other = (let e : Some other ≡ Some there.0 = at ∙ there.2 in cc) in
-        let alone = only_one (is_placed_rival address_id placed_address row) (is_rival address_id clashes row) (is_there_too row) rows other one (there.1 ∙ ap Some same) in
-        as_id b (is_rival address_id clashes row other) is ∙ sym (ap (λ (o : Option IpAddress). option_map address_id o) alone)
+        let alone = only_one (is_placed_rival address_id placed_address row) (clashes_past past row) (past_is_there past row) rows other one (there.1 ∙ ap Some same) in
+        as_id b (clashes_past past row other) is ∙ sym (ap (λ (o : Option IpAddress). option_map address_id o) alone)
       where
         as_id : (b c : Bool) → b ≡ c → cond b (Some other.id) None ≡ option_map address_id (cond c (Some other) None)
         as_id true true e = refl
         as_id true false e = cc
         as_id false true e = cc
         as_id false false e = refl
+
+  -- past 0 are all rows, and past the id of one of them those behind it
+  pub past_none : Rises address_id 0 rows → least address_id (clashes_past 0 row) rows ≡ least_rival address_id clashes rows row
+  past_none rises = ap (λ (o : Option IpAddress). option_map address_id o) (all_past address_id (is_rival address_id clashes row) 0 0 rows (omega arith) rises)
+
+  pub past_itself : (i : ℕ) → Rises address_id 0 rows → Some row ≡ slice_get rows i → least address_id (clashes_past row.id row) rows ≡ least address_id (is_rival address_id clashes row) (drop (i + 1) rows)
+  past_itself i rises at = ap (λ (o : Option IpAddress). option_map address_id o) (past_are_behind address_id (is_rival address_id clashes row) 0 rows i row rises (sym at))
 
 -- ---- pairs in a table
 

@@ -8,7 +8,7 @@ ghost use Rattle.ipam_data.specs.Rows.{address_id};
 ghost use Rattle.ipam_data.specs.Addresses.{is_shared_role, is_shared, clashes, clash_in, is_slaac_of_v4};
 ghost use Rattle.placed_book.specs.Kinds.{placed_address};
 ghost use Rattle.placed_book.specs.Rivals.{is_rival as is_placed_rival};
-ghost use Rattle.ip_addresses.specs.Book.{IsInOrder};
+ghost use Rattle.ip_addresses.specs.Book.{IsInOrder, clashes_past};
 
 use crate::AddressBook;
 use block_space::Space;
@@ -61,6 +61,13 @@ fn is_clashing(row: &IpAddress, other: &IpAddress) -> bool
                 && !(shares(row) && shares(other))))
 }
 
+/// The same, where the other one's id is above `past`.
+fn is_clashing_past(past: u32, row: &IpAddress, other: &IpAddress) -> bool
+    ensures { result ≡ clashes_past past row.now other.now }
+{
+    is_clashing(row, other) && past < other.id
+}
+
 /// The id of the first row from an index on that clashes with the row, looked for row by row.
 fn clash_from<S: Space + Drop>(book: &AddressBook<S>, from: u32, row: &IpAddress) -> Option<u32>
     requires { from ≤ length book.now.rows }
@@ -77,23 +84,11 @@ fn clash_from<S: Space + Drop>(book: &AddressBook<S>, from: u32, row: &IpAddress
     None
 }
 
-/// The same, where the table's space says that there may be one.
-fn clash_behind<S: Space + Drop>(book: &AddressBook<S>, from: u32, row: &IpAddress) -> Option<u32>
-    requires order { IsInOrder book.now }
-    requires within { from ≤ length book.now.rows }
-    ensures { result ≡ least address_id (is_rival address_id clashes row.now) (drop from book.now.rows) }
-{
-    if book.is_alone(row) {
-        return None;
-    }
-    clash_from(book, from, row)
-}
-
-/// The id of the one other row with the row's host in its table, where that clashes with the row.
-fn only_clash<S: Space + Drop>(book: &AddressBook<S>, row: &IpAddress) -> Option<u32>
+/// The id of the one other row with the row's host in its table, where its id is above `past` and it clashes with the row.
+fn only_clash<S: Space + Drop>(book: &AddressBook<S>, past: u32, row: &IpAddress) -> Option<u32>
     requires order { IsInOrder book.now }
     requires one { count_by (is_placed_rival address_id placed_address row.now) book.now.rows ≡ 1 }
-    ensures { result ≡ least_rival address_id clashes book.now.rows row.now }
+    ensures { result ≡ least address_id (clashes_past past row.now) book.now.rows }
 {
     book.in_order();
     let Some(id) = book.rival(row) else {
@@ -102,10 +97,24 @@ fn only_clash<S: Space + Drop>(book: &AddressBook<S>, row: &IpAddress) -> Option
     let Some(other) = book.get(id) else {
         return None;
     };
-    if is_clashing(row, other) {
+    if is_clashing_past(past, row, other) {
         return Some(other.id);
     }
     None
+}
+
+/// The id of the first row behind the row at an index that clashes with that one.
+fn clash_behind<S: Space + Drop>(book: &AddressBook<S>, index: u32, row: &IpAddress) -> Option<u32>
+    requires order { IsInOrder book.now }
+    requires at { Some row.now ≡ slice_get book.now.rows index }
+    ensures { result ≡ least address_id (is_rival address_id clashes row.now) (drop (index + 1) book.now.rows) }
+{
+    book.in_order();
+    match book.count_rivals(row) {
+        0 => None,
+        1 => only_clash(book, row.id, row),
+        _ => clash_from(book, index + 1, row),
+    }
 }
 
 /// The least id of another row that clashes with the row: any with its host in its table, where its own role is not shared.
@@ -116,9 +125,10 @@ pub fn least_clash<S: Space + Drop>(book: &AddressBook<S>, row: &IpAddress) -> O
     if !shares(row) {
         return book.rival(row);
     }
+    book.in_order();
     match book.count_rivals(row) {
         0 => None,
-        1 => only_clash(book, row),
+        1 => only_clash(book, 0, row),
         _ => clash_from(book, 0, row),
     }
 }
@@ -139,7 +149,7 @@ pub fn pair_at<S: Space + Drop>(
             if !is_one_table(Table::of(row.vrf), table) {
                 return None;
             }
-            match clash_behind(book, index + 1, row) {
+            match clash_behind(book, index, row) {
                 Some(other) => Some((row.id, other)),
                 None => None,
             }

@@ -29,13 +29,13 @@ pub trait AddressRules {
 
     /// The first rule that the row breaks beside the rows of other ids, past the VRF that it names: `ZeroMask`, `SlaacFamily`,
     /// `DnsName`, or, where its table enforces, `Duplicate` with the least id of another row of the table with its host, unless both
-    /// have a shared role. It looks at the rows only where the row's own role is shared and its host is there.
+    /// have a shared role. It looks at all rows only where the row's own role is shared and several others have its host.
     fn fault(&self, row: &IpAddress, enforcing: bool) -> Option<Rule>
         requires { ordered self.now }
         ensures { result ≡ address_fault (rows self.now) row.now enforcing };
 
     /// The least ids of two addresses of the table that may not stand in one that enforces, or `None`: the lesser id is the least of
-    /// one that has a later one that clashes with it. It looks at later rows only of a row whose host is there more than once.
+    /// one that has a later one that clashes with it. It looks at later rows only of a row whose host several others have.
     fn coincide(&self, table: Table) -> Option<(u32, u32)>
         requires { ordered self.now }
         ensures { result ≡ clash_of (rows self.now) table };
