@@ -15,6 +15,10 @@ phrase_of status = unwrap_or (reason_phrase status) []
 abbrev pub line_where : Bool → List ℕ → List ℕ → List ℕ
 line_where there name text = if there then name ++ text ++ codes "\r\n" else []
 
+-- the two fields that tell of a body, where there is one: its media type and its length (RFC 9110, sections 8.3 and 8.6)
+abbrev pub body_fields : Bool → List ℕ → List ℕ → List ℕ
+body_fields there media length = line_where there (codes "Content-Type: ") media ++ line_where there (codes "Content-Length: ") length
+
 -- there are some bytes
 abbrev pub is_there : List ℕ → Bool
 is_there text = nat_lt 0 (length text)
@@ -33,8 +37,7 @@ field_line (Some field) = field.name ++ codes ": " ++ decimal field.number ++ co
 unfoldable pub head_text : ℕ → List ℕ → Option NamedNumber → List ℕ → Bool → List ℕ → List ℕ
 head_text status allow field media close body =
     codes "HTTP/1.1 " ++ code_digits status ++ codes " " ++ phrase_of status ++ codes "\r\n"
-    ++ line_where (is_there body) (codes "Content-Type: ") media
-    ++ line_where (is_there body) (codes "Content-Length: ") (decimal (length body))
+    ++ body_fields (is_there body) media (decimal (length body))
     ++ line_where (is_there allow) (codes "Allow: ") allow
     ++ field_line field
     ++ line_where close (codes "Connection: ") (codes "close")

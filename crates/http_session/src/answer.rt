@@ -61,9 +61,8 @@ pub fn put_parts<S: Sink>(
     answer_writer.put(sink, status.as_str().as_bytes());
     answer_writer.put_line(sink, true, b" ", phrase(status));
     let there = !body.is_empty();
-    answer_writer.put_line(sink, there, b"Content-Type: ", media);
     let length = room.format(body.len()).as_bytes();
-    answer_writer.put_line(sink, there, b"Content-Length: ", length);
+    answer_writer.put_body_fields(sink, there, media, length);
     answer_writer.put_line(sink, !allow.is_empty(), b"Allow: ", allow);
     answer_writer.put_field(sink, field);
     answer_writer.put_line(sink, close, b"Connection: ", b"close");

@@ -1,7 +1,7 @@
 //! A text that is written in few large pieces: small ones are gathered first, without memory.
 ghost use Rattle.std.specs.Prelude.{◌≡◌, Bool, [], if◌then◌else◌, codes, ℕ, List, Option, option_map, ◌≤◌, ◌++◌};
 ghost use Rattle.ipam_edge.specs.Writing.{ByWrites};
-ghost use Rattle.http_session.specs.Answers.{HasPutCause, IsGathered, IsPutEnd, field_line, line_where};
+ghost use Rattle.http_session.specs.Answers.{HasPutCause, IsGathered, IsPutEnd, body_fields, field_line, line_where};
 ghost use Rattle.http_session.specs.Replies.{field_of};
 ghost use Rattle.http_session.specs.declared.answer.PutEnd.TheVariants.{Whole};
 
@@ -72,6 +72,21 @@ impl AnswerWriter {
         if there {
             self.put(sink, name);
             self.put(sink, text);
+            self.put(sink, b"\r\n");
+        }
+    }
+
+    /// Goes on with the two fields that tell of a body, where there is one: its media type and its length.
+    pub fn put_body_fields<S: Sink>(&mut self, sink: &mut S, there: bool, media: &[u8], length: &[u8])
+        ensures told { (start : Option (List ℕ)) (before : List ℕ) → IsGathered start (S.written sink.old) self.old.end self.old.gathered.items before → IsGathered start (S.written sink.new) self.new.end self.new.gathered.items (before ++ body_fields there media.now length.now) }
+        ensures cause { (start : ℕ) → HasPutCause start (S.faults sink.old) self.old.end → HasPutCause start (S.faults sink.new) self.new.end }
+        ensures writes { ByWrites S.writes sink.old sink.new }
+    {
+        if there {
+            self.put(sink, b"Content-Type: ");
+            self.put(sink, media);
+            self.put(sink, b"\r\nContent-Length: ");
+            self.put(sink, length);
             self.put(sink, b"\r\n");
         }
     }
