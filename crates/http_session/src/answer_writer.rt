@@ -77,7 +77,13 @@ impl AnswerWriter {
     }
 
     /// Goes on with the two fields that tell of a body, where there is one: its media type and its length.
-    pub fn put_body_fields<S: Sink>(&mut self, sink: &mut S, there: bool, media: &[u8], length: &[u8])
+    pub fn put_body_fields<S: Sink>(
+        &mut self,
+        sink: &mut S,
+        there: bool,
+        media: &[u8],
+        length: &[u8],
+    )
         ensures told { (start : Option (List ℕ)) (before : List ℕ) → IsGathered start (S.written sink.old) self.old.end self.old.gathered.items before → IsGathered start (S.written sink.new) self.new.end self.new.gathered.items (before ++ body_fields there media.now length.now) }
         ensures cause { (start : ℕ) → HasPutCause start (S.faults sink.old) self.old.end → HasPutCause start (S.faults sink.new) self.new.end }
         ensures writes { ByWrites S.writes sink.old sink.new }
