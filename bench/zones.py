@@ -50,10 +50,10 @@ def main():
         timed("250,000 names of IPv4 among 500,000", path, 1, "".join(line(host, n) for host, _, n in four))
         timed("250,000 names of IPv6 among 500,000", path, 2, "".join(line(host, n) for host, _, n in six))
         path = os.path.join(folder, "twice.db")
-        # more of them would make the opening long, which takes the square of their number
-        twice = [(host, "vip", n) for host, _, n in four[:20_000]]
+        # (a third time each would make the opening long: that takes the square of their number)
+        twice = [(host, "vip", n) for host, _, n in four[:200_000]]
         register(path, twice + twice)
-        timed("20,000 hosts that stand twice", path, 1, "".join(2 * line(host, n) for host, _, n in twice))
+        timed("200,000 hosts that stand twice", path, 1, "".join(2 * line(host, n) for host, _, n in twice))
         lines, size, pairs = [], 0, []
         for host, _, n in four:
             text = line(host, n)
