@@ -1,5 +1,5 @@
 #!/usr/bin/env python3
-"""Writes what pages take from elsewhere. In the crates' pages (docs/crates/): the crates that a crate depends on, in the third line, from crates.txt; and the table
+"""Writes what pages take from elsewhere. In the crates' pages (docs/crates/): the crates that a crate depends on, in the first paragraph, from crates.txt; and the table
 below `## Mutation tests`, from crates/CRATE/must-fail, which CI tries, and bench/edits/CRATE; what a page says below that table stays. In docs/ARCHITECTURE.md:
 the column `Depends on`.
 
@@ -9,13 +9,15 @@ the column `Depends on`.
 import os
 import re
 import sys
+import textwrap
 
 from layers import read_crates
 
 TOP = os.path.abspath(os.path.join(os.path.dirname(os.path.abspath(__file__)), ".."))
 HEAD = "| Where | Deliberate bugs that the prover must reject |\n|---|---|\n"
 SECTION = re.compile(r"(^## Mutation tests\n\n)(?:None\.\n|\| Where \|[^\n]*\n(?:\|[^\n]*\n)*)", re.M)
-BELOW = re.compile(r"\A(# [^\n]*\n\n[^\n]*?\.) It depends on [^\n]*\.\n")
+BELOW = re.compile(r"\A(# [^\n]*\n\n)([^\n]*?\.)\sIt\sdepends\son\s[^.]*\.\n")
+WIDTH = 120
 
 
 def names(folder):
@@ -38,10 +40,10 @@ def below(crate, crates):
 def page_of(text, crate, crates):
     """The page as it is to be, and why it cannot be written, if so."""
     if not BELOW.search(text):
-        return text, "has no third line that says on what the crate depends"
+        return text, "has no first paragraph that says on what the crate depends"
     if "## Mutation tests\n" not in text and table(crate) != "None.\n":
         return text, "has no section `## Mutation tests`"
-    text = BELOW.sub(lambda found: f"{found.group(1)} {below(crate, crates)}\n", text)
+    text = BELOW.sub(lambda found: found.group(1) + textwrap.fill(f"{found.group(2)} {below(crate, crates)}", WIDTH, break_on_hyphens=False) + "\n", text)
     return SECTION.sub(lambda found: found.group(1) + table(crate), text), None
 
 
