@@ -88,11 +88,13 @@ def main():
     os.makedirs(copy, exist_ok=True)
     try:
         copy_repository(copy, asked, line_of, with_all_below(asked, below))
+        copied = {name: edits_tried.checksum(name) for name in asked}
         refused = try_all(copy)
     finally:
         if not kept:
             shutil.rmtree(copy)
-    edits_tried.note([name for name in asked if refused.count(name) == len(edits_of(name))])
+    # (a crate that was changed meanwhile was tried over another text)
+    edits_tried.note([name for name in asked if refused.count(name) == len(edits_of(name)) and copied[name] == edits_tried.checksum(name)])
     every = sum(len(edits_of(name)) for name in asked)
     print(f"{len(refused)} of {every} edits refused")
     sys.exit(len(refused) != every)
