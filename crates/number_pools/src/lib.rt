@@ -10,5 +10,5 @@ mod rows;
 pub use calls::{
     Listed, MOST_CLAIMED, MOST_MEMBERS, MOST_RANGES, PoolCall, PoolRefusal, PoolReply, Quantity,
 };
-pub use claim::{Short, free_in, free_numbers, plan_claim};
+pub use claim::{Short, free_in, free_numbers, plan_claim, pool_of};
 pub use rows::{LAST_ASN, LAST_VLAN, Member, NumberRange, PoolKind};

@@ -13,8 +13,8 @@ ghost use Rattle.pool_opening.specs.Faults.{breaks_range, greater, is_outside, l
 
 use block_space::Space;
 use inet_num::Block;
-use number_pools::{Member, NumberRange, PoolKind};
-use pool_rows::{key_at, pool_of_range};
+use number_pools::{Member, NumberRange, PoolKind, pool_of};
+use pool_rows::key_at;
 use radix_tree::Tree;
 use stored_tables::tables::Text;
 
@@ -107,7 +107,7 @@ fn pool_found(range: Option<&NumberRange>, id: u32) -> u32
     ensures { result ≡ pool_found (option_copied range.entry) id }
 {
     match range {
-        Some(range) => pool_of_range(range),
+        Some(range) => pool_of(range),
         None => id,
     }
 }

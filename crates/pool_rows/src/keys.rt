@@ -2,24 +2,12 @@
 
 ghost use Rattle.std.specs.Prelude.{◌≡◌};
 ghost use Rattle.inet_num.specs.declared.Family.TheVariants.{V6};
-ghost use Rattle.number_pools.specs.Free.{pool_of};
 ghost use Rattle.number_pools.specs.Keys.{key_of};
 
 use inet_num::{Addr, Block, Family};
-use number_pools::{NumberRange, PoolKind};
 
 /// How many numbers a pool has at most.
 const POOL_SIZE: u128 = 4_294_967_296;
-
-/// The pool that a range gives out of.
-pub fn pool_of_range(range: &NumberRange) -> u32
-    ensures { result ≡ pool_of range.now }
-{
-    match range.kind {
-        PoolKind::Asn => 0,
-        PoolKind::Vlan => range.id,
-    }
-}
 
 /// The block of one address for a number of a pool.
 pub fn key_at(pool: u32, number: u32) -> Block

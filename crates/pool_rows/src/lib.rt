@@ -6,5 +6,5 @@ mod keys;
 mod opening;
 mod rows;
 
-pub use keys::{key_at, pool_of_range};
+pub use keys::key_at;
 pub use rows::PoolRows;

@@ -13,11 +13,11 @@ ghost use Rattle.number_pools.specs.Lawful.{AreNumbered, IsLawfulPools};
 ghost use Rattle.number_pools.specs.Steps.{with_range, without_member, without_range};
 ghost use Rattle.pool_rows.specs.Held.{with_member};
 
-use crate::keys::{key_at, pool_of_range};
+use crate::keys::key_at;
 use crate::opening::{TOO_MANY, book_of};
 use block_space::Space;
 use inet_num::Family;
-use number_pools::{Member, NumberRange};
+use number_pools::{Member, NumberRange, pool_of};
 use placed_book::{Book, RowBook};
 use radix_tree::Tree;
 use std::alloc::{AllocError, Global};
@@ -190,7 +190,7 @@ impl PoolRows {
         ensures { (m : OneMember) → m.range ≡ id → result ≡ pool_at self.now.pools.ranges.rows m }
     {
         match self.ranges.get(id) {
-            Some(range) => pool_of_range(range),
+            Some(range) => pool_of(range),
             None => id,
         }
     }

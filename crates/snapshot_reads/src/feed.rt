@@ -108,13 +108,6 @@ impl Feed {
         &self.writer.published().seen
     }
 
-    /// Whether it may publish more.
-    pub fn is_live(&self) -> bool
-        ensures { result ≡ self.now.live }
-    {
-        self.live
-    }
-
     /// Publishes a change, and gives the new number of changes. It may wait for a reader to leave a copy. The one error means out of
     /// memory, or a change that no copy takes in (`SnapshotRows::take_in`): readers then see what they saw, and the feed may only be
     /// closed.
