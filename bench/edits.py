@@ -1,16 +1,16 @@
 #!/usr/bin/env python3
-"""Tries mutation tests: deliberate bugs, each of which the prover must refuse. Those of bench/edits/ are outside CI; CI itself tries those of
-crates/*/must-fail/. It copies the crates asked for and what they depend on, puts their edits into must-fail/, and runs `rt ci` in the copy, which proves all
-of them side by side and tries each edit over what the check of its crate left. It prints what `rt` says as it goes, then one line an edit, and at the end a
-sum; its status is 1 where one is not refused.
+"""Tries mutation tests: deliberate bugs, each of which the prover must refuse. Those of bench/edits are outside CI; CI itself tries those of
+crates/*/must-fail. It copies the crates asked for and what they depend on, puts their edits into must-fail/, and runs `rt ci` in the copy, which proves all
+of them side by side and tries each edit over what the check of its crate left. It prints what `rt` says as it goes, then a sum. A refusal for a name that the
+edit takes away, or for a limit of the prover, says nothing of a contract and counts as *not shown*. Its status is 0 if every edit was refused and shown.
 
-What CI has proved on this machine is taken from there, where the kit keeps it, and so are the edits that an earlier run tried: a run that was stopped loses
-little. A crate whose edits were all refused is noted at the end, with the checksum of its text, in bench/edits_tried.txt: `bench/edits_tried.py left` prints
-the crates that are not there with the text that they have now.
+What CI has proved on this machine is taken from there, if the kit keeps it, and so are the edits that an earlier run tried: a run that was stopped loses
+little. bench/edits_reasons.txt gets the reason of each refusal, the prover's first line; bench/edits_tried.txt gets a line for each crate that was tried.
 
-usage: bench/edits.sh [CRATE..]       all crates that have edits, where none is named
-environment: EDITS_IN=FOLDER          where the copy is made, and stays, with all that `rt ci` said in its file `log` (none: a new folder, which is removed)
-             RT_JOBS=N                as for `rt ci`
+usage: bench/edits.sh [CRATE..]              the edits of bench/edits; with no name, those of all crates
+       bench/edits.sh --controls [CRATE..]   the controls: harmless texts in the place of each mutation test of CI, which the prover must pass
+environment: EDITS_IN=FOLDER                 where the copy is made and stays, with all that `rt ci` said in its file `log` (default: a new folder, removed at the end)
+             RT_JOBS=N                       as for `rt ci`
 """
 import os
 import re
@@ -19,12 +19,16 @@ import subprocess
 import sys
 import tempfile
 
+import edit_files
 import edits_tried
 
-TOP, EDITS = edits_tried.TOP, edits_tried.EDITS
+TOP, EDITS = edit_files.TOP, edit_files.EDITS
+REASONS = f"{EDITS}_reasons.txt"
 # What a crate's folder has beside its sources.
 NOT_COPIED = ("out", "must-fail")
-REFUSED = re.compile(r"^rt: must-fail (\w+)/\S+: refused")
+SAID = re.compile(r"^rt: must-fail (\w+)/(\S+)\.edit: (.*)")
+NOT_SHOWN = re.compile(r"refused, as it must be \((?:only because a proof file names|only by a limit of the prover)")
+REASON = re.compile(r"refused, as it must be(?: \(([^)]*)\))?:? ?(.*)")
 
 
 def lines_of_crates():
@@ -46,8 +50,10 @@ def with_all_below(asked, below):
     return found
 
 
-def copy_repository(to, asked, line_of, needed):
-    """Copies the sources of the crates needed, and the edits of those asked for."""
+def copy_repository(to, asked, ending):
+    """Copies the sources of the crates that these need, and the edits of these with that ending."""
+    line_of, below = lines_of_crates()
+    needed = with_all_below(asked, below)
     shutil.rmtree(f"{to}/crates", ignore_errors=True)
     shutil.copy(f"{TOP}/HANDLES", to)
     with open(f"{to}/crates.txt", "w", encoding="utf-8") as file:
@@ -55,17 +61,15 @@ def copy_repository(to, asked, line_of, needed):
     for name in needed:
         at = f"{TOP}/crates/{name}"
         shutil.copytree(at, f"{to}/crates/{name}", ignore=lambda folder, parts, at=at: NOT_COPIED if folder == at else ())
-    for name in asked:
-        shutil.copytree(f"{EDITS}/{name}", f"{to}/crates/{name}/must-fail")
-
-
-def edits_of(name):
-    return [it for it in os.listdir(f"{EDITS}/{name}") if it.endswith(".edit")]
+    for (crate, name), path in edit_files.outside(ending).items():
+        if crate in asked:
+            os.makedirs(f"{to}/crates/{crate}/must-fail", exist_ok=True)
+            shutil.copy(path, f"{to}/crates/{crate}/must-fail/{name}.edit")
 
 
 def try_all(copy):
-    """Runs CI in the copy, and returns the crate of each edit that was refused."""
-    refused = []
+    """Runs CI in the copy, and returns what it said of each edit, by crate and name."""
+    said = {}
     with open(f"{copy}/log", "w", encoding="utf-8") as log:
         with subprocess.Popen(["rt", "ci"], cwd=copy, stdin=subprocess.DEVNULL, stdout=subprocess.PIPE, stderr=subprocess.STDOUT) as ci:
             for told in ci.stdout:
@@ -73,31 +77,85 @@ def try_all(copy):
                 print(line, end="", file=log, flush=True)
                 if line.startswith("rt: "):
                     print(line[4:], end="", flush=True)
-                refused += REFUSED.findall(line)
-    return refused
+                if found := SAID.match(line):
+                    said[found[1], found[2]] = found[3]
+    return said
+
+
+def is_refused(text):
+    return text.startswith("refused")
+
+
+def is_shown(text):
+    return is_refused(text) and not NOT_SHOWN.match(text)
+
+
+def write_reasons(said):
+    """Puts the reason of each of these refusals into the file of reasons, in the place of an older one."""
+    reasons = {}
+    if os.path.exists(REASONS):
+        with open(REASONS, encoding="utf-8") as file:
+            reasons = dict(line.rstrip("\n").split(": ", 1) for line in file if ": " in line)
+    for (crate, name), text in said.items():
+        limits, first = REASON.match(text).groups() if is_refused(text) else ("", text)
+        reasons[f"{crate}/{name}"] = (f"not shown ({limits.split(',')[0]}): {first}" if limits else first).strip()
+    there = {f"{crate}/{name}" for crate, name in edit_files.outside(".edit")}
+    with open(REASONS, "w", encoding="utf-8") as file:
+        file.writelines(f"{name}: {reasons[name]}\n" for name in sorted(reasons) if name in there)
+
+
+def run(asked, ending):
+    """Tries the edits with that ending of these crates, and returns what was said of each, and the checksums of the crates that were tried."""
+    folder = os.environ.get("EDITS_IN")
+    copy = os.path.abspath(folder) if folder else tempfile.mkdtemp()
+    os.makedirs(copy, exist_ok=True)
+    try:
+        copy_repository(copy, asked, ending)
+        sums = {name: edits_tried.checksums(name) for name in asked}
+        return try_all(copy), sums
+    finally:
+        if not folder:
+            shutil.rmtree(copy)
+
+
+def try_controls(asked):
+    """Tries the controls: each must be proved."""
+    said, _ = run(asked, ".control")
+    wanted = [it for it in edit_files.outside(".control") if it[0] in asked]
+    failed = [it for it in wanted if not said.get(it, "").startswith("NOT REFUSED")]
+    for it in failed:
+        print(f"control {'/'.join(it)}: {said.get(it, 'not tried')}")
+    print(f"{len(wanted) - len(failed)} of {len(wanted)} controls proved")
+    return not failed
+
+
+def try_edits(asked):
+    """Tries the edits: each must be refused, and for what it says."""
+    said, sums = run(asked, ".edit")
+    write_reasons(said)
+    counts = {}
+    for name in asked:
+        mine = [it for it in edit_files.outside(".edit") if it[0] == name]
+        texts = [said.get(it, "") for it in mine]
+        counts[name] = len(mine), sum(map(is_refused, texts)), sum(map(is_shown, texts))
+    # (a crate that was changed meanwhile was tried over another text)
+    done = {name: it for name, it in counts.items() if it[0] == it[1] and sums[name] == edits_tried.checksums(name)}
+    edits_tried.note(done)
+    every, refused, shown = (sum(it) for it in zip(*counts.values()))
+    print(f"{refused} of {every} edits refused, {refused - shown} of them not shown")
+    return shown == every
 
 
 def main():
-    line_of, below = lines_of_crates()
-    asked = sys.argv[1:] or sorted(os.listdir(EDITS))
+    words = sys.argv[1:]
+    is_control = words[:1] == ["--controls"]
+    ending = ".control" if is_control else ".edit"
+    there = sorted({crate for crate, _ in edit_files.outside(ending)})
+    asked = words[is_control:] or there
     for name in asked:
-        if name not in line_of or not os.path.isdir(f"{EDITS}/{name}"):
-            sys.exit(f"edits: no crate {name} with edits in bench/edits")
-    kept = os.environ.get("EDITS_IN")
-    copy = os.path.abspath(kept) if kept else tempfile.mkdtemp()
-    os.makedirs(copy, exist_ok=True)
-    try:
-        copy_repository(copy, asked, line_of, with_all_below(asked, below))
-        copied = {name: edits_tried.checksum(name) for name in asked}
-        refused = try_all(copy)
-    finally:
-        if not kept:
-            shutil.rmtree(copy)
-    # (a crate that was changed meanwhile was tried over another text)
-    edits_tried.note([name for name in asked if refused.count(name) == len(edits_of(name)) and copied[name] == edits_tried.checksum(name)])
-    every = sum(len(edits_of(name)) for name in asked)
-    print(f"{len(refused)} of {every} edits refused")
-    sys.exit(len(refused) != every)
+        if name not in there:
+            sys.exit(f"edits: no crate {name} with files *{ending} in bench/edits")
+    sys.exit(not (try_controls if is_control else try_edits)(asked))
 
 
 if __name__ == "__main__":
