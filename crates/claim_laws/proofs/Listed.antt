@@ -38,7 +38,7 @@ use Rattle.ipam_data.specs.Claims.{claim, claimed_prefixes, claimed_addresses, c
 use Rattle.ipam_data.specs.Imports.{most_rows, name_rules, value_rules, kind_rule, draft_of, Progress, begun, makes_one, with_draft, after_row, after_rows, at_row, create_checks, row_checks, row_verdict, row_verdicts, items_of, import_plan}
 use Rattle.ipam_data.specs.Steps.{plan_of, plain_step, change_of_kind, delete_plan, list_plan}
 use Rattle.ipam_data.specs.Lawful.{IsLawful}
-use Rattle.claim_laws.specs.Laws.{IsListed, StepsKeepListed}
+use Rattle.claim_laws.specs.Rows.{IsListed, StepsKeepListed}
 use Rattle.ipam_data.proofs.RowLists.{row_list-appended, with_row_above}
 use Rattle.ipam_data.proofs.Kept.{found_there, row_list-replaced, row_list-cleared, row_list-mapped}
 use Rattle.ipam_data.proofs.Verdicts.{none_head, none_rest, none_left, none_right, room_from}

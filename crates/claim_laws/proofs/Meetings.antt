@@ -1,167 +1,240 @@
--- What a call of a history made stands where a later claim looks, unless an entry between changed it or took it out; so no claim
--- gets it again.
-use Rattle.std.proofs.Common.{◌≡◌, ◌≢◌, ◌↔◌, ℕ, zero, suc, ◌+◌, ◌-◌, ◌<◌, ◌≤◌, ◌&&◌, Contains, Bool, true, false, cond, nat_le, List, [], ◌∷◌, length, filter, map, Some, None, refl, ap, sym, ◌∙◌, subst, arith, inl, inr, ◌⊎◌, take}
-use Rattle.std.specs.List.{AllByRecursion, slice_get}
+-- What a call of a history made stands where a later claim looks, unless an entry between released it; so no claim gets it again.
+use Rattle.std.proofs.Common.{◌&&◌, ◌++◌, ◌+◌, ◌-◌, ◌<◌, ◌==◌, ◌↔◌, ◌∙◌, ◌∷◌, ◌≡◌, ◌≢◌, ◌≤◌, ◌⊎◌, Bool, Contains, List, None, Option, Some, [], ap, arith, false, if◌then◌else◌, inl, inr, length, map, nat_le, refl, subst, suc, sym, take, true, zero, ℕ}
 use Rattle.std.proofs.lemmas.Bool.Decides.{nat_tests}
 use Rattle.std.proofs.lemmas.Nat.{pow_pos}
-use Rattle.ipam_data.specs.declared.kinds.Kind.{Kind}
-use Rattle.ipam_data.specs.declared.kinds.Kind.TheVariants.{Prefixes, Addresses}
-use Rattle.ipam_data.specs.declared.calls.Call.{Call}
-use Rattle.ipam_data.specs.declared.calls.Call.TheVariants.{ClaimBlocks, ClaimPrefixAddrs, ClaimRangeAddrs}
-use Rattle.inet_num.specs.Net.{width_of, Cidr, IsBlock, size_of, IsInside, IsStrictlyInside}
-use Rattle.inet_num.specs.Blocks.{is_strictly_inside, is_block_inside, same_family}
+use Rattle.std.proofs.lemmas.List.{length-map}
+use Rattle.std.proofs.lemmas.List.Elements.{Contains-append_cases}
+use Rattle.std.specs.List.{slice_get}
 use Rattle.inet_num.proofs.Aligned.{nested, not_longer}
+use Rattle.inet_num.proofs.Insides.{both, inside_is_by_ends, inside_tested, one_family, same_address-refl, same_block-refl}
 use Rattle.inet_num.proofs.Nested.{inside_trans}
-use Rattle.inet_num.proofs.Numbers.{inside_by_ends, len_of_strictly}
-use Rattle.inet_num.proofs.Insides.{both, one_family, inside_tested, inside_is_by_ends}
-use Rattle.ipam_data.specs.declared.prefix.Prefix.{Prefix}
-use Rattle.ipam_data.specs.declared.address.IpAddress.{IpAddress}
-use Rattle.ipam_data.specs.Rows.{prefix_id}
-use Rattle.ipam_data.specs.Prefixes.{prefix_rules}
-use Rattle.ipam_data.specs.Claims.{sees_all, is_child_prefix, child_blocks}
-use Rattle.ipam_data.specs.RowList.{AllBelow}
-use Rattle.ipam_data.specs.State.{State}
-use Rattle.ipam_data.specs.Plans.{KindRules}
+use Rattle.inet_num.proofs.Numbers.{inside_by_ends, len_of_strictly, same_block as one_block}
+use Rattle.inet_num.specs.Blocks.{is_block_inside, is_strictly_inside, same_address, same_block, same_family}
+use Rattle.inet_num.specs.Count.{numbers_from}
+use Rattle.inet_num.specs.Net.{Address, Cidr, IsBlock, IsInside, IsStrictlyInside, size_of, width_of}
 use Rattle.ipam_data.specs.Addresses.{address_rules}
-use Rattle.ipam_data.specs.Steps.{plain_step, HasCallBounds}
-use Rattle.ipam_data.specs.Replays.{Entry, replay, is_accepted}
+use Rattle.ipam_data.specs.Fields.{edited_address, edited_prefix, kind_of_edit}
 use Rattle.ipam_data.specs.Lawful.{IsLawful}
-use Rattle.claim_laws.specs.Laws.{IsListed, new_rows, made_by, touches, IsTouchedBetween, claims_addresses, AddressesNeverMeet, ShareNone, claims_blocks, BlocksNeverMeet, ClaimsNeverMeet}
-use Rattle.ipam_data.proofs.RowLists.{contains_cases, contains_rest}
-use Rattle.ipam_data.proofs.Kept.{found_there}
-use Rattle.ipam_data.proofs.Decided.{same_table-of}
+use Rattle.ipam_data.specs.Plans.{KindRules, nothing_told, replace, with_found, with_row_at}
+use Rattle.ipam_data.specs.Prefixes.{prefix_rules, view_of}
+use Rattle.ipam_data.specs.Replays.{is_accepted, replay}
+use Rattle.ipam_data.specs.RowList.{row_at, with_row}
+use Rattle.ipam_data.specs.Rows.{address_id, prefix_id, same_kind}
+use Rattle.ipam_data.specs.State.{Plan, State, verdict_of}
+use Rattle.ipam_data.specs.Steps.{HasCallBounds, change_of_kind, plain_step}
+use Rattle.ipam_data.specs.Tables.{same_table, table_of}
+use Rattle.ipam_data.specs.Updates.{answered, outcome, updated}
+use Rattle.ipam_data.specs.declared.address.IpAddress.{IpAddress}
+use Rattle.ipam_data.specs.declared.calls.AddrItem.{AddrItem}
+use Rattle.ipam_data.specs.declared.calls.Answered.{Answered}
+use Rattle.ipam_data.specs.declared.calls.BlockItem.{BlockItem}
+use Rattle.ipam_data.specs.declared.calls.Call.{Call}
+use Rattle.ipam_data.specs.declared.calls.Call.TheVariants.{Change, ClaimBlocks, ClaimPrefixAddrs, ClaimRangeAddrs, Delete}
+use Rattle.ipam_data.specs.declared.calls.Edit.{Edit}
+use Rattle.ipam_data.specs.declared.kinds.Kind.{Kind}
+use Rattle.ipam_data.specs.declared.kinds.Kind.TheVariants.{Addresses, Prefixes}
+use Rattle.ipam_data.specs.declared.prefix.Prefix.{Prefix}
+use Rattle.ipam_data.specs.declared.replies.Refusal.{Refusal}
+use Rattle.ipam_data.specs.declared.replies.Reply.{Reply}
+use Rattle.ipam_data.specs.declared.replies.Reply.TheVariants.{Refused}
+use Rattle.ipam_data.specs.declared.replies.View.{View}
+use Rattle.ipam_data.specs.declared.replies.View.TheVariants.{IpAddress as AddressView}
 use Rattle.ipam_data.proofs.AllCalls.{steps_keep}
-use Rattle.ipam_data.proofs.Quiet.{steps_stay}
-use Rattle.claim_laws.proofs.Listed.{step_listed, lawful_listed}
-use Rattle.claim_laws.proofs.NewClaims.{old_ones, either}
-use Rattle.claim_laws.proofs.NewBlocks.{claims_new}
+use Rattle.ipam_data.proofs.Decided.{same_table-of}
+use Rattle.ipam_data.proofs.DraftLaws.{address_stays, prefix_stays}
+use Rattle.ipam_data.proofs.Kept.{found_there}
+use Rattle.ipam_data.proofs.RowLists.{contains_rest}
+use Rattle.ipam_data.proofs.SameDrafts.{kinds}
+use Rattle.claim_laws.specs.Claims.{GotAddresses, GotBlocks, IsLeastBlock}
+use Rattle.claim_laws.specs.Free.{IsFreeIn, IsFreeInRange, ShareNone}
+use Rattle.claim_laws.specs.Histories.{AddressesNeverMeet, BlocksNeverMeet, ClaimsNeverMeet, ReleasesAddress, ReleasesPrefix, claims_addresses, claims_blocks}
+use Rattle.claim_laws.specs.Rows.{Came, IsListed, IsMade, touches}
+use Rattle.claim_laws.proofs.FreeAddresses.{one_address, one_table}
+use Rattle.claim_laws.proofs.Histories.{after_entry, between, good_at, kept_to, made_accepted, none_asked}
+use Rattle.claim_laws.proofs.LeastAddresses.{in_prefix, in_range}
+use Rattle.claim_laws.proofs.LeastBlocks.{of_blocks}
+use Rattle.claim_laws.proofs.Listed.{lawful_listed, step_listed}
+use Rattle.claim_laws.proofs.Lists.{contains_place, not_both, place_within}
+use Rattle.claim_laws.proofs.NewIds.{ids_are_new}
 use Rattle.claim_laws.proofs.Stays.{rows_stay}
 
--- ---- places of a history
+-- ---- the rows of a claim are for its items
 
--- nothing is asked of entries
-none_asked : (history : List Entry) → AllByRecursion (λ (e : Entry). Unit {0}) history
-none_asked [] = tt
-none_asked (e ∷ es) = (tt, none_asked es)
+-- there is an item for each row
+item_at : {T U : Type 0} (items : List T) (rows : List U) (k : ℕ) (x : U) → length rows ≡ length items → slice_get rows k ≡ Some x → (item : T) × (slice_get items k ≡ Some item)
+item_at [] [] k x e q = cc
+item_at [] (y ∷ rows) k x e q = absurd (omega arith)
+item_at (item ∷ items) [] k x e q = cc
+item_at (item ∷ items) (y ∷ rows) zero x e q = (item, refl)
+item_at (item ∷ items) (y ∷ rows) (suc k) x e q = item_at items rows k x (omega arith) q
 
--- the state after the entry of a place
-after_entry : (history : List Entry) (i : ℕ) (s : State) (e : Entry) → slice_get history i ≡ Some e → replay s (take (suc i) history) ≡ (plain_step (replay s (take i history)) e.call).0
-after_entry [] i s e q = cc
-after_entry (f ∷ fs) zero s e q = (let same : f ≡ e = cc in ap (λ (g : Entry). (plain_step s g.call).0) same)
-after_entry (f ∷ fs) (suc i) s e q = after_entry fs i (plain_step s f.call).0 e q
+numbers_many : (n many : ℕ) → length (numbers_from n many) ≡ many
+unfolding numbers_from
+numbers_many n zero = refl
+numbers_many n (suc many) = ap (λ (k : ℕ). suc k) (numbers_many (n + 1) many)
 
--- an accepted entry from one place on and before another touches the row
-pub record IsTouched (s : State) (history : List Entry) (from to : ℕ) (kind : Kind) (n : ℕ) : Type 0 where
-  pub place : ℕ
-  pub entry : Entry
-  pub from_on : from ≤ place
-  pub before : place < to
-  pub there : slice_get history place ≡ Some entry
-  pub touching : touches kind n entry.call ≡ true
-  pub accepted : is_accepted (plain_step (replay s (take place history)) entry.call).1 ≡ true
+-- a claim makes a row for each item
+many_came : {T : Type 0} (rules : KindRules T) (s : State) (done : State × Reply) (form : Answered) (items : ℕ) (view : T → View) (rows : List T) → Came rules s done form items view rows → length rows ≡ items
+many_came rules s done form items view rows c = sym (length-map rows rules.id) ∙ ap length c.ids ∙ numbers_many (rules.row_list s).next items
 
-pub between : {s : State} {history : List Entry} {i j : ℕ} {kind : Kind} {n : ℕ} → IsTouched s history (suc i) j kind n → IsTouchedBetween s history i j kind n
-between t = record { place = t.place; entry = t.entry; after = (let a = t.from_on in omega arith); before = t.before; there = t.there; touching = t.touching; accepted = t.accepted }
+row_table : (items : List AddrItem) (vrf : Option ℕ) (len : ℕ) (s : State) (done : State × Reply) (form : Answered) (IsFree : Address → Type 0) (got : GotAddresses IsFree vrf len s form items done) (y : IpAddress)
+    → Contains got.rows y → y.vrf ≡ vrf
+row_table items vrf len s done form IsFree got y c =
+    let place = contains_place got.rows y c in
+    let item = item_at items got.rows place.0 y (many_came address_rules s done form (length items) AddressView got.rows got.came) place.1 in
+    (got.each place.0 item.0 y item.1 place.1).table
 
-later : (s : State) (e : Entry) (es : List Entry) (from to : ℕ) (kind : Kind) (n : ℕ) → IsTouched (plain_step s e.call).0 es from to kind n → IsTouched s (e ∷ es) (suc from) (suc to) kind n
-later s e es from to kind n t = record {
-  place = suc t.place;
-  entry = t.entry;
-  from_on = (let a = t.from_on in omega arith);
-  before = (let a = t.before in omega arith);
-  there = t.there;
-  touching = t.touching;
-  accepted = t.accepted;
-}
+mapped_place : {T U : Type 0} (f : T → U) (xs : List T) (k : ℕ) (x : T) → slice_get xs k ≡ Some x → slice_get (map f xs) k ≡ Some (f x)
+mapped_place f [] k x q = cc
+mapped_place f (y ∷ ys) zero x q = (let e : y ≡ x = cc in ap (λ z. Some (f z)) e)
+mapped_place f (y ∷ ys) (suc k) x q = mapped_place f ys k x q
 
--- of states that each step keeps so, where the calls are so
-module _ (Is : State → Type 0) (Ok : Call → Type 0) (steps : (s : State) (call : Call) → Is s → Ok call → Is (plain_step s call).0) where
-  -- each state of a replay is one
-  pub is_at : (history : List Entry) (n : ℕ) (s : State) → Is s → AllByRecursion (λ (e : Entry). Ok e.call) history → Is (replay s (take n history))
-  is_at history zero s h b = h
-  is_at [] (suc n) s h b = h
-  is_at (e ∷ es) (suc n) s h b = is_at es n (plain_step s e.call).0 (steps s e.call h b.0) b.1
+row_block : (items : List BlockItem) (s : State) (done : State × Reply) (form : Answered) (p : Prefix) (got : GotBlocks s p form items done) (y : Prefix) → Contains got.rows y
+    → (e : List Cidr × ℕ) × (y.vrf ≡ p.vrf) × IsLeastBlock s p e.0 e.1 y.block
+row_block items s done form p got y c =
+    let place = contains_place got.rows y c in
+    let item = item_at items got.rows place.0 y (many_came prefix_rules s done form (length items) (view_of done.0.prefixes.rows) got.rows got.came) place.1 in
+    let blocks : List Cidr = map (λ (x : Prefix). x.block) got.rows in (
+      (take place.0 blocks, item.0.len),
+      (got.each place.0 item.0 y item.1 place.1).table,
+      got.least place.0 item.0 y.block item.1 (mapped_place (λ (x : Prefix). x.block) got.rows place.0 y place.1),
+    )
 
-  -- what each step keeps that does not touch a row, a replay keeps from one place to another, unless it touches the row there
-  module _ (P : State → Type 0) (kind : Kind) (n : ℕ) (keeps : (s : State) (call : Call) → Is s → touches kind n call ≡ false → P s → P (plain_step s call).0) where
-    pub kept_to : (history : List Entry) (from to : ℕ) (s : State) → from ≤ to → to ≤ length history → Is s → AllByRecursion (λ (e : Entry). Ok e.call) history → P (replay s (take from history))
-        → P (replay s (take to history)) ⊎ IsTouched s history from to kind n
-    kept_to history zero zero s l m h b p = inl p
-    kept_to history (suc from) zero s l m h b p = absurd (omega arith)
-    kept_to [] from (suc to) s l m h b p = absurd (omega arith)
-    kept_to (e ∷ es) zero (suc to) s l m h b p =
-        go (touches kind n e.call) refl (is_accepted (plain_step s e.call).1) refl (λ q. kept_to es zero to (plain_step s e.call).0 (omega arith) (omega arith) (steps s e.call h b.0) b.1 q)
-      where
-        rest : (P (plain_step s e.call).0 → P (replay (plain_step s e.call).0 (take to es)) ⊎ IsTouched (plain_step s e.call).0 es zero to kind n) → P (plain_step s e.call).0
-            → P (replay (plain_step s e.call).0 (take to es)) ⊎ IsTouched s (e ∷ es) zero (suc to) kind n
-        rest ih q = elim (ih q) [
-          | inl q ↦ inl q
-          | inr t ↦ inr (record { place = suc t.place; entry = t.entry; from_on = omega arith; before = (let a = t.before in omega arith); there = t.there; touching = t.touching; accepted = t.accepted })
-        ]
+-- ---- what an accepted change or deletion does
 
-        go : (t : Bool) → touches kind n e.call ≡ t → (a : Bool) → is_accepted (plain_step s e.call).1 ≡ a
-            → (P (plain_step s e.call).0 → P (replay (plain_step s e.call).0 (take to es)) ⊎ IsTouched (plain_step s e.call).0 es zero to kind n)
-            → P (replay (plain_step s e.call).0 (take to es)) ⊎ IsTouched s (e ∷ es) zero (suc to) kind n
-        go true t true a ih = inr (record { place = 0; entry = e; from_on = omega arith; before = omega arith; there = refl; touching = t; accepted = a })
-        go true t false a ih = rest ih (subst P (sym (steps_stay s e.call a)) p)
-        go false t a q ih = rest ih (keeps s e.call h t p)
-    kept_to (e ∷ es) (suc from) (suc to) s l m h b p = elim (kept_to es from to (plain_step s e.call).0 (omega arith) (omega arith) (steps s e.call h b.0) b.1 p) [
-      | inl q ↦ inl q
-      | inr t ↦ inr (later s e es from to kind n t)
-    ]
-
-place_within : (history : List Entry) (i : ℕ) (e : Entry) → slice_get history i ≡ Some e → i < length history
-place_within [] i e q = cc
-place_within (f ∷ fs) zero e q = omega arith
-place_within (f ∷ fs) (suc i) e q = (let a = place_within fs i e q in omega arith)
-
--- ---- rows that a call made
-
-filtered_there : {T : Type 0} (p : T → Bool) (xs : List T) (x : T) → Contains (filter p xs) x → Contains xs x
-filtered_there p [] x c = c
-filtered_there p (y ∷ ys) x c = go (p y) c (filtered_there p ys x)
+same_or_other : (a b : Address) → (a ≡ b) ⊎ (a ≢ b)
+same_or_other a b = go (same_address a b) refl
   where
-    go : (t : Bool) → Contains (cond t (y ∷ filter p ys) (filter p ys)) x → (Contains (filter p ys) x → Contains ys x) → Contains (y ∷ ys) x
-    go true c ih = elim (contains_cases y x (filter p ys) c) [ inl e ↦ (0, omega arith, e) | inr d ↦ contains_rest y x ys (ih d) ]
-    go false c ih = contains_rest y x ys (ih c)
+    go : (t : Bool) → same_address a b ≡ t → (a ≡ b) ⊎ (a ≢ b)
+    go true e =
+        let h = both (same_family a.family b.family) (a.value == b.value) e in
+        let value : a.value ≡ b.value = (let q = h.1 in grind (arith, nat_tests)) in
+        inl (one_address a b (one_family a.family b.family h.0) value)
+    go false e = inr (λ q. let t : same_address a b ≡ true = rw q (same_address-refl b) in not_both (same_address a b) t e)
 
-module _ {T : Type 0} (rules : KindRules T) where
-  pub made_there : (s : State) (call : Call) (x : T) → Contains (made_by rules s call) x → Contains (rules.row_list (plain_step s call).0).rows x
-  made_there s call x c = filtered_there (λ row. nat_le (rules.row_list s).next (rules.id row)) (rules.row_list (plain_step s call).0).rows x c
+same_or_other_block : (a b : Cidr) → (a ≡ b) ⊎ (a ≢ b)
+same_or_other_block a b = go (same_block a b) refl
+  where
+    go : (t : Bool) → same_block a b ≡ t → (a ≡ b) ⊎ (a ≢ b)
+    go true e =
+        let h = both (same_family a.family b.family && a.first == b.first) (a.len == b.len) e in
+        let k = both (same_family a.family b.family) (a.first == b.first) h.0 in
+        let first : a.first ≡ b.first = (let q = k.1 in grind (arith, nat_tests)) in
+        let len : a.len ≡ b.len = (let q = h.1 in grind (arith, nat_tests)) in
+        inl (one_block a b (one_family a.family b.family k.0) first len)
+    go false e = inr (λ q. let t : same_block a b ≡ true = rw q (same_block-refl b) in not_both (same_block a b) t e)
 
-  -- a call that made something was accepted
-  pub made_accepted : (s : State) (call : Call) (x : T) → AllBelow rules.id (rules.row_list s).next (rules.row_list s).rows → Contains (made_by rules s call) x → is_accepted (plain_step s call).1 ≡ true
-  made_accepted s call x below c = go (is_accepted (plain_step s call).1) refl
-    where
-      go : (t : Bool) → is_accepted (plain_step s call).1 ≡ t → is_accepted (plain_step s call).1 ≡ true
-      go true e = e
-      go false e =
-          let none : made_by rules s call ≡ [] = ap (λ (t : State). new_rows rules s t) (steps_stay s call e) ∙ old_ones rules.id (rules.row_list s).next (rules.row_list s).rows below in
-          let c : Contains [] x = subst (λ (xs : List T). Contains xs x) none c in
-          let l = c.1 in absurd (omega arith)
+same_or_other_table : (a b : Option ℕ) → (a ≡ b) ⊎ (a ≢ b)
+same_or_other_table a b = go (same_table (table_of a) (table_of b)) refl
+  where
+    go : (t : Bool) → same_table (table_of a) (table_of b) ≡ t → (a ≡ b) ⊎ (a ≢ b)
+    go true e = inl (one_table a b e)
+    go false e = inr (λ q. not_both (same_table (table_of a) (table_of b)) (same_table-of a b q) e)
+
+-- a row that was put is there
+put_there : {T : Type 0} (id : T → ℕ) (xs : List T) (row : T) → Contains (with_row id xs row) row
+put_there id [] row = (0, omega arith, refl)
+put_there id (x ∷ xs) row = go (id x == id row) (put_there id xs row)
+  where
+    go : (t : Bool) → Contains (with_row id xs row) row → Contains (if t then row ∷ xs else x ∷ with_row id xs row) row
+    go true c = (0, omega arith, refl)
+    go false c = contains_rest x row (with_row id xs row) c
+
+-- an accepted call with the row of an id found it, and did what its plan says
+record IsChanged {T : Type 0} (rules : KindRules T) (s : State) (n : ℕ) (plan : T → Plan) : Type 0 where
+  old : T
+  there : row_at rules.id (rules.row_list s).rows n ≡ Some old
+  is : (outcome s (with_row_at rules s n plan)).0 ≡ updated s (plan old).update
+
+changed : {T : Type 0} (rules : KindRules T) (s : State) (n : ℕ) (plan : T → Plan) → is_accepted (outcome s (with_row_at rules s n plan)).1 ≡ true → IsChanged rules s n plan
+changed {T} rules s n plan a = go (row_at rules.id (rules.row_list s).rows n) refl
+  where
+    done : (old : T) → (v : Option Refusal) → verdict_of (plan old) ≡ v → is_accepted (outcome s (plan old)).1 ≡ true → (outcome s (plan old)).0 ≡ updated s (plan old).update
+    done old (Some refusal) e a =
+        let o : outcome s (plan old) ≡ (s, Refused refusal) = rw (e, outcome) refl in
+        let w : false ≡ true = ap (λ (d : State × Reply). is_accepted d.1) (sym o) ∙ a in cc
+    done old None e a = (let o : outcome s (plan old) ≡ (updated s (plan old).update, answered (updated s (plan old).update) (plan old).reply) = rw (e, outcome) refl in ap (λ (d : State × Reply). d.0) o)
+
+    go : (found : Option T) → row_at rules.id (rules.row_list s).rows n ≡ found → IsChanged rules s n plan
+    go None e = (let w : is_accepted (outcome s (with_found rules n plan None)).1 ≡ true = subst (λ (f : Option T). is_accepted (outcome s (with_found rules n plan f)).1 ≡ true) e a in cc)
+    go (Some old) e = (
+        let w : is_accepted (outcome s (plan old)).1 ≡ true = subst (λ (f : Option T). is_accepted (outcome s (with_found rules n plan f)).1 ≡ true) e a in
+        record { old = old; there = e; is = ap (λ (f : Option T). (outcome s (with_found rules n plan f)).0) e ∙ done old (verdict_of (plan old)) refl w })
 
 -- ---- addresses
 
+-- the address is there, with its host and its table
+abbrev HasAddressOf : IpAddress → State → Type 0
+HasAddressOf x s = (z : IpAddress) × Contains s.addresses.rows z × (z.id ≡ x.id) × (z.host.addr ≡ x.host.addr) × (z.vrf ≡ x.vrf)
+
+address_edited : (x : IpAddress) (s : State) (n : ℕ) (edit : Edit) → kind_of_edit edit ≡ Addresses → n ≡ x.id → is_accepted (plain_step s (Change n edit)).1 ≡ true
+    → HasAddressOf x (plain_step s (Change n edit)).0 ⊎ ReleasesAddress x s (Change n edit)
+address_edited x s n edit kind same a =
+    let plan : IpAddress → Plan = λ old. replace address_rules s old (nothing_told old) (edited_address edit old) in
+    let step : plain_step s (Change n edit) ≡ outcome s (with_row_at address_rules s n plan) = ap (λ (k : Kind). outcome s (change_of_kind s n edit k)) kind in
+    let b : is_accepted (outcome s (with_row_at address_rules s n plan)).1 ≡ true = subst (λ (d : State × Reply). is_accepted d.1 ≡ true) step a in
+    let c = changed address_rules s n plan b in
+    let z : IpAddress = edited_address edit c.old in
+    let id : z.id ≡ x.id = address_stays edit c.old ∙ (found_there address_id s.addresses.rows n c.old c.there).1 ∙ same in
+    let after : (plain_step s (Change n edit)).0 ≡ updated s (plan c.old).update = ap (λ (d : State × Reply). d.0) step ∙ c.is in
+    let there : Contains (plain_step s (Change n edit)).0.addresses.rows z = subst (λ (t : State). Contains t.addresses.rows z) (sym after) (put_there address_id s.addresses.rows z) in
+    let call : Change n edit ≡ Change x.id edit = ap (λ (m : ℕ). Change m edit) same in
+    elim (same_or_other z.host.addr x.host.addr) [
+      | inl host ↦ elim (same_or_other_table z.vrf x.vrf) [
+        | inl table ↦ inl (z, there, id, host, table)
+        | inr table ↦ inr (inr (edit, z, call, kind, there, id, inr table))
+      ]
+      | inr host ↦ inr (inr (edit, z, call, kind, there, id, inl host))
+    ]
+
+address_kept : (x : IpAddress) (s : State) (call : Call) → IsListed s → is_accepted (plain_step s call).1 ≡ true → HasAddressOf x s → HasAddressOf x (plain_step s call).0 ⊎ ReleasesAddress x s call
+address_kept x s call h a c = go (touches Addresses x.id call) refl
+  where
+    touched : (call : Call) → is_accepted (plain_step s call).1 ≡ true → touches Addresses x.id call ≡ true → HasAddressOf x (plain_step s call).0 ⊎ ReleasesAddress x s call
+    touched (Change n edit) a t =
+        let b = both (same_kind (kind_of_edit edit) Addresses) (n == x.id) t in
+        let same : n ≡ x.id = (let e = b.1 in grind (arith, nat_tests)) in
+        address_edited x s n edit ((kinds (kind_of_edit edit) Addresses).0 b.0) same a
+    touched (Delete kind n) a t =
+        let b = both (same_kind kind Addresses) (n == x.id) t in
+        let same : n ≡ x.id = (let e = b.1 in grind (arith, nat_tests)) in
+        inr (inl (ap (λ (k : Kind). Delete k n) ((kinds kind Addresses).0 b.0) ∙ ap (λ (m : ℕ). Delete Addresses m) same))
+    touched call a t = cc
+
+    go : (t : Bool) → touches Addresses x.id call ≡ t → HasAddressOf x (plain_step s call).0 ⊎ ReleasesAddress x s call
+    go true t = touched call a t
+    go false t = inl (c.0, rows_stay.addresses s call c.0 h c.1 (subst (λ (n : ℕ). touches Addresses n call ≡ false) (sym c.2) t), c.2, c.3, c.4)
+
+-- a row behind those that were there, with an id that none of them has, is one of those that came
+came_row : {T : Type 0} (id : T → ℕ) (before rows after : List T) (y : T) → after ≡ before ++ rows → Contains after y → ((z : T) → Contains before z → id z ≢ id y) → Contains rows y
+came_row id before rows after y e c new = elim (Contains-append_cases before rows y (subst (λ (xs : List _). Contains xs y) e c)) [
+  | inl k ↦ absurd (new y k refl)
+  | inr k ↦ k
+]
+
 -- a claim of addresses meets no address that is there
-claim_meets_none : (s : State) (call : Call) (x y : IpAddress) → IsListed s → claims_addresses call ≡ true → Contains s.addresses.rows x → Contains (made_by address_rules s call) y → x.vrf ≡ y.vrf → x.host.addr ≢ y.host.addr
-claim_meets_none s (ClaimPrefixAddrs n form items) x y h k c d v =
-    let got = claims_new.in_prefixes s n form items h (made_accepted address_rules s (ClaimPrefixAddrs n form items) y h.addresses.below d) in
-    got.given.free y x d c (v ∙ got.given.table y d)
-claim_meets_none s (ClaimRangeAddrs n form items) x y h k c d v =
-    let got = claims_new.in_ranges s n form items h (made_accepted address_rules s (ClaimRangeAddrs n form items) y h.addresses.below d) in
-    got.given.free y x d c (v ∙ got.given.table y d)
-claim_meets_none s call x y h k c d v = cc
+claim_meets_none : (s : State) (call : Call) (x y : IpAddress) → IsListed s → claims_addresses call ≡ true → Contains s.addresses.rows x → IsMade address_rules s call y → x.vrf ≡ y.vrf → x.host.addr ≢ y.host.addr
+claim_meets_none s (ClaimPrefixAddrs n form items) x y h k c m v =
+    let got = in_prefix s n form items (plain_step s (ClaimPrefixAddrs n form items)) h refl (made_accepted address_rules ids_are_new.addresses s (ClaimPrefixAddrs n form items) y m) in
+    let row = came_row address_id s.addresses.rows got.2.rows (plain_step s (ClaimPrefixAddrs n form items)).0.addresses.rows y got.2.came.behind m.0 m.1 in
+    let table : y.vrf ≡ got.0.vrf = row_table items got.0.vrf got.0.block.len s (plain_step s (ClaimPrefixAddrs n form items)) form (IsFreeIn s got.0) got.2 y row in
+    (got.2.least.free y row).unused x c (inl (v ∙ table))
+claim_meets_none s (ClaimRangeAddrs n form items) x y h k c m v =
+    let got = in_range s n form items (plain_step s (ClaimRangeAddrs n form items)) h refl (made_accepted address_rules ids_are_new.addresses s (ClaimRangeAddrs n form items) y m) in
+    let row = came_row address_id s.addresses.rows got.2.rows (plain_step s (ClaimRangeAddrs n form items)).0.addresses.rows y got.2.came.behind m.0 m.1 in
+    let table : y.vrf ≡ got.0.vrf = row_table items got.0.vrf got.0.ends.len s (plain_step s (ClaimRangeAddrs n form items)) form (IsFreeInRange s got.0) got.2 y row in
+    (got.2.least.free y row).unused x c (v ∙ table)
+claim_meets_none s call x y h k c m v = cc
 
 addresses_apart : AddressesNeverMeet
-addresses_apart s history i j one other x y h l p q k c d v =
+addresses_apart s history i j one other x y h l p q k m n v =
     let steps : (t : State) (call : Call) → IsListed t → Unit {0} → IsListed (plain_step t call).0 = λ t call g u. step_listed t call g in
-    let at : IsListed (replay s (take j history)) = is_at IsListed (λ call. Unit {0}) steps history j s h (none_asked history) in
-    let there : Contains (replay s (take (suc i) history)).addresses.rows x =
-    subst (λ (t : State). Contains t.addresses.rows x) (sym (after_entry history i s one p)) (made_there address_rules (replay s (take i history)) one.call x c) in
+    let at : IsListed (replay s (take j history)) = good_at IsListed (λ call. Unit {0}) steps history j s h (none_asked history) in
+    let there : HasAddressOf x (replay s (take (suc i) history)) = subst (HasAddressOf x) (sym (after_entry history i s one p)) (x, m.0, refl, refl, refl) in
     let within = place_within history j other q in
-    elim (kept_to IsListed (λ call. Unit {0}) steps (λ t. Contains t.addresses.rows x) Addresses x.id (λ t call g e c. rows_stay.addresses t call x g c e) history (suc i) j s (omega arith) (omega arith) h (none_asked history) there) [
-      | inl m ↦ inl (claim_meets_none (replay s (take j history)) other.call x y at k m d v)
-      | inr t ↦ inr (between t)
+    elim (kept_to IsListed (λ call. Unit {0}) steps (HasAddressOf x) (ReleasesAddress x) (address_kept x) history (suc i) j s (omega arith) (omega arith) h (none_asked history) there) [
+      | inl z ↦ inl (λ e. claim_meets_none (replay s (take j history)) other.call z.0 y at k z.1 n (z.4 ∙ v) (z.3 ∙ e))
+      | inr r ↦ inr (between s history i j (ReleasesAddress x) r)
     ]
 
 -- ---- blocks
@@ -186,7 +259,7 @@ beside_or_around x p y hx hp hy inside child = go (is_strictly_inside x p) refl 
     tests = inside_is_by_ends x p hx hp
 
     go : (t : Bool) → is_strictly_inside x p ≡ t → (u : Bool) → is_block_inside p x ≡ u → ShareNone x y ⊎ IsStrictlyInside y x
-    go true e u f = inl (λ n family i j. child (tests.0 e) n (sym family) j i)
+    go true e u f = inl (λ a i j. child (tests.0 e) a j i)
     go false e true f =
         let around = inside_from p x f in
         let longer = len_of_strictly y p hp.short hy.short inside in
@@ -194,7 +267,7 @@ beside_or_around x p y hx hp hy inside child = go (is_strictly_inside x p) refl 
           inside = inside_trans y p x inside.inside around;
           other = λ q. (let l = ap (λ (b : Cidr). b.len) q in not_longer p x hx (omega arith) around);
         })
-    go false e false f = inl (λ n family i j. elim (nested x p hx hp (family ∙ inside.inside.family) n i (inside.inside.each n j)) [
+    go false e false f = inl (λ n i j. elim (nested x p hx hp (sym i.0 ∙ j.0 ∙ inside.inside.family) n.value i.1 (inside.inside.each n.value j.1)) [
       | inl a ↦ (let w : false ≡ true = sym e ∙ tests.1 (record {
         inside = a;
         other = λ q. (let b : IsInside p x = subst (λ (c : Cidr). IsInside c x) q (record { family = refl; each = λ m k. k }) in let t = inside_tested p x b in let v : true ≡ false = sym t ∙ f in cc);
@@ -202,56 +275,75 @@ beside_or_around x p y hx hp hy inside child = go (is_strictly_inside x p) refl 
       | inr b ↦ (let t = inside_tested p x b in let v : true ≡ false = sym t ∙ f in cc)
     ])
 
--- a prefix of the table that lies strictly inside counts as a child
-child_there : (rows : List Prefix) (p x : Prefix) → Contains rows x → x.vrf ≡ p.vrf → is_strictly_inside x.block p.block ≡ true → Contains (child_blocks rows p) x.block
-child_there [] p x c v t = let l = c.1 in absurd (omega arith)
-child_there (y ∷ ys) p x c v t = go (is_child_prefix p y) refl (contains_cases y x ys c) (λ d. child_there ys p x d v t)
-  where
-    counts : is_child_prefix p x ≡ true
-    counts = rw (same_table-of x.vrf p.vrf v, either (sees_all p), t) refl
+-- the prefix is there, with its block and its table
+abbrev HasBlockOf : Prefix → State → Type 0
+HasBlockOf x s = (z : Prefix) × Contains s.prefixes.rows z × (z.id ≡ x.id) × (z.block ≡ x.block) × (z.vrf ≡ x.vrf)
 
-    go : (b : Bool) → is_child_prefix p y ≡ b → (y ≡ x) ⊎ Contains ys x → (Contains ys x → Contains (child_blocks ys p) x.block)
-        → Contains (map (λ r. r.block) (cond b (y ∷ filter (is_child_prefix p) ys) (filter (is_child_prefix p) ys))) x.block
-    go true e (inl a) ih = (0, omega arith, ap (λ (r : Prefix). r.block) a)
-    go true e (inr a) ih = contains_rest y.block x.block (child_blocks ys p) (ih a)
-    go false e (inl a) ih = (let w : false ≡ true = sym e ∙ ap (is_child_prefix p) a ∙ counts in cc)
-    go false e (inr a) ih = ih a
-
--- a claim of blocks beside a prefix that is there
-block_meets : (s : State) (call : Call) (x y : Prefix) → IsLawful s → claims_blocks call ≡ true → Contains s.prefixes.rows x → Contains (made_by prefix_rules s call) y → x.vrf ≡ y.vrf
-    → ShareNone x.block y.block ⊎ IsStrictlyInside y.block x.block
-block_meets s (ClaimBlocks n form items) x y h k c d v =
-    let got = claims_new.of_blocks s n form items h (made_accepted prefix_rules s (ClaimBlocks n form items) y h.prefixes.row_list.below d) in
-    let p : Prefix = got.prefix in
-    let hx : IsBlock x.block = (h.prefixes.each x c).bounds.block in
-    let hp : IsBlock p.block = (h.prefixes.each p (found_there prefix_id s.prefixes.rows n p got.there).0).bounds.block in
-    beside_or_around x.block p.block y.block hx hp (got.given.block y d) (got.given.inside y d)
-    (λ i. got.given.free y x.block d (child_there s.prefixes.rows p x c (v ∙ got.given.table y d) ((inside_is_by_ends x.block p.block hx hp).1 i)))
-block_meets s call x y h k c d v = cc
-
--- the prefix is there, with or without its role
-abbrev StandsAs : Prefix → State → Type 0
-StandsAs x s = (z : Prefix) × Contains s.prefixes.rows z × (z.id ≡ x.id) × (z.block ≡ x.block) × (z.vrf ≡ x.vrf)
-
-stands_on : (x : Prefix) (s : State) (call : Call) → IsLawful s → touches Prefixes x.id call ≡ false → StandsAs x s → StandsAs x (plain_step s call).0
-stands_on x s call h t c =
-    elim (rows_stay.prefixes s call c.0 (lawful_listed s h) c.1 (subst (λ (n : ℕ). touches Prefixes n call ≡ false) (sym c.2) t)) [
-      | inl k ↦ (c.0, k, c.2, c.3, c.4)
-      | inr k ↦ (record c.0 { role = None }, k.1, c.2, c.3, c.4)
+prefix_edited : (x : Prefix) (s : State) (n : ℕ) (edit : Edit) → kind_of_edit edit ≡ Prefixes → n ≡ x.id → is_accepted (plain_step s (Change n edit)).1 ≡ true
+    → HasBlockOf x (plain_step s (Change n edit)).0 ⊎ ReleasesPrefix x s (Change n edit)
+prefix_edited x s n edit kind same a =
+    let plan : Prefix → Plan = λ old. replace prefix_rules s old (nothing_told old) (edited_prefix edit old) in
+    let step : plain_step s (Change n edit) ≡ outcome s (with_row_at prefix_rules s n plan) = ap (λ (k : Kind). outcome s (change_of_kind s n edit k)) kind in
+    let b : is_accepted (outcome s (with_row_at prefix_rules s n plan)).1 ≡ true = subst (λ (d : State × Reply). is_accepted d.1 ≡ true) step a in
+    let c = changed prefix_rules s n plan b in
+    let z : Prefix = edited_prefix edit c.old in
+    let id : z.id ≡ x.id = prefix_stays edit c.old ∙ (found_there prefix_id s.prefixes.rows n c.old c.there).1 ∙ same in
+    let after : (plain_step s (Change n edit)).0 ≡ updated s (plan c.old).update = ap (λ (d : State × Reply). d.0) step ∙ c.is in
+    let there : Contains (plain_step s (Change n edit)).0.prefixes.rows z = subst (λ (t : State). Contains t.prefixes.rows z) (sym after) (put_there prefix_id s.prefixes.rows z) in
+    let call : Change n edit ≡ Change x.id edit = ap (λ (m : ℕ). Change m edit) same in
+    elim (same_or_other_block z.block x.block) [
+      | inl block ↦ elim (same_or_other_table z.vrf x.vrf) [
+        | inl table ↦ inl (z, there, id, block, table)
+        | inr table ↦ inr (inr (edit, z, call, kind, there, id, inr table))
+      ]
+      | inr block ↦ inr (inr (edit, z, call, kind, there, id, inl block))
     ]
 
+prefix_kept : (x : Prefix) (s : State) (call : Call) → IsLawful s → is_accepted (plain_step s call).1 ≡ true → HasBlockOf x s → HasBlockOf x (plain_step s call).0 ⊎ ReleasesPrefix x s call
+prefix_kept x s call h a c = go (touches Prefixes x.id call) refl
+  where
+    touched : (call : Call) → is_accepted (plain_step s call).1 ≡ true → touches Prefixes x.id call ≡ true → HasBlockOf x (plain_step s call).0 ⊎ ReleasesPrefix x s call
+    touched (Change n edit) a t =
+        let b = both (same_kind (kind_of_edit edit) Prefixes) (n == x.id) t in
+        let same : n ≡ x.id = (let e = b.1 in grind (arith, nat_tests)) in
+        prefix_edited x s n edit ((kinds (kind_of_edit edit) Prefixes).0 b.0) same a
+    touched (Delete kind n) a t =
+        let b = both (same_kind kind Prefixes) (n == x.id) t in
+        let same : n ≡ x.id = (let e = b.1 in grind (arith, nat_tests)) in
+        inr (inl (ap (λ (k : Kind). Delete k n) ((kinds kind Prefixes).0 b.0) ∙ ap (λ (m : ℕ). Delete Prefixes m) same))
+    touched call a t = cc
+
+    go : (t : Bool) → touches Prefixes x.id call ≡ t → HasBlockOf x (plain_step s call).0 ⊎ ReleasesPrefix x s call
+    go true t = touched call a t
+    go false t = elim (rows_stay.prefixes s call c.0 (lawful_listed s h) c.1 (subst (λ (n : ℕ). touches Prefixes n call ≡ false) (sym c.2) t)) [
+      | inl k ↦ inl (c.0, k, c.2, c.3, c.4)
+      | inr k ↦ inl (record c.0 { role = None }, k.1, c.2, c.3, c.4)
+    ]
+
+-- a claim of blocks beside a prefix that is there
+block_meets : (s : State) (call : Call) (x y : Prefix) → IsLawful s → claims_blocks call ≡ true → Contains s.prefixes.rows x → IsMade prefix_rules s call y → x.vrf ≡ y.vrf
+    → ShareNone x.block y.block ⊎ IsStrictlyInside y.block x.block
+block_meets s (ClaimBlocks n form items) x y h k c m v =
+    let got = of_blocks s n form items (plain_step s (ClaimBlocks n form items)) h refl (made_accepted prefix_rules ids_are_new.prefixes s (ClaimBlocks n form items) y m) in
+    let row = came_row prefix_id s.prefixes.rows got.2.rows (plain_step s (ClaimBlocks n form items)).0.prefixes.rows y got.2.came.behind m.0 m.1 in
+    let p : Prefix = got.0 in
+    let is = row_block items s (plain_step s (ClaimBlocks n form items)) form p got.2 y row in
+    let hx : IsBlock x.block = (h.prefixes.each x c).bounds.block in
+    let hp : IsBlock p.block = (h.prefixes.each p (found_there prefix_id s.prefixes.rows n p got.1).0).bounds.block in
+    beside_or_around x.block p.block y.block hx hp is.2.free.block is.2.free.inside (is.2.free.unused x c (inl (v ∙ is.1)))
+block_meets s call x y h k c m v = cc
+
 blocks_apart : BlocksNeverMeet
-blocks_apart s history i j one other x y h b l p q k c d v =
-    let at : IsLawful (replay s (take j history)) = is_at IsLawful HasCallBounds steps_keep history j s h b in
-    let there : StandsAs x (replay s (take (suc i) history)) =
-    subst (StandsAs x) (sym (after_entry history i s one p)) (x, made_there prefix_rules (replay s (take i history)) one.call x c, refl, refl, refl) in
+blocks_apart s history i j one other x y h b l p q k m n v =
+    let at : IsLawful (replay s (take j history)) = good_at IsLawful HasCallBounds steps_keep history j s h b in
+    let there : HasBlockOf x (replay s (take (suc i) history)) = subst (HasBlockOf x) (sym (after_entry history i s one p)) (x, m.0, refl, refl, refl) in
     let within = place_within history j other q in
-    elim (kept_to IsLawful HasCallBounds steps_keep (StandsAs x) Prefixes x.id (stands_on x) history (suc i) j s (omega arith) (omega arith) h b there) [
-      | inl m ↦ (
-          let meets = block_meets (replay s (take j history)) other.call m.0 y at k m.1 d (m.4 ∙ v) in
-          let meets : ShareNone x.block y.block ⊎ IsStrictlyInside y.block x.block = subst (λ (w : Cidr). ShareNone w y.block ⊎ IsStrictlyInside y.block w) m.3 meets in
+    elim (kept_to IsLawful HasCallBounds steps_keep (HasBlockOf x) (ReleasesPrefix x) (prefix_kept x) history (suc i) j s (omega arith) (omega arith) h b there) [
+      | inl z ↦ (
+          let meets = block_meets (replay s (take j history)) other.call z.0 y at k z.1 n (z.4 ∙ v) in
+          let meets : ShareNone x.block y.block ⊎ IsStrictlyInside y.block x.block = subst (λ (w : Cidr). ShareNone w y.block ⊎ IsStrictlyInside y.block w) z.3 meets in
           elim meets [ inl a ↦ inl a | inr a ↦ inr (inl a) ])
-      | inr t ↦ inr (inr (between t))
+      | inr r ↦ inr (inr (between s history i j (ReleasesPrefix x) r))
     ]
 
 pub never_meet : ClaimsNeverMeet

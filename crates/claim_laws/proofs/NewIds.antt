@@ -38,14 +38,15 @@ use Rattle.ipam_data.specs.Fields.{drafted, next_for, told_of_draft, kind_of_edi
 use Rattle.ipam_data.specs.Claims.{claim, claimed_prefixes, claimed_addresses, child_blocks, lengths_of, told_of_block, told_of_address, claim_blocks_of, claim_addresses_of, usable_in, usable_of_range, utilization_plan}
 use Rattle.ipam_data.specs.Imports.{next_of, most_rows, kind_of_row, draft_of, Progress, begun, makes_one, with_draft, after_row, after_rows, row_verdicts, items_of, import_plan}
 use Rattle.ipam_data.specs.Steps.{plan_of, verdict, create_plan, change_of_kind, delete_plan, list_plan}
-use Rattle.claim_laws.specs.Laws.{IdsOfKindAreNew, IdsAreNew}
+use Rattle.claim_laws.specs.Rows.{IdsOfKindAreNew, IdsAreNew}
 use Rattle.ipam_data.proofs.RowLists.{contains_rest, contains_with}
 use Rattle.ipam_data.proofs.Kept.{found_there, contains_without}
 use Rattle.ipam_data.proofs.Verdicts.{none_rest, none_left}
 use Rattle.ipam_data.proofs.ManyCan.{Follow}
 use Rattle.ipam_data.proofs.ImportLaws.{AreOfKind, of_kind}
 use Rattle.ipam_data.proofs.DraftLaws.{drafted_next, vrf_stays, rir_stays, role_stays, aggregate_stays, prefix_stays, range_stays, address_stays}
-use Rattle.claim_laws.proofs.Stays.{view_kind, view_id, all_behind}
+use Rattle.claim_laws.proofs.Stays.{all_behind}
+use Rattle.claim_laws.proofs.Withstand.{view_kind, view_id}
 use Rattle.claim_laws.proofs.Lemmas.{found_in, prefixes_follow, addresses_follow}
 
 -- ---- ids that are fine

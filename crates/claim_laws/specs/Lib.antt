@@ -1,1 +1,4 @@
-pub mod Laws
+pub mod Rows
+pub mod Free
+pub mod Claims
+pub mod Histories
