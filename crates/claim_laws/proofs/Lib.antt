@@ -1,0 +1,17 @@
+pub mod Lemmas
+pub mod Lists
+pub mod Listed
+pub mod Came
+pub mod Picked
+pub mod FreeAddresses
+pub mod LeastAddresses
+pub mod FreeBlocks
+pub mod LeastBlocks
+pub mod Refusals
+pub mod FewAddresses
+pub mod FewBlocks
+pub mod Withstand
+pub mod Stays
+pub mod NewIds
+pub mod Histories
+pub mod Meetings
