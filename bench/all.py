@@ -71,7 +71,8 @@ def run(bench, words):
     """What it prints, its status (or None where the time was over), and the seconds; all that it started is ended with it."""
     start = time.monotonic()
     command = [os.path.join(HERE, words[0]), *words[1:]]
-    child = subprocess.Popen(command, stdin=subprocess.DEVNULL, stdout=subprocess.PIPE, stderr=subprocess.STDOUT, text=True, errors="replace", start_new_session=True)
+    child = subprocess.Popen(command, stdin=subprocess.DEVNULL, stdout=subprocess.PIPE, stderr=subprocess.STDOUT, text=True, errors="replace",
+                             start_new_session=True)
     try:
         told, _ = child.communicate(timeout=bench.limit)
         return told, child.returncode, time.monotonic() - start

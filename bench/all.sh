@@ -1,6 +1,7 @@
 #!/usr/bin/env bash
-# The benches and trials of this folder one after another, by the built programs (./build and ./build poold build them; IPAMD=PROGRAM and POOLD=PROGRAM take other
-# ones): what each prints, and the load while it ran. Each has a time limit. What could not be run, and why, is said at the end; so is what failed (status 1).
+# The benches and trials of this folder one after another, by the built programs (./build and ./build poold build them; IPAMD=PROGRAM and POOLD=PROGRAM take
+# other ones): what each prints, and the load while it ran. Each has a time limit. What could not be run, and why, is said at the end; so is what failed
+# (status 1).
 # usage: bench/all.sh [--quick] [--proved] [NAME..]     --quick: few rounds; --proved: also those that prove and build a program of their own by the
 # kit's `rt`, some minutes each; names: only these
 #        bench/all.sh --safety [--quick] [NAME..]       what a stranger, a crash or a want of memory may do; at the end the last line of each

@@ -10,19 +10,22 @@ TAKEN = {1_000: [1, 4, 16], 10_000: [1, 4, 16], 100_000: [1]}
 CLAIMS = "/api/ipam/prefixes/1/available-ips/"
 # A full register has 500,000 addresses; a connection ends with its thousandth answer.
 WHOLE, FULL = "10.0.0.0/8", 500_000
-COLUMNS = "id bigserial PRIMARY KEY, {}, vrf_id bigint, status varchar(50) NOT NULL, role varchar(50), dns_name varchar(255) NOT NULL, description varchar(200) NOT NULL"
+COLUMNS = ("id bigserial PRIMARY KEY, {}, vrf_id bigint, status varchar(50) NOT NULL, role varchar(50), dns_name varchar(255) NOT NULL, "
+           "description varchar(200) NOT NULL")
 
 
 def tables(taken):
     """NetBox's tables and their indexes; and one of numbers for SQL's best, with a row for the first address of the prefix, which is given to nobody."""
     return [f"CREATE TABLE ipam_ipaddress ({COLUMNS.format('address inet NOT NULL')})",
-            "CREATE TABLE ipam_iprange (id bigserial PRIMARY KEY, start_address inet NOT NULL, end_address inet NOT NULL, vrf_id bigint, mark_populated boolean NOT NULL)",
+            "CREATE TABLE ipam_iprange (id bigserial PRIMARY KEY, start_address inet NOT NULL, end_address inet NOT NULL, vrf_id bigint, "
+            "mark_populated boolean NOT NULL)",
             "CREATE INDEX ON ipam_ipaddress (CAST(HOST(address) AS inet)); CREATE INDEX ON ipam_ipaddress (vrf_id); CREATE INDEX ON ipam_iprange (vrf_id)",
             "INSERT INTO ipam_ipaddress (address, status, dns_name, description) "
             f"SELECT set_masklen('10.0.0.0'::inet + n, {LENGTH}), 'active', '', '' FROM generate_series(1, {taken}) n",
             f"CREATE TABLE best ({COLUMNS.format('number bigint NOT NULL UNIQUE')})",
             f"INSERT INTO best (number, status, dns_name, description) SELECT {FIRST} + n, 'active', '', '' FROM generate_series(0, {taken}) n",
-            best_claim(FIRST, FIRST + 2 ** (32 - LENGTH) - 2, f"host('0.0.0.0'::inet + free) || '/{LENGTH}'", "status, dns_name, description", "'active', '', ''"),
+            best_claim(FIRST, FIRST + 2 ** (32 - LENGTH) - 2, f"host('0.0.0.0'::inet + free) || '/{LENGTH}'", "status, dns_name, description",
+                       "'active', '', ''"),
             "VACUUM ANALYZE"]
 
 
@@ -77,7 +80,7 @@ def main(program, port):
         for count, figures in ADDRESSES.row(program, int(port), taken, clients, 3).items():
             print(line(taken, count, figures), flush=True)
     figure, listed, claim = full(program)
-    print(f"In {WHOLE} with {FULL:,} addresses: its figure {figure:.2f} ms, a list of 1,000 free addresses {listed:.2f} ms, a claim {claim:.3f} ms (best of 20)")
+    print(f"In {WHOLE} with {FULL:,} addresses: its figure {figure:.2f} ms, a list of 1,000 free addresses {listed:.2f} ms, a claim {claim:.3f} ms, best of 20")
 
 
 if __name__ == "__main__":

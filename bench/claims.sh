@@ -4,8 +4,8 @@
 # - NetBox's own: all child addresses are read by one connection of psycopg2 a client, the free ones are found by sets of netaddr, as NetBox 4 does it, and one
 #   row is inserted, under its advisory lock. It has no Django, no permissions and no log of changes; so it is quicker than NetBox;
 # - the best that SQL does: one statement a claim, in which the first gap is found by one query over an index, and then inserted, under an advisory lock.
-# All clients are processes of Python, which claim one address after another. A run has 200 claims at least, or five seconds; each figure is the median of three,
-# which take turns. Each first address claimed is compared, and one fdatasync of 4 KiB is timed before each run. Last, three times in a full register.
+# All clients are processes of Python, which claim one address after another. A run has 200 claims at least, or five seconds; each figure is the median of
+# three, which take turns. Each first address claimed is compared, and one fdatasync of 4 KiB is timed before each run. Last, three times in a full register.
 # The built program (./ipamd builds it; IPAMD=PROGRAM takes another one), and Debian's postgresql, python3-psycopg2 and python3-netaddr.
 # usage: bench/claims.sh [PORT]
 set -euo pipefail

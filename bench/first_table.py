@@ -1,5 +1,5 @@
-"""The figures that have a peer, all in one run: README's table, docs/figures.svg and the first table of docs/PERFORMANCE.md are made of the file that this writes,
-docs/figures.json. bench/all.sh --first-table runs it, and then docs/figures.py. Nothing else is to run beside it.
+"""The figures that have a peer, all in one run: README's table, docs/figures.svg and the first table of docs/PERFORMANCE.md are made of the file that this
+writes, docs/figures.json. bench/all.sh --first-table runs it, and then docs/figures.py. Nothing else is to run beside it.
 
     bench/first_table.py [--quick] [--out FILE]      --quick: few small rounds, whose figures say nothing; it writes no file but one that is named
 """
@@ -64,8 +64,8 @@ class Peer:
 
 @dataclass
 class Row:
-    """A figure beside those of its peers. `key` names it where a page picks it; `unit` is `s` (less is better) or `a second` (more is better); `sync_ms` is what
-    one fdatasync of 4 KiB took at that time, where the figure waits for the disk."""
+    """A figure beside those of its peers. `key` names it where a page picks it; `unit` is `s` (less is better) or `a second` (more is better); `sync_ms` is
+    what one fdatasync of 4 KiB took at that time, where the figure waits for the disk."""
     key: str
     what: str
     unit: str
@@ -90,7 +90,8 @@ def merged_rows(size):
     with tempfile.TemporaryDirectory() as folder:
         for family, count in zip((4, 6), size.merged):
             mine, _, name, peer = lists.merged(folder, family, count, pick)
-            rows.append(Row(f"fewest {family}", f"the fewest blocks of {count:,} random IPv{family} blocks (`prefix-check`)", "s", mine.seconds, [Peer(name, peer.seconds)]))
+            what = f"the fewest blocks of {count:,} random IPv{family} blocks (`prefix-check`)"
+            rows.append(Row(f"fewest {family}", what, "s", mine.seconds, [Peer(name, peer.seconds)]))
     return rows
 
 
@@ -104,7 +105,8 @@ def claim_rows(kind, program, what, taken, size):
     for count, clients in taken.items():
         for number, (ours, theirs, best, sync) in kind.row(program, PORT, count, clients, size.runs, size.least).items():
             many = f"{number} client" + ("" if number == 1 else "s")
-            rows.append(Row(f"claims {what} {count} {number}", f"claims of {what} among {count:,}, over a file, {many}", "a second", ours,
+            by = " by poold" if program == POOLD else ""
+            rows.append(Row(f"claims {what} {count} {number}", f"claims of {what}{by} among {count:,}, over a file, {many}", "a second", ours,
                             [Peer(claim_rates.NETBOX, theirs), Peer(claim_rates.SQL, best)], sync))
     return rows
 
@@ -118,7 +120,8 @@ def import_rows(size):
     rows = []
     for kind in ("prefixes", "ip-addresses"):
         ours, theirs, sync = stores.imports(PROGRAM, kind, size.runs, size.rows)
-        rows.append(Row(f"import {kind}", f"an import of {size.rows:,} {kind} into an empty file", "s", ours, [Peer("sqlite3 .import, no checks", theirs)], sync))
+        what, peer = f"an import of {size.rows:,} {kind} into an empty file", Peer("sqlite3 .import, no checks", theirs)
+        rows.append(Row(f"import {kind}", what, "s", ours, [peer], sync))
     with tempfile.TemporaryDirectory(dir=os.environ.get("SCRATCH")) as folder:
         what = f"a file of {size.prefixes - size.rows:,} prefixes and {size.addresses - size.rows:,} addresses"
         stores.full_file(PROGRAM, path := os.path.join(folder, "full.db"), size.prefixes - size.rows, size.addresses - size.rows)
@@ -136,9 +139,9 @@ def get_rows(size):
         runs = serve.Runs(PROGRAM, folder, 1, PORT, size.gets)
         runs.write_file()
         for count in size.counts:
-            ours, theirs = runs.of_register(count, serve.KINDS[0], False), runs.of_nginx(count)
-            many = f"{count} connection" + ("" if count == 1 else "s")
-            rows.append(Row(f"GET {count}", f"GETs of one record, {many}", "a second", serve.middle(ours), [Peer("nginx, a file of that size", serve.middle(theirs))]))
+            ours, theirs = serve.middle(runs.of_register(count, serve.KINDS[0], False)), serve.middle(runs.of_nginx(count))
+            what = f"GETs of one record, {count} connection" + ("" if count == 1 else "s")
+            rows.append(Row(f"GET {count}", what, "a second", ours, [Peer("nginx, a file of that size", theirs)]))
     return rows
 
 
@@ -151,7 +154,8 @@ def jump(size):
         runs = serve.Runs(PROGRAM, folder, 1, PORT, size.runs)
         runs.write_file()
         for how, pinned in (("free", None), ("on one processor", "0"), ("no processor sleeps", None)):
-            loops = [subprocess.Popen(["chrt", "--idle", "0", "sh", "-c", "while :; do :; done"]) for _ in range(loads.PROCESSORS)] if how.startswith("no ") else []
+            idle = range(loads.PROCESSORS) if how.startswith("no ") else []
+            loops = [subprocess.Popen(["chrt", "--idle", "0", "sh", "-c", "while :; do :; done"]) for _ in idle]
             for count in (1, 4):
                 ours, theirs = runs.of_register(count, serve.KINDS[0], False, pinned=pinned), runs.of_nginx(count, pinned)
                 found.append({"how": how, "connections": count, "ipamd": serve.middle(ours), "nginx": serve.middle(theirs)})

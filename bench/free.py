@@ -109,7 +109,8 @@ def main():
     for found in measure(lines, seed):
         if found.program == "ipamd":
             ours = found.seconds
-        print(f"{found.case:14} {found.program:8} {found.seconds:8.3f} {found.memory:5} {found.seconds / ours:6.2f}" + ("  stopped there" if found.stopped else ""), flush=True)
+        end = "  stopped there" if found.stopped else ""
+        print(f"{found.case:14} {found.program:8} {found.seconds:8.3f} {found.memory:5} {found.seconds / ours:6.2f}{end}", flush=True)
 
 
 if __name__ == "__main__":

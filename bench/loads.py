@@ -75,7 +75,8 @@ class Running:
         if listens(port):
             sys.exit(f"the port {port} is taken")
         self.port = port
-        self.process = subprocess.Popen((["taskset", "-c", pinned] if pinned else []) + words, stdin=subprocess.DEVNULL, stdout=subprocess.DEVNULL, stderr=subprocess.PIPE)
+        whole = (["taskset", "-c", pinned] if pinned else []) + words
+        self.process = subprocess.Popen(whole, stdin=subprocess.DEVNULL, stdout=subprocess.DEVNULL, stderr=subprocess.PIPE)
         for _ in range(600):
             if listens(port):
                 return
@@ -109,7 +110,8 @@ def nginx(folder, port, pinned=None):
 def fill(port):
     """One prefix for the claims and 50 addresses in it; the body of the prefix."""
     connection = Connection(port)
-    connection.send([request("POST", "prefixes/", {"prefix": "10.0.0.0/8"}), request("POST", "prefixes/1/available-ips/", [{}] * 50), request("GET", "prefixes/1/")])
+    connection.send([request("POST", "prefixes/", {"prefix": "10.0.0.0/8"}), request("POST", "prefixes/1/available-ips/", [{}] * 50),
+                     request("GET", "prefixes/1/")])
     (made, _), (claimed, _), (status, body) = connection.answer(), connection.answer(), connection.answer()
     connection.end()
     if (made, claimed, status) != (201, 201, 200):

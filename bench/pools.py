@@ -25,7 +25,7 @@ def rest(taken):
 
 
 def netbox(cursor):
-    """A claim as NetBox 4 makes it (`ASNRange.get_available_asns`), without Django, permissions and the log of changes: a set of all numbers, under its lock."""
+    """A claim as NetBox 4 makes it (`ASNRange.get_available_asns`), without Django, permissions and the log of changes: a set of all numbers, under a lock."""
     cursor.execute("SELECT pg_advisory_lock(%s)", (LOCK,))
     cursor.execute("SELECT asn FROM ipam_asn WHERE asn >= %s AND asn <= %s", (FIRST, LAST))
     number = sorted(set(range(FIRST, LAST + 1)) - {row[0] for row in cursor.fetchall()})[0]

@@ -55,7 +55,8 @@ def middle(loads):
 def print_row(name, rows):
     """Two lines: answers a second, and the median of the 99th percentiles with the longest answer of all runs."""
     print(f"{name:28}" + "".join(f" {middle(loads):16.0f}" for loads in rows))
-    print(f"{'  99th percentile, longest':28}" + "".join(f" {f'{statistics.median(one.late for one in loads):.2f}, {max(one.longest for one in loads):.1f}':>16}" for loads in rows), flush=True)
+    times = [f"{statistics.median(one.late for one in loads):.2f}, {max(one.longest for one in loads):.1f}" for loads in rows]
+    print(f"{'  99th percentile, longest':28}" + "".join(f" {text:>16}" for text in times), flush=True)
 
 
 def main(program, seconds, port, runs):

@@ -1,7 +1,7 @@
 #!/usr/bin/env bash
 # Durable creations a second, by the built program (./ipamd builds it; IPAMD=PROGRAM takes another one) by a session over a file, which gets them at once
-# and has each on the disk before it answers it, beside the same rows written by C SQLite (Python's sqlite3: WAL, FULL, one transaction a row, prepared) on the same disk; one fdatasync of 4 KiB is
-# timed in each run. Then what it takes to open a file of 200,000 prefixes and 500,000 addresses. Medians of RUNS runs.
+# and has each on the disk before it answers it, beside the same rows written by C SQLite (Python's sqlite3: WAL, FULL, one transaction a row, prepared) on the
+# same disk; one fdatasync of 4 KiB is timed in each run. Then what it takes to open a file of 200,000 prefixes and 500,000 addresses. Medians of RUNS runs.
 # SCRATCH=FOLDER has the files in that folder.   bench/store.sh [RUNS]
 set -euo pipefail
 top=$(cd "$(dirname "$0")/.." && pwd)

@@ -1,5 +1,5 @@
-"""What a file costs: durable creations beside C SQLite, the opening of a full file, and imports beside `sqlite3 .import`; bench/store.sh and bench/first_table.py
-use it."""
+"""What a file costs: durable creations beside C SQLite, the opening of a full file, and imports beside `sqlite3 .import`; bench/store.sh and
+bench/first_table.py use it."""
 import ipaddress
 import os
 import sqlite3
@@ -24,8 +24,8 @@ def block(n):
 
 
 def created(program, folder, rows):
-    """Durable creations a second by one session over a file: the requests are sent at once, and each is on the disk before it is answered. Neither the opening nor
-    the first creation counts."""
+    """Durable creations a second by one session over a file: the requests are sent at once, and each is on the disk before it is answered. Neither the opening
+    nor the first creation counts."""
     first, *others = (request("POST", "/api/ipam/prefixes/", {"prefix": block(n)}).decode() for n in range(rows + 1))
     return rows / timed_once([program, "session", "--db", os.path.join(folder, "office.db")], first, "".join(others), rows)
 
@@ -126,7 +126,7 @@ def imports_into(program, path, kind, runs, rows=ROWS):
 
 def main(program, runs):
     ours, theirs, sync = creations(program, int(runs))
-    print(f"creations a second: {ours:.0f} by ipamd, {theirs:.0f} by SQLite {sqlite3.sqlite_version}: {ours / theirs:.2f}; one fdatasync of 4 KiB takes {sync:.3f} ms")
+    print(f"creations a second: {ours:.0f} by ipamd, {theirs:.0f} by SQLite {sqlite3.sqlite_version}: {ours / theirs:.2f}; a sync of 4 KiB: {sync:.3f} ms")
     with tempfile.TemporaryDirectory(dir=os.environ.get("SCRATCH")) as folder:
         full_file(program, path := os.path.join(folder, "full.db"), FULL_PREFIXES, FULL_ADDRESSES)
         size = os.path.getsize(path) / 1e6

@@ -1,7 +1,7 @@
 #!/usr/bin/env python3
 """Writes what the pages say of the first table of figures, which bench/first_table.py measures: README's table, the first table of docs/PERFORMANCE.md, and
-docs/figures.svg, in which each figure with a peer is a bar: how many times as fast as the peer the program is, on a logarithmic scale. The picture is 800 pixels
-wide and has a background of its own, so that it can be read in a light and in a dark theme.
+docs/figures.svg, in which each figure with a peer is a bar: how many times as fast as the peer the program is, on a logarithmic scale. The picture is 800
+pixels wide and has a background of its own, so that it can be read in a light and in a dark theme.
 
     python3 docs/figures.py            writes them, of docs/figures.json
     python3 docs/figures.py --check    ends with 1 if one of them is not what would be written; prints nothing if all is well
@@ -27,22 +27,29 @@ VERSION_OF = {"iprange": "iprange", "netaddr": "netaddr", "NetBox's way, over Po
               "SQLite, no checks": "SQLite", "sqlite3 .import, no checks": "SQLite", "nginx, a file of that size": "nginx", "Python's http.server": "Python"}
 # README's rows: the key of a figure; the GET is the one with the worst ratio
 PICKED = ["free IPv4, random", "claims addresses 10000 1", "claims addresses 10000 16", "GET", "creations", "import prefixes"]
+# the ways to run GETs by one and by four connections
+WAYS = {"free": "all processors", "on one processor": "wrk and the server pinned to one processor",
+        "no processor sleeps": "all processors, and on each a loop of the idle class"}
 # how the figures were measured, and what they mean
-METHODS = [
-    "- What two programs both print is compared: the free blocks, the fewest blocks, the first address that is claimed.",
-    "- **Claims**: the first addresses of a prefix are taken, as many as the row says, and each claim gets the lowest free one. A client is a process of Python that "
-    "claims one after another. A run has 200 claims at least, or five seconds; a figure is the median of three runs. On all three sides a claim is on the disk before "
-    "it is answered, and claims wait for one another, so that more clients have few more claims.",
-    "- **NetBox's way** reads the addresses of the prefix by one connection of psycopg2 a client, finds the free ones by sets of netaddr, as NetBox 4 does, and inserts "
-    "one row, under its advisory lock. It is without Django, permissions and the log of changes; so it is quicker than NetBox. An AS number it finds as NetBox does, by a "
-    "set of all numbers of the range.",
-    "- **The best SQL** is one statement a claim: a function takes the advisory lock, finds the first gap by one query over an index, and inserts it. It reads the index "
-    "up to that gap, so it gets slower as the prefix fills. Both ways have PostgreSQL with Debian's settings, on the same disk.",
-    "- **Creations** are sent at once over one connection, and each is on the disk before it is answered. SQLite has the same rows and checks nothing.",
-    "- **GETs** are in memory, by wrk, one second, the median of five runs, with as many workers as connections. nginx sends a file with the bytes of the answer, with "
-    "sendfile, tcp_nopush, open_file_cache and a worker for each processor.",
-    "- `free` prints nothing before all its input is known to be good, so it stores all blocks of the input, and then all free blocks.",
-]
+METHODS = """\
+- What two programs both print is compared: the free blocks, the fewest blocks, the first address that is claimed.
+- **Claims**: the first addresses of a prefix are taken, as many as the row says, and each claim gets the lowest free
+  one. A client is a process of Python that claims one after another. A run has 200 claims at least, or five seconds; a
+  figure is the median of three runs. On all three sides a claim is on the disk before it is answered, and claims wait
+  for one another, so that more clients have few more claims.
+- **NetBox's way** reads the addresses of the prefix by one connection of psycopg2 a client, finds the free ones by sets
+  of netaddr, as NetBox 4 does, and inserts one row, under its advisory lock. It is without Django, permissions and the
+  log of changes; so it is quicker than NetBox. An AS number it finds as NetBox does, by a set of all numbers of the range.
+- **The best SQL** is one statement a claim: a function takes the advisory lock, finds the first gap by one query over
+  an index, and inserts it. It reads the index up to that gap, so it gets slower as the prefix fills. Both ways have
+  PostgreSQL with Debian's settings, on the same disk.
+- **Creations** are sent at once over one connection, and each is on the disk before it is answered. SQLite has the same
+  rows and checks nothing.
+- **GETs** are in memory, by wrk, one second, the median of five runs, with as many workers as connections. nginx sends a
+  file with the bytes of the answer, with sendfile, tcp_nopush, open_file_cache and a worker for each processor.
+- `free` prints nothing before all its input is known to be good, so it stores all blocks of the input, and then all
+  free blocks.
+"""
 
 
 @dataclass
@@ -55,6 +62,11 @@ class Bar:
 
 
 # ---- figures as text
+
+def short(words):
+    """A row or a peer where there is little room."""
+    return re.sub(r" \(`[^)]*\)|, over PostgreSQL|, no checks|, a file of that size| before its answer", "", words)
+
 
 def better(row, peer):
     """How many times better than the peer the program is."""
@@ -79,9 +91,9 @@ def with_unit(row, peer=None):
 
 
 def machine_text(table):
-    return (f"{table['date'][:10]}, one run on {table['processors']} processors ({table['processor']}), {table['memory_gib']} GiB, Linux {table['kernel']}, {table['disk']}; "
-            f"load {table['load']} before it. A loop of 20 million additions in Python took {table['python_loop_seconds']} s, "
-            f"and one fdatasync of 4 KiB {table['sync_ms']:.2f} ms.")
+    return (f"{table['date'][:10]}, one run on {table['processors']} processors ({table['processor']}), {table['memory_gib']} GiB, Linux "
+            f"{table['kernel']}, {table['disk']}; load {table['load']} before it. A loop of 20 million additions in Python took "
+            f"{table['python_loop_seconds']} s, and one fdatasync of 4 KiB {table['sync_ms']:.2f} ms.")
 
 
 def wrapped(text, width=120):
@@ -123,8 +135,8 @@ def table_lines(table):
             if peer is None:
                 yield f"| {row['what']} | {own} | | | | {sync} |\n"
             else:
-                name = f"{peer['name']} ({table['versions'][VERSION_OF[peer['name']]]})"
-                yield f"| {row['what']} | {own} | {name} | {with_unit(row, peer)} | {'more than ' if peer['stopped'] else ''}{of_times(better(row, peer))} | {sync} |\n"
+                name, more = f"{peer['name']} ({table['versions'][VERSION_OF[peer['name']]]})", "more than " if peer["stopped"] else ""
+                yield f"| {row['what']} | {own} | {name} | {with_unit(row, peer)} | {more}{of_times(better(row, peer))} | {sync} |\n"
 
 
 def get_text(table):
@@ -135,32 +147,28 @@ def get_text(table):
 
 def slower_text(table):
     """Where a peer is better."""
-    found = [f"{row['what']}: {of_times(better(row, peer))} of {peer['name']}" for row in table["rows"] for peer in row["peers"] if better(row, peer) < 1]
+    found = [f"{short(row['what'])}: {of_times(better(row, peer))} of {short(peer['name'])}" for row in table["rows"] for peer in row["peers"]
+             if better(row, peer) < 1]
     return "- Slower than a peer: " + ("; ".join(found) if found else "none of these") + "."
 
 
 def jump_text(table):
-    """What is behind the step from one connection to four, in the figures of the three ways to run it."""
+    """What is behind the step from one connection to four: a table of the ways to run it, and what it says."""
     of = {(one["how"], one["connections"]): one for one in table["jump"]}
-
-    def step(how, name):
-        return of[how, 4][name] / of[how, 1][name]
-
-    text = "- From one connection to four: "
-    text += "; ".join(f"{how}, ipamd {of[how, 1]['ipamd']:,.0f} and {of[how, 4]['ipamd']:,.0f} GETs a second ({step(how, 'ipamd'):.1f} times), nginx "
-                      f"{of[how, 1]['nginx']:,.0f} and {of[how, 4]['nginx']:,.0f} ({step(how, 'nginx'):.1f} times)"
-                      for how in ("free", "on one processor", "no processor sleeps"))
-    woken = max(of[how, 1]["ipamd"] for how in ("on one processor", "no processor sleeps")) / of["free", 1]["ipamd"]
-    text += ". `free`: wrk and the server have all processors; `on one processor`: both are pinned to one; `no processor sleeps`: a loop of the idle class runs on each. "
-    if woken >= 1.2:
-        return text + (f"With one connection, wrk and the server wait for each other in turn, and a processor that sleeps is woken for each request: without such a wait one "
-                       f"connection has {woken:.1f} times as many. With four, no processor sleeps.")
-    return text + "So the waking of sleeping processors is not what slows one connection."
+    text = "What is behind the step from one connection to four: GETs a second, the median of three runs.\n\n"
+    text += "| How | ipamd, 1 connection | 4 connections | nginx, 1 connection | 4 connections |\n|---|---|---|---|---|\n"
+    for how, what in WAYS.items():
+        text += f"| {what} | " + " | ".join(f"{of[how, count][name]:,.0f}" for name in ("ipamd", "nginx") for count in (1, 4)) + " |\n"
+    woken = max(of[how, 1]["ipamd"] for how in WAYS) / of["free", 1]["ipamd"]
+    if woken < 1.2:
+        return text + "\n" + wrapped("So the waking of sleeping processors is not what slows one connection.")
+    return text + "\n" + wrapped("With one connection, wrk and the server wait for each other in turn, and for each request a processor that sleeps is woken. "
+                                 f"Without such a wait one connection has {woken:.1f} times as many GETs. With four, no processor sleeps.")
 
 
 def performance_block(table):
-    notes = "".join(wrapped(text) for text in [slower_text(table), get_text(table), *METHODS, jump_text(table)])
-    return wrapped(machine_text(table)) + "\n" + "".join(table_lines(table)) + "\n" + notes
+    notes = wrapped(slower_text(table)) + wrapped(get_text(table)) + METHODS
+    return wrapped(machine_text(table)) + "\n" + "".join(table_lines(table)) + "\n" + notes + "\n" + jump_text(table)
 
 
 def with_block(text, block):
@@ -175,8 +183,7 @@ def with_block(text, block):
 # ---- the picture
 
 def read_bars(table):
-    return [Bar(re.sub(r" \(`[^)]*\)", "", row["what"]).replace("on the disk before its answer", "on the disk"), peer["name"].replace(", over PostgreSQL", "").replace(", no checks", "").replace(", a file of that size", ""),
-                better(row, peer), peer["stopped"]) for row in table["rows"] for peer in row["peers"]]
+    return [Bar(short(row["what"]), short(peer["name"]), better(row, peer), peer["stopped"]) for row in table["rows"] for peer in row["peers"]]
 
 
 def at(times):
@@ -200,7 +207,8 @@ def draw(bars):
     for place, bar in enumerate(bars):
         top, one, end = TOP_OF_BARS + place * ROW, at(1), at(bar.times)
         parts.append(text(14, top + 13, bar.what))
-        parts.append(f"<rect x='{min(one, end):.1f}' y='{top + 4}' width='{max(abs(end - one), 1):.1f}' height='{ROW - 7}' fill='{FASTER if bar.times >= 1 else SLOWER}'/>")
+        left, wide, ink = min(one, end), max(abs(end - one), 1), FASTER if bar.times >= 1 else SLOWER
+        parts.append(f"<rect x='{left:.1f}' y='{top + 4}' width='{wide:.1f}' height='{ROW - 7}' fill='{ink}'/>")
         parts.append(text(max(one, end) + 5, top + 13, ("more than " if bar.more else "") + of_times(bar.times), 11, more=" font-weight='bold'"))
         parts.append(text(PEERS, top + 13, bar.peer))
     height = bottom + 26
