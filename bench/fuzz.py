@@ -72,6 +72,15 @@ def real_requests():
     return [one for one in found if len(one) < 20_000 and not re.search(rb"(?i)\r\n(connection|transfer-encoding):| HTTP/1\.0", one)]
 
 
+def post(kind, body):
+    return b"POST /api/ipam/%s/ HTTP/1.1\r\nHost: x\r\nContent-Length: %d\r\n\r\n%s" % (kind, len(body), body)
+
+
+# a populated range, and an address in it, which no other request is near
+IN_RANGE = [post(b"ip-ranges", b'{"start_address":"198.18.0.10/24","end_address":"198.18.0.20/24","mark_populated":true}'),
+            post(b"ip-addresses", b'{"address":"198.18.0.15/24"}')]
+
+
 class Mutator:
     def __init__(self, seed, requests):
         self.pick, self.requests = random.Random(seed), requests
@@ -143,7 +152,7 @@ class Mutator:
             for _ in range(self.pick.choice([1, 1, 1, 2, 4]) if self.pick.random() < dirty else 0):
                 request = self.mutated(request)
             parts += [request, self.mark(number)]
-        text = b"".join(parts)
+        text = b"".join((IN_RANGE if self.pick.random() < 0.05 else []) + parts)
         if self.pick.random() < 0.3:
             text = text[:self.place(text)]
         return text + (self.pick.randbytes(30) if self.pick.random() < 0.1 else b"")
@@ -360,8 +369,9 @@ def main():
     if given.serve:
         for name, count in fuzz_serve(program, given.serve, given.seed, requests, given.port).items():
             tally[name] = tally.get(name, 0) + count
-    print(f"fuzz: seed {given.seed}, {len(requests)} real requests, {time.monotonic() - start:.0f} s; no signal, no answer out of order, each as documented")
     print("  " + ", ".join(f"{name} {count}" for name, count in sorted(tally.items())))
+    print(f"fuzz: {given.session} streams, {given.serve} connections, seed {given.seed}, {len(requests)} real requests, {time.monotonic() - start:.0f} s for serve; "
+          "no signal, no answer out of order, each as documented")
 
 
 if __name__ == "__main__":

@@ -5,6 +5,7 @@ import sys
 import tempfile
 
 from loads import PATH, fill, load, nginx, serve
+from machine import sync_ms
 
 COUNTS = [1, 4, 16, 32]
 # what is asked: its name, target, method and body
@@ -68,6 +69,8 @@ def main(program, seconds, port, runs):
         all_runs.write_file()
         print_row("nginx, a file", [all_runs.of_nginx(count) for count in COUNTS])
         for stored in [False] if os.environ.get("MEMORY_ONLY") else [False, True]:
+            if stored:
+                print(f"one fdatasync of 4 KiB takes {sync_ms(folder):.2f} ms")
             for kind in KINDS:
                 print_row(f"{kind[0]}, {'over a file' if stored else 'in memory'}", [all_runs.of_register(count, kind, stored) for count in COUNTS])
 
