@@ -1,16 +1,56 @@
-"""Claims a second by `ipamd session` and by NetBox's way over PostgreSQL; bench/claims.sh says how."""
-import ipaddress
+"""Claims of addresses a second by `ipamd serve` over a file, beside two ways over PostgreSQL; bench/claims.sh says how."""
 import sys
 import time
 
-from claim_rates import PART, Claims, Session, heading
+from claim_rates import LOCK, PART, Claims, Session, best_claim, heading, line
 
-PREFIX = "10.0.0.0/14"
-TAKEN = [250, 1_000, 10_000, 100_000]
-FIRST = int(ipaddress.ip_address("10.0.0.0"))
+PREFIX, FIRST, LENGTH = "10.0.0.0/14", 0x0A000000, 14
+# how many addresses the prefix has, and by how many clients they are claimed
+TAKEN = {1_000: [1, 4, 16], 10_000: [1, 4, 16], 100_000: [1]}
 CLAIMS = "/api/ipam/prefixes/1/available-ips/"
 # A full register has 500,000 addresses; a connection ends with its thousandth answer.
 WHOLE, FULL = "10.0.0.0/8", 500_000
+COLUMNS = ("id bigserial PRIMARY KEY, {}, vrf_id bigint, status varchar(50) NOT NULL, role varchar(50), dns_name varchar(255) NOT NULL, "
+           "description varchar(200) NOT NULL")
+
+
+def tables(taken):
+    """NetBox's tables and their indexes; and one of numbers for SQL's best, with a row for the first address of the prefix, which is given to nobody."""
+    return [f"CREATE TABLE ipam_ipaddress ({COLUMNS.format('address inet NOT NULL')})",
+            "CREATE TABLE ipam_iprange (id bigserial PRIMARY KEY, start_address inet NOT NULL, end_address inet NOT NULL, vrf_id bigint, "
+            "mark_populated boolean NOT NULL)",
+            "CREATE INDEX ON ipam_ipaddress (CAST(HOST(address) AS inet)); CREATE INDEX ON ipam_ipaddress (vrf_id); CREATE INDEX ON ipam_iprange (vrf_id)",
+            "INSERT INTO ipam_ipaddress (address, status, dns_name, description) "
+            f"SELECT set_masklen('10.0.0.0'::inet + n, {LENGTH}), 'active', '', '' FROM generate_series(1, {taken}) n",
+            f"CREATE TABLE best ({COLUMNS.format('number bigint NOT NULL UNIQUE')})",
+            f"INSERT INTO best (number, status, dns_name, description) SELECT {FIRST} + n, 'active', '', '' FROM generate_series(0, {taken}) n",
+            best_claim(FIRST, FIRST + 2 ** (32 - LENGTH) - 2, f"host('0.0.0.0'::inet + free) || '/{LENGTH}'", "status, dns_name, description",
+                       "'active', '', ''"),
+            "VACUUM ANALYZE"]
+
+
+def rest(taken):
+    return [f"DELETE FROM ipam_ipaddress WHERE id > {taken}", f"DELETE FROM best WHERE id > {taken + 1}", "VACUUM ANALYZE"]
+
+
+def netbox(cursor):
+    """A claim as NetBox 4 makes it (`Prefix.get_first_available_ip`), without Django, permissions and the log of changes: sets of netaddr, under its lock."""
+    import netaddr
+    cursor.execute("SELECT pg_advisory_lock(%s)", (LOCK,))
+    cursor.execute("SELECT address FROM ipam_ipaddress WHERE CAST(HOST(address) AS inet) <<= %s AND vrf_id IS NULL", (PREFIX,))
+    children = netaddr.IPSet([netaddr.IPNetwork(row[0]).ip for row in cursor.fetchall()])
+    cursor.execute("SELECT start_address, end_address FROM ipam_iprange WHERE start_address <<= %s AND vrf_id IS NULL AND mark_populated", (PREFIX,))
+    ranges = netaddr.IPSet([netaddr.IPRange(netaddr.IPNetwork(row[0]).ip, netaddr.IPNetwork(row[1]).ip) for row in cursor.fetchall()])
+    prefix = netaddr.IPNetwork(PREFIX)
+    available = netaddr.IPSet(prefix) - children - ranges
+    available -= netaddr.IPSet([netaddr.IPAddress(prefix.first), netaddr.IPAddress(prefix.last)])
+    address = f"{next(iter(available))}/{prefix.prefixlen}"
+    cursor.execute("INSERT INTO ipam_ipaddress (address, status, dns_name, description) VALUES (%s, 'active', '', '')", (address,))
+    cursor.execute("SELECT pg_advisory_unlock(%s)", (LOCK,))
+    return address
+
+
+ADDRESSES = Claims(("/api/ipam/prefixes/", {"prefix": PREFIX}), CLAIMS, "address", tables, rest, netbox, "SELECT claim()")
 
 
 def full(program):
@@ -34,35 +74,14 @@ def full(program):
     return figure, listed, claim
 
 
-def tables(taken):
-    return ("CREATE TABLE ipam_ipaddress (id bigserial PRIMARY KEY, address inet NOT NULL, vrf_id bigint, status varchar(50) NOT NULL, role varchar(50), "
-            "dns_name varchar(255) NOT NULL, description varchar(200) NOT NULL);"
-            "CREATE INDEX ON ipam_ipaddress (address); CREATE INDEX ON ipam_ipaddress (vrf_id);"
-            "INSERT INTO ipam_ipaddress (address, status, dns_name, description) SELECT set_masklen('10.0.0.0'::inet + n, 14), 'active', '', '' "
-            f"FROM generate_series(1, {taken}) n; ANALYZE;")
-
-
-def peer_claim(database):
-    network = ipaddress.ip_network(PREFIX)
-    database.ask("BEGIN; SELECT pg_advisory_xact_lock(100100);")
-    rows = database.ask(f"SELECT host(address) FROM ipam_ipaddress WHERE vrf_id IS NULL AND address <<= '{PREFIX}';")
-    taken = {int(ipaddress.IPv4Address(row)) for row in rows}
-    free = set(range(FIRST + 1, int(network.broadcast_address))) - taken
-    address = f"{ipaddress.ip_address(min(free))}/{network.prefixlen}"
-    database.ask(f"INSERT INTO ipam_ipaddress (address, status, dns_name, description) VALUES ('{address}', 'active', '', ''); COMMIT;")
-    return address
-
-
-ADDRESSES = Claims(("/api/ipam/prefixes/", {"prefix": PREFIX}), CLAIMS, "address", tables, peer_claim, 500, lambda taken: 50 if taken < 10_000 else 5)
-
-
-def main(program):
+def main(program, port):
     print(heading("addresses in the prefix"))
-    for taken in TAKEN:
-        print(ADDRESSES.row(program, taken)[2], flush=True)
+    for taken, clients in TAKEN.items():
+        for count, figures in ADDRESSES.row(program, int(port), taken, clients, 3).items():
+            print(line(taken, count, figures), flush=True)
     figure, listed, claim = full(program)
-    print(f"In {WHOLE} with {FULL:,} addresses: its figure {figure:.2f} ms, a list of 1,000 free addresses {listed:.2f} ms, a claim {claim:.3f} ms (best of 20)")
+    print(f"In {WHOLE} with {FULL:,} addresses: its figure {figure:.2f} ms, a list of 1,000 free addresses {listed:.2f} ms, a claim {claim:.3f} ms, best of 20")
 
 
 if __name__ == "__main__":
-    main(sys.argv[1])
+    main(*sys.argv[1:])

@@ -1,10 +1,32 @@
 """Inputs from a seed, and `ipamd free` beside its peers on them; see free.sh."""
-import ipaddress, os, random, shutil, subprocess, sys, tempfile, time
+import ipaddress
+import os
+import random
+import shutil
+import subprocess
+import sys
+import tempfile
+import time
+from dataclasses import dataclass
 
-top = os.path.dirname(os.path.dirname(os.path.abspath(__file__)))
-program = os.environ.get("IPAMD", os.path.join(top, "crates", "ipamd", "out", "ipamd"))
-lines = int(sys.argv[1]) if len(sys.argv) > 1 else 200_000
-seed = int(sys.argv[2]) if len(sys.argv) > 2 else 1
+TOP = os.path.dirname(os.path.dirname(os.path.abspath(__file__)))
+PROGRAM = os.environ.get("IPAMD", os.path.join(TOP, "crates", "ipamd", "out", "ipamd"))
+NETADDR = """
+import sys, netaddr
+left = netaddr.IPSet([sys.argv[1]]) - netaddr.IPSet(line.strip() for line in sys.stdin)
+sys.stdout.write("".join(f"{b}\\n" for b in left.iter_cidrs()))
+"""
+as_block = ipaddress.ip_network
+
+
+@dataclass
+class Found:
+    """What one program took for one input: seconds, the best of some runs, or those after which it was stopped; and MB at most."""
+    case: str
+    program: str
+    seconds: float
+    memory: int
+    stopped: bool = False
 
 
 def blocks(within, low, high, count, rng):
@@ -35,55 +57,61 @@ def run(command, stdin, times=3, limit=60):
     return text, best, peak
 
 
-NETADDR = """
-import sys, netaddr
-left = netaddr.IPSet([sys.argv[1]]) - netaddr.IPSet(line.strip() for line in sys.stdin)
-sys.stdout.write("".join(f"{b}\\n" for b in left.iter_cidrs()))
-"""
-
-
 def has_netaddr(python):
     return subprocess.run([python, "-c", "import netaddr"], capture_output=True).returncode == 0
 
 
-def main():
-    if not os.path.exists(program):
-        sys.exit("build the program first: ./ipamd free 10.0.0.0/8 </dev/null")
+def cases(lines, seed):
+    """The inputs: a name, the block whose free space is asked for, and the lines."""
     rng = random.Random(seed)
     four = list(blocks("10.0.0.0/8", 24, 32, lines, rng))
     six = list(blocks("2001:db8::/32", 48, 128, lines, rng))
-    as_block = ipaddress.ip_network
-    cases = [
-        ("IPv4, random", "10.0.0.0/8", four),
-        ("IPv4, sorted", "10.0.0.0/8", sorted(four, key=lambda t: (int(as_block(t).network_address), as_block(t).prefixlen))),
-        ("IPv4, equal", "10.0.0.0/8", ["10.0.0.0/24"] * lines),
-        ("IPv6, random", "2001:db8::/32", six),
-    ]
-    python = next((p for p in ("/usr/bin/python3", sys.executable) if has_netaddr(p)), None)
-    print(f"{lines} lines, seed {seed}, best of 3 runs")
-    print(f"{'input':14} {'blocks':>8}   {'program':8} {'seconds':>8} {'MB':>5}  ratio")
-    for name, within, rows in cases:
+    in_order = sorted(four, key=lambda text: (int(as_block(text).network_address), as_block(text).prefixlen))
+    return [("IPv4, random", "10.0.0.0/8", four), ("IPv4, sorted", "10.0.0.0/8", in_order),
+            ("IPv4, equal", "10.0.0.0/8", ["10.0.0.0/24"] * lines), ("IPv6, random", "2001:db8::/32", six)]
+
+
+def peers_of(within, path, outer, python):
+    """The peers: a name, the command, and how often it is run."""
+    if ":" not in within and shutil.which("iprange"):
+        yield "iprange", ["iprange", outer, "--except", path], 3
+    if python:
+        yield "netaddr", [python, "-c", NETADDR, within], 1
+
+
+def measure(lines, seed, limit=60):
+    """Each program on each input, ours first; each peer prints the same blocks."""
+    python = next((path for path in ("/usr/bin/python3", sys.executable) if has_netaddr(path)), None)
+    for name, within, rows in cases(lines, seed):
         with tempfile.TemporaryDirectory() as folder:
             path, outer = os.path.join(folder, "lines"), os.path.join(folder, "outer")
-            open(path, "w").write("".join(row + "\n" for row in rows))
-            open(outer, "w").write(within + "\n")
-            text, took, peak = run([program, "free", within], path)
-            want = [as_block(row) for row in text.split()]
-            print(f"{name:14} {len(want):8}   {'ipamd':8} {took:8.3f} {peak:5}   1.00", flush=True)
-            peers = []
-            if ":" not in within and shutil.which("iprange"):
-                peers.append(("iprange", ["iprange", outer, "--except", path], 3))
-            if python:
-                peers.append(("netaddr", [python, "-c", NETADDR, within], 1))
-            for peer, command, times in peers:
-                told, slow, large = run(command, path, times)
-                if told is None:
-                    print(f"{'':14} {'':>8}   {peer:8} {slow:8.3f} {large:5} {slow / took:6.2f}  stopped there", flush=True)
-                    continue
-                same = sorted(as_block(row) for row in told.split()) == sorted(want)
-                print(f"{'':14} {'same' if same else 'OTHER':>8}   {peer:8} {slow:8.3f} {large:5} {slow / took:6.2f}", flush=True)
-                if not same:
+            with open(path, "w") as file:
+                file.write("".join(row + "\n" for row in rows))
+            with open(outer, "w") as file:
+                file.write(within + "\n")
+            text, took, peak = run([PROGRAM, "free", within], path)
+            wanted = sorted(as_block(row) for row in text.split())
+            yield Found(name, "ipamd", took, peak)
+            for peer, command, times in peers_of(within, path, outer, python):
+                told, took, peak = run(command, path, times, limit)
+                if told is not None and sorted(as_block(row) for row in told.split()) != wanted:
                     sys.exit(f"{name}: {peer} prints other blocks")
+                yield Found(name, peer, took, peak, told is None)
 
 
-main()
+def main():
+    if not os.path.exists(PROGRAM):
+        sys.exit("build the program first: ./ipamd free 10.0.0.0/8 </dev/null")
+    lines = int(sys.argv[1]) if len(sys.argv) > 1 else 200_000
+    seed = int(sys.argv[2]) if len(sys.argv) > 2 else 1
+    print(f"{lines} lines, seed {seed}, best of 3 runs; all programs print the same blocks")
+    print(f"{'input':14} {'program':8} {'seconds':>8} {'MB':>5}  ratio")
+    for found in measure(lines, seed):
+        if found.program == "ipamd":
+            ours = found.seconds
+        end = "  stopped there" if found.stopped else ""
+        print(f"{found.case:14} {found.program:8} {found.seconds:8.3f} {found.memory:5} {found.seconds / ours:6.2f}{end}", flush=True)
+
+
+if __name__ == "__main__":
+    main()

@@ -8,6 +8,7 @@ import sys
 import tempfile
 import time
 
+import machine
 import wire
 
 BASE = "/api/ipam/"
@@ -152,7 +153,7 @@ def over_a_file(program, port):
         make(port, [request("POST", "prefixes/", {"prefix": "10.0.0.0/8"})])
         claims = request("POST", "prefixes/1/available-ips/", [{}] * EACH)
         took = make(port, [claims] * (ADDRESSES // EACH))
-        print(f"{ADDRESSES:,} addresses by claims of 1,000, over a file: {took:.1f} s")
+        print(f"{ADDRESSES:,} addresses by claims of 1,000, over a file: {took:.1f} s; one fdatasync of 4 KiB: {machine.sync_ms(folder):.2f} ms")
         server.end()
         start = time.perf_counter()
         server = Server(program, port, "--db", path)

@@ -31,9 +31,6 @@ from wire import listens
 TOP = os.path.join(os.path.dirname(os.path.abspath(__file__)), "..")
 STATUSES = {200: "OK", 201: "Created", 204: "No Content", 400: "Bad Request", 404: "Not Found", 405: "Method Not Allowed", 409: "Conflict",
             413: "Payload Too Large", 501: "Not Implemented", 507: "Insufficient Storage"}
-CODES = set("bad_head too_large coding no_route method bad_json field host_bits not_found no_such name_taken slug_taken range_family range_mask zero_mask "
-            "aggregate_overlap range_order range_size range_overlap slaac_family dns_name duplicate rd_taken coincide in_use limit no_space "
-            "wanted_length".split())
 WITHOUT_PLACE = {"bad_head", "too_large", "coding", "no_route", "method", "bad_json", "field", "host_bits"}
 CLOSING = {"bad_head", "too_large", "coding"}
 MARK = re.compile(rb'"previous":"/api/ipam/roles/\?limit=777&offset=(\d+)"')
@@ -43,6 +40,20 @@ PATIENCE = 60
 
 class Broken(Exception):
     """What is not as it has to be."""
+
+
+def documented():
+    """The codes of docs/USING.md with their statuses, from the rows of its tables that begin with the status of a refusal."""
+    codes = {}
+    with open(os.path.join(TOP, "docs/USING.md"), encoding="utf-8") as page:
+        for line in page:
+            if re.match(r"\| [45]\d\d\b", line):
+                for code in re.findall(r"`([a-z_]+)`", "|".join(line.split("|")[1:3])):
+                    codes.setdefault(code, set()).add(int(line[2:5]))
+    return codes
+
+
+CODES = documented()
 
 
 # ---- streams
@@ -59,6 +70,15 @@ def real_requests():
         found.append(text[:size])
         text = text[size:]
     return [one for one in found if len(one) < 20_000 and not re.search(rb"(?i)\r\n(connection|transfer-encoding):| HTTP/1\.0", one)]
+
+
+def post(kind, body):
+    return b"POST /api/ipam/%s/ HTTP/1.1\r\nHost: x\r\nContent-Length: %d\r\n\r\n%s" % (kind, len(body), body)
+
+
+# a populated range, and an address in it, which no other request is near
+IN_RANGE = [post(b"ip-ranges", b'{"start_address":"198.18.0.10/24","end_address":"198.18.0.20/24","mark_populated":true}'),
+            post(b"ip-addresses", b'{"address":"198.18.0.15/24"}')]
 
 
 class Mutator:
@@ -132,7 +152,7 @@ class Mutator:
             for _ in range(self.pick.choice([1, 1, 1, 2, 4]) if self.pick.random() < dirty else 0):
                 request = self.mutated(request)
             parts += [request, self.mark(number)]
-        text = b"".join(parts)
+        text = b"".join((IN_RANGE if self.pick.random() < 0.05 else []) + parts)
         if self.pick.random() < 0.3:
             text = text[:self.place(text)]
         return text + (self.pick.randbytes(30) if self.pick.random() < 0.1 else b"")
@@ -171,7 +191,7 @@ def read_body(status, fields, rest, has_heads):
 
 def check_answer(status, fields, value):
     code = value.get("code") if isinstance(value, dict) and status >= 400 else None
-    if value is not None and status >= 400 and (code not in CODES or set(value) != {"code", "detail"}):
+    if value is not None and status >= 400 and (status not in CODES.get(code, ()) or set(value) != {"code", "detail"}):
         raise Broken(f"a refusal that is none: {status} {value}")
     if value is not None and ("Ipam-Place" in fields) != (code not in WITHOUT_PLACE):
         raise Broken(f"the place: {fields} {code}")
@@ -349,8 +369,9 @@ def main():
     if given.serve:
         for name, count in fuzz_serve(program, given.serve, given.seed, requests, given.port).items():
             tally[name] = tally.get(name, 0) + count
-    print(f"fuzz: seed {given.seed}, {len(requests)} real requests, {time.monotonic() - start:.0f} s; no signal, no answer out of order, each as documented")
     print("  " + ", ".join(f"{name} {count}" for name, count in sorted(tally.items())))
+    print(f"fuzz: {given.session} streams, {given.serve} connections, seed {given.seed}, {len(requests)} real requests, {time.monotonic() - start:.0f} s for serve; "
+          "no signal, no answer out of order, each as documented")
 
 
 if __name__ == "__main__":

@@ -8,7 +8,7 @@ call that met it. The tables are read by Python's sqlite3 and compared here. The
 - with `--try` by the program that `rt try --fail-alloc` builds, which also stops at a bad access or a number that does not fit: it is built once, with a
   number that no run comes to, and that number is written over in its two comparisons. Then `load` is run with 20 claims: with 1,000 a run takes twenty seconds.
 
-As many runs are under way at once as there are processors.
+As many runs are under way at once as there are processors (taskset gives it fewer).
 
     python3 bench/growths.py [--try] [free|import|post|store|load ..]
 """
@@ -238,7 +238,7 @@ def main():
     folder = tempfile.mkdtemp()
     try:
         runner = Tried(folder) if "--try" in sys.argv[1:] else Fronted(folder)
-        jobs, folders = os.cpu_count() or 1, queue.SimpleQueue()
+        jobs, folders = len(os.sched_getaffinity(0)), queue.SimpleQueue()
         for job in range(jobs):
             os.mkdir(os.path.join(folder, str(job)))
             folders.put(os.path.join(folder, str(job)))

@@ -87,7 +87,7 @@ def write(path, lines):
 
 
 def merged(folder, family, count, rng):
-    """`fewest` by `prefix-check` over an empty register, beside a peer."""
+    """`fewest` by `prefix-check` over an empty register, beside a peer: the run, the number of lines, and the name and the run of the peer, where it is installed."""
     blocks = list(random_blocks(family, count, rng))
     path = os.path.join(folder, "merge")
     write(path, (text_of(family, *block) for block in blocks))
@@ -96,17 +96,21 @@ def merged(folder, family, count, rng):
     mine = runs(listing("prefix-check", family, "plain"), path)
     wanted = list(fewest(family, spans_of(family, blocks)))
     same(f"fewest of IPv{family}", mine.text.split("\n")[:-1], [f"beyond {block}" for block in wanted])
-    print(f"fewest of {count:,} random IPv{family} blocks, {len(wanted):,} lines: {mine.seconds:.3f} s, {mine.memory:.0f} MB", flush=True)
     if family == 4 and shutil.which("iprange"):
         peer, name = runs(["iprange", path]), "iprange"
     elif family == 6 and subprocess.run(["/usr/bin/python3", "-c", "import netaddr"], capture_output=True).returncode == 0:
         peer, name = runs(["/usr/bin/python3", "-c", MERGE], path, 1), "netaddr"
     else:
-        print("    its peer is not installed")
-        return
+        return mine, len(wanted), None, None
     key = lambda text: (int(ipaddress.ip_network(text).network_address), text)
     same(name, sorted((str(ipaddress.ip_network(line)) for line in peer.text.split()), key=key), sorted((str(ipaddress.ip_network(block)) for block in wanted), key=key))
-    print(f"    {name}: {peer.seconds:.3f} s, {peer.memory:.0f} MB, the same blocks: {peer.seconds / mine.seconds:.2f} times ours")
+    return mine, len(wanted), name, peer
+
+
+def print_merged(folder, family, count, rng):
+    mine, lines, name, peer = merged(folder, family, count, rng)
+    print(f"fewest of {count:,} random IPv{family} blocks, {lines:,} lines: {mine.seconds:.3f} s, {mine.memory:.0f} MB", flush=True)
+    print("    its peer is not installed" if peer is None else f"    {name}: {peer.seconds:.3f} s, {peer.memory:.0f} MB, the same blocks: {peer.seconds / mine.seconds:.2f} times ours")
 
 
 def fill(folder, count, rng):
@@ -205,12 +209,13 @@ def router(folder, rng):
 def main():
     rng = random.Random(int(sys.argv[1]))
     with tempfile.TemporaryDirectory() as folder:
-        merged(folder, 4, 200_000, rng)
-        merged(folder, 6, 80_000, rng)
+        print_merged(folder, 4, 200_000, rng)
+        print_merged(folder, 6, 80_000, rng)
         single(folder, rng)
         router(folder, rng)
         blocks = fill(folder, 200_000, rng)
         compared(folder, blocks, printed(folder, blocks), rng)
 
 
-main()
+if __name__ == "__main__":
+    main()

@@ -1,6 +1,5 @@
 """Readers of `ipamd mirror` beside its operator, `serve` and nginx; bench/mirror.sh says what is measured."""
 import os
-import re
 import socket
 import statistics
 import subprocess
@@ -9,6 +8,7 @@ import tempfile
 import threading
 import time
 
+import loads
 from full import EACH, Connection, Server, make, request, text_of
 
 READERS = [1, 4, 16]
@@ -90,39 +90,18 @@ class Serve(Server):
         listens(port, self.process)
 
 
-class Nginx(Server):
-    def __init__(self, folder, port, workers):
-        conf = os.path.join(folder, "nginx.conf")
-        with open(conf, "w", encoding="ascii") as out:
-            out.write(f"worker_processes {workers}; daemon off; pid {folder}/nginx.pid; error_log {folder}/errors; events {{}}\n"
-                      f"http {{ access_log off; keepalive_requests 1000; server {{ listen 127.0.0.1:{port};"
-                      f" location / {{ root {folder}; default_type application/json; }} }} }}\n")
-        self.port = port
-        self.process = subprocess.Popen(["nginx", "-c", conf, "-p", folder], stderr=subprocess.DEVNULL)
-        listens(port, self.process)
-
-    def end(self):
-        self.process.terminate()
-        self.process.wait()
-
-
-def rate(port, count, path, seconds):
-    """The answers a second to so many connections."""
-    words = ["wrk", "-t", str(count), "-c", str(count), "-d", f"{seconds}s", f"http://127.0.0.1:{port}{path}"]
-    told = subprocess.run(words, stdout=subprocess.PIPE, check=True).stdout.decode()
-    if "Non-2xx" in told:
-        sys.exit(f"mirror: {path}: {told}")
-    return float(re.search(r"Requests/sec: *([0-9.]+)", told).group(1))
-
-
 class Runs:
     """So many runs of so many seconds, on one port."""
 
-    def __init__(self, program, seconds, port, runs):
-        self.program, self.seconds, self.port, self.runs = program, seconds, port, runs
+    def __init__(self, program, folder, seconds, port, runs):
+        self.program, self.folder, self.seconds, self.port, self.runs = program, folder, seconds, port, runs
 
     def middle(self, count, path="/api/ipam/prefixes/1/"):
-        return statistics.median(rate(self.port, count, path, self.seconds) for _ in range(self.runs))
+        return statistics.median(self.rate(count, path, self.seconds) for _ in range(self.runs))
+
+    def rate(self, count, path, seconds):
+        """The answers a second to so many connections."""
+        return loads.load(self.port, path, count, seconds, self.folder).rate
 
     def mirrored_once(self, count):
         """The figures of an idle operator and of one that writes, and the body of an answer."""
@@ -135,8 +114,8 @@ class Runs:
         if status != 200:
             sys.exit(f"mirror: a reader does not see the operator's changes: {status} {body!r}")
         path = "/api/ipam/prefixes/1/"
-        idle = rate(self.port, count, path, self.seconds)
-        written = writing(server.operator, SOME, PACE, lambda: rate(self.port, count, path, 1))
+        idle = self.rate(count, path, self.seconds)
+        written = writing(server.operator, SOME, PACE, lambda: self.rate(count, path, 1))
         server.end()
         return idle, written[0], written[1], body
 
@@ -153,10 +132,8 @@ class Runs:
         return found
 
     def peer(self, folder, count):
-        server = Nginx(folder, self.port, count)
-        found = self.middle(count, "/1")
-        server.end()
-        return found
+        with loads.nginx(folder, self.port):
+            return self.middle(count, "/1")
 
 
 def writing(operator, prefixes, pace, what):
@@ -239,9 +216,9 @@ def whole(runs, folder):
 
 
 def main(program, seconds, port, runs):
-    all_runs = Runs(program, int(seconds), int(port), int(runs))
     with tempfile.TemporaryDirectory() as folder:
         os.chmod(folder, 0o755)  # a worker of nginx is another user
+        all_runs = Runs(program, folder, int(seconds), int(port), int(runs))
         wrong = rates(all_runs, folder) + whole(all_runs, folder)
     if wrong:
         sys.exit("mirror: " + "; ".join(wrong))

@@ -3,7 +3,7 @@
 #
 # First, over 10,000 prefixes in memory: answers a second of a GET of one prefix by 1, 4 and 16 readers, with as many connections: while the
 # operator is idle, and in a second in which it makes up to 1,000 changes (a session ends with its thousandth answer); beside `serve` with as
-# many workers, and nginx with as many, which sends a file of the size of the answer. Each figure is the median of RUNS runs (3 where it is
+# many workers, and nginx as bench/serve.sh has it, which sends a file of the size of the answer. Each figure is the median of RUNS runs (3 where it is
 # not set) of SECONDS seconds.
 #
 # Then over a file of 200,000 prefixes: the longest that a reader takes to answer a list which looks at all of them (the copy is held no

@@ -1,43 +1,65 @@
-"""Claims a second by `poold session` and by NetBox's way over PostgreSQL; bench/pools.sh says how."""
+"""Claims of AS numbers a second by `poold serve` over a file, beside two ways over PostgreSQL; bench/pools.sh says how."""
 import sys
+import time
 
-from claim_rates import Claims, heading
+from claim_rates import LOCK, Claims, Session, best_claim, heading, line
 
 FIRST, LAST = 4_200_000_000, 4_200_099_999
-TAKEN = [100, 10_000, 90_000]
-# what the claims a second among the most are to be of those among the fewest
+TAKEN = {100: [1, 4, 16], 10_000: [1, 4, 16], 90_000: [1]}
+# what the claims a second in memory among the most are to be of those among the fewest
 LEAST = 0.8
+CLAIMS = "/api/ipam/asn-ranges/1/available-asns/"
 
 
 def tables(taken):
-    return ("CREATE TABLE ipam_asn (id bigserial PRIMARY KEY, asn bigint NOT NULL UNIQUE, description varchar(200) NOT NULL);"
-            f"INSERT INTO ipam_asn (asn, description) SELECT {FIRST} + n, '' FROM generate_series(0, {taken - 1}) n; ANALYZE;")
+    """NetBox's table; and one for SQL's best, with a row for the number before the first one, which is given to nobody."""
+    return ["CREATE TABLE ipam_asn (id bigserial PRIMARY KEY, asn bigint NOT NULL UNIQUE, description varchar(200) NOT NULL)",
+            f"INSERT INTO ipam_asn (asn, description) SELECT {FIRST} + n, '' FROM generate_series(0, {taken - 1}) n",
+            "CREATE TABLE best (id bigserial PRIMARY KEY, number bigint NOT NULL UNIQUE, description varchar(200) NOT NULL)",
+            f"INSERT INTO best (number, description) SELECT {FIRST} - 1 + n, '' FROM generate_series(0, {taken}) n",
+            best_claim(FIRST - 1, LAST, "free", "description", "''"), "VACUUM ANALYZE"]
 
 
-def peer_claim(database):
-    database.ask("BEGIN; SELECT pg_advisory_xact_lock(100101);")
-    taken = {int(row) for row in database.ask(f"SELECT asn FROM ipam_asn WHERE asn >= {FIRST} AND asn <= {LAST};")}
-    number = next(number for number in range(FIRST, LAST + 1) if number not in taken)
-    database.ask(f"INSERT INTO ipam_asn (asn, description) VALUES ({number}, ''); COMMIT;")
+def rest(taken):
+    return [f"DELETE FROM ipam_asn WHERE id > {taken}", f"DELETE FROM best WHERE id > {taken + 1}", "VACUUM ANALYZE"]
+
+
+def netbox(cursor):
+    """A claim as NetBox 4 makes it (`ASNRange.get_available_asns`), without Django, permissions and the log of changes: a set of all numbers, under a lock."""
+    cursor.execute("SELECT pg_advisory_lock(%s)", (LOCK,))
+    cursor.execute("SELECT asn FROM ipam_asn WHERE asn >= %s AND asn <= %s", (FIRST, LAST))
+    number = sorted(set(range(FIRST, LAST + 1)) - {row[0] for row in cursor.fetchall()})[0]
+    cursor.execute("INSERT INTO ipam_asn (asn, description) VALUES (%s, '')", (number,))
+    cursor.execute("SELECT pg_advisory_unlock(%s)", (LOCK,))
     return number
 
 
-NUMBERS = Claims(("/api/ipam/asn-ranges/", {"name": "private", "start": FIRST, "end": LAST}), "/api/ipam/asn-ranges/1/available-asns/", "asn",
-                 tables, peer_claim, 800, lambda taken: 50 if taken < 10_000 else 10)
+NUMBERS = Claims(("/api/ipam/asn-ranges/", {"name": "private", "start": FIRST, "end": LAST}), CLAIMS, "asn", tables, rest, netbox, "SELECT claim()")
 
 
-def main(program):
-    print(heading("members", "in memory to that among 100"))
-    rates = []
-    for taken in TAKEN:
-        memory, first, cells = NUMBERS.row(program, taken)
-        if first != FIRST + taken:
-            sys.exit(f"pools: {first} is claimed first")
-        rates.append(memory)
-        print(f"{cells} {memory / rates[0]:.2f} |", flush=True)
-    if rates[-1] < LEAST * rates[0]:
-        sys.exit(f"pools: among {TAKEN[-1]:,} there are less than {LEAST} of the claims a second among {TAKEN[0]:,}")
+def in_memory(program, taken, count=800):
+    """Claims a second of one session, each sent when the last one is answered."""
+    session = Session(program)
+    session.ask(*NUMBERS.made)
+    session.claim_many(CLAIMS, taken)
+    begun = time.perf_counter()
+    for _ in range(count):
+        session.ask(CLAIMS, {})
+    found = count / (time.perf_counter() - begun)
+    session.end()
+    return found
+
+
+def main(program, port):
+    print(heading("AS numbers given out"))
+    for taken, clients in TAKEN.items():
+        for count, figures in NUMBERS.row(program, int(port), taken, clients, 3).items():
+            print(line(taken, count, figures), flush=True)
+    fewest, most = in_memory(program, min(TAKEN)), in_memory(program, max(TAKEN))
+    print(f"in memory, one client: {fewest:,.0f} a second among {min(TAKEN):,}, {most:,.0f} among {max(TAKEN):,}")
+    if most < LEAST * fewest:
+        sys.exit(f"pools: among {max(TAKEN):,} there are less than {LEAST} of the claims a second among {min(TAKEN):,}")
 
 
 if __name__ == "__main__":
-    main(sys.argv[1])
+    main(*sys.argv[1:])

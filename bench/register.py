@@ -4,6 +4,7 @@ import json
 import os
 import subprocess
 import sys
+import threading
 import time
 from http.server import BaseHTTPRequestHandler
 
@@ -17,12 +18,12 @@ def post(block):
 
 
 def posts():
-    return "".join(post(f"10.{n // 256}.{n % 256}.0/24") for n in range(1000)).encode()
+    """One request, and those that are timed."""
+    return post("10.200.0.0/24"), "".join(post(f"10.{n // 256}.{n % 256}.0/24") for n in range(999))
 
 
 def gets():
-    one = f"GET {PATH}1/ HTTP/1.1\r\nHost: 127.0.0.1:8080\r\nUser-Agent: curl/8.5.0\r\nAccept: */*\r\n\r\n"
-    return (post("10.0.0.0/24") + one * 999).encode()
+    return post("10.0.0.0/24"), f"GET {PATH}1/ HTTP/1.1\r\nHost: 127.0.0.1:8080\r\nUser-Agent: curl/8.5.0\r\nAccept: */*\r\n\r\n" * 999
 
 
 class Peer(BaseHTTPRequestHandler):
@@ -57,29 +58,53 @@ class Peer(BaseHTTPRequestHandler):
         pass
 
 
-def timed(command, data, runs):
-    best, total = None, 0.0
-    for _ in range(runs):
-        begin = time.perf_counter()
-        done = subprocess.run(command, input=data, stdout=subprocess.PIPE, check=True)
-        took = time.perf_counter() - begin
-        answers = done.stdout.count(b"HTTP/1.1 20")
-        if answers != 1000:
-            sys.exit(f"{command[0]}: {answers} answers of 1000")
-        best = took if best is None else min(best, took)
-        total += took
-    return total / runs, best
+def read_answer(output):
+    """One answer, read to its end."""
+    length = 0
+    while (line := output.readline()) not in (b"\r\n", b""):
+        if line.startswith(b"Content-Length: "):
+            length = int(line[16:])
+    output.read(length)
+
+
+def timed_once(command, first, others, count=999):
+    """The seconds from the writing of the second request on to the end of the last of so many answers: the process runs by then."""
+    child = subprocess.Popen(command, stdin=subprocess.PIPE, stdout=subprocess.PIPE)
+    child.stdin.write(first.encode())
+    child.stdin.flush()
+    read_answer(child.stdout)
+
+    def write():
+        child.stdin.write(others.encode())
+        child.stdin.close()
+
+    writer, begin = threading.Thread(target=write), time.perf_counter()
+    writer.start()
+    answers = child.stdout.read().count(b"HTTP/1.1 20")
+    took = time.perf_counter() - begin
+    writer.join()
+    if answers != count or child.wait() != 0:
+        sys.exit(f"{command[0]}: {answers} answers of {count}, status {child.returncode}")
+    return took
+
+
+def rate(command, requests, runs):
+    """Requests a second, in the mean of some runs."""
+    return 999 * runs / sum(timed_once(command, *requests) for _ in range(runs))
+
+
+def measure(program, runs):
+    """For each kind of request its name, how many a second the program answers, and how many the peer."""
+    for name, requests in (("POST", posts()), ("GET", gets())):
+        yield name, rate([program, "session"], requests, runs), rate([sys.executable, "-S", __file__, "peer"], requests, max(3, runs // 20))
 
 
 def main():
     runs = int(sys.argv[1]) if len(sys.argv) > 1 else 100
     program = os.environ.get("IPAMD", os.path.join(HERE, "..", "crates", "ipamd", "out", "ipamd"))
-    print(f"load {os.getloadavg()[0]:.1f}, {runs} runs of 1,000 requests, a process for each run")
-    for name, data in (("POST", posts()), ("GET", gets())):
-        ours, ours_best = timed([program, "session"], data, runs)
-        peer, peer_best = timed([sys.executable, "-S", __file__, "peer"], data, max(3, runs // 20))
-        print(f"{name}: ipamd {1000 / ours:,.0f} a second (best {1000 / ours_best:,.0f}), "
-              f"http.server {1000 / peer:,.0f} (best {1000 / peer_best:,.0f}), ratio {peer / ours:.1f}")
+    print(f"load {os.getloadavg()[0]:.1f}, {runs} runs of 999 requests behind a first one, a process for each run")
+    for name, ours, theirs in measure(program, runs):
+        print(f"{name}: ipamd {ours:,.0f} a second, http.server {theirs:,.0f}, ratio {ours / theirs:.1f}")
 
 
 if __name__ == "__main__":

@@ -1,5 +1,5 @@
 #!/usr/bin/env python3
-"""Draws the crates in layers, from crates.txt: a band for each of its comments, the last one on top. A crate depends on crates of its own band and of those
+"""Draws the crates in layers, from crates.txt: a band for each of its comments, the last one on top. Most crates depend on crates of their own band and of those
 below; dependencies that go up are listed at the foot. Crates of tests are dashed. Crates of the kit are not drawn. The picture is 800 pixels wide and has a
 background of its own, so that it can be read in a light and in a dark theme.
 
@@ -56,7 +56,7 @@ def band(number, title, crates, top):
 def foot(crates):
     """A line on dashed crates, and one for each dependency on a layer above."""
     upward = [f"{name} also depends on {other}." for name in crates for other in crates[name][0] if other in crates and crates[other][1] > crates[name][1]]
-    return ["A crate depends on crates of its own layer and of those below. Dashed: crates of tests."] + upward
+    return ["Crates depend on crates of their own layer and of those below" + (", except where the lines below say more." if upward else ".") + " Dashed: crates of tests."] + upward
 
 
 def draw(crates, titles):
