@@ -1,6 +1,6 @@
 //! Runs over stores: what is answered, what outlives a run, what is refused, and what a store that fails leaves.
 
-use crate::exchanges::{put_answer, put_request};
+use crate::exchanges::{part, put_answer, put_request};
 use crate::running::{Left, run_words};
 use crate::stores::opener_of;
 use ipam_listen::ListListener;
@@ -41,6 +41,7 @@ const CASES: [&str; 10] = [
 0|session --db a|~GET /api/ipam/asn-ranges/1/asns/||200 OK|Ipam-Place: 0|[]"#,
     r#"1 1
 2||usage: poold COMMAND
+2|''|usage: poold COMMAND
 2|free|usage: poold COMMAND
 2|Session|usage: poold COMMAND
 2|session a|usage: poold COMMAND
@@ -60,11 +61,6 @@ const CASES: [&str; 10] = [
 0|session --db=-x|"#,
 ];
 
-/// A part of a run's line.
-fn part(run: &str, index: usize) -> &str {
-    run.split('|').nth(index).unwrap_or("")
-}
-
 /// The requests of a run, and the answers.
 fn conversation(alloc: Global, run: &str) -> Result<(Vec<u8>, Vec<u8>), AllocError> {
     let mut input = Vec::new(alloc);
@@ -80,9 +76,10 @@ fn conversation(alloc: Global, run: &str) -> Result<(Vec<u8>, Vec<u8>), AllocErr
 fn is_left(alloc: Global, left: &Left, run: &str, output: &[u8]) -> Result<bool, AllocError> {
     let head = run.split('~').next().unwrap_or("");
     let status = format!(in alloc; "{}", left.status)?;
-    let said = part(head, 2).as_bytes();
+    let said = part(head, 2)?.as_bytes();
+    let wanted = part(head, 0)?;
     let errors = left.errors.as_slice().strip_suffix(b"\n").unwrap_or(b"");
-    Ok(status.as_str() == part(head, 0) && errors == said && left.output.as_slice() == output)
+    Ok(status.as_str() == wanted && errors == said && left.output.as_slice() == output)
 }
 
 /// Whether a run over the store comes out as its line says, where the input comes in pieces of this size.
@@ -95,7 +92,7 @@ fn is_run<R: Threads + Wait + Sync>(
 ) -> Result<bool, AllocError> {
     let (input, output) = conversation(alloc, run)?;
     let mut nobody = ListListener::new(alloc, Vec::new(alloc))?;
-    let words = part(run, 1);
+    let words = part(run, 1)?;
     let left = run_words(rt, alloc, words, &input, piece, &mut nobody, opener)?;
     is_left(alloc, &left, run, &output)
 }
