@@ -1,9 +1,7 @@
 //! `poold`: pools of AS numbers and of VLANs. Its commands stand in `pool_command`; its stores are SQLite files.
 #![tactic(auto)]
 
-mod files;
-
-use files::HostFiles;
+use host_pools::HostFiles;
 use ipam_listen::TcpDoors;
 use pool_command::program;
 use pool_keeper::keeper::PoolOpener;
