@@ -1,4 +1,42 @@
-//! |mirror --bind x --readers 1 --connections 1 --db a|POST /api/ipam/vrfs/ HTTP/1.1^;Content-Length: 14^;^;{"name":"red"}<600:PATCH /api/ipam/vrfs/1/ HTTP/1.1^;Content-Length: 2^;^;{}>POST /api/ipam/vrfs/ HTTP/1.1^;Content-Length: 14^;^;{"name":"red"}POST /api/ipam/vrfs/ HTTP/1.1^;Content-Length: 14^;^;{"name":"red"}POST /api/ipam/vrfs/ HTTP/1.1^;Content-Length: 14^;^;{"name":"red"}POST /api/ipam/prefixes/ HTTP/1.1^;Content-Length: 24^;^;{"prefix":"10.0.1.0/24"}POST /api/ipam/prefixes/ HTTP/1.1^;Content-Length: 24^;^;{"prefix":"10.0.2.0/24"}POST /api/ipam/prefixes/ HTTP/1.1^;Content-Length: 24^;^;{"prefix":"10.0.3.0/24"}DELETE /api/ipam/vrfs/1/ HTTP/1.1^;^;DELETE /api/ipam/vrfs/2/ HTTP/1.1^;^;DELETE /api/ipam/vrfs/3/ HTTP/1.1^;^;DELETE /api/ipam/vrfs/4/ HTTP/1.1^;^;|0|HTTP/1.1 201 Created^;Content-Type: application/json^;Content-Length: 70^;Ipam-Place: 0^;^;{"description":"","enforce_unique":true,"id":1,"name":"red","rd":null}<600:HTTP/1.1 200 OK^;Content-Type: application/json^;Content-Length: 70^;Ipam-Place: @^;^;{"description":"","enforce_unique":true,"id":1,"name":"red","rd":null}>HTTP/1.1 201 Created^;Content-Type: application/json^;Content-Length: 70^;Ipam-Place: 601^;^;{"description":"","enforce_unique":true,"id":2,"name":"red","rd":null}HTTP/1.1 201 Created^;Content-Type: application/json^;Content-Length: 70^;Ipam-Place: 602^;^;{"description":"","enforce_unique":true,"id":3,"name":"red","rd":null}HTTP/1.1 201 Created^;Content-Type: application/json^;Content-Length: 70^;Ipam-Place: 603^;^;{"description":"","enforce_unique":true,"id":4,"name":"red","rd":null}HTTP/1.1 201 Created^;Content-Type: application/json^;Content-Length: 188^;Ipam-Place: 604^;^;{"children":0,"depth":0,"description":"","family":4,"id":1,"is_pool":false,"mark_utilized":false,"prefix":"10.0.1.0/24","role":null,"status":{"label":"Active","value":"active"},"vrf":null}HTTP/1.1 201 Created^;Content-Type: application/json^;Content-Length: 188^;Ipam-Place: 605^;^;{"children":0,"depth":0,"description":"","family":4,"id":2,"is_pool":false,"mark_utilized":false,"prefix":"10.0.2.0/24","role":null,"status":{"label":"Active","value":"active"},"vrf":null}HTTP/1.1 201 Created^;Content-Type: application/json^;Content-Length: 188^;Ipam-Place: 606^;^;{"children":0,"depth":0,"description":"","family":4,"id":3,"is_pool":false,"mark_utilized":false,"prefix":"10.0.3.0/24","role":null,"status":{"label":"Active","value":"active"},"vrf":null}HTTP/1.1 204 No Content^;Ipam-Place: 607^;^;HTTP/1.1 204 No Content^;Ipam-Place: 608^;^;HTTP/1.1 204 No Content^;Ipam-Place: 609^;^;HTTP/1.1 204 No Content^;Ipam-Place: 610^;^;||1|1,10.0.1.0/24,,active,,false,false,;2,10.0.2.0/24,,active,,false,false,;3,10.0.3.0/24,,active,,false,false,;
+//! Runs, a line each: the call of a handed-in object that fails, if any; the status, what is written and said, and what the store has afterwards.
+ghost use Rattle.std.specs.Prelude.{◌≡◌, [], IfOk};
+ghost use Rattle.ipam_listen.specs.ListLanes.{lane_told};
+
+use crate::command_files_tests::bytes_of;
+use crate::session_tests::part;
+use crate::store_tests::{number, opener_of};
+use crate::tests::{Left, run_with};
+use ipam_edge::{BytesSink, BytesSource};
+use ipam_keeper::keeper::KeeperOpener;
+use ipam_keeper::opener::MemoryOpener;
+use ipam_listen::{Handed, ListLane, ListListener};
+use std::alloc::{AllocError, Global};
+use std::marker::Sync;
+use std::sync::Wait;
+use std::test::Fail;
+use std::thread::Threads;
+use stored_tables::tables::{Row, Text};
+
+/// A request that makes a prefix.
+const POST: &str =
+    "POST /api/ipam/prefixes/ HTTP/1.1^;Host: x^;Content-Length: 24^;^;{\"prefix\":\"10.0.0.0/24\"}";
+
+/// A run a line: which calls fail, each as the object and the number of its call, from 0; the words; the input, where `once` and `twice` stand
+/// for that request; the status; the output; what is said; how many connections were answered; the rows of the store afterwards. Where `nobody`
+/// is told no lane comes, and where `nowhere` is no place can be bound. `''` is an empty word. A semicolon, a caret and `<N:text>` are what `bytes_of` says.
+const RUNS: &str = r#"input 0|session --db a|once|3|||0|
+input 1|session|once|3|HTTP/1.1 201 Created^;Content-Type: application/json^;Content-Length: 188^;Ipam-Place: 0^;^;{"children":0,"depth":0,"description":"","family":4,"id":1,"is_pool":false,"mark_utilized":false,"prefix":"10.0.0.0/24","role":null,"status":{"label":"Active","value":"active"},"vrf":null}||0|
+output 0|session --db a|once|3|||0|1,10.0.0.0/24,,active,,false,false,;
+keeper 0|session --db a|once|4||store: the store could not be read;|0|
+keeper 1|session --db a|once|0|HTTP/1.1 503 Service Unavailable^;Content-Type: application/json^;Content-Length: 59^;Ipam-Place: 0^;^;{"code":"keeper","detail":"the store could not be written"}||0|
+keeper 1|import prefixes --db a|prefix,vrf,status;10.0.0.0/24,,active;10.0.1.0/24,,active;10.0.2.0/24,,container;|4||keeper: the store could not be written;|0|
+lane 0|serve --bind x --workers 1 --connections 2 --db a||3|entries 1;||1|1,10.0.0.0/24,,active,,false,false,;
+nobody|serve --bind x --workers 1|x|3|entries 0;||0|
+nowhere|serve --bind x --workers 1|x|3|||0|
+|mirror --bind x --readers 1 --connections 2 --db a|once|0|HTTP/1.1 201 Created^;Content-Type: application/json^;Content-Length: 188^;Ipam-Place: 0^;^;{"children":0,"depth":0,"description":"","family":4,"id":1,"is_pool":false,"mark_utilized":false,"prefix":"10.0.0.0/24","role":null,"status":{"label":"Active","value":"active"},"vrf":null}||2|1,10.0.0.0/24,,active,,false,false,;
+|mirror --bind x --readers 1 --connections 1|once|0|HTTP/1.1 201 Created^;Content-Type: application/json^;Content-Length: 188^;Ipam-Place: 0^;^;{"children":0,"depth":0,"description":"","family":4,"id":1,"is_pool":false,"mark_utilized":false,"prefix":"10.0.0.0/24","role":null,"status":{"label":"Active","value":"active"},"vrf":null}||1|
+lane 0|mirror --bind x --readers 1 --connections 2 --db a|once|3|HTTP/1.1 201 Created^;Content-Type: application/json^;Content-Length: 188^;Ipam-Place: 0^;^;{"children":0,"depth":0,"description":"","family":4,"id":1,"is_pool":false,"mark_utilized":false,"prefix":"10.0.0.0/24","role":null,"status":{"label":"Active","value":"active"},"vrf":null}||1|1,10.0.0.0/24,,active,,false,false,;
+|mirror --bind x --readers 1 --connections 1 --db a|POST /api/ipam/vrfs/ HTTP/1.1^;Content-Length: 14^;^;{"name":"red"}<600:PATCH /api/ipam/vrfs/1/ HTTP/1.1^;Content-Length: 2^;^;{}>POST /api/ipam/vrfs/ HTTP/1.1^;Content-Length: 14^;^;{"name":"red"}POST /api/ipam/vrfs/ HTTP/1.1^;Content-Length: 14^;^;{"name":"red"}POST /api/ipam/vrfs/ HTTP/1.1^;Content-Length: 14^;^;{"name":"red"}POST /api/ipam/prefixes/ HTTP/1.1^;Content-Length: 24^;^;{"prefix":"10.0.1.0/24"}POST /api/ipam/prefixes/ HTTP/1.1^;Content-Length: 24^;^;{"prefix":"10.0.2.0/24"}POST /api/ipam/prefixes/ HTTP/1.1^;Content-Length: 24^;^;{"prefix":"10.0.3.0/24"}DELETE /api/ipam/vrfs/1/ HTTP/1.1^;^;DELETE /api/ipam/vrfs/2/ HTTP/1.1^;^;DELETE /api/ipam/vrfs/3/ HTTP/1.1^;^;DELETE /api/ipam/vrfs/4/ HTTP/1.1^;^;|0|HTTP/1.1 201 Created^;Content-Type: application/json^;Content-Length: 70^;Ipam-Place: 0^;^;{"description":"","enforce_unique":true,"id":1,"name":"red","rd":null}<600:HTTP/1.1 200 OK^;Content-Type: application/json^;Content-Length: 70^;Ipam-Place: @^;^;{"description":"","enforce_unique":true,"id":1,"name":"red","rd":null}>HTTP/1.1 201 Created^;Content-Type: application/json^;Content-Length: 70^;Ipam-Place: 601^;^;{"description":"","enforce_unique":true,"id":2,"name":"red","rd":null}HTTP/1.1 201 Created^;Content-Type: application/json^;Content-Length: 70^;Ipam-Place: 602^;^;{"description":"","enforce_unique":true,"id":3,"name":"red","rd":null}HTTP/1.1 201 Created^;Content-Type: application/json^;Content-Length: 70^;Ipam-Place: 603^;^;{"description":"","enforce_unique":true,"id":4,"name":"red","rd":null}HTTP/1.1 201 Created^;Content-Type: application/json^;Content-Length: 188^;Ipam-Place: 604^;^;{"children":0,"depth":0,"description":"","family":4,"id":1,"is_pool":false,"mark_utilized":false,"prefix":"10.0.1.0/24","role":null,"status":{"label":"Active","value":"active"},"vrf":null}HTTP/1.1 201 Created^;Content-Type: application/json^;Content-Length: 188^;Ipam-Place: 605^;^;{"children":0,"depth":0,"description":"","family":4,"id":2,"is_pool":false,"mark_utilized":false,"prefix":"10.0.2.0/24","role":null,"status":{"label":"Active","value":"active"},"vrf":null}HTTP/1.1 201 Created^;Content-Type: application/json^;Content-Length: 188^;Ipam-Place: 606^;^;{"children":0,"depth":0,"description":"","family":4,"id":3,"is_pool":false,"mark_utilized":false,"prefix":"10.0.3.0/24","role":null,"status":{"label":"Active","value":"active"},"vrf":null}HTTP/1.1 204 No Content^;Ipam-Place: 607^;^;HTTP/1.1 204 No Content^;Ipam-Place: 608^;^;HTTP/1.1 204 No Content^;Ipam-Place: 609^;^;HTTP/1.1 204 No Content^;Ipam-Place: 610^;^;||1|1,10.0.1.0/24,,active,,false,false,;2,10.0.2.0/24,,active,,false,false,;3,10.0.3.0/24,,active,,false,false,;
 nobody|mirror --bind x --readers 1 --db a|once|3|||0|
 nowhere|mirror --bind x --readers 1 --db a|once|3|||0|
 |mirror --bind x --readers 2 --db a|once|3|||0|
@@ -188,16 +226,7 @@ fn ran<R: Threads + Wait + Sync>(
     let sink = [failing(line, "output")?];
     let messages = [failing(line, "errors")?];
     let fails: [&[u32]; 3] = [&source, &sink, &messages];
-    run_with(
-        rt,
-        alloc,
-        listener,
-        opener,
-        words,
-        &input,
-        4_096,
-        fails,
-    )
+    run_with(rt, alloc, listener, opener, words, &input, 4_096, fails)
 }
 
 /// What a line leaves: its parts from the status on.
