@@ -1,7 +1,9 @@
 //! `poold`: pools of AS numbers and of VLANs. Its commands stand in `pool_command`; its stores are SQLite files.
 #![tactic(auto)]
 
-use host_pools::HostFiles;
+mod files;
+
+use files::HostFiles;
 use ipam_listen::TcpDoors;
 use pool_command::program;
 use pool_keeper::keeper::PoolOpener;
