@@ -13,7 +13,7 @@ use std::thread::Threads;
 
 /// A store a case. Its first line is as that of a case of `store_tests`. Each line after it is a run over the store: its status, its words,
 /// its input, its output and what it says, each as `bytes_of` reads it.
-const CASES: [&str; 15] = [
+const CASES: [&str; 17] = [
     r#"2
 0|import prefixes --db a|prefix,vrf,status;10.0.0.0/24,,active;10.0.1.0/24,,active;10.0.2.0/24,,container;|created 3 present 0;|
 0|import prefixes --db a|prefix,vrf,status;10.0.0.0/24,,active;10.0.1.0/24,,active;10.0.2.0/24,,container;|created 0 present 3;|
@@ -129,6 +129,13 @@ const CASES: [&str; 15] = [
 1|reverse-read|x. IN PTR y.;||line 1: not a PTR line;
 1|reverse-read|<4194305:;>||too_large: the body exceeds 4194304 bytes;"#,
     r#"2
+0|import prefixes --db a|prefix;<1000:2001:db8:@::/64;>|created 1000 present 0;|
+0|prefix-list --table global --family 6 --style plain --name X --db a||<1000:2001:db8:@::/64;>|"#,
+    r#"2
+0|import prefixes --db a|prefix;2001:db8::/64;|created 1 present 0;|
+0|import ip-addresses --db a|address,dns_name;<9:2001:db8::@/64,h@.example;>|created 9 present 0;|
+0|reverse --prefix 1 --db a||<9:@.0.0.0.0.0.0.0.0.0.0.0.0.0.0.0.0.0.0.0.0.0.0.0.8.b.d.0.1.0.0.2.ip6.arpa. IN PTR h@.example.;>|"#,
+    r#"2
 0|import prefixes --db a|prefix;192.0.2.0/24;|created 1 present 0;|
 0|import ip-addresses --db a|address,dns_name;192.0.2.9/24,www.example.com;192.0.2.7/24,<64:a>.example;192.0.2.1/24,<64:b>.example;|created 3 present 0;|
 1|reverse --prefix 1 --db a|||address 2: the name does not fit the DNS;"#,
@@ -160,8 +167,8 @@ fn put_piece(alloc: Global, bytes: &mut Vec<u8>, piece: &str) -> Result<(), Allo
     let Some((repeated, rest)) = piece.split_once('>') else {
         return put_text(alloc, bytes, piece, 0);
     };
-    let (times, text) = repeated.split_once(':').unwrap_or(("", ""));
-    put_times(alloc, bytes, text, number(times))?;
+    let (times, text) = repeated.split_once(':').ok_or(AllocError)?;
+    put_times(alloc, bytes, text, number(times)?)?;
     put_text(alloc, bytes, rest, 0)
 }
 
@@ -182,13 +189,15 @@ fn is_as_said<R: Threads + Wait + Sync>(
     opener: &mut MemoryOpener,
     line: &str,
 ) -> Result<bool, AllocError> {
-    let input = bytes_of(alloc, part(line, 2))?;
+    let input = bytes_of(alloc, part(line, 2)?)?;
     let none: [&[u32]; 3] = [&[], &[], &[]];
-    let left = run_over(rt, alloc, opener, part(line, 1), &input, 4_096, none)?;
-    let output = bytes_of(alloc, part(line, 3))?;
-    let errors = bytes_of(alloc, part(line, 4))?;
+    let words = part(line, 1)?;
+    let left = run_over(rt, alloc, opener, words, &input, 4_096, none)?;
+    let status = number(part(line, 0)?)?;
+    let output = bytes_of(alloc, part(line, 3)?)?;
+    let errors = bytes_of(alloc, part(line, 4)?)?;
     Ok(
-        u32::from(left.status) == number(part(line, 0))
+        u32::from(left.status) == status
             && left.output.as_slice() == output.as_slice()
             && left.errors.as_slice() == errors.as_slice(),
     )

@@ -23,7 +23,7 @@ const POST: &str =
 
 /// A run a line: which calls fail, each as the object and the number of its call, from 0; the words; the input, where `once` and `twice` stand
 /// for that request; the status; the output; what is said; how many connections were answered; the rows of the store afterwards. Where `nobody`
-/// is told no lane comes, and where `nowhere` is no place can be bound. A semicolon, a caret and `<N:text>` are what `bytes_of` says.
+/// is told no lane comes, and where `nowhere` is no place can be bound. `''` is an empty word. A semicolon, a caret and `<N:text>` are what `bytes_of` says.
 const RUNS: &str = r#"input 0|session --db a|once|3|||0|
 input 1|session|once|3|HTTP/1.1 201 Created^;Content-Type: application/json^;Content-Length: 188^;Ipam-Place: 0^;^;{"children":0,"depth":0,"description":"","family":4,"id":1,"is_pool":false,"mark_utilized":false,"prefix":"10.0.0.0/24","role":null,"status":{"label":"Active","value":"active"},"vrf":null}||0|
 output 0|session --db a|once|3|||0|1,10.0.0.0/24,,active,,false,false,;
@@ -36,6 +36,7 @@ nowhere|serve --bind x --workers 1|x|3|||0|
 |mirror --bind x --readers 1 --connections 2 --db a|once|0|HTTP/1.1 201 Created^;Content-Type: application/json^;Content-Length: 188^;Ipam-Place: 0^;^;{"children":0,"depth":0,"description":"","family":4,"id":1,"is_pool":false,"mark_utilized":false,"prefix":"10.0.0.0/24","role":null,"status":{"label":"Active","value":"active"},"vrf":null}||2|1,10.0.0.0/24,,active,,false,false,;
 |mirror --bind x --readers 1 --connections 1|once|0|HTTP/1.1 201 Created^;Content-Type: application/json^;Content-Length: 188^;Ipam-Place: 0^;^;{"children":0,"depth":0,"description":"","family":4,"id":1,"is_pool":false,"mark_utilized":false,"prefix":"10.0.0.0/24","role":null,"status":{"label":"Active","value":"active"},"vrf":null}||1|
 lane 0|mirror --bind x --readers 1 --connections 2 --db a|once|3|HTTP/1.1 201 Created^;Content-Type: application/json^;Content-Length: 188^;Ipam-Place: 0^;^;{"children":0,"depth":0,"description":"","family":4,"id":1,"is_pool":false,"mark_utilized":false,"prefix":"10.0.0.0/24","role":null,"status":{"label":"Active","value":"active"},"vrf":null}||1|1,10.0.0.0/24,,active,,false,false,;
+|mirror --bind x --readers 1 --connections 1 --db a|POST /api/ipam/vrfs/ HTTP/1.1^;Content-Length: 14^;^;{"name":"red"}<600:PATCH /api/ipam/vrfs/1/ HTTP/1.1^;Content-Length: 2^;^;{}>POST /api/ipam/vrfs/ HTTP/1.1^;Content-Length: 14^;^;{"name":"red"}POST /api/ipam/vrfs/ HTTP/1.1^;Content-Length: 14^;^;{"name":"red"}POST /api/ipam/vrfs/ HTTP/1.1^;Content-Length: 14^;^;{"name":"red"}POST /api/ipam/prefixes/ HTTP/1.1^;Content-Length: 24^;^;{"prefix":"10.0.1.0/24"}POST /api/ipam/prefixes/ HTTP/1.1^;Content-Length: 24^;^;{"prefix":"10.0.2.0/24"}POST /api/ipam/prefixes/ HTTP/1.1^;Content-Length: 24^;^;{"prefix":"10.0.3.0/24"}DELETE /api/ipam/vrfs/1/ HTTP/1.1^;^;DELETE /api/ipam/vrfs/2/ HTTP/1.1^;^;DELETE /api/ipam/vrfs/3/ HTTP/1.1^;^;DELETE /api/ipam/vrfs/4/ HTTP/1.1^;^;|0|HTTP/1.1 201 Created^;Content-Type: application/json^;Content-Length: 70^;Ipam-Place: 0^;^;{"description":"","enforce_unique":true,"id":1,"name":"red","rd":null}<600:HTTP/1.1 200 OK^;Content-Type: application/json^;Content-Length: 70^;Ipam-Place: @^;^;{"description":"","enforce_unique":true,"id":1,"name":"red","rd":null}>HTTP/1.1 201 Created^;Content-Type: application/json^;Content-Length: 70^;Ipam-Place: 601^;^;{"description":"","enforce_unique":true,"id":2,"name":"red","rd":null}HTTP/1.1 201 Created^;Content-Type: application/json^;Content-Length: 70^;Ipam-Place: 602^;^;{"description":"","enforce_unique":true,"id":3,"name":"red","rd":null}HTTP/1.1 201 Created^;Content-Type: application/json^;Content-Length: 70^;Ipam-Place: 603^;^;{"description":"","enforce_unique":true,"id":4,"name":"red","rd":null}HTTP/1.1 201 Created^;Content-Type: application/json^;Content-Length: 188^;Ipam-Place: 604^;^;{"children":0,"depth":0,"description":"","family":4,"id":1,"is_pool":false,"mark_utilized":false,"prefix":"10.0.1.0/24","role":null,"status":{"label":"Active","value":"active"},"vrf":null}HTTP/1.1 201 Created^;Content-Type: application/json^;Content-Length: 188^;Ipam-Place: 605^;^;{"children":0,"depth":0,"description":"","family":4,"id":2,"is_pool":false,"mark_utilized":false,"prefix":"10.0.2.0/24","role":null,"status":{"label":"Active","value":"active"},"vrf":null}HTTP/1.1 201 Created^;Content-Type: application/json^;Content-Length: 188^;Ipam-Place: 606^;^;{"children":0,"depth":0,"description":"","family":4,"id":3,"is_pool":false,"mark_utilized":false,"prefix":"10.0.3.0/24","role":null,"status":{"label":"Active","value":"active"},"vrf":null}HTTP/1.1 204 No Content^;Ipam-Place: 607^;^;HTTP/1.1 204 No Content^;Ipam-Place: 608^;^;HTTP/1.1 204 No Content^;Ipam-Place: 609^;^;HTTP/1.1 204 No Content^;Ipam-Place: 610^;^;||1|1,10.0.1.0/24,,active,,false,false,;2,10.0.2.0/24,,active,,false,false,;3,10.0.3.0/24,,active,,false,false,;
 nobody|mirror --bind x --readers 1 --db a|once|3|||0|
 nowhere|mirror --bind x --readers 1 --db a|once|3|||0|
 |mirror --bind x --readers 2 --db a|once|3|||0|
@@ -52,6 +53,7 @@ errors 0|load||3|||0|
 |load 1||0|claimed 1;first 10.0.0.1;last 10.0.0.1;percent 50;entries 2;||0|
 |load 1000 --workers 4||0|claimed 1000;first 10.0.0.1;last 10.0.3.232;percent 24;entries 1001;||0|
 input 0 output 0||x;|2||usage: ipamd COMMAND;|0|
+input 0 output 0|''|x;|2||usage: ipamd COMMAND;|0|
 input 0 output 0|free|x;|2||usage: ipamd COMMAND;|0|
 input 0 output 0|free 10.0.0.1/24|x;|2||usage: ipamd COMMAND;|0|
 input 0 output 0|Session|x;|2||usage: ipamd COMMAND;|0|
@@ -112,12 +114,12 @@ output 0|import prefixes --db a|prefix;10.0.0.0/24;|3|||0|1,10.0.0.0/24,,active,
 errors 0|import prefixes --db a|prefix;10.0.0.0/24;10.0.0.0/24;|3|||0|"#;
 
 /// The number of the call of an object that fails in a line, or one that is never made.
-fn failing<'a>(line: &'a str, object: &'a str) -> u32 {
-    let mut words = part(line, 0).split(' ');
+fn failing<'a>(line: &'a str, object: &'a str) -> Result<u32, AllocError> {
+    let mut words = part(line, 0)?.split(' ');
     if words.any(|word| word == object) {
         number(words.next().unwrap_or(""))
     } else {
-        u32::MAX
+        Ok(u32::MAX)
     }
 }
 
@@ -132,7 +134,7 @@ fn pair_of(alloc: Global) -> Result<(BytesSource, BytesSink), AllocError> {
 fn lane_of(alloc: Global, line: &str) -> Result<ListLane, AllocError>
     ensures { IfOk result (λ l. lane_told l ≡ []) }
 {
-    let fails = Vec::from_slice(alloc, &[failing(line, "lane")])?;
+    let fails = Vec::from_slice(alloc, &[failing(line, "lane")?])?;
     let mut pairs = Vec::new(alloc);
     pairs.push(pair_of(alloc)?)?;
     pairs.push(pair_of(alloc)?)?;
@@ -218,21 +220,13 @@ fn ran<R: Threads + Wait + Sync>(
     opener: &mut MemoryOpener,
     line: &str,
 ) -> Result<Left, AllocError> {
-    let input = input_of(alloc, part(line, 2))?;
-    let source = [failing(line, "input")];
-    let sink = [failing(line, "output")];
-    let messages = [failing(line, "errors")];
+    let words = part(line, 1)?;
+    let input = input_of(alloc, part(line, 2)?)?;
+    let source = [failing(line, "input")?];
+    let sink = [failing(line, "output")?];
+    let messages = [failing(line, "errors")?];
     let fails: [&[u32]; 3] = [&source, &sink, &messages];
-    run_with(
-        rt,
-        alloc,
-        listener,
-        opener,
-        part(line, 1),
-        &input,
-        4_096,
-        fails,
-    )
+    run_with(rt, alloc, listener, opener, words, &input, 4_096, fails)
 }
 
 /// What a line leaves: its parts from the status on.
@@ -241,7 +235,7 @@ fn left_by<R: Threads + Wait + Sync>(
     alloc: Global,
     line: &str,
 ) -> Result<Vec<u8>, AllocError> {
-    let tables = format!(in alloc; "2;fails {}", failing(line, "keeper"))?;
+    let tables = format!(in alloc; "2;fails {}", failing(line, "keeper")?)?;
     let mut opener = opener_of(alloc, &tables)?;
     let mut listener = listener_of(alloc, line)?;
     let left = ran(rt, alloc, &mut listener, &mut opener, line)?;
@@ -257,7 +251,7 @@ fn left_by<R: Threads + Wait + Sync>(
 
 /// What a line says that is left.
 fn wanted_of(alloc: Global, line: &str) -> Result<Vec<u8>, AllocError> {
-    bytes_of(alloc, line.splitn(4, '|').nth(3).unwrap_or(""))
+    bytes_of(alloc, line.splitn(4, '|').nth(3).ok_or(AllocError)?)
 }
 
 #[test]

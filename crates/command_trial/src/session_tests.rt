@@ -127,9 +127,9 @@ DELETE /api/ipam/ip-addresses/2/||204 No Content|Ipam-Place: 17|
 DELETE /api/ipam/aggregates/1/||204 No Content|Ipam-Place: 18|
 DELETE /api/ipam/rirs/1/||204 No Content|Ipam-Place: 19|"#;
 
-/// A part of an exchange.
-pub(crate) fn part(exchange: &str, index: usize) -> &str {
-    exchange.split('|').nth(index).unwrap_or("")
+/// A part of a line. Where there is none, the line is wrong, and the test fails as for lack of memory.
+pub(crate) fn part(line: &str, index: usize) -> Result<&str, AllocError> {
+    line.split('|').nth(index).ok_or(AllocError)
 }
 
 /// The answer to bytes that end inside a request.
@@ -165,10 +165,10 @@ pub(crate) fn put_request(
     out: &mut Vec<u8>,
     exchange: &str,
 ) -> Result<(), AllocError> {
-    let body = part(exchange, 1);
+    let body = part(exchange, 1)?;
     let fields =
         " HTTP/1.1\r\nHost: 127.0.0.1:8080\r\nUser-Agent: curl/8.5.0\r\nAccept: */*\r\nAuthorization: Token 0123\r\n";
-    put(out, part(exchange, 0))?;
+    put(out, part(exchange, 0)?)?;
     put(out, fields)?;
     put_length(alloc, out, body)?;
     put(out, "\r\n")?;
@@ -193,15 +193,15 @@ pub(crate) fn put_answer(
     exchange: &str,
 ) -> Result<(), AllocError> {
     put(out, "HTTP/1.1 ")?;
-    put(out, part(exchange, 2))?;
+    put(out, part(exchange, 2)?)?;
     put(out, "\r\n")?;
-    put_size(alloc, out, part(exchange, 4))?;
-    put_field(out, part(exchange, 3))?;
+    put_size(alloc, out, part(exchange, 4)?)?;
+    put_field(out, part(exchange, 3)?)?;
     put(out, "\r\n")?;
     if exchange.starts_with("HEAD ") {
         return Ok(());
     }
-    put(out, part(exchange, 4))
+    put(out, part(exchange, 4)?)
 }
 
 /// All requests of a conversation, and all answers.
@@ -225,8 +225,21 @@ fn opening(alloc: Global) -> Result<(Vec<u8>, Vec<u8>), AllocError> {
     Ok((input, output))
 }
 
+/// A VRF that does not enforce, with two prefixes and two addresses that coincide: the prefixes are told first. The register is its own.
+const ENFORCING: &str =
+    r#"POST /api/ipam/vrfs/|{"name":"red","enforce_unique":false}|201 Created|Ipam-Place: 0|{"description":"","enforce_unique":false,"id":1,"name":"red","rd":null}
+POST /api/ipam/ip-addresses/|{"address":"10.0.0.1/24","vrf":1}|201 Created|Ipam-Place: 1|{"address":"10.0.0.1/24","description":"","dns_name":"","family":4,"id":1,"role":null,"status":{"label":"Active","value":"active"},"vrf":1}
+POST /api/ipam/ip-addresses/|{"address":"10.0.0.1/24","vrf":1}|201 Created|Ipam-Place: 2|{"address":"10.0.0.1/24","description":"","dns_name":"","family":4,"id":2,"role":null,"status":{"label":"Active","value":"active"},"vrf":1}
+POST /api/ipam/prefixes/|{"prefix":"10.0.0.0/24","vrf":1}|201 Created|Ipam-Place: 3|{"children":0,"depth":0,"description":"","family":4,"id":1,"is_pool":false,"mark_utilized":false,"prefix":"10.0.0.0/24","role":null,"status":{"label":"Active","value":"active"},"vrf":1}
+POST /api/ipam/prefixes/|{"prefix":"10.0.0.0/24","vrf":1}|201 Created|Ipam-Place: 4|{"children":0,"depth":0,"description":"","family":4,"id":2,"is_pool":false,"mark_utilized":false,"prefix":"10.0.0.0/24","role":null,"status":{"label":"Active","value":"active"},"vrf":1}
+PATCH /api/ipam/vrfs/1/|{"enforce_unique":true}|400 Bad Request|Ipam-Place: 5|{"code":"coincide","detail":"prefixes 1 and 2 coincide"}
+DELETE /api/ipam/prefixes/2/||204 No Content|Ipam-Place: 5|
+PATCH /api/ipam/vrfs/1/|{"enforce_unique":true}|400 Bad Request|Ipam-Place: 6|{"code":"coincide","detail":"ip-addresses 1 and 2 coincide"}
+DELETE /api/ipam/ip-addresses/2/||204 No Content|Ipam-Place: 6|
+PATCH /api/ipam/vrfs/1/|{"enforce_unique":true}|200 OK|Ipam-Place: 7|{"description":"","enforce_unique":true,"id":1,"name":"red","rd":null}"#;
+
 /// Conversations, each of which has a register of its own.
-const CONVERSATIONS: [&str; 3] = [EXCHANGES, CHANGES, KINDS];
+const CONVERSATIONS: [&str; 4] = [EXCHANGES, CHANGES, KINDS, ENFORCING];
 
 /// The first request and its answer, and behind it a request that ends inside its body.
 fn cut_short(alloc: Global) -> Result<(Vec<u8>, Vec<u8>), AllocError> {

@@ -43,9 +43,9 @@ const CASES: [&str; 8] = [
 0|session --db a|~GET /api/ipam/ip-addresses/1/||200 OK|Ipam-Place: 0|{"address":"10.0.0.1/24","description":"","dns_name":"","family":4,"id":1,"role":null,"status":{"label":"Active","value":"active"},"vrf":null}"#,
 ];
 
-/// The number that a word is, or 0.
-pub fn number(word: &str) -> u32 {
-    word.parse::<u32>().unwrap_or(0)
+/// The number that a word is. Where it is none, the line is wrong, and the test fails as for lack of memory.
+pub fn number(word: &str) -> Result<u32, AllocError> {
+    word.parse::<u32>().map_err(|_| AllocError)
 }
 
 /// The words behind the first one.
@@ -66,7 +66,7 @@ fn row_of(alloc: Global, words: &str) -> Result<Row, AllocError> {
     };
     Ok(Row {
         kind,
-        id: number(words.split(' ').next().unwrap_or("")),
+        id: number(words.split(' ').next().unwrap_or(""))?,
         fields: texts_of(alloc, words)?,
     })
 }
@@ -87,7 +87,7 @@ fn fails_of(alloc: Global, line: &str) -> Result<Vec<u32>, AllocError> {
     let mut fails = Vec::new(alloc);
     for words in line.split(';').skip(1) {
         if words.starts_with("fails ") {
-            fails.push(number(words.split(' ').nth(1).unwrap_or("")))?;
+            fails.push(number(words.split(' ').nth(1).unwrap_or(""))?)?;
         }
     }
     Ok(fails)
@@ -98,7 +98,7 @@ fn nexts_of(alloc: Global, line: &str) -> Result<Ids, AllocError> {
     let mut next = Vec::new(alloc);
     for words in line.split(';').skip(1) {
         if words.starts_with("next ") {
-            let id = number(words.split(' ').nth(1).unwrap_or(""));
+            let id = number(words.split(' ').nth(1).unwrap_or(""))?;
             next.push((Kind::Prefixes, id))?;
             next.push((Kind::Ranges, id))?;
         }
@@ -124,7 +124,7 @@ fn keeper_of(alloc: Global, line: &str) -> Result<MemoryKeeper, AllocError> {
 pub fn opener_of(alloc: Global, line: &str) -> Result<MemoryOpener, AllocError> {
     let tables = keeper_of(alloc, line)?.into_tables();
     let tables = Tables {
-        version: number(line.split(';').next().unwrap_or("")),
+        version: number(line.split(';').next().unwrap_or(""))?,
         next: tables.next,
         rows: tables.rows,
     };
@@ -144,11 +144,12 @@ fn ran<R: Threads + Wait + Sync>(
     for exchange in line.split('~').skip(1) {
         put_request(alloc, &mut input, exchange)?;
     }
+    let words = part(line, 1)?;
     run_over(
         rt,
         alloc,
         opener,
-        part(line, 1),
+        words,
         input.as_slice(),
         4_096,
         [&[], &[], &[]],
@@ -167,7 +168,7 @@ fn answers_of(alloc: Global, line: &str) -> Result<Vec<u8>, AllocError> {
 /// What a line says on the messages.
 fn message_of(alloc: Global, line: &str) -> Result<String, AllocError> {
     let said = line.split('~').next().unwrap_or("");
-    let said = part(said, 2);
+    let said = part(said, 2)?;
     if said.is_empty() {
         return Ok(String::new(alloc));
     }
@@ -184,8 +185,9 @@ fn is_as_said<R: Threads + Wait + Sync>(
     let left = ran(rt, alloc, opener, line)?;
     let answers = answers_of(alloc, line)?;
     let message = message_of(alloc, line)?;
+    let status = number(part(line, 0)?)?;
     Ok(
-        u32::from(left.status) == number(part(line, 0))
+        u32::from(left.status) == status
             && left.output.as_slice() == answers.as_slice()
             && left.errors.as_slice() == message.as_bytes(),
     )

@@ -106,25 +106,21 @@ fn rd_text(row: &Vrf) -> &str {
 fn rows_copied(rt: HostRuntime) -> Result<(), Fail> {
     let vrf = sample_vrf(rt.alloc())?;
     let prefix = sample_prefix(rt.alloc())?;
-    if let Some(slug) = copied_slug(rt.alloc(), "site-7")? {
-        assert!(rt; slug.as_str() == "site-7", "slug");
-    }
-    assert!(rt; vrf.is_some() && prefix.is_some(), "both are made");
-    if let Some(vrf) = vrf {
-        let copy = vrf.copy()?;
-        assert!(rt;
-            copy.id == 7 && copy.name.as_str() == "red" && copy.enforce_unique,
-            "vrf"
-        );
-        assert!(rt; rd_text(&copy) == "65000:1", "rd");
-    }
-    if let Some(prefix) = prefix {
-        let copy = prefix.copy()?;
-        assert!(rt; copy.id == 3 && copy.block == prefix.block, "prefix");
-        assert!(rt;
-            copy.description.as_str() == "lab" && copy.mark_utilized,
-            "prefix"
-        );
-    }
+    let slug = copied_slug(rt.alloc(), "site-7")?.expect(&rt, "a slug");
+    assert!(rt; slug.as_str() == "site-7", "slug");
+    let vrf = vrf.expect(&rt, "a VRF");
+    let copy = vrf.copy()?;
+    assert!(rt;
+        copy.id == 7 && copy.name.as_str() == "red" && copy.enforce_unique,
+        "vrf"
+    );
+    assert!(rt; rd_text(&copy) == "65000:1", "rd");
+    let prefix = prefix.expect(&rt, "a prefix");
+    let copy = prefix.copy()?;
+    assert!(rt; copy.id == 3 && copy.block == prefix.block, "prefix");
+    assert!(rt;
+        copy.description.as_str() == "lab" && copy.mark_utilized,
+        "prefix"
+    );
     Ok(())
 }

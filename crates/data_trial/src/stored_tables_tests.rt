@@ -30,6 +30,7 @@ no aggregates 5 2001:DB8::/32 1 -
 no aggregates 5 2001:db8:0::/32 1 -
 no aggregates 5 10.0.0.0/8 4294967296 -
 no aggregates 5 10.0.0.0/8 +1 -
+yes prefixes 1 10.0.0.0/24 - active - false false -
 yes prefixes 6 10.0.0.0/8 1 container 2 false true -
 yes prefixes 6 ::/0 - deprecated - true false note
 no prefixes 6 10.0.0.0/8 007 container 2 false true -
@@ -63,11 +64,15 @@ fn kind_named(name: &str) -> Kind {
     }
 }
 
-/// The row of a line, behind its first word.
+/// The row of a line, behind its first word. An id that is no number fails as for lack of memory.
 fn row_of_line(alloc: Global, line: &str) -> Result<Row, AllocError> {
     let mut words = line.split(' ').skip(1);
     let kind = kind_named(words.next().unwrap_or(""));
-    let id = words.next().unwrap_or("").parse::<u32>().unwrap_or(0);
+    let id = words
+        .next()
+        .unwrap_or("")
+        .parse::<u32>()
+        .map_err(|_| AllocError)?;
     let mut fields = Vec::new(alloc);
     for word in words {
         let text = if word == "-" { "" } else { word };
@@ -80,7 +85,17 @@ fn row_of_line(alloc: Global, line: &str) -> Result<Row, AllocError> {
     })
 }
 
-/// Whether the row is read, written again with as many texts, and read again as the same view.
+/// Whether two rows are of one kind and id, with the same texts.
+fn are_alike(one: &Row, other: &Row) -> bool {
+    let (texts, others) = (one.fields.as_slice(), other.fields.as_slice());
+    let mut is_alike = one.kind == other.kind && one.id == other.id && texts.len() == others.len();
+    for (text, other) in texts.iter().zip(others) {
+        is_alike = is_alike && text.as_str() == other.as_str();
+    }
+    is_alike
+}
+
+/// Whether the row is read, written again as it was, and read again as the same view.
 fn is_read(alloc: Global, row: &Row) -> Result<bool, AllocError> {
     let view = match read_row(alloc, row)? {
         Some(view) => view,
@@ -90,10 +105,7 @@ fn is_read(alloc: Global, row: &Row) -> Result<bool, AllocError> {
     let twice = read_row(alloc, &again)?;
     let found = format!(in alloc; "{twice:?}")?;
     let wanted = format!(in alloc; "{:?}", Some(view))?;
-    Ok(
-        again.fields.as_slice().len() == row.fields.as_slice().len()
-            && found.as_str() == wanted.as_str(),
-    )
+    Ok(are_alike(&again, row) && found.as_str() == wanted.as_str())
 }
 
 #[test]

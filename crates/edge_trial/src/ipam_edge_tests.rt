@@ -30,25 +30,26 @@ fn read_in_ten<S: Source>(
     Ok((bytes, calls))
 }
 
-/// The numbers of a word, a comma between each and the next.
+/// The numbers of a word, a comma between each and the next. What is no number fails as for lack of memory.
 fn numbers_of(alloc: Global, word: &str) -> Result<Vec<u32>, AllocError> {
     let mut numbers = Vec::new(alloc);
+    if word.is_empty() {
+        return Ok(numbers);
+    }
     for digits in word.split(',') {
-        if let Ok(number) = digits.parse::<u32>() {
-            numbers.push(number)?;
-        }
+        numbers.push(digits.parse::<u32>().map_err(|_| AllocError)?)?;
     }
     Ok(numbers)
 }
 
-/// The word of a case at an index, behind a bar each.
-fn word(case: &str, index: usize) -> &str {
-    case.split('|').nth(index).unwrap_or("")
+/// The word of a case at an index, behind a bar each. Where there is none, the case is wrong, and the test fails as for lack of memory.
+fn word(case: &str, index: usize) -> Result<&str, AllocError> {
+    case.split('|').nth(index).ok_or(AllocError)
 }
 
-/// The number of a case at an index.
-fn number(case: &str, index: usize) -> usize {
-    word(case, index).parse::<usize>().unwrap_or(0)
+/// The number of a case at an index, likewise.
+fn number(case: &str, index: usize) -> Result<usize, AllocError> {
+    word(case, index)?.parse::<usize>().map_err(|_| AllocError)
 }
 
 /// What a source has, which of its reads fail, and how many bytes it gives at once but for one; what ten reads of three bytes do, and how
@@ -66,9 +67,9 @@ register|9,3|2|rrrfeeeeef|2
 
 /// A source of a case, read as its line says.
 fn told_source(alloc: Global, case: &str) -> Result<String, AllocError> {
-    let bytes = Vec::from_slice(alloc, word(case, 0).as_bytes())?;
-    let fails = numbers_of(alloc, word(case, 1))?;
-    let mut source = BytesSource::new(bytes, fails, number(case, 2) % 4096 + 1);
+    let bytes = Vec::from_slice(alloc, word(case, 0)?.as_bytes())?;
+    let fails = numbers_of(alloc, word(case, 1)?)?;
+    let mut source = BytesSource::new(bytes, fails, number(case, 2)? % 4096 + 1);
     let (read, calls) = read_in_ten(alloc, &mut source, 3)?;
     let read = String::from_utf8_lossy(alloc, read.as_slice())?;
     let faults = source.faults();
@@ -78,9 +79,9 @@ fn told_source(alloc: Global, case: &str) -> Result<String, AllocError> {
 
 /// What that should be: all bytes were read, and none is left.
 fn wanted_source(alloc: Global, case: &str) -> Result<String, AllocError> {
-    let text = word(case, 0);
-    let calls = word(case, 3);
-    let faults = word(case, 4);
+    let text = word(case, 0)?;
+    let calls = word(case, 3)?;
+    let faults = word(case, 4)?;
     format!(in alloc; "{text} {calls} {faults} 0")
 }
 
@@ -111,9 +112,9 @@ const SINKS: &str = "\
 /// What is written to a sink of a case, and what it tells of that: whether all was, the faults, its bytes, whether nothing can be written
 /// then, and the bytes that it gives back.
 fn told_sink(alloc: Global, case: &str) -> Result<String, AllocError> {
-    let fails = numbers_of(alloc, word(case, 0))?;
-    let piece = number(case, 1) % 4096 + 1;
-    let mut sink = BytesSink::new(alloc, fails, piece, number(case, 2))?;
+    let fails = numbers_of(alloc, word(case, 0)?)?;
+    let piece = number(case, 1)? % 4096 + 1;
+    let mut sink = BytesSink::new(alloc, fails, piece, number(case, 2)?)?;
     let written = write_all(&mut sink, b"register").is_ok();
     let faults = sink.faults();
     let seen = String::from_utf8_lossy(alloc, sink.bytes())?;
@@ -124,9 +125,9 @@ fn told_sink(alloc: Global, case: &str) -> Result<String, AllocError> {
 
 /// What that should be.
 fn wanted_sink(alloc: Global, case: &str) -> Result<String, AllocError> {
-    let bytes = word(case, 3);
-    let written = word(case, 4);
-    let faults = word(case, 5);
+    let bytes = word(case, 3)?;
+    let written = word(case, 4)?;
+    let faults = word(case, 5)?;
     format!(in alloc; "{written} {faults} {bytes} true {bytes}")
 }
 

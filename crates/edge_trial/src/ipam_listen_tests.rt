@@ -1,16 +1,14 @@
-//! Lanes in memory and over a socket.
+//! Lanes in memory, and where a listener over TCP listens.
 
-ghost use Rattle.std.specs.Prelude.{◌≡◌, [], IfOk, IfSome, All, vec_len};
+ghost use Rattle.std.specs.Prelude.{◌≡◌, [], IfOk};
 ghost use Rattle.ipam_listen.specs.ListLanes.{lane_told};
 
-use ipam_edge::{BytesSink, BytesSource, Failed, Sink, Source};
-use ipam_listen::{Lane, ListLane, ListListener, Listener, TcpDoor, TcpDoors};
+use ipam_edge::{BytesSink, BytesSource, Failed};
+use ipam_listen::{Lane, ListLane, ListListener, Listener, TcpDoors};
 use std::alloc::{AllocError, Global};
-use std::io::{Read, Write};
 use std::marker::Sync;
 use std::net::{Net, TcpListener, TcpStream};
 use std::test::Fail;
-use std::thread;
 use std::time::{Clock, Duration};
 
 /// What the next accept of a lane answers, a connection being taken back at once: `c` for a connection, `f` for a failure, `n` for none.
@@ -83,80 +81,6 @@ fn lanes_fail_where_they_are_told_to(rt: HostRuntime) -> Result<(), Fail> {
     Ok(())
 }
 
-/// How many bytes a lane's next connection gives to a client that sends one at a time, with a pause behind each, until a read fails.
-fn bytes_in_time<R: Net<Listener = TcpListener, Stream = TcpStream> + Clock + Sync>(
-    rt: &R,
-    port: u16,
-    lane: &mut TcpDoor<'_, R>,
-    pause: Duration,
-) -> Option<u32> {
-    let mut client = TcpStream::connect(rt, ("127.0.0.1", port)).ok()?;
-    let (mut source, sink) = lane.accept().ok()??;
-    let mut room = [0; 16];
-    let mut count: u32 = 0;
-    for _ in 0..40 {
-        let _ = client.write(b"x");
-        if source.read(&mut room).is_err() {
-            break;
-        }
-        count = count.saturating_add(1);
-        thread::sleep(rt, pause);
-    }
-    lane.finish(source, sink);
-    Some(count)
-}
-
-/// What a client reads to the end that sent bytes which nobody reads, and gets an answer.
-fn answer_of<R: Net<Listener = TcpListener, Stream = TcpStream> + Clock + Sync>(
-    rt: &R,
-    alloc: Global,
-    port: u16,
-    lane: &mut TcpDoor<'_, R>,
-) -> Option<String> {
-    let mut client = TcpStream::connect(rt, ("127.0.0.1", port)).ok()?;
-    client.write(&[b'x'; 9000]).ok()?;
-    let (source, mut sink) = lane.accept().ok()??;
-    let _ = sink.write(b"too large");
-    lane.finish(source, sink);
-    let mut text = String::new(alloc);
-    client.read_to_string(&mut text).ok()?;
-    Some(text)
-}
-
-/// The listener of the tests below: a client may be silent for 200 ms.
-fn listener<R: Net<Listener = TcpListener, Stream = TcpStream> + Clock + Sync>(
-    rt: &R,
-    alloc: Global,
-) -> Option<(u16, TcpDoor<'_, R>)> {
-    let mut listener = TcpDoors::new(rt, alloc, Duration::from_millis(200));
-    let place = Vec::from_slice(alloc, b"127.0.0.1:0").ok()?;
-    listener.bind(place, 100).ok()?;
-    let port = listener.port()?;
-    let lane = listener.lane().ok()?;
-    Some((port, lane))
-}
-
-#[test]
-fn no_client_holds_a_lane(rt: HostRuntime) {
-    let (port, mut lane) = listener(&rt, rt.alloc()).expect(&rt, "a socket");
-    let slow = bytes_in_time(&rt, port, &mut lane, Duration::from_millis(50));
-    assert!(rt; slow.is_some_and(|n| 0 < n && n < 20));
-    let silent = bytes_in_time(&rt, port, &mut lane, Duration::from_millis(400));
-    assert_eq!(rt; silent, Some(1));
-    let answer = answer_of(&rt, rt.alloc(), port, &mut lane).expect(&rt, "an answer");
-    assert_eq!(rt; answer.as_str(), "too large");
-}
-
-/// Two ports of 127.0.0.1 that nobody listens at.
-fn free_ports<R: Net<Listener = TcpListener, Stream = TcpStream>>(rt: &R) -> Option<(u16, u16)> {
-    let one = TcpListener::bind(rt, ("127.0.0.1", 0)).ok()?;
-    let other = TcpListener::bind(rt, ("127.0.0.1", 0)).ok()?;
-    Some((
-        one.local_addr().ok()?.port(),
-        other.local_addr().ok()?.port(),
-    ))
-}
-
 /// Whether somebody listens at a port of a host.
 fn listens<R: Net<Listener = TcpListener, Stream = TcpStream>>(
     rt: &R,
@@ -166,25 +90,40 @@ fn listens<R: Net<Listener = TcpListener, Stream = TcpStream>>(
     TcpStream::connect(rt, (host, port)).is_ok()
 }
 
-/// A listener that is bound to a port of 127.0.0.1, and another one that is free.
-fn bound_to_a_given_port<R: Net<Listener = TcpListener, Stream = TcpStream> + Clock + Sync>(
+/// A listener that is bound to a place.
+fn bound_to<'a, R: Net<Listener = TcpListener, Stream = TcpStream> + Clock + Sync>(
+    rt: &'a R,
+    alloc: Global,
+    place: &str,
+) -> Option<TcpDoors<'a, R>> {
+    let mut listener = TcpDoors::new(rt, alloc, Duration::from_millis(200));
+    let place = Vec::from_slice(alloc, place.as_bytes()).ok()?;
+    listener.bind(place, 1).ok()?;
+    Some(listener)
+}
+
+/// Two listeners at one port of two addresses: the first one's port is the system's choice, and the second one is bound to just that.
+fn at_one_port<R: Net<Listener = TcpListener, Stream = TcpStream> + Clock + Sync>(
     rt: &R,
     alloc: Global,
-) -> Option<(TcpDoors<'_, R>, u16, u16)> {
-    let (port, other) = free_ports(rt)?;
-    let place = format!(in alloc; "127.0.0.1:{port}").ok()?;
-    let mut listener = TcpDoors::new(rt, alloc, Duration::from_millis(200));
-    listener.bind(place.into_bytes(), 1).ok()?;
-    Some((listener, port, other))
+) -> Option<(TcpDoors<'_, R>, TcpDoors<'_, R>, u16)> {
+    let first = bound_to(rt, alloc, "127.0.0.1:0")?;
+    let port = first.port()?;
+    let place = format!(in alloc; "127.0.0.2:{port}").ok()?;
+    let second = bound_to(rt, alloc, place.as_str())?;
+    Some((first, second, port))
 }
 
 #[test]
-fn a_listener_is_at_its_place_alone(rt: HostRuntime) {
-    let (listener, port, other) = bound_to_a_given_port(&rt, rt.alloc()).expect(&rt, "a port");
-    assert_eq!(rt; listener.port(), Some(port));
+fn a_listener_is_at_its_place_alone(rt: HostRuntime) -> Result<(), Fail> {
+    let (first, second, port) = at_one_port(&rt, rt.alloc()).expect(&rt, "two listeners");
+    assert_eq!(rt; (first.port(), second.port()), (Some(port), Some(port)));
     assert!(rt; listens(&rt, "127.0.0.1", port));
-    assert!(rt; !listens(&rt, "127.0.0.2", port), "another address");
-    assert!(rt; !listens(&rt, "127.0.0.1", other), "another port");
+    assert!(rt; listens(&rt, "127.0.0.2", port));
+    assert!(rt; !listens(&rt, "127.0.0.3", port), "another address");
+    let taken = format!(in rt.alloc(); "127.0.0.2:{port}")?;
+    assert!(rt; !binds(&rt, rt.alloc(), taken.as_str()), "taken");
+    Ok(())
 }
 
 /// Whether a listener can be bound to a place.
@@ -192,17 +131,14 @@ fn binds<R: Net<Listener = TcpListener, Stream = TcpStream> + Clock + Sync>(
     rt: &R,
     alloc: Global,
     place: &str,
-) -> Result<bool, AllocError> {
-    let mut listener = TcpDoors::new(rt, alloc, Duration::from_millis(200));
-    let place = Vec::from_slice(alloc, place.as_bytes())?;
-    Ok(listener.bind(place, 1).is_ok())
+) -> bool {
+    bound_to(rt, alloc, place).is_some()
 }
 
 #[test]
-fn a_text_that_is_no_place_is_not_bound(rt: HostRuntime) -> Result<(), Fail> {
+fn a_text_that_is_no_place_is_not_bound(rt: HostRuntime) {
     for place in ["", "nowhere", "127.0.0.1", "127.0.0.1:70000", "127.0.0.1:x"] {
-        assert!(rt; !binds(&rt, rt.alloc(), place)?, "{place}");
+        assert!(rt; !binds(&rt, rt.alloc(), place), "{place}");
     }
-    assert!(rt; binds(&rt, rt.alloc(), "127.0.0.1:0")?);
-    Ok(())
+    assert!(rt; binds(&rt, rt.alloc(), "127.0.0.1:0"));
 }

@@ -5,3 +5,5 @@
 mod ipam_edge_tests;
 #[cfg(test)]
 mod ipam_listen_tests;
+#[cfg(test)]
+mod tcp_tests;

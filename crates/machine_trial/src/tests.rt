@@ -120,7 +120,10 @@ fn workers_share_one_tally(rt: HostRuntime) -> Result<(), Fail> {
             assert!(rt; matches!(listening, Listening::Broken));
             assert_eq!(rt; listener.returned().len(), 2);
         }
-        Err(tally) => drop(tally),
+        Err(tally) => {
+            drop(tally);
+            return Err(AllocError.into());
+        }
     }
     Ok(())
 }

@@ -20,6 +20,17 @@ fn shown<L: Ledger>(pool: &Pool<u32>, id: NodeId, blank: Blank) -> u32
 }
 
 #[test]
+fn room_for_one_is_room_for_one(rt: HostRuntime) -> Result<(), AllocError> {
+    let mut pool = Pool::<u32>::new(rt.alloc());
+    assert_eq!(rt; pool.spare(), 0);
+    pool.reserve(1)?;
+    assert!(rt; pool.spare() >= 1);
+    let only = pool.put(7);
+    assert!(rt; pool.take(only) == 7);
+    Ok(())
+}
+
+#[test]
 fn nodes_are_kept(rt: HostRuntime) -> Result<(), AllocError> {
     let mut pool = Pool::new(rt.alloc());
     pool.reserve(2)?;

@@ -47,15 +47,17 @@ cut vlan 4=gone
 ranges vlan=3
 ";
 
-fn number(word: Option<&str>) -> u32 {
-    word.unwrap_or("").parse::<u32>().unwrap_or(0)
+/// The number of a word. Where it is none, the line is wrong, and the test fails as for lack of memory.
+fn number(word: Option<&str>) -> Result<u32, AllocError> {
+    word.unwrap_or("").parse::<u32>().map_err(|_| AllocError)
 }
 
-fn kind_named(word: Option<&str>) -> PoolKind {
-    if word.unwrap_or("") == "asn" {
-        PoolKind::Asn
-    } else {
-        PoolKind::Vlan
+/// The kind of a word, likewise.
+fn kind_named(word: Option<&str>) -> Result<PoolKind, AllocError> {
+    match word.unwrap_or("") {
+        "asn" => Ok(PoolKind::Asn),
+        "vlan" => Ok(PoolKind::Vlan),
+        _ => Err(AllocError),
     }
 }
 
@@ -72,11 +74,11 @@ fn names(alloc: Global, n: u32) -> Result<Texts, AllocError> {
 fn call_of(alloc: Global, line: &str) -> Result<PoolCall, AllocError> {
     let mut words = line.split(' ');
     let verb = words.next().unwrap_or("");
-    let kind = kind_named(words.next());
+    let kind = kind_named(words.next())?;
     if verb == "add" {
         let name = Text::of(String::from_str(alloc, words.next().unwrap_or(""))?);
-        let first = number(words.next());
-        let last = number(words.next());
+        let first = number(words.next())?;
+        let last = number(words.next())?;
         return Ok(PoolCall::AddRange {
             kind,
             name,
@@ -84,22 +86,25 @@ fn call_of(alloc: Global, line: &str) -> Result<PoolCall, AllocError> {
             last,
         });
     }
-    let id = number(words.next());
+    if verb == "ranges" {
+        return Ok(PoolCall::Ranges { kind });
+    }
+    let id = number(words.next())?;
     if verb == "cut" {
         return Ok(PoolCall::CutRange { kind, id });
     }
     if verb == "cut_member" {
         return Ok(PoolCall::CutMember { kind, id });
     }
-    if verb == "ranges" {
-        return Ok(PoolCall::Ranges { kind });
-    }
     if verb == "members" {
         return Ok(PoolCall::Members { kind, id });
     }
-    let n = number(words.next());
+    let n = number(words.next())?;
     if verb == "free" {
         return Ok(PoolCall::Available { kind, id, limit: n });
+    }
+    if verb != "claim" {
+        return Err(AllocError);
     }
     Ok(PoolCall::Claim {
         kind,
@@ -194,5 +199,84 @@ fn calls_are_answered(rt: HostRuntime) -> Result<(), Fail> {
     drop(pools);
     let out = answers?;
     assert!(rt; out.as_str() == CALLS, "{out}");
+    Ok(())
+}
+
+/// Adds a range of AS numbers of this name, from this number to the last one of four bytes.
+fn added(
+    alloc: Global,
+    pools: &mut Pools<MemoryPools>,
+    number: u32,
+    first: u32,
+) -> Result<String, AllocError> {
+    let name = Text::of(format!(in alloc; "range {number}")?);
+    let call = PoolCall::AddRange {
+        kind: PoolKind::Asn,
+        name,
+        first,
+        last: 4_294_967_295,
+    };
+    told(alloc, pools.act(7, call))
+}
+
+/// Claims so many numbers of the first range.
+fn claimed(
+    alloc: Global,
+    pools: &mut Pools<MemoryPools>,
+    count: u32,
+) -> Result<String, AllocError> {
+    let call = PoolCall::Claim {
+        kind: PoolKind::Asn,
+        id: 1,
+        list: true,
+        names: names(alloc, count)?,
+    };
+    told(alloc, pools.act(7, call))
+}
+
+/// The numbers from one to another, with a blank between two of them.
+fn numbers_from(alloc: Global, first: u32, last: u32) -> Result<String, AllocError> {
+    let mut text = format!(in alloc; "{first}")?;
+    for number in first..last {
+        text.push_str(format!(in alloc; " {}", number.saturating_add(1))?.as_str())?;
+    }
+    Ok(text)
+}
+
+/// What comes of 1,000 ranges, one more, and two claims of 1,000 numbers each: the answers to the last range that is taken, to the one behind
+/// it, and to both claims.
+fn most(alloc: Global, pools: &mut Pools<MemoryPools>) -> Result<[String; 4], AllocError> {
+    let mut last = String::new(alloc);
+    for number in 1..=1_000u32 {
+        last = added(alloc, pools, number, 4_294_960_000)?;
+    }
+    let more = added(alloc, pools, 1_001, 4_294_960_000)?;
+    let first = claimed(alloc, pools, 1_000)?;
+    let second = claimed(alloc, pools, 1_000)?;
+    Ok([last, more, first, second])
+}
+
+#[test]
+fn pools_have_as_much_as_they_may(rt: HostRuntime) -> Result<(), Fail> {
+    let alloc = rt.alloc();
+    let mut pools = begin(
+        alloc,
+        MemoryPools::new(empty_tables(alloc), Vec::new(alloc)),
+    );
+    let answers = most(alloc, &mut pools);
+    drop(pools);
+    let [last, more, first, second] = answers?;
+    assert_eq!(rt;
+        (last.as_str(), more.as_str()),
+        ("made 1000", "Limit(Ranges, 1000)")
+    );
+    assert_eq!(rt;
+        first.as_str(),
+        numbers_from(alloc, 4_294_960_000, 4_294_960_999)?.as_str()
+    );
+    assert_eq!(rt;
+        second.as_str(),
+        numbers_from(alloc, 4_294_961_000, 4_294_961_999)?.as_str()
+    );
     Ok(())
 }

@@ -1,6 +1,6 @@
 //! Runs over stores: what is answered, what outlives a run, what is refused, and what a store that fails leaves.
 
-use crate::exchanges::{put_answer, put_request};
+use crate::exchanges::{part, put_answer, put_request};
 use crate::running::{Left, run_words};
 use crate::stores::opener_of;
 use ipam_listen::ListListener;
@@ -16,7 +16,7 @@ use std::thread::Threads;
 const CASES: [&str; 10] = [
     r#"1 1
 0|session --db a|~POST /api/ipam/asn-ranges/|{"name":"a","start":64512,"end":64514}|201 Created|Ipam-Place: 0|{"end":64514,"id":1,"name":"a","start":64512}~POST /api/ipam/asn-ranges/1/available-asns/|[{},{}]|201 Created|Ipam-Place: 1|[{"asn":64512,"id":1,"range":1},{"asn":64513,"id":2,"range":1}]~POST /api/ipam/asn-ranges/|{"name":"b","start":64513,"end":64515}|201 Created|Ipam-Place: 2|{"end":64515,"id":2,"name":"b","start":64513}~GET /api/ipam/asn-ranges/2/available-asns/||200 OK|Ipam-Place: 3|[64514,64515]~POST /api/ipam/asn-ranges/2/available-asns/|[{},{},{}]|409 Conflict|Ipam-Place: 3|{"code":"no_space","detail":"no space for claim 2"}~POST /api/ipam/vlan-groups/|{"name":"c","start":1,"end":4094}|201 Created|Ipam-Place: 3|{"end":4094,"id":3,"name":"c","start":1}~POST /api/ipam/vlan-groups/3/available-vlans/|{"name":"voice"}|201 Created|Ipam-Place: 4|{"group":3,"id":3,"name":"voice","vid":1}
-0|session --db a|~GET /api/ipam/asn-ranges/||200 OK|Ipam-Place: 0|[{"end":64514,"id":1,"name":"a","start":64512},{"end":64515,"id":2,"name":"b","start":64513}]~GET /api/ipam/vlan-groups/3/vlans/||200 OK|Ipam-Place: 0|[{"group":3,"id":3,"name":"voice","vid":1}]~POST /api/ipam/asn-ranges/2/available-asns/|{"name":5}|201 Created|Ipam-Place: 0|{"asn":64514,"id":4,"range":2}~DELETE /api/ipam/asns/1/||204 No Content|Ipam-Place: 1|~GET /api/ipam/asn-ranges/1/available-asns/?limit=1||200 OK|Ipam-Place: 2|[64512]~DELETE /api/ipam/vlans/3/||204 No Content|Ipam-Place: 2|~DELETE /api/ipam/vlan-groups/3/||204 No Content|Ipam-Place: 3|~GET /api/ipam/vlan-groups/?limit=x||200 OK|Ipam-Place: 4|[]
+0|session --db a|~GET /api/ipam/asn-ranges/||200 OK|Ipam-Place: 0|[{"end":64514,"id":1,"name":"a","start":64512},{"end":64515,"id":2,"name":"b","start":64513}]~GET /api/ipam/vlan-groups/3/vlans/||200 OK|Ipam-Place: 0|[{"group":3,"id":3,"name":"voice","vid":1}]~POST /api/ipam/asn-ranges/2/available-asns/|{"name":5}|201 Created|Ipam-Place: 0|{"asn":64514,"id":4,"range":2}~DELETE /api/ipam/asns/1/||204 No Content|Ipam-Place: 1|~GET /api/ipam/asn-ranges/1/available-asns/?limit=1||200 OK|Ipam-Place: 2|[64512]~DELETE /api/ipam/vlans/3/||204 No Content|Ipam-Place: 2|~DELETE /api/ipam/vlan-groups/3/||204 No Content|Ipam-Place: 3|~GET /api/ipam/vlan-groups/?limit=x||200 OK|Ipam-Place: 4|[]~POST /api/ipam/asn-ranges/|{"name":"d","start":65536,"end":4294967295}|201 Created|Ipam-Place: 4|{"end":4294967295,"id":4,"name":"d","start":65536}~POST /api/ipam/asn-ranges/4/available-asns/|{}|201 Created|Ipam-Place: 5|{"asn":65536,"id":5,"range":4}
 0|session --db b|~GET /api/ipam/asn-ranges/||200 OK|Ipam-Place: 0|[]
 0|session|~GET /api/ipam/asn-ranges/1/asns/||404 Not Found|Ipam-Place: 0|{"code":"not_found","detail":"1 is not there"}"#,
     r#"3 3;range 1 asn a 64512 64514;range 2 vlan c 1 4094;member 1 1 64513
@@ -41,6 +41,7 @@ const CASES: [&str; 10] = [
 0|session --db a|~GET /api/ipam/asn-ranges/1/asns/||200 OK|Ipam-Place: 0|[]"#,
     r#"1 1
 2||usage: poold COMMAND
+2|''|usage: poold COMMAND
 2|free|usage: poold COMMAND
 2|Session|usage: poold COMMAND
 2|session a|usage: poold COMMAND
@@ -60,11 +61,6 @@ const CASES: [&str; 10] = [
 0|session --db=-x|"#,
 ];
 
-/// A part of a run's line.
-fn part(run: &str, index: usize) -> &str {
-    run.split('|').nth(index).unwrap_or("")
-}
-
 /// The requests of a run, and the answers.
 fn conversation(alloc: Global, run: &str) -> Result<(Vec<u8>, Vec<u8>), AllocError> {
     let mut input = Vec::new(alloc);
@@ -80,9 +76,10 @@ fn conversation(alloc: Global, run: &str) -> Result<(Vec<u8>, Vec<u8>), AllocErr
 fn is_left(alloc: Global, left: &Left, run: &str, output: &[u8]) -> Result<bool, AllocError> {
     let head = run.split('~').next().unwrap_or("");
     let status = format!(in alloc; "{}", left.status)?;
-    let said = part(head, 2).as_bytes();
+    let said = part(head, 2)?.as_bytes();
+    let wanted = part(head, 0)?;
     let errors = left.errors.as_slice().strip_suffix(b"\n").unwrap_or(b"");
-    Ok(status.as_str() == part(head, 0) && errors == said && left.output.as_slice() == output)
+    Ok(status.as_str() == wanted && errors == said && left.output.as_slice() == output)
 }
 
 /// Whether a run over the store comes out as its line says, where the input comes in pieces of this size.
@@ -95,7 +92,7 @@ fn is_run<R: Threads + Wait + Sync>(
 ) -> Result<bool, AllocError> {
     let (input, output) = conversation(alloc, run)?;
     let mut nobody = ListListener::new(alloc, Vec::new(alloc))?;
-    let words = part(run, 1);
+    let words = part(run, 1)?;
     let left = run_words(rt, alloc, words, &input, piece, &mut nobody, opener)?;
     is_left(alloc, &left, run, &output)
 }

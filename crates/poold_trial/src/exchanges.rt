@@ -3,9 +3,9 @@
 
 use std::alloc::{AllocError, Global};
 
-/// A part of an exchange.
-fn part(exchange: &str, index: usize) -> &str {
-    exchange.split('|').nth(index).unwrap_or("")
+/// A part of a line. Where there is none, the line is wrong, and the test fails as for lack of memory.
+pub fn part(line: &str, index: usize) -> Result<&str, AllocError> {
+    line.split('|').nth(index).ok_or(AllocError)
 }
 
 /// Puts a text at the end.
@@ -33,8 +33,8 @@ fn put_length(alloc: Global, out: &mut Vec<u8>, body: &str) -> Result<(), AllocE
 
 /// The request of an exchange.
 pub fn put_request(alloc: Global, out: &mut Vec<u8>, exchange: &str) -> Result<(), AllocError> {
-    let body = part(exchange, 1);
-    put(out, part(exchange, 0))?;
+    let body = part(exchange, 1)?;
+    put(out, part(exchange, 0)?)?;
     put(out, " HTTP/1.1\r\nHost: pools\r\n")?;
     put_length(alloc, out, body)?;
     put(out, "\r\n")?;
@@ -53,13 +53,13 @@ fn put_size(alloc: Global, out: &mut Vec<u8>, body: &str) -> Result<(), AllocErr
 /// The answer of an exchange, which leaves the connection open. That to HEAD tells of a body and sends none.
 pub fn put_answer(alloc: Global, out: &mut Vec<u8>, exchange: &str) -> Result<(), AllocError> {
     put(out, "HTTP/1.1 ")?;
-    put(out, part(exchange, 2))?;
+    put(out, part(exchange, 2)?)?;
     put(out, "\r\n")?;
-    put_size(alloc, out, part(exchange, 4))?;
-    put_field(out, part(exchange, 3))?;
+    put_size(alloc, out, part(exchange, 4)?)?;
+    put_field(out, part(exchange, 3)?)?;
     put(out, "\r\n")?;
     if exchange.starts_with("HEAD ") {
         return Ok(());
     }
-    put(out, part(exchange, 4))
+    put(out, part(exchange, 4)?)
 }

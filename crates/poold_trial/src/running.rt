@@ -17,7 +17,19 @@ pub struct Left {
     pub errors: Vec<u8>,
 }
 
-/// Runs words, with one space between two of them, over an input that comes in pieces of this size.
+/// The words of a text, with one space between two of them: none of the empty text; and `''` is the empty word.
+fn words_of<'a>(alloc: Global, text: &'a str) -> Result<Vec<&'a str>, AllocError> {
+    let mut list = Vec::new(alloc);
+    if text.is_empty() {
+        return Ok(list);
+    }
+    for word in text.split(' ') {
+        list.push(if word == "''" { "" } else { word })?;
+    }
+    Ok(list)
+}
+
+/// Runs words over an input that comes in pieces of this size.
 pub fn run_words<R: Threads + Wait + Sync>(
     rt: &R,
     alloc: Global,
@@ -28,10 +40,7 @@ pub fn run_words<R: Threads + Wait + Sync>(
     opener: &mut MemoryPoolOpener,
 ) -> Result<Left, AllocError> {
     let piece = piece.max(1);
-    let mut list = Vec::new(alloc);
-    for word in words.split(' ') {
-        list.push(word)?;
-    }
+    let list = words_of(alloc, words)?;
     let bytes = Vec::from_slice(alloc, input)?;
     let mut input = BytesSource::new(bytes, Vec::new(alloc), piece);
     let mut output = BytesSink::new(alloc, Vec::new(alloc), piece, 65_536)?;

@@ -6,14 +6,23 @@ use pool_keeper::tables::PoolTables;
 use std::alloc::{AllocError, Global};
 use stored_tables::tables::Text;
 
-/// A word of a part.
-fn word(part: &str, index: usize) -> &str {
-    part.split(' ').nth(index).unwrap_or("")
+/// A word of a part. Where there is none, the line is wrong, and the test fails as for lack of memory.
+fn word(part: &str, index: usize) -> Result<&str, AllocError> {
+    part.split(' ').nth(index).ok_or(AllocError)
 }
 
-/// The number that a word is, or 0.
-fn number(part: &str, index: usize) -> u32 {
-    word(part, index).parse::<u32>().unwrap_or(0)
+/// The number that a word is, likewise.
+fn number(part: &str, index: usize) -> Result<u32, AllocError> {
+    word(part, index)?.parse::<u32>().map_err(|_| AllocError)
+}
+
+/// The kind that a word names, likewise.
+fn kind_of(part: &str, index: usize) -> Result<PoolKind, AllocError> {
+    match word(part, index)? {
+        "asn" => Ok(PoolKind::Asn),
+        "vlan" => Ok(PoolKind::Vlan),
+        _ => Err(AllocError),
+    }
 }
 
 fn text_of(alloc: Global, text: &str) -> Result<Text, AllocError> {
@@ -22,26 +31,21 @@ fn text_of(alloc: Global, text: &str) -> Result<Text, AllocError> {
 
 /// `range ID KIND NAME FIRST LAST`.
 fn range_of(alloc: Global, part: &str) -> Result<NumberRange, AllocError> {
-    let kind = if word(part, 2) == "vlan" {
-        PoolKind::Vlan
-    } else {
-        PoolKind::Asn
-    };
     Ok(NumberRange {
-        id: number(part, 1),
-        kind,
-        name: text_of(alloc, word(part, 3))?,
-        first: number(part, 4),
-        last: number(part, 5),
+        id: number(part, 1)?,
+        kind: kind_of(part, 2)?,
+        name: text_of(alloc, word(part, 3)?)?,
+        first: number(part, 4)?,
+        last: number(part, 5)?,
     })
 }
 
 /// `member ID RANGE NUMBER`.
 fn member_of(alloc: Global, part: &str) -> Result<Member, AllocError> {
     Ok(Member {
-        id: number(part, 1),
-        range: number(part, 2),
-        number: number(part, 3),
+        id: number(part, 1)?,
+        range: number(part, 2)?,
+        number: number(part, 3)?,
         name: text_of(alloc, "")?,
     })
 }
@@ -59,8 +63,8 @@ fn tables_of(alloc: Global, line: &str) -> Result<PoolTables, AllocError> {
         }
     }
     Ok(PoolTables {
-        next_range: number(line, 0),
-        next_member: number(line.split(';').next().unwrap_or(""), 1),
+        next_range: number(line, 0)?,
+        next_member: number(line.split(';').next().unwrap_or(""), 1)?,
         ranges: Listed::of(ranges),
         members: Listed::of(members),
     })
@@ -71,7 +75,7 @@ fn fails_of(alloc: Global, line: &str) -> Result<Vec<u32>, AllocError> {
     let mut fails = Vec::new(alloc);
     for part in line.split(';') {
         if part.starts_with("fails ") {
-            fails.push(number(part, 1))?;
+            fails.push(number(part, 1)?)?;
         }
     }
     Ok(fails)

@@ -1,6 +1,6 @@
 //! Imports by a program that uses the register as a library: what is answered, and what the log, the book of prefixes and the tables have then.
 
-use inet_num::{Block, read_block};
+use inet_num::read_block;
 use ipam_data::calls::Call;
 use ipam_data::imports::{ImportRow, ImportRows};
 use ipam_data::kinds::Kind;
@@ -14,41 +14,49 @@ use std::alloc::{AllocError, Global};
 use std::test::Fail;
 use stored_tables::tables::Tables;
 
-/// An import a line: the prefixes of its rows; what is answered; the entries of the log, the prefixes, and the greatest id that was given by then.
+/// An import a line: its rows, each a prefix with a plus behind it where its status is container; what is answered; the entries of the log, the
+/// prefixes, and the greatest id that was given by then.
 const IMPORTS: &str = "\
-10.0.0.0/24 10.0.1.0/24 10.0.2.0/24;Imported { created: 3, present: 0 };1 3 3
-10.0.0.0/24 10.0.1.0/24 10.0.2.0/24;Imported { created: 0, present: 3 };2 3 3
+10.0.0.0/24 10.0.1.0/24 10.0.2.0/24+;Imported { created: 3, present: 0 };1 3 3
+10.0.0.0/24 10.0.1.0/24 10.0.2.0/24+;Imported { created: 0, present: 3 };2 3 3
 10.0.3.0/24 0.0.0.0/0;Refused(Row(2, Rule(ZeroMask)));2 3 3
 ";
 
-/// The row of a prefix.
-fn row_of(alloc: Global, text: &str) -> Result<Option<ImportRow>, AllocError> {
-    let block: Block = match read_block(text.as_bytes()) {
-        Ok(block) => block,
-        Err(_) => return Ok(None),
+/// The rows that the tables have behind each of them: the kind, the id and the texts.
+const ROWS: &str = "\
+Prefixes 1 10.0.0.0/24,,active,,false,false,,
+Prefixes 2 10.0.1.0/24,,active,,false,false,,
+Prefixes 3 10.0.2.0/24,,container,,false,false,,
+";
+
+/// The row of a word. A word that is none fails as for lack of memory.
+fn row_of(alloc: Global, word: &str) -> Result<ImportRow, AllocError> {
+    let (text, status) = match word.strip_suffix("+") {
+        Some(text) => (text, PrefixStatus::Container),
+        None => (word, PrefixStatus::Active),
     };
-    let description = match Description::of(String::new(alloc)) {
-        Some(description) => description,
-        None => return Ok(None),
+    let Ok(block) = read_block(text.as_bytes()) else {
+        return Err(AllocError);
     };
-    Ok(Some(ImportRow::Prefix {
+    let Some(description) = Description::of(String::new(alloc)) else {
+        return Err(AllocError);
+    };
+    Ok(ImportRow::Prefix {
         block,
         vrf: None,
-        status: PrefixStatus::Active,
+        status,
         role: None,
         is_pool: false,
         mark_utilized: false,
         description,
-    }))
+    })
 }
 
 /// The rows of a line.
 fn rows_of(alloc: Global, line: &str) -> Result<ImportRows, AllocError> {
     let mut rows = Vec::new(alloc);
     for word in line.split(';').next().unwrap_or("").split(' ') {
-        if let Some(row) = row_of(alloc, word)? {
-            rows.push(row)?;
-        }
+        rows.push(row_of(alloc, word)?)?;
     }
     Ok(ImportRows::of(rows))
 }
@@ -97,18 +105,32 @@ fn next_prefix(tables: &Tables) -> u32 {
     0
 }
 
+/// The rows of tables, a line each.
+fn rows_told(alloc: Global, tables: &Tables) -> Result<String, AllocError> {
+    let mut told = String::new(alloc);
+    for row in tables.rows.as_slice() {
+        told.push_str(format!(in alloc; "{:?} {} ", row.kind, row.id)?.as_str())?;
+        for field in row.fields.as_slice() {
+            told.push_str(field.as_str())?;
+            told.push(',')?;
+        }
+        told.push('\n')?;
+    }
+    Ok(told)
+}
+
 #[test]
 fn imports_are_calls(rt: HostRuntime) -> Result<(), Fail> {
     let mut number: usize = 0;
     for line in IMPORTS.lines() {
         number = number.saturating_add(1);
         let (said, tables) = behind(rt.alloc(), number)?.expect(&rt, "a register");
-        let rows = tables.rows.as_slice().len();
+        let rows = rows_told(rt.alloc(), &tables)?;
         let greatest = next_prefix(&tables).saturating_sub(1);
         let told = format!(in rt.alloc(); "{said} {greatest}")?;
         let wanted = line.split_once(';').expect(&rt, "an answer").1;
         assert!(rt; told.as_str() == wanted, "{line}: {told}");
-        assert!(rt; rows == 3, "{line}: {rows} rows");
+        assert_eq!(rt; rows.as_str(), ROWS, "{line}");
     }
     Ok(())
 }

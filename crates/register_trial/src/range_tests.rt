@@ -7,7 +7,7 @@ ghost use Rattle.ipam_data.specs.RowList.{AllBelow};
 ghost use Rattle.ipam_data.specs.Rows.{range_id};
 ghost use Rattle.ipam_data.specs.Lawful.{IsRange};
 
-use inet_num::{Addr, Family};
+use inet_num::{Addr, Block, Family, write_block};
 use ip_ranges::{RangeBook, SpanKind};
 use ipam_data::host::Ends;
 use ipam_data::kinds::Table;
@@ -140,16 +140,8 @@ fn three_ranges_in_two_tables(rt: HostRuntime) -> Result<(), Fail> {
     )
 }
 
-/// The length of the block at an index, or 0.
-fn len_at(blocks: &[inet_num::Block], index: usize) -> u8 {
-    match blocks.get(index) {
-        Some(block) => block.len(),
-        None => 0,
-    }
-}
-
 /// The pieces of a range, by the book that has it.
-fn pieces_in_book(alloc: Global, row: IpRange) -> Result<Vec<inet_num::Block>, AllocError>
+fn pieces_in_book(alloc: Global, row: IpRange) -> Result<Vec<Block>, AllocError>
     requires id { row.id ≡ 1 }
     requires range { IsRange row }
 {
@@ -159,16 +151,21 @@ fn pieces_in_book(alloc: Global, row: IpRange) -> Result<Vec<inet_num::Block>, A
     book.pieces(1)
 }
 
+/// Blocks as their texts, each with a blank behind it.
+fn told(alloc: Global, blocks: &[Block]) -> Result<String, Fail> {
+    let mut text = Vec::new(alloc);
+    for block in blocks {
+        write_block(*block, &mut text)?;
+        text.push(b' ')?;
+    }
+    Ok(String::from_utf8(text)?)
+}
+
 #[test]
 fn pieces_of_ten_addresses(rt: HostRuntime) -> Result<(), Fail> {
     let row = range(rt.alloc(), 1, 10, 19, None, false, false).ok_or("no row")?;
     let pieces = pieces_in_book(rt.alloc(), row)?;
-    assert!(rt;
-        pieces.len() == 3
-            && len_at(&pieces, 0) == 31
-            && len_at(&pieces, 1) == 30
-            && len_at(&pieces, 2) == 30,
-        "10.0.0.10/31, 10.0.0.12/30, 10.0.0.16/30"
-    );
+    let told = told(rt.alloc(), &pieces)?;
+    assert_eq!(rt; told.as_str(), "10.0.0.10/31 10.0.0.12/30 10.0.0.16/30 ");
     Ok(())
 }

@@ -368,3 +368,25 @@ fn bytes_behind_a_refusal_are_not_read(rt: HostRuntime) -> Result<(), Fail> {
     assert_eq!(rt; left, 8192);
     Ok(())
 }
+
+/// A POST with a body of so many bytes, and its answer.
+fn with_body(alloc: Global, count: usize) -> Result<(Vec<u8>, Vec<u8>), AllocError> {
+    let mut body = Vec::new(alloc);
+    body.resize(count, b'b')?;
+    let head = format!(in alloc; "POST /b HTTP/1.1\r\nContent-Length: {count}\r\n\r\n")?;
+    let front = format!(in alloc;
+        "HTTP/1.1 201 Created\r\nContent-Type: text/plain\r\nContent-Length: {count}\r\nEcho-Count: 0\r\n\r\n"
+    )?;
+    let mut input = head.into_bytes();
+    input.extend_from_slice(body.as_slice())?;
+    let mut answer = front.into_bytes();
+    answer.extend_from_slice(body.as_slice())?;
+    Ok((input, answer))
+}
+
+#[test]
+fn a_body_of_100_kilobytes_comes_in_pieces(rt: HostRuntime) -> Result<(), Fail> {
+    let (input, answer) = with_body(rt.alloc(), 102_400)?;
+    expect(&rt, input.as_slice(), answer.as_slice(), b"", 1)?;
+    Ok(())
+}

@@ -1,12 +1,15 @@
+ghost use Rattle.snapshot_reads.specs.Seen.{IsLookOf};
+
 use http_session::SessionEnd;
 use inet_num::read_block;
+use ipam_data::calls::{Call, Filter};
 use ipam_data::kinds::Kind;
 use ipam_data::prefix::{Prefix, PrefixStatus};
-use ipam_data::replies::{View, Views};
+use ipam_data::replies::{Reply, View, Views};
 use ipam_data::text::Description;
 use ipam_data::update::{Ids, Update};
 use ipam_edge::{BytesSink, BytesSource};
-use snapshot_reads::{Feed, Look};
+use snapshot_reads::{Feed, Look, Looked};
 use snapshot_rows::SnapshotRows;
 use snapshot_session::serve_reader;
 use std::alloc::{AllocError, Global};
@@ -182,5 +185,69 @@ fn a_reader_is_answered_from_one_published_change(rt: HostRuntime) -> Result<(),
         std::str::from_utf8(sink.into_bytes().as_slice()),
         Ok(wanted.as_str())
     );
+    Ok(())
+}
+
+/// The number that a look answers with that is told what the feed published, where it is told, with how many rows are listed then.
+fn number_learnt(feed: &mut Feed, look: &mut Look, call: &Call) -> Option<(u64, u32)>
+    requires { IsLookOf feed.old look.old }
+{
+    if look.learn(feed).is_err() {
+        return None;
+    }
+    match look.read(call, 0) {
+        Looked::Given(Reply::Page { count, views }, number) => {
+            drop(views);
+            Some((number, count))
+        }
+        other => {
+            drop(other);
+            None
+        }
+    }
+}
+
+/// A list of all prefixes.
+fn all_prefixes() -> Call {
+    Call::List {
+        kind: Kind::Prefixes,
+        filter: Filter::Prefixes {
+            family: None,
+            vrf_id: None,
+            status: None,
+            role_id: None,
+            prefix: None,
+            within: None,
+            within_include: None,
+            contains: None,
+        },
+        limit: 50,
+        offset: 0,
+    }
+}
+
+#[test]
+fn a_look_that_is_told_answers_what_was_published(rt: HostRuntime) -> Result<(), Fail> {
+    let alloc = rt.alloc();
+    let update = one_prefix(alloc)?.expect(&rt, "an update");
+    let mut feed = Feed::new(
+        &rt,
+        alloc,
+        SnapshotRows::new(alloc),
+        SnapshotRows::new(alloc),
+        2,
+    )?;
+    let looked = feed.look();
+    let published = feed.publish(&rt, update);
+    let learnt = match looked {
+        Ok(look) => {
+            let mut look = look;
+            number_learnt(&mut feed, &mut look, &all_prefixes())
+        }
+        Err(AllocError) => None,
+    };
+    feed.close(&rt);
+    assert_eq!(rt; published?, 1);
+    assert_eq!(rt; learnt, Some((1, 1)));
     Ok(())
 }

@@ -6,12 +6,17 @@ use crate::words::text_of;
 use host_files::HostFiles;
 use ipam_keeper::keeper::{KeepFault, Keeper, KeeperOpener};
 use sqlite_keeper::SqliteOpener;
-use std::alloc::Global;
+use std::alloc::{AllocError, Global};
 use std::fs;
 use std::test::Fail;
 use stored_tables::tables::{Change, Text};
 
 const FOLDER: &str = "ipamd_files_test";
+
+const NO_STORES: &str = "ipamd_no_stores_test";
+
+/// More bytes than the first page of a database has.
+const TEXT: &str = "no store";
 
 /// The change that makes the role 7.
 const ONE_ROLE: &str = "done|roles,7,LAN,lan,10,cables||roles,8";
@@ -41,6 +46,38 @@ fn is_refused<O: KeeperOpener, P: KeeperOpener>(
     let is_refused = matches!(second.start(Some(path)), Err(KeepFault::Failed));
     first.done(keeper);
     Ok(is_refused)
+}
+
+/// Whether a change over what is at a path is answered that the store failed, and whether the opener counts that.
+fn is_a_fault<O: KeeperOpener>(
+    alloc: Global,
+    opener: &mut O,
+    path: &str,
+) -> Result<bool, AllocError> {
+    let path = text_of(alloc, path)?;
+    let change = change_of(alloc, ONE_ROLE)?;
+    let held = held_before(alloc, opener, &path, &change);
+    Ok(matches!(held, Err(KeepFault::Failed)))
+}
+
+/// What can't be a store at some paths: a folder that is not there, a folder, and a file of text, which stays as it is.
+#[test]
+fn what_is_no_store_is_a_fault(rt: HostRuntime) -> Result<(), Fail> {
+    let alloc = rt.alloc();
+    let _ = fs::remove_dir_all(&rt, NO_STORES);
+    fs::create_dir(&rt, NO_STORES)?;
+    fs::write(&rt, "ipamd_no_stores_test/text", TEXT)?;
+    let mut opener = SqliteOpener::new(alloc, HostFiles::of(&rt));
+    let nowhere = is_a_fault(alloc, &mut opener, "ipamd_no_stores_test/none/a.db");
+    let folder = is_a_fault(alloc, &mut opener, NO_STORES);
+    let text = is_a_fault(alloc, &mut opener, "ipamd_no_stores_test/text");
+    let other = is_a_fault(alloc, &mut opener, "ipamd_no_stores_test/a.db");
+    let left = fs::read(&rt, "ipamd_no_stores_test/text");
+    fs::remove_dir_all(&rt, NO_STORES)?;
+    assert_eq!(rt; (nowhere?, folder?, text?), (true, true, true));
+    assert!(rt; !other?, "a new file is opened after that");
+    assert_eq!(rt; left?.as_slice(), TEXT.as_bytes());
+    Ok(())
 }
 
 #[test]

@@ -1,6 +1,6 @@
 //! Changes of a register, each a line of text.
 
-use crate::words::{number_of, text_of};
+use crate::words::{number_of, part, text_of};
 use ipam_data::kinds::Kind;
 use ipam_data::update::Ids;
 use std::alloc::{AllocError, Global};
@@ -9,16 +9,17 @@ use stored_tables::tables::{Change, Row, Rows, Texts};
 /// How many VRFs are many.
 const MANY: u32 = 1_100;
 
-/// The kind of this name.
-fn kind_of(name: Option<&str>) -> Kind {
+/// The kind of this name. Another name fails as for lack of memory.
+fn kind_of(name: Option<&str>) -> Result<Kind, AllocError> {
     match name.unwrap_or("") {
-        "vrfs" => Kind::Vrfs,
-        "rirs" => Kind::Rirs,
-        "roles" => Kind::Roles,
-        "aggregates" => Kind::Aggregates,
-        "prefixes" => Kind::Prefixes,
-        "ip-ranges" => Kind::Ranges,
-        _ => Kind::Addresses,
+        "vrfs" => Ok(Kind::Vrfs),
+        "rirs" => Ok(Kind::Rirs),
+        "roles" => Ok(Kind::Roles),
+        "aggregates" => Ok(Kind::Aggregates),
+        "prefixes" => Ok(Kind::Prefixes),
+        "ip-ranges" => Ok(Kind::Ranges),
+        "ip-addresses" => Ok(Kind::Addresses),
+        _ => Err(AllocError),
     }
 }
 
@@ -29,8 +30,8 @@ fn row_of(alloc: Global, words: &str) -> Result<Row, AllocError> {
         fields.push(text_of(alloc, word)?)?;
     }
     Ok(Row {
-        kind: kind_of(words.split(',').next()),
-        id: number_of(words.split(',').nth(1)),
+        kind: kind_of(words.split(',').next())?,
+        id: number_of(words.split(',').nth(1))?,
         fields: Texts::of(fields),
     })
 }
@@ -61,8 +62,8 @@ fn rows_of(alloc: Global, text: &str) -> Result<Rows, AllocError> {
 fn ids_of(alloc: Global, text: &str) -> Result<Ids, AllocError> {
     let mut ids = Vec::new(alloc);
     for words in text.split(';').filter(|words| !words.is_empty()) {
-        let kind = kind_of(words.split(',').next());
-        ids.push((kind, number_of(words.split(',').nth(1))))?;
+        let kind = kind_of(words.split(',').next())?;
+        ids.push((kind, number_of(words.split(',').nth(1))?))?;
     }
     Ok(Ids::of(ids))
 }
@@ -70,8 +71,8 @@ fn ids_of(alloc: Global, text: &str) -> Result<Ids, AllocError> {
 /// The change of a line: behind its first bar the rows that come, behind the second one the ids that go, and then the next ids.
 pub(crate) fn change_of(alloc: Global, line: &str) -> Result<Change, AllocError> {
     Ok(Change {
-        puts: rows_of(alloc, line.split('|').nth(1).unwrap_or(""))?,
-        cuts: ids_of(alloc, line.split('|').nth(2).unwrap_or(""))?,
-        next: ids_of(alloc, line.split('|').nth(3).unwrap_or(""))?,
+        puts: rows_of(alloc, part(line, 1)?)?,
+        cuts: ids_of(alloc, part(line, 2)?)?,
+        next: ids_of(alloc, part(line, 3)?)?,
     })
 }

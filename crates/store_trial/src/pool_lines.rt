@@ -1,6 +1,6 @@
 //! Changes of pools, each a line of text.
 
-use crate::words::{number_of, text_of};
+use crate::words::{number_of, part, text_of};
 use number_pools::{Listed, Member, NumberRange, PoolKind};
 use pool_keeper::tables::PoolChange;
 use std::alloc::{AllocError, Global};
@@ -8,31 +8,32 @@ use std::alloc::{AllocError, Global};
 /// How many members are many.
 const MANY: u32 = 1_000;
 
-/// The kind of this name.
-fn kind_named(name: Option<&str>) -> PoolKind {
+/// The kind of this name. Another name fails as for lack of memory.
+fn kind_named(name: Option<&str>) -> Result<PoolKind, AllocError> {
     match name.unwrap_or("") {
-        "asn" => PoolKind::Asn,
-        _ => PoolKind::Vlan,
+        "asn" => Ok(PoolKind::Asn),
+        "vlan" => Ok(PoolKind::Vlan),
+        _ => Err(AllocError),
     }
 }
 
 /// A range of these words.
 fn range_of(alloc: Global, words: &str) -> Result<NumberRange, AllocError> {
     Ok(NumberRange {
-        id: number_of(words.split(',').next()),
-        kind: kind_named(words.split(',').nth(1)),
+        id: number_of(words.split(',').next())?,
+        kind: kind_named(words.split(',').nth(1))?,
         name: text_of(alloc, words.split(',').nth(2).unwrap_or(""))?,
-        first: number_of(words.split(',').nth(3)),
-        last: number_of(words.split(',').nth(4)),
+        first: number_of(words.split(',').nth(3))?,
+        last: number_of(words.split(',').nth(4))?,
     })
 }
 
 /// A member of these words.
 fn member_of(alloc: Global, words: &str) -> Result<Member, AllocError> {
     Ok(Member {
-        id: number_of(words.split(',').next()),
-        range: number_of(words.split(',').nth(1)),
-        number: number_of(words.split(',').nth(2)),
+        id: number_of(words.split(',').next())?,
+        range: number_of(words.split(',').nth(1))?,
+        number: number_of(words.split(',').nth(2))?,
         name: text_of(alloc, words.split(',').nth(3).unwrap_or(""))?,
     })
 }
@@ -73,23 +74,23 @@ fn members_of(alloc: Global, text: &str) -> Result<Listed<Member>, AllocError> {
 }
 
 /// The number of a word, if there is one.
-fn cut_of(word: Option<&str>) -> Option<u32> {
-    match word.unwrap_or("") {
-        "" => None,
-        word => Some(number_of(Some(word))),
+fn cut_of(word: &str) -> Result<Option<u32>, AllocError> {
+    if word.is_empty() {
+        return Ok(None);
     }
+    Ok(Some(number_of(Some(word))?))
 }
 
 /// The change of a line: behind its first bar the ranges that come, then the members that come, the range and the member that go, and the
 /// next ids.
 pub(crate) fn change_of(alloc: Global, line: &str) -> Result<PoolChange, AllocError> {
-    let next = line.split('|').nth(5).unwrap_or("");
+    let next = part(line, 5)?;
     Ok(PoolChange {
-        next_range: number_of(next.split(',').next()),
-        next_member: number_of(next.split(',').nth(1)),
-        new_ranges: ranges_of(alloc, line.split('|').nth(1).unwrap_or(""))?,
-        new_members: members_of(alloc, line.split('|').nth(2).unwrap_or(""))?,
-        cut_range: cut_of(line.split('|').nth(3)),
-        cut_member: cut_of(line.split('|').nth(4)),
+        next_range: number_of(next.split(',').next())?,
+        next_member: number_of(next.split(',').nth(1))?,
+        new_ranges: ranges_of(alloc, part(line, 1)?)?,
+        new_members: members_of(alloc, part(line, 2)?)?,
+        cut_range: cut_of(part(line, 3)?)?,
+        cut_member: cut_of(part(line, 4)?)?,
     })
 }

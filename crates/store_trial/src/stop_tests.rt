@@ -17,65 +17,69 @@ const STORED_POOLS: u32 = 2;
 /// More calls of a file than there are.
 const MOST: u64 = 1_000;
 
-/// The first call of a file whose stop breaks the tables, as the files are found so; or none.
-fn wrong_call<K: StoreKind>(
-    alloc: Global,
-    changes: u32,
-    side: Side,
-    found: Found,
-) -> Result<Option<u64>, AllocError> {
-    for calls in 0..MOST {
-        match ending_of::<K>(alloc, changes, Stop { side, calls, found })? {
-            Ending::Whole => {}
-            Ending::Broken => return Ok(Some(calls)),
-            Ending::Beyond => return Ok(None),
-        }
-    }
-    Ok(Some(MOST))
-}
+/// Fewer stops than there are of both files together, in all ways that they are found: some of each, or nothing was tried.
+const LEAST: u64 = 60;
 
-/// Puts the first call of a file whose stop breaks the tables, as the files are found so, at the end of those that do.
-fn note<K: StoreKind>(
+/// How many stops of a file leave whole tables, as the files are found so, before all changes are stored. One that breaks the tables is noted.
+fn stops_of<K: StoreKind>(
     alloc: Global,
     changes: u32,
     side: Side,
     found: Found,
     wrong: &mut String,
-) -> Result<(), AllocError> {
-    match wrong_call::<K>(alloc, changes, side, found)? {
-        Some(calls) => wrong.push_str(format!(in alloc; "{side:?} {found:?} {calls} ")?.as_str()),
-        None => Ok(()),
-    }
-}
-
-/// The first calls of both files whose stops break the tables, in each way that the files are found.
-fn wrong_calls<K: StoreKind>(alloc: Global, changes: u32) -> Result<String, AllocError> {
-    let mut wrong = String::new(alloc);
-    for side in [Side::Log, Side::Database] {
-        for found in [Found::Written, Found::Lost, Found::Torn] {
-            note::<K>(alloc, changes, side, found, &mut wrong)?;
+) -> Result<u64, AllocError> {
+    for calls in 0..MOST {
+        match ending_of::<K>(alloc, changes, Stop { side, calls, found })? {
+            Ending::Whole => {}
+            Ending::Broken => {
+                wrong.push_str(format!(in alloc; "{side:?} {found:?} {calls} ")?.as_str())?;
+                return Ok(calls);
+            }
+            Ending::Beyond => return Ok(calls),
         }
     }
-    Ok(wrong)
+    wrong.push_str("without end ")?;
+    Ok(MOST)
+}
+
+/// The same of both files, in each way that they are found.
+fn all_stops<K: StoreKind>(
+    alloc: Global,
+    changes: u32,
+    wrong: &mut String,
+) -> Result<u64, AllocError> {
+    let mut stops = 0u64;
+    for side in [Side::Log, Side::Database] {
+        for found in [Found::Written, Found::Lost, Found::Torn] {
+            stops = stops.saturating_add(stops_of::<K>(alloc, changes, side, found, wrong)?);
+        }
+    }
+    Ok(stops)
 }
 
 #[test]
 fn no_stop_breaks_the_tables(rt: HostRuntime) -> Result<(), Fail> {
-    let wrong = wrong_calls::<Register>(rt.alloc(), STORED)?;
+    let mut wrong = String::new(rt.alloc());
+    let stops = all_stops::<Register>(rt.alloc(), STORED, &mut wrong)?;
     assert!(rt; wrong.is_empty(), "{wrong}");
+    assert!(rt; stops >= LEAST, "{stops} stops");
     Ok(())
 }
 
 #[test]
 fn no_stop_breaks_the_pools(rt: HostRuntime) -> Result<(), Fail> {
-    let wrong = wrong_calls::<Pools>(rt.alloc(), STORED_POOLS)?;
+    let mut wrong = String::new(rt.alloc());
+    let stops = all_stops::<Pools>(rt.alloc(), STORED_POOLS, &mut wrong)?;
     assert!(rt; wrong.is_empty(), "{wrong}");
+    assert!(rt; stops >= LEAST, "{stops} stops");
     Ok(())
 }
 
 #[test]
 fn no_stop_breaks_the_tables_of_a_migration(rt: HostRuntime) -> Result<(), Fail> {
-    let wrong = wrong_calls::<Migration>(rt.alloc(), 1)?;
+    let mut wrong = String::new(rt.alloc());
+    let stops = all_stops::<Migration>(rt.alloc(), 1, &mut wrong)?;
     assert!(rt; wrong.is_empty(), "{wrong}");
+    assert!(rt; stops >= LEAST, "{stops} stops");
     Ok(())
 }

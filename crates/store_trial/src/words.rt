@@ -8,9 +8,14 @@ pub(crate) fn text_of(alloc: Global, text: &str) -> Result<Text, AllocError> {
     Ok(Text::of(String::from_str(alloc, text)?))
 }
 
-/// The number of a word; 0 where it is none.
-pub(crate) fn number_of(word: Option<&str>) -> u32 {
-    word.unwrap_or("").parse::<u32>().unwrap_or(0)
+/// The number of a word. Where it is none, the line is wrong, and the test fails as for lack of memory.
+pub(crate) fn number_of(word: Option<&str>) -> Result<u32, AllocError> {
+    word.unwrap_or("").parse::<u32>().map_err(|_| AllocError)
+}
+
+/// A part of a line, likewise.
+pub(crate) fn part(line: &str, index: usize) -> Result<&str, AllocError> {
+    line.split('|').nth(index).ok_or(AllocError)
 }
 
 /// What a change was answered.

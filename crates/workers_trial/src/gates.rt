@@ -16,8 +16,11 @@ use std::sync::atomic::{AtomicU32, Ordering};
 use std::test::Fail;
 use std::thread::{Threads, yield_now};
 
-/// How often a worker looks whether the other one's session has ended, at most.
+/// How often a worker looks at most whether the other one's session has ended, where the two run at once.
 const TURNS: u32 = 1_000_000;
+
+/// The same where they run in turn, and so the other one's session can't end meanwhile.
+const FEW_TURNS: u32 = 10;
 
 /// What the first client asks: a prefix, and an address of the prefix 1, whichever that is.
 const FIRST: &str = "\
@@ -36,20 +39,22 @@ struct Meets {
     came: AtomicU32,
     ended: AtomicU32,
     gave_up: AtomicU32,
+    turns: u32,
 }
 
 impl Meets {
-    fn new() -> Meets {
+    fn new(turns: u32) -> Meets {
         Meets {
             came: AtomicU32::new(0),
             ended: AtomicU32::new(0),
             gave_up: AtomicU32::new(0),
+            turns,
         }
     }
 
     /// Holds a worker until so many sessions have ended, or for as many turns as it may.
     fn hold(&self, wanted: u32) {
-        for _ in 0..TURNS {
+        for _ in 0..self.turns {
             if self.ended.load(Ordering::SeqCst) >= wanted {
                 return;
             }
@@ -166,6 +171,14 @@ fn serve_new<R: Threads + Wait + Sync>(
     served
 }
 
+/// How often a worker looks at most in an order.
+fn turns_in(order: Order) -> u32 {
+    match order {
+        Order::AtOnce => TURNS,
+        _ => FEW_TURNS,
+    }
+}
+
 /// How often a worker gave up where two sessions run in an order.
 fn given_up<R: Threads + Wait + Sync>(
     rt: &R,
@@ -173,7 +186,7 @@ fn given_up<R: Threads + Wait + Sync>(
     order: Order,
     told: &mut String,
 ) -> Result<u32, AllocError> {
-    let gate = Meets::new();
+    let gate = Meets::new(turns_in(order));
     let lanes = (lane_of(alloc, FIRST)?, lane_of(alloc, SECOND)?);
     serve_new(rt, alloc, lanes, &gate, order, told)?;
     Ok(gate.given_up())

@@ -13,3 +13,5 @@ mod register_server_tests;
 mod registers;
 #[cfg(test)]
 mod serving;
+#[cfg(test)]
+mod sessions;

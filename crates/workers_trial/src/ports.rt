@@ -3,12 +3,13 @@ ghost use Rattle.std.specs.Prelude.{◌≡◌, [], IfSome};
 
 use crate::registers::locked;
 use crate::serving::serve_alone;
-use ipam_listen::{Lane, Listener, OpenGate, TcpDoor, TcpDoors};
+use ipam_listen::{Gate, Lane, Listener, OpenGate, TcpDoor, TcpDoors};
 use std::alloc::{AllocError, Global};
 use std::io::{Read, Write};
 use std::marker::{Send, Sync};
 use std::net::{Net, Shutdown, TcpListener, TcpStream};
 use std::sync::Wait;
+use std::sync::atomic::{AtomicU32, Ordering};
 use std::test::Fail;
 use std::thread::{Threads, join};
 use std::time::{Clock, Duration};
@@ -24,22 +25,20 @@ const ANSWER: &str =
 /// How long a client may be silent at first, in milliseconds.
 const BASE: u64 = 200;
 
-/// How long the slow client waits behind each byte, in milliseconds.
+/// How long the slow client waits after each byte, in milliseconds.
 const PAUSE: u64 = 50;
 
-/// How many bytes the slow client sends at most: ten seconds of them, several times what the silent client and it may take.
-const MOST: u32 = 200;
-
-/// Serves a lane over a register of its own.
-fn serve_new<R: Threads + Wait + Sync, A: Lane + Send + Drop>(
+/// Serves a lane over a register of its own, past a gate.
+fn serve_new<R: Threads + Wait + Sync, A: Lane + Send + Drop, G: Gate + Sync>(
     rt: &R,
     alloc: Global,
     lane: A,
+    gate: &G,
 ) -> Result<(), AllocError>
     requires { IfSome (A.told lane) (λ connections. connections ≡ []) }
 {
     let (shared, seat) = locked(alloc)?;
-    let served = serve_alone(rt, alloc, &shared, seat, lane, &OpenGate);
+    let served = serve_alone(rt, alloc, &shared, seat, lane, gate);
     drop(shared);
     served
 }
@@ -94,7 +93,7 @@ fn answer_over<R: Threads + Wait + Net<Listener = TcpListener, Stream = TcpStrea
 ) -> Option<String> {
     let (port, lane) = port_of(rt, alloc, 1)?;
     let client = asking(rt, port)?;
-    serve_new(rt, alloc, lane).ok()?;
+    serve_new(rt, alloc, lane, &OpenGate).ok()?;
     answer_to(alloc, client)
 }
 
@@ -105,70 +104,121 @@ fn a_client_of_a_port_is_answered(rt: HostRuntime) -> Result<(), Fail> {
     Ok(())
 }
 
-/// Sends a byte and waits a moment for an answer: whether the connection stands.
+/// Sends a byte and waits a moment for an answer: whether the connection is still open.
 fn sends_one(client: &TcpStream) -> bool {
     let mut client = client;
     let mut room = [0; 16];
     client.write(b"x").is_ok() && !client.read(&mut room).is_ok_and(|n| n == 0)
 }
 
-/// How many bytes a client sends, one at a time with a pause behind each, until its connection ends, or `MOST`.
-fn bytes_in_time(client: &TcpStream) -> u32 {
+/// Whether a client can be seen to the end that sends one byte after another, with a pause after each, for as long as its connection is open.
+fn sends_to_the_end(client: &TcpStream) -> bool {
     let pause = Duration::from_millis(PAUSE);
     if client.set_read_timeout(Some(pause)).is_err() {
-        return MOST;
+        return false;
     }
-    for count in 0..MOST {
+    for _ in 0..u64::MAX {
         if !sends_one(client) {
-            return count;
+            return true;
         }
     }
-    MOST
+    false
 }
 
-/// Serves a lane while the slow client sends, and says how many bytes it sent.
+/// Serves a lane while the slow client sends. `None` means that one of the two did not come to its end.
 fn serve_slow<R: Threads + Wait + Sync, A: Lane + Send + Drop>(
     rt: &R,
     alloc: Global,
     lane: A,
     client: &TcpStream,
-) -> Option<u32>
+) -> Option<()>
     requires { IfSome (A.told lane) (λ connections. connections ≡ []) }
 {
     let worker = move ||
         requires { IfSome (A.told lane) (λ connections. connections ≡ []) }
-    { serve_new(rt, alloc, lane) };
-    let (served, bytes) = join(rt, worker, || bytes_in_time(client));
+    { serve_new(rt, alloc, lane, &OpenGate) };
+    let (served, has_sent) = join(rt, worker, || sends_to_the_end(client));
     served.ok()?;
-    Some(bytes)
+    has_sent.then_some(())
 }
 
-/// What came of two slow clients and the next one.
-#[derive(Drop)]
-struct LoadOutcome {
-    bytes: u32,
-    answer: String,
-}
-
-/// A client sends half a request and waits, one sends a byte at a time, and the next one sends a request, to one worker.
-fn slow_clients<R: Threads + Wait + Net<Listener = TcpListener, Stream = TcpStream> + Clock + Sync>(
-    rt: &R,
-    alloc: Global,
-) -> Option<LoadOutcome> {
+/// What the last of three clients of one worker gets: the first one sends half a request and waits, and the second one sends a byte at a time
+/// for as long as its connection is open. However long these two take, the third one is answered behind them.
+fn answer_behind_slow_clients<
+    R: Threads + Wait + Net<Listener = TcpListener, Stream = TcpStream> + Clock + Sync,
+>(rt: &R, alloc: Global) -> Option<String> {
     let (port, lane) = port_of(rt, alloc, 3)?;
     let silent = client_of(rt, port, &ASKED[..20])?;
     let slow = client_of(rt, port, b"x")?;
     let next = asking(rt, port)?;
-    let bytes = serve_slow(rt, alloc, lane, &slow)?;
+    serve_slow(rt, alloc, lane, &slow)?;
     drop(silent);
-    let answer = answer_to(alloc, next)?;
-    Some(LoadOutcome { bytes, answer })
+    answer_to(alloc, next)
 }
 
 #[test]
 fn slow_clients_hold_no_worker(rt: HostRuntime) -> Result<(), Fail> {
-    let came = slow_clients(&rt, rt.alloc()).expect(&rt, "clients");
-    assert!(rt; 0 < came.bytes && came.bytes < MOST, "{}", came.bytes);
-    assert_eq!(rt; came.answer.as_str(), ANSWER);
+    let answer = answer_behind_slow_clients(&rt, rt.alloc()).expect(&rt, "clients");
+    assert_eq!(rt; answer.as_str(), ANSWER);
     Ok(())
+}
+
+/// A gate that looks whether a client has an answer, before its session and behind it, and counts how often it had one.
+struct Looks<'a> {
+    client: &'a TcpStream,
+    before: AtomicU32,
+    after: AtomicU32,
+}
+
+impl<'a> Looks<'a> {
+    /// Counts an answer, if there is one within a moment.
+    fn look(&self, count: &AtomicU32) {
+        let mut room = [0; 1];
+        if self.client.peek(&mut room).is_ok_and(|n| n > 0) {
+            count.fetch_add(1, Ordering::SeqCst);
+        }
+    }
+}
+
+impl<'a> Gate for Looks<'a> {
+    fn before(&self, who: u32, nth: u32) {
+        let _ = (who, nth);
+        self.look(&self.before);
+    }
+
+    fn after(&self, who: u32, nth: u32) {
+        let _ = (who, nth);
+        self.look(&self.after);
+    }
+}
+
+/// How often a gate found an answer before the session of a client, and behind it.
+fn looked<R: Threads + Wait + Net<Listener = TcpListener, Stream = TcpStream> + Clock + Sync>(
+    rt: &R,
+    alloc: Global,
+) -> Option<(u32, u32)> {
+    let (port, lane) = port_of(rt, alloc, 1)?;
+    let client = asking(rt, port)?;
+    client
+        .set_read_timeout(Some(Duration::from_millis(PAUSE)))
+        .ok()?;
+    let gate = Looks {
+        client: &client,
+        before: AtomicU32::new(0),
+        after: AtomicU32::new(0),
+    };
+    let served = serve_new(rt, alloc, lane, &gate);
+    let Looks {
+        client: _,
+        before,
+        after,
+    } = gate;
+    served.ok()?;
+    Some((before.load(Ordering::SeqCst), after.load(Ordering::SeqCst)))
+}
+
+#[test]
+fn a_gate_is_passed_before_the_session_and_behind_it(rt: HostRuntime) {
+    let found = looked(&rt, rt.alloc()).expect(&rt, "a client");
+    assert_eq!(rt; found, (0, 1));
 }

@@ -15,13 +15,16 @@ use std::test::Fail;
 use std::thread::Threads;
 
 /// What the clients ask, a line each: three prefixes are made.
-const CLIENTS: [&str; 2] = [
+const CLIENTS: [&str; 3] = [
     "POST /api/ipam/prefixes/ HTTP/1.1\r\nHost: ipam\r\nContent-Length: 24\r\n\r\n{\"prefix\":\"10.1.0.0/16\"}\
      POST /api/ipam/prefixes/ HTTP/1.1\r\nHost: ipam\r\nContent-Length: 24\r\n\r\n{\"prefix\":\"10.2.0.0/16\"}\
      POST /api/ipam/prefixes/ HTTP/1.1\r\nHost: ipam\r\nContent-Length: 24\r\n\r\n{\"prefix\":\"10.3.0.0/16\"}",
     "POST /api/ipam/prefixes/ HTTP/1.1\r\nHost: ipam\r\nContent-Length: 24\r\n\r\n{\"prefix\":\"10.4.0.0/16\"}\
      POST /api/ipam/prefixes/ HTTP/1.1\r\nHost: ipam\r\nContent-Length: 24\r\n\r\n{\"prefix\":\"10.5.0.0/16\"}\
      POST /api/ipam/prefixes/ HTTP/1.1\r\nHost: ipam\r\nContent-Length: 24\r\n\r\n{\"prefix\":\"10.6.0.0/16\"}",
+    "POST /api/ipam/prefixes/ HTTP/1.1\r\nHost: ipam\r\nContent-Length: 24\r\n\r\n{\"prefix\":\"10.7.0.0/16\"}\
+     POST /api/ipam/prefixes/ HTTP/1.1\r\nHost: ipam\r\nContent-Length: 24\r\n\r\n{\"prefix\":\"10.8.0.0/16\"}\
+     POST /api/ipam/prefixes/ HTTP/1.1\r\nHost: ipam\r\nContent-Length: 24\r\n\r\n{\"prefix\":\"10.9.0.0/16\"}",
 ];
 
 /// A lane with one connection, which asks for this; the accepts of these numbers fail.
@@ -44,6 +47,7 @@ fn listener_of(alloc: Global, fails: &[u32]) -> Result<ListListener, AllocError>
     let mut lanes = Vec::new(alloc);
     lanes.push(lane_of(alloc, CLIENTS[0], fails)?)?;
     lanes.push(lane_of(alloc, CLIENTS[1], fails)?)?;
+    lanes.push(lane_of(alloc, CLIENTS[2], fails)?)?;
     ListListener::new(alloc, lanes)
 }
 
@@ -59,7 +63,7 @@ fn tell(listener: &ListListener, told: &mut String) -> Result<(), AllocError> {
     Ok(())
 }
 
-/// Serves the clients by two workers, each of which accepts so many connections.
+/// Serves the clients by three workers, each of which accepts so many connections.
 fn serve_clients<R: Threads + Wait + Sync>(
     rt: &R,
     alloc: Global,
@@ -77,7 +81,7 @@ fn serve_clients<R: Threads + Wait + Sync>(
         &mut opener,
         None,
         b"here",
-        2,
+        3,
         connections,
         listener,
     ) {
@@ -92,19 +96,19 @@ fn times<'a>(text: &'a str, part: &'a str) -> usize {
 }
 
 #[test]
-fn two_workers_serve_one_register(rt: HostRuntime) -> Result<(), Fail> {
+fn three_workers_serve_one_register(rt: HostRuntime) -> Result<(), Fail> {
     let mut listener = listener_of(rt.alloc(), &[])?;
     let served = serve_clients(&rt, rt.alloc(), &mut listener, 1)?;
     let mut told = String::new(rt.alloc());
     tell(&listener, &mut told)?;
-    assert_eq!(rt; served.entries, 6);
+    assert_eq!(rt; served.entries, 9);
     assert!(rt; matches!(served.listening, Listening::Whole));
     assert_eq!(rt;
         times(told.as_str(), "HTTP/1.1 201 Created\r\n"),
-        6,
+        9,
         "{told}"
     );
-    for id in 1..=6 {
+    for id in 1..=9 {
         let named = format!(in rt.alloc(); "\"id\":{id},")?;
         assert_eq!(rt; times(told.as_str(), named.as_str()), 1, "{told}");
     }
@@ -117,11 +121,11 @@ fn a_failed_accept_is_told(rt: HostRuntime) -> Result<(), Fail> {
     let served = serve_clients(&rt, rt.alloc(), &mut listener, 2)?;
     let mut told = String::new(rt.alloc());
     tell(&listener, &mut told)?;
-    assert_eq!(rt; served.entries, 6);
+    assert_eq!(rt; served.entries, 9);
     assert!(rt; matches!(served.listening, Listening::Broken));
     assert_eq!(rt;
         times(told.as_str(), "HTTP/1.1 201 Created\r\n"),
-        6,
+        9,
         "{told}"
     );
     Ok(())

@@ -29,7 +29,7 @@ pub fn locked(
     alloc: Global,
 ) -> Result<(Shared<Register<MemoryKeeper>>, Seat<Register<MemoryKeeper>>), AllocError>
     ensures lock { IfOk result (λ r. r.1.lock ≡ r.0) }
-    ensures spare { IfOk result (λ r. r.1.spare ≡ 65536) }
+    ensures spare { IfOk result (λ r. (r.1.spare ≡ 65536) × (r.1.weight ≡ 65536)) }
 {
     let register = opened(alloc)?;
     match Shared::new(alloc, register) {

@@ -1,0 +1,153 @@
+#!/usr/bin/env python3
+"""Plants bugs where no contract speaks, and says of each whether the test sees it that must: at files, sockets, arguments and limits, where the proof ends.
+
+Each bench/planted/CRATE/NAME.edit is one bug of the crate CRATE. Its first line is `seen by: CRATE MODULE::TEST`, with the test that must fail, or
+`seen by: check`, where the prover must refuse the crate itself. Then comes an edit as in crates/*/must-fail: `file: src/lib.rt`, `old: TEXT`, which that file
+has once, and `new: TEXT`; further pairs apply to what the earlier ones made. Each bug is put into a copy of the crates that are needed, and `rt try --test`
+runs there in the test's crate (or `rt check`). It prints a line a bug and, at the end, a sum; its status is 1 where one is not seen. A bug takes one to three
+minutes.
+
+usage: bench/planted.py [CRATE | CRATE/NAME ..]     all bugs, where none is named
+environment: RT=COMMAND                             what runs as `rt`
+"""
+import os
+import re
+import shutil
+import subprocess
+import sys
+import tempfile
+
+from edits import lines_of_crates, with_all_below
+
+TOP = os.path.dirname(os.path.dirname(os.path.abspath(__file__)))
+PLANTED = f"{TOP}/bench/planted"
+RT = os.environ.get("RT", "rt")
+# A test has 60 seconds; there are a dozen at most in a crate, and they are compiled first.
+SECONDS = 1800
+PART = re.compile(r"^(seen by|file|old|new): ?(.*)$")
+
+
+class Wrong(Exception):
+    """A bug that can't be planted."""
+
+
+class Bug:
+    def __init__(self, crate, name):
+        self.crate, self.name, self.seen_by, self.file, self.pairs = crate, name, None, None, []
+        with open(f"{PLANTED}/{crate}/{name}.edit", encoding="utf-8") as it:
+            for line in it.read().splitlines():
+                self.read(line)
+        if not self.seen_by or not self.pairs or any(new is None for _, _, new in self.pairs):
+            raise Wrong("it has no test or no change")
+
+    def read(self, line):
+        found = PART.match(line)
+        if not found:
+            raise Wrong(f"no such line: {line}")
+        word, text = found.groups()
+        if word == "seen by":
+            self.seen_by = text.split()
+        elif word == "file":
+            self.file = text
+        elif word == "old":
+            self.pairs.append((self.file, text, None))
+        else:
+            self.pairs[-1] = (*self.pairs[-1][:2], text)
+
+    def tried_in(self):
+        """The crate whose check or tests must see it."""
+        return self.crate if self.seen_by == ["check"] else self.seen_by[0]
+
+    def plant(self, copy):
+        for file, old, new in self.pairs:
+            path = f"{copy}/crates/{self.crate}/{file}"
+            with open(path, encoding="utf-8") as it:
+                text = it.read()
+            if text.count(old) != 1:
+                raise Wrong(f"{file} has this {text.count(old)} times: {old.strip()}")
+            with open(path, "w", encoding="utf-8") as it:
+                it.write(text.replace(old, new))
+
+
+def copy_crates(copy, name, line_of, below):
+    """The crates that one needs, and their lines."""
+    needed = with_all_below([name], below)
+    shutil.copy(f"{TOP}/HANDLES", copy)
+    with open(f"{copy}/crates.txt", "w", encoding="utf-8") as file:
+        file.writelines(f"{line}\n" for it, line in line_of.items() if it in needed)
+    for it in needed:
+        shutil.copytree(f"{TOP}/crates/{it}", f"{copy}/crates/{it}", ignore=shutil.ignore_patterns("out", "must-fail"))
+
+
+def run_in(folder, words):
+    """What a command says. One that takes too long is ended, with all that it started."""
+    how = {"stdin": subprocess.DEVNULL, "stdout": subprocess.PIPE, "stderr": subprocess.STDOUT, "start_new_session": True}
+    with subprocess.Popen([RT, *words], cwd=folder, **how) as run:
+        try:
+            said, _ = run.communicate(timeout=SECONDS)
+        except subprocess.TimeoutExpired:
+            os.killpg(run.pid, 15)
+            said, _ = run.communicate()
+    return run.returncode, said.decode(errors="replace")
+
+
+def outcome(bug, copy):
+    """Whether the bug is seen, and what was said of it."""
+    folder = f"{copy}/crates/{bug.tried_in()}"
+    if bug.seen_by == ["check"]:
+        status, said = run_in(folder, ["check"])
+        if "no proof" in said:
+            return True, "refused by the prover"
+        return False, "proved" if status == 0 else "no verdict: " + last_of(said)
+    _, said = run_in(folder, ["try", "--test"])
+    test = bug.seen_by[1]
+    found = re.search(rf"^test {re.escape(test)} \.\.\. (\w+)", said, re.M)
+    if not found:
+        return False, f"{test} did not run: {last_of(said)}"
+    return found.group(1) == "FAILED", f"{test} {'fails' if found.group(1) == 'FAILED' else 'passes'}"
+
+
+def last_of(said):
+    lines = [line for line in said.splitlines() if "error" in line] or said.splitlines() or [""]
+    return lines[0][:200]
+
+
+def tried(crate, name, line_of, below):
+    with tempfile.TemporaryDirectory(prefix="planted-") as copy:
+        try:
+            bug = Bug(crate, name)
+            if bug.tried_in() not in line_of:
+                raise Wrong(f"there is no crate {bug.tried_in()}")
+            copy_crates(copy, bug.tried_in(), line_of, below)
+            if not os.path.isdir(f"{copy}/crates/{crate}"):
+                raise Wrong(f"{bug.tried_in()} does not need {crate}")
+            bug.plant(copy)
+            return outcome(bug, copy)
+        except Wrong as why:
+            return False, f"bad edit: {why}"
+
+
+def bugs_asked(asked):
+    """The bugs that were named, or all."""
+    every = [(crate, it[:-5]) for crate in sorted(os.listdir(PLANTED)) for it in sorted(os.listdir(f"{PLANTED}/{crate}")) if it.endswith(".edit")]
+    chosen = [(crate, name) for crate, name in every if not asked or crate in asked or f"{crate}/{name}" in asked]
+    missing = [it for it in asked if not any(it in (crate, f"{crate}/{name}") for crate, name in chosen)]
+    if missing:
+        sys.exit(f"no such bug: {' '.join(missing)}")
+    return chosen
+
+
+def main():
+    chosen = bugs_asked(sys.argv[1:])
+    line_of, below = lines_of_crates()
+    seen = 0
+    for crate, name in chosen:
+        is_seen, said = tried(crate, name, line_of, below)
+        seen += is_seen
+        print(f"{crate}/{name}: {'seen' if is_seen else 'NOT SEEN'}: {said}", flush=True)
+    print(f"{seen} of {len(chosen)} seen")
+    sys.exit(seen < len(chosen))
+
+
+if __name__ == "__main__":
+    main()
