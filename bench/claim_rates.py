@@ -202,24 +202,28 @@ class Claims:
             return cursor.fetchone()[0]
         return claim
 
+    def once(self, program, port, path, database, taken, clients, least):
+        """One run of each: of the program, of NetBox's way and of SQL, and one sync of the disk before them. The first claims are alike."""
+        sync, (ours, first) = machine.sync_ms(os.path.dirname(path)), self.ours(program, port, path, clients, least)
+        theirs, second = rate(lambda: self.of_netbox(database), clients, least)
+        database.ask(*self.rest(taken))
+        best, third = rate(lambda: self.of_sql(database), clients, least)
+        database.ask(*self.rest(taken))
+        if not str(first) == str(second) == str(third):
+            sys.exit(f"claims: {first}, {second} and {third} are claimed first")
+        return ours, theirs, best, sync
+
     def row(self, program, port, taken, clients, runs, least=LEAST):
-        """The medians of so many runs, which take turns: of the program, of NetBox's way and of SQL; and one sync of the disk. The first claims are alike."""
-        database, found = Postgres(), []
-        with tempfile.TemporaryDirectory(dir=os.environ.get("SCRATCH")) as folder:
-            self.fill(program, path := os.path.join(folder, "office.db"), taken)
-            database.ask(*self.tables(taken))
-            rows = {count: [] for count in clients}
-            for count, _ in [(count, run) for count in clients for run in range(runs)]:
-                sync, (ours, first) = machine.sync_ms(folder), self.ours(program, port, path, count, least)
-                theirs, second = rate(lambda: self.of_netbox(database), count, least)
-                database.ask(*self.rest(taken))
-                best, third = rate(lambda: self.of_sql(database), count, least)
-                database.ask(*self.rest(taken))
-                if not str(first) == str(second) == str(third):
-                    sys.exit(f"claims: {first}, {second} and {third} are claimed first")
-                rows[count].append((ours, theirs, best, sync))
-        database.end()
-        return {count: [statistics.median(run[part] for run in found) for part in range(4)] for count, found in rows.items()}
+        """For each number of clients the medians of so many runs."""
+        database = Postgres()
+        try:
+            with tempfile.TemporaryDirectory(dir=os.environ.get("SCRATCH")) as folder:
+                self.fill(program, path := os.path.join(folder, "office.db"), taken)
+                database.ask(*self.tables(taken))
+                rows = {count: [self.once(program, port, path, database, taken, count, least) for _ in range(runs)] for count in clients}
+        finally:
+            database.end()
+        return {count: [statistics.median(part) for part in zip(*found)] for count, found in rows.items()}
 
 
 def heading(what):

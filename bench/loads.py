@@ -62,7 +62,9 @@ def load(port, target, connections, seconds, folder, method="GET", body=None, pi
         words += ["-s", script]
     words += [f"http://127.0.0.1:{port}{target}"] + (["--", method, body] if method != "GET" else [])
     told = subprocess.run(words, capture_output=True, text=True, check=True).stdout
-    if "Non-2xx" in told or "Socket errors" in told:
+    faults = re.search(r"Socket errors: connect (\d+), read (\d+), write (\d+), timeout (\d+)", told)
+    # a few connections may end while wrk reads from them
+    if "Non-2xx" in told or faults and 1000 * sum(map(int, faults.groups())) > int(re.search(r"(\d+) requests in", told)[1]):
         sys.exit(f"{method} {target} by {connections} connections: {told}")
     return Load(float(re.search(r"Requests/sec: +([\d.]+)", told)[1]), milliseconds(re.search(r"99% +(\S+)", told)[1]),
                 milliseconds(re.search(r"^ +Latency +\S+ +\S+ +(\S+) +\S+$", told, re.M)[1]))

@@ -160,10 +160,12 @@ def jump_text(table):
     for how, what in WAYS.items():
         text += f"| {what} | " + " | ".join(f"{of[how, count][name]:,.0f}" for name in ("ipamd", "nginx") for count in (1, 4)) + " |\n"
     woken = max(of[how, 1]["ipamd"] for how in WAYS) / of["free", 1]["ipamd"]
+    one = of["on one processor", 4]["ipamd"] / of["on one processor", 1]["ipamd"]
+    said = f"On one processor four connections have {one:.1f} times the GETs of one. "
     if woken < 1.2:
-        return text + "\n" + wrapped("So the waking of sleeping processors is not what slows one connection.")
+        return text + "\n" + wrapped(said + "The waking of sleeping processors is not what slows one connection: without it there are no more GETs.")
     return text + "\n" + wrapped("With one connection, wrk and the server wait for each other in turn, and for each request a processor that sleeps is woken. "
-                                 f"Without such a wait one connection has {woken:.1f} times as many GETs. With four, no processor sleeps.")
+                                 f"Without such a wait one connection has {woken:.1f} times as many GETs. " + said)
 
 
 def performance_block(table):
