@@ -6,7 +6,8 @@ the old text stands once in the file. CI can't try these: its mutation tests cha
 the law is checked over ipam_data taken as source: only the lemmas that the law rests on are checked. It takes about 25 processor seconds an edit, and a
 gigabyte. A file that ends in .control is a harmless change, and its law is to be proved.
 
-It prints one line for each: the law, the first declaration of claim_laws that was refused, and the first one of a crate below, if any. Its status is 1 if an edit was proved, or a control refused.
+It prints one line for each: the law, the first declaration of claim_laws that was refused, and the first one of a crate below, if any. Its status is 1
+if an edit was proved, or a control refused.
 
 usage: bench/definitions.py [NAME..]
 """
@@ -52,13 +53,14 @@ def command(copy, law):
     lines = lines_of_crates()
     home = os.path.dirname(subprocess.run(["rt", "doc"], capture_output=True, text=True, check=True).stdout.split()[-1])
     outside = sorted({name for crate in BELOW + (LAWS,) for name in lines[crate] if name not in lines} | {"core"})
-    said = [f"{home}/bin/rattle", "check", "--crate-name", LAWS, "src/lib.rt", "--extern", f"std={home}/rlibs/std.rlib", "-L", f"dependency={home}/rlibs"]
+    said = [f"{home}/bin/rattle", "check", "--crate-name", LAWS, "src/lib.rt"]
+    said += ["--extern", f"std={home}/rlibs/std.rlib", "-L", f"dependency={home}/rlibs"]
     for name in outside:
         said += ["--extern", f"{name}={home}/rlibs/{name}.rlib"]
     for name in BELOW:
         said += ["--lib", f"{name}:{','.join(['core', 'std'] + lines[name])}={copy}/crates/{name}/src/lib.rt"]
-    return said + ["--antt-project", f"{home}/rattle/logic/antt-project.json", "--logic-built", f"{home}/logic_built", "--links", f"{LAWS}=", "--jobs", "1",
-                   "--only", f"{LAWS}::{law}"]
+    return said + ["--antt-project", f"{home}/rattle/logic/antt-project.json", "--logic-built", f"{home}/logic_built",
+                   "--links", f"{LAWS}=", "--jobs", "1", "--only", f"{LAWS}::{law}"]
 
 
 def refused_for(told):
