@@ -37,8 +37,9 @@ function text(name, native) {
     return { read: same, test: (row, value) => (row[name] === null ? '' : row[name]) === value, native: native ? String : undefined };
 }
 
-/** A filter for one of these words, which is the value of a choice. */
-function choice(name, words) {
+/** A filter for the value of a choice. */
+function choice(kind, name) {
+    const words = kinds.KINDS[kind].choices[name];
     return {
         read: (value) => (words.includes(value) ? value : undefined),
         test: (row, value) => row[name] !== null && row[name].value === value,
@@ -94,8 +95,6 @@ const LENGTH = {
     test: (row, value) => Number((row.prefix || row.address).split('/')[1]) === value,
 };
 const PLACED = { family: FAMILY, vrf_id: reference('vrf', idOrNull), role_id: reference('role', idOrNull) };
-const STATUSES = ['active', 'reserved', 'deprecated'];
-const ROLES = ['loopback', 'secondary', 'anycast', 'vip', 'vrrp', 'hsrp', 'glbp', 'carp'];
 const ALL = { id: { read: id, test: (row, value) => row.id === value }, description: text('description') };
 
 /** By kind the filters of its list, next to `q` and those that name what is referred to (NAMED). @type {Object<string, Object<string, Filter>>} */
@@ -105,7 +104,7 @@ const FILTERS = {
     'roles': Object.assign({ name: text('name', true), slug: text('slug', true) }, ALL),
     'aggregates': Object.assign({ family: FAMILY, rir_id: reference('rir', id), prefix: blocks('prefix', equal) }, ALL),
     'prefixes': Object.assign({
-        status: choice('status', ['container'].concat(STATUSES)),
+        status: choice('prefixes', 'status'),
         prefix: blocks('prefix', equal, true),
         within: blocks('prefix', (own, asked) => inside(own, asked) && own.length > asked.length, true),
         within_include: blocks('prefix', inside, true),
@@ -115,7 +114,7 @@ const FILTERS = {
         mark_utilized: flag('mark_utilized'),
     }, PLACED, ALL),
     'ip-ranges': Object.assign({
-        status: choice('status', STATUSES),
+        status: choice('ip-ranges', 'status'),
         contains: { read: block, test: rangeHas, native: address.blockText },
         start_address: host('start_address'),
         end_address: host('end_address'),
@@ -123,8 +122,8 @@ const FILTERS = {
     'ip-addresses': Object.assign({
         family: FAMILY,
         vrf_id: PLACED.vrf_id,
-        status: choice('status', STATUSES.concat(['dhcp', 'slaac'])),
-        role: choice('role', ROLES),
+        status: choice('ip-addresses', 'status'),
+        role: choice('ip-addresses', 'role'),
         parent: blocks('address', (own, asked) => inside(own, asked), true),
         dns_name: { read: (value) => value.toLowerCase(), test: (row, value) => row.dns_name === value, native: String },
         address: host('address'),

@@ -32,7 +32,7 @@ function methodsOf(route) {
     if (route.part !== undefined) {
         return route.part === 'utilization' ? ['GET'] : ['GET', 'POST'];
     }
-    return route.id === undefined ? ['GET', 'POST', 'PUT', 'PATCH', 'DELETE'] : ['GET', 'PUT', 'PATCH', 'DELETE'];
+    return route.id === undefined ? ['GET', 'POST', 'PUT', 'PATCH', 'DELETE', 'OPTIONS'] : ['GET', 'PUT', 'PATCH', 'DELETE'];
 }
 
 /** Answers a request. */
@@ -52,6 +52,16 @@ function send(r, status, value, place, code, headers) {
     } else {
         r.return(status, typeof value === 'string' ? value : JSON.stringify(value));
     }
+}
+
+/** OPTIONS of a list: what POST may set of its choices. */
+function options(call, route) {
+    const actions = {};
+    const choices = kinds.KINDS[route.kind].choices;
+    Object.keys(choices).forEach((name) => {
+        actions[name] = { choices: choices[name].map((value) => ({ value: value, display_name: kinds.labelOf(value) })) };
+    });
+    send(call.r, 200, { actions: { POST: actions } });
 }
 
 /** GET of a list, a record, or a part of it. */
@@ -168,7 +178,11 @@ async function handle(r) {
             refusal.headers.Allow = methods.join(', ');
             throw refusal;
         }
-        await (r.method === 'GET' ? get(call, route) : make(call, route));
+        if (r.method === 'OPTIONS') {
+            options(call, route);
+        } else {
+            await (r.method === 'GET' ? get(call, route) : make(call, route));
+        }
     } catch (e) {
         refuse(call, e);
     }
