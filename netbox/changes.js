@@ -4,12 +4,12 @@ import kinds from './kinds.js';
 import refusals from './refusals.js';
 import register from './register.js';
 
-/** Whether a member of a request says anything: null, the empty text, `[]` and `{}` do not. @param {*} value @returns {boolean} */
+/** Whether a member of a request says anything: null, the empty text, and a list or an object of such do not. @param {*} value @returns {boolean} */
 function says(value) {
     if (value === null || value === '') {
         return false;
     }
-    return typeof value !== 'object' || Object.keys(value).length > 0;
+    return typeof value !== 'object' || (Array.isArray(value) ? value : Object.values(value)).some(says);
 }
 
 /** @param {string} name @returns {boolean} whether NetBox only answers this member */
@@ -79,7 +79,7 @@ async function plainOf(call, value, kind, same) {
         } else if (kinds.has(same, name) && says(value[name])) {
             await isSame(call, name, value[name], same[name]);
         } else if (!isReadOnly(name) && says(value[name])) {
-            refused[name] = ['the register has no ' + name + ' here'];
+            kinds.put(refused, name, ['the register has no ' + name + ' here']);
         }
     }
     if (Object.keys(refused).length) {

@@ -136,4 +136,9 @@ function has(object, name) {
     return Object.prototype.hasOwnProperty.call(object, name);
 }
 
-export default { KINDS, CONSTANTS, CLAIMS, MEASURED, READ_ONLY, labelOf, has };
+/** Gives an object a member of its own, also one called `__proto__`. @param {Object} object @param {string} name @param {*} value */
+function put(object, name, value) {
+    Object.defineProperty(object, name, { value: value, enumerable: true, configurable: true, writable: true });
+}
+
+export default { KINDS, CONSTANTS, CLAIMS, MEASURED, READ_ONLY, labelOf, has, put };

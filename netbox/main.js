@@ -87,42 +87,53 @@ async function get(call, route) {
     return send(r, 200, shown[0], answer.place);
 }
 
-/** The method, path and body of the one change that a request means, and how it is answered. */
+/** The object of a request for a record, which may be the one of a list. A longer list would be several changes; an empty one is none, and null here. */
+function objectOf(call, route, value) {
+    const method = call.r.method;
+    if (route.id !== undefined || (!Array.isArray(value) && method === 'POST')) {
+        return changes.objectOf(value);
+    }
+    if (!Array.isArray(value) || value.length > 1) {
+        throw refusals.detail(400, 'a list has exactly one record here: send one request for each record');
+    }
+    call.isList = true;
+    return value.length ? changes.objectOf(value[0]) : null;
+}
+
+/** The path of the record that an object of a list names. */
+function pathOf(kind, object) {
+    const path = kind + '/' + object.id + '/';
+    if (!kinds.has(object, 'id') || !routeOf('/api/ipam/' + path)) {
+        throw refusals.field('id', 'the id of a record is required');
+    }
+    return path;
+}
+
+/** The method, path and body of the one change that a request means, and the kind of the records that it answers; or null if it means none. */
 async function changeOf(call, route) {
     const method = call.r.method;
     if (method === 'DELETE' && route.id !== undefined) {
-        return { method: 'DELETE', kind: route.kind, path: route.kind + '/' + route.id + '/', body: '' };
+        return { method: method, kind: route.kind, path: route.kind + '/' + route.id + '/', body: '' };
     }
     const value = await body.valueOf(call.r.requestBuffer || Buffer.from(''));
     if (route.part !== undefined) {
         const claim = await changes.claimOf(call, route, value);
-        return { method: 'POST', kind: kinds.CLAIMS[route.part].makes, path: route.kind + '/' + route.id + '/' + route.part + '/', body: claim };
+        const path = route.kind + '/' + route.id + '/' + route.part + '/';
+        return { method: method, kind: kinds.CLAIMS[route.part].makes, path: path, body: JSON.stringify(claim) };
     }
-    const isList = Array.isArray(value);
-    if (route.id === undefined && (isList || method !== 'POST')) {
-        if (!isList || value.length !== 1) {
-            throw refusals.detail(400, 'a list has exactly one record here: send one request for each record');
-        }
-        call.isList = true;
+    const object = objectOf(call, route, value);
+    if (object === null) {
+        return null;
     }
-    const one = changes.objectOf(call.isList ? value[0] : value);
-    let id = route.id;
-    if (method !== 'POST' && id === undefined) {
-        id = String(one.id);
-        if (!routeOf('/api/ipam/' + route.kind + '/' + id + '/')) {
-            throw refusals.field('id', 'the id of a record is required');
-        }
-    }
-    const path = route.kind + '/' + (id === undefined ? '' : id + '/');
+    const path = route.id !== undefined ? route.kind + '/' + route.id + '/' : method === 'POST' ? route.kind + '/' : pathOf(route.kind, object);
     if (method === 'DELETE') {
-        return { method: 'DELETE', kind: route.kind, path: path, body: '' };
+        return { method: method, kind: route.kind, path: path, body: '' };
     }
     if (method !== 'PATCH') {
-        changes.demand(route.kind, one);
+        changes.demand(route.kind, object);
     }
-    const kind = kinds.KINDS[route.kind];
-    const plain = await changes.plainOf(call, one, kind, {});
-    return { method: method === 'PUT' ? 'PATCH' : method, kind: route.kind, path: path, body: plain };
+    const plain = await changes.plainOf(call, object, kinds.KINDS[route.kind], {});
+    return { method: method === 'PUT' ? 'PATCH' : method, kind: route.kind, path: path, body: JSON.stringify(plain) };
 }
 
 /** The records of an accepted change in NetBox's form; or as the register wrote them, if they can't be read. The change is made, so nothing is refused here. */
@@ -140,7 +151,10 @@ async function changed(call, kind, text) {
 /** POST, PUT, PATCH, DELETE. */
 async function make(call, route) {
     const wanted = await changeOf(call, route);
-    const answer = await register.change(call.r, wanted.method, wanted.path, wanted.method === 'DELETE' ? '' : JSON.stringify(wanted.body));
+    if (wanted === null) {
+        return send(call.r, call.r.method === 'DELETE' ? 204 : call.r.method === 'POST' ? 201 : 200, []);
+    }
+    const answer = await register.change(call.r, wanted.method, wanted.path, wanted.body);
     if (answer.status < 200 || answer.status > 299) {
         const refusal = refusals.ofRegister(answer.status, answer.text, wanted.kind);
         refusal.place = answer.place;

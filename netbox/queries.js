@@ -88,7 +88,7 @@ function groups(pairs) {
     const out = {};
     pairs.filter((pair) => !NOT_FILTERS.includes(pair[0])).forEach((pair) => {
         if (!kinds.has(out, pair[0])) {
-            out[pair[0]] = [];
+            kinds.put(out, pair[0], []);
         }
         if (!out[pair[0]].includes(pair[1])) {
             out[pair[0]].push(pair[1]);
