@@ -4,6 +4,8 @@
 """
 import sys
 
+import filters
+import netbox_broken
 import netbox_records
 from netbox_front import Claims, Front
 
@@ -20,6 +22,13 @@ def main():
         claims.check("PUT is one change; a list of one record is served, a longer one refused, an empty one changes nothing", netbox_records.puts, front)
         claims.check("a claim may name the VRF and the block that it is claimed from, and no others", netbox_records.claims_named, front)
         claims.check("the requests of Terraform's provider, by curl", netbox_records.terraform, front)
+    with Front(port) as front:
+        claims.check("a change that the register answered has its status, whatever the further requests do", netbox_broken.changes, front)
+        claims.check("nothing is changed if what has to be read before it cannot be", netbox_broken.before, front)
+        claims.check("a change that was not answered is 502 with a `detail`, and is sent once", netbox_broken.unanswered, front)
+        claims.check("pages of different moments are read again, three times, then 503", netbox_broken.moments, front)
+    with Front(port) as front:
+        claims.check("filters find what they mean, in any spelling and several of one name; others are refused", filters.run, front, 400, 1)
     print(f"netbox: {claims.held} claims hold, {claims.failed} do not")
     sys.exit(1 if claims.failed else 0)
 

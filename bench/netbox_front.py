@@ -61,16 +61,17 @@ class Link:
 
 
 class Breaker:
-    """Hands requests on to the register, and counts its changes. A GET whose path `breaks` names is answered as `mode` says."""
+    """Hands requests on to the register, and counts its changes. A GET whose path `breaks` names is answered as `mode` says, a change as `mode_of_changes`
+    says; and the first answers, as many as `moved`, are of moments of their own."""
 
     MODES = {
         "an error": (500, b'{"code":"memory","detail":"no memory"}'), "no record": (404, b'{"code":"not_found","detail":"vrfs 1 is not there"}'),
         "no JSON": (200, b"<html>"), "another JSON": (200, b"[1,null]"), "null": (200, b"null"), "an empty object": (200, b"{}"),
-        "too much": (200, b'{"x":"' + b"a" * 3_000_000 + b'"}'), "a closed connection": None, "half an answer": (200, b'{"id":1,'),
+        "much": (200, b'{"x":"' + b"a" * 3_000_000 + b'"}'), "a closed connection": None, "half an answer": (200, b'{"id":1,'),
     }
 
     def __init__(self, port, inner):
-        self.breaks, self.mode, self.changes = (), None, 0
+        self.breaks, self.mode, self.mode_of_changes, self.changes, self.moved = (), None, None, 0, 0
         breaker = self
 
         class Handler(http.server.BaseHTTPRequestHandler):
@@ -83,12 +84,18 @@ class Breaker:
                 body = self.rfile.read(int(self.headers.get("Content-Length") or 0))
                 if self.command in CHANGES:
                     breaker.changes += 1
+                    if breaker.mode_of_changes:
+                        return self.broken(breaker.mode_of_changes)
                 elif self.path.startswith(breaker.breaks) and breaker.breaks and breaker.mode:
                     return self.broken(breaker.mode)
                 link = http.client.HTTPConnection("127.0.0.1", inner, timeout=60)
                 link.request(self.command, self.path, body or None)
                 answer = link.getresponse()
-                self.answer(answer.status, answer.read(), {name: value for name, value in answer.headers.items() if name != "Connection"})
+                headers = {name: value for name, value in answer.headers.items() if name != "Connection"}
+                if breaker.moved:
+                    breaker.moved -= 1
+                    headers["Ipam-Place"] = f"{1_000_000 + breaker.moved}"
+                self.answer(answer.status, answer.read(), headers)
                 link.close()
 
             def broken(self, mode):

@@ -136,7 +136,7 @@ async function changeOf(call, route) {
     return { method: method === 'PUT' ? 'PATCH' : method, kind: route.kind, path: path, body: JSON.stringify(plain) };
 }
 
-/** The records of an accepted change in NetBox's form; or as the register wrote them, if they can't be read. The change is made, so nothing is refused here. */
+/** The records of an accepted change in NetBox's form. The change is made, so nothing is refused here: what can't be read is said. */
 async function changed(call, kind, text) {
     try {
         const value = JSON.parse(text);
@@ -144,7 +144,7 @@ async function changed(call, kind, text) {
         return Array.isArray(value) || call.isList ? rows : rows[0];
     } catch (e) {
         call.r.error('the answer to a change could not be read: ' + e);
-        return text;
+        return { detail: 'the change was made, but the answer of the register could not be read' };
     }
 }
 
