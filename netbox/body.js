@@ -4,7 +4,6 @@
  */
 import refusals from './refusals.js';
 
-const DEEPEST = 31;
 const MOST_PARTS = 20000;
 /** After so many bytes, or pieces of the text, other requests are served. */
 const BYTES_AT_ONCE = 131072;
@@ -59,24 +58,13 @@ async function textOf(bytes) {
     return parts.join('');
 }
 
-/** @param {string} text @returns {*} */
+/** The value of a text. njs refuses what is deeper than 31. @param {string} text @returns {*} */
 function parsed(text) {
     try {
         return JSON.parse(text);
     } catch (e) {
         throw malformed('');
     }
-}
-
-/** Refuses a value that is deeper than it may be. */
-function checkDepth(value, left) {
-    if (value === null || typeof value !== 'object') {
-        return;
-    }
-    if (left === 0) {
-        throw malformed('deeper than ' + DEEPEST);
-    }
-    (Array.isArray(value) ? value : Object.values(value)).forEach((part) => checkDepth(part, left - 1));
 }
 
 /** Refuses a text of JSON that has another number than a plain whole one, or half a surrogate pair. @param {string} text @returns {Promise<void>} */
@@ -118,7 +106,6 @@ async function valueOf(bytes) {
     if (value === null || typeof value !== 'object') {
         throw malformed('an object or a list is asked for');
     }
-    checkDepth(value, DEEPEST);
     if (isLarge) {
         await pause();
     }
@@ -126,4 +113,4 @@ async function valueOf(bytes) {
     return value;
 }
 
-export default { valueOf, DEEPEST, MOST_PARTS };
+export default { valueOf, pause, MOST_PARTS };

@@ -129,10 +129,8 @@ async function changeOf(call, route) {
     if (method === 'DELETE') {
         return { method: method, kind: route.kind, path: path, body: '' };
     }
-    if (method !== 'PATCH') {
-        changes.demand(route.kind, object);
-    }
-    const plain = await changes.plainOf(call, object, kinds.KINDS[route.kind], {});
+    const kind = kinds.KINDS[route.kind];
+    const plain = await changes.plainOf(call, object, kind, {}, method === 'PATCH' ? [] : kind.required);
     return { method: method === 'PUT' ? 'PATCH' : method, kind: route.kind, path: path, body: JSON.stringify(plain) };
 }
 
