@@ -100,7 +100,8 @@ def members(front):
     whole = front.want(200, "GET", path)
     flat = {**whole, "vrf": whole["vrf"]["id"], "status": whole["status"]["value"]}
     assert front.want(200, "PATCH", path, flat) == whole == front.want(200, "PUT", path, flat)
-    front.want(200, "PATCH", path, {"id": 99, "url": "x", "display": "y", "family": 6, "size": 1, "children": 9, "_depth": 9, "prefix_count": 3, "created": "x"})
+    front.want(200, "PATCH", path, {"id": 99, "url": "x", "display": "y", "family": 6, "size": 1, "children": 9, "_depth": 9, "prefix_count": 3,
+                                    "created": "x", "last_updated": "x", "display_url": "x"})
     assert front.want(200, "GET", path) == whole
     front.want(200, "PATCH", path, {"tenant": None, "tags": [], "comments": "", "custom_fields": {}, "x": {"y": None}})
     for name, value in (("tenant", 1), ("tags", ["x"]), ("comments", "x"), ("custom_fields", {"x": 1}), ("site", {"id": 1}), ("x", False),

@@ -163,7 +163,8 @@ HOSTILE = {
 }
 SMALL = [b'{"name":"\\ud800"}', b'{"name":"\\udc00\\ud800"}', b'{"name":"\xed\xa0\x80"}', b'{"name":"x","weight":1.0}', b'{"name":"x","weight":1e2}',
          b'{"name":"x","weight":-0}', b'{"name":"x","weight":01}', b'{"name":"x","weight":1234567890123456}', b'{"x":' + b"[" * 31 + b"]" * 31 + b"}",
-         b"[1.5]", b'{"name":"' + b"a" * 1015 + b'","weight":1.5}', b'{"name":"' + b"a" * 1010 + b'\\ud800"}', b"\xef\xbb\xbf{}", b"", b"null", b"5", b'"x"', b"nul", b"{} {}"]
+         b"[1.5]", b'{"name":"' + b"a" * 1015 + b'","weight":1.5}', b'{"name":"' + b"a" * 1010 + b'\\ud800"}', b"\xef\xbb\xbf{}", b"", b"null", b"5",
+         b'"x"', b"nul", b"{} {}"]
 
 
 def bodies(front):
