@@ -49,7 +49,7 @@ def run(command, **more):
 
 
 def units():
-    done = subprocess.run(["node", "--test", "netbox/"], cwd=TOP, stdout=subprocess.PIPE, stderr=subprocess.STDOUT, text=True, check=False)
+    done = subprocess.run(["node", "--test"], cwd=os.path.join(TOP, "netbox"), stdout=subprocess.PIPE, stderr=subprocess.STDOUT, text=True, check=False)
     assert done.returncode == 0, done.stdout[-3000:]
     return next(line for line in done.stdout.split("\n") if line.startswith("# pass"))[2:]
 

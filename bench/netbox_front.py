@@ -42,7 +42,7 @@ class Link:
         self.connect, self.headers, self.connection = connect, headers, None
 
     def ask(self, method, path, body=None, **headers):
-        if body is not None and not isinstance(body, bytes):
+        if isinstance(body, (dict, list)):
             body = json.dumps(body).encode()
         if self.connection is None:
             self.connection = self.connect()

@@ -1,5 +1,6 @@
 """What docs/CLIENTS.md says of paths, methods, refusals, large bodies and the plain form, by requests over HTTP; and the rates of both forms."""
 import json
+import os
 import threading
 import time
 
@@ -101,15 +102,19 @@ def own_refusals(front):
     """nginx's own 413 and 502, a wrong token, changes that are held."""
     answer = front.ask("POST", "prefixes/", b"x" * (LARGEST + 1))
     assert answer.status == 413 and "detail" in answer.value
+    chunks = (b" " * 64 for _ in range(LARGEST // 64))
+    answer = front.ask("POST", "prefixes/", chunks)
+    assert answer.status == 413 and "chunks" in answer.value["detail"], answer.text
     assert front.link.ask("GET", "/api/ipam/prefixes/", Authorization="Token 0").status == 401
     with open(f"{front.folder}/hold", "w"):
         pass
-    wait = front.breaker.changes
+    made = front.breaker.changes
     for method in ("POST", "PUT", "PATCH", "DELETE"):
         for path in ("/api/ipam/prefixes/1/", "/register/api/ipam/prefixes/1/"):
             answer = front.link.ask(method, path, {})
             assert answer.status == 503 and "detail" in answer.value and answer.headers["Retry-After"] == "2", (method, path, answer.status)
-    assert front.ask("GET", "prefixes/1/").status == 200 and front.breaker.changes == wait
+    assert front.ask("GET", "prefixes/1/").status == 200 and front.breaker.changes == made
+    os.remove(f"{front.folder}/hold")
 
 
 def gone(port):

@@ -109,13 +109,22 @@ function pathOf(kind, object) {
     return path;
 }
 
+/** The bytes of the body. nginx may have put those of many small chunks into a file, where they can't be read. */
+function bytesOf(r) {
+    try {
+        return r.requestBuffer || Buffer.from('');
+    } catch (e) {
+        throw refusals.detail(413, 'the body came in too many chunks: send it with its length');
+    }
+}
+
 /** The method, path and body of the one change that a request means, and the kind of the records that it answers; or null if it means none. */
 async function changeOf(call, route) {
     const method = call.r.method;
     if (method === 'DELETE' && route.id !== undefined) {
         return { method: method, kind: route.kind, path: route.kind + '/' + route.id + '/', body: '' };
     }
-    const value = await body.valueOf(call.r.requestBuffer || Buffer.from(''));
+    const value = await body.valueOf(bytesOf(call.r));
     if (route.part !== undefined) {
         const claim = await changes.claimOf(call, route, value);
         const path = route.kind + '/' + route.id + '/' + route.part + '/';
