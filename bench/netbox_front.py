@@ -35,16 +35,20 @@ class Answer:
         return json.loads(self.text)
 
 
+# The register closes a connection over which no request comes for 30 seconds.
+LONGEST_IDLE = 10
+
+
 class Link:
-    """A client's connection, which is made again if it was closed."""
+    """A client's connection, which is made again if it was closed or idle."""
 
     def __init__(self, connect, headers):
-        self.connect, self.headers, self.connection = connect, headers, None
+        self.connect, self.headers, self.connection, self.answered = connect, headers, None, 0
 
     def ask(self, method, path, body=None, **headers):
         if isinstance(body, (dict, list)):
             body = json.dumps(body).encode()
-        if self.connection is None:
+        if self.connection is None or time.monotonic() - self.answered > LONGEST_IDLE:
             self.connection = self.connect()
         try:
             self.connection.request(method, path, body, {**self.headers, **headers})
@@ -54,6 +58,7 @@ class Link:
             self.connection.close()
             self.connection = None
             raise
+        self.answered = time.monotonic()
         if answer.will_close:
             self.connection.close()
             self.connection = None

@@ -40,7 +40,7 @@ def records(front):
     """Each kind: POST, GET, a list, a list of one."""
     for kind, (posted, told) in RECORDS.items():
         path = f"{kind}/1/"
-        wanted = {**ALL, "url": f"/api/ipam/{path}", "display_url": f"/#/{kind}/1", **told}
+        wanted = {**ALL, "url": f"/api/ipam/{path}", "display_url": f"/web/#/{kind}/1", **told}
         for got in (front.want(201, "POST", f"{kind}/", posted), front.want(200, "GET", path), front.want(200, "GET", f"{kind}/")["results"][0]):
             got = without_host(got, front.base)
             assert got == wanted, f"{kind}: {[(name, got.get(name), wanted.get(name)) for name in {*got, *wanted} if got.get(name) != wanted.get(name)]}"

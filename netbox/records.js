@@ -59,7 +59,7 @@ function briefOf(call, kind, row) {
 /** The whole record, with the brief objects that it refers to. */
 function recordOf(call, kind, row, briefs) {
     const out = beginning(call, kind, row);
-    out.display_url = call.base + '/#/' + kind + '/' + row.id;
+    out.display_url = call.base + '/web/#/' + kind + '/' + row.id;
     const references = kinds.KINDS[kind].references;
     Object.keys(row).forEach((name) => {
         if (name === 'family') {
