@@ -3,6 +3,7 @@
     bench/netbox.py PORT [--short]      it uses PORT to PORT + 5; IPAMD=PROGRAM names the built program
 """
 import os
+import re
 import subprocess
 import sys
 
@@ -15,29 +16,34 @@ from netbox_front import TOP, Claims, Front
 
 # what is asked of one register, in this order: the claim, and its test
 RECORDS = [
-    ("records have the members of NetBox 4.1", netbox_records.records),
+    ("Records have the members of NetBox 4.1", netbox_records.records),
     ("`display` is what NetBox shows", netbox_records.displays),
-    ("free addresses and blocks; a claimed record has its own `url`", netbox_records.free),
-    ("a reference is an id, an object with its id, or by name, rd or slug", netbox_records.references),
-    ("members that are only answered are ignored; what the register has no place for is refused by name", netbox_records.members),
-    ("PUT demands the required members and leaves absent ones; a list of one record is served, a longer one refused", netbox_records.puts),
-    ("a claim may name the VRF and the block that it is claimed from, and no others", netbox_records.claims_named),
-    ("the requests of Terraform's provider, by curl", netbox_records.terraform),
+    ("Free space is listed and claimed as with NetBox", netbox_records.free),
+    ("A reference is an id, an object with its id, or an object with its name, rd or slug", netbox_records.references),
+    ("Members that NetBox only answers are ignored, and others are refused by name", netbox_records.members),
+    ("PUT demands the required members, and leaves absent ones", netbox_records.puts),
+    ("A claim may name the VRF and the block that it is claimed from", netbox_records.claims_named),
+    ("The requests of Terraform's provider work", netbox_records.terraform),
 ]
 BROKEN = [
-    ("a change that the register answered has its status, whatever the further requests do", netbox_broken.changes),
-    ("nothing is changed if what has to be read before it cannot be", netbox_broken.before),
-    ("a change that was not answered is 502 with a `detail`, and is sent once", netbox_broken.unanswered),
-    ("pages of different moments are read again, three times, then 503", netbox_broken.moments),
+    ("A change that the register answered has its status", netbox_broken.changes),
+    ("A change that cannot be prepared is not made", netbox_broken.before),
+    ("A change that was not answered is 502, and was sent once", netbox_broken.unanswered),
+    ("A list that is searched is of one moment", netbox_broken.moments),
 ]
 WIRE = [
-    ("paths as they may be written; no path leads past the handler", netbox_wire.paths),
-    ("HEAD, OPTIONS and other methods: 405 with `Allow`", netbox_wire.methods),
-    ("links have the host of the request, or the server's name", netbox_wire.hosts),
-    ("refusals name the member, and have the register's code in `Ipam-Code`", netbox_wire.refusals),
-    ("413, a wrong token and changes that are held have a `detail`", netbox_wire.own_refusals),
-    ("a body of another form than JSON, too deep, too large or not Unicode is refused; nobody waits 200 ms behind one", netbox_wire.bodies),
-    ("the largest page fits", netbox_wire.largest),
+    ("No path leads past the handler", netbox_wire.paths),
+    ("Methods that a path does not have are 405", netbox_wire.methods),
+    ("Links have the host of the request", netbox_wire.hosts),
+    ("Refusals name the member, and have the register's code in a header", netbox_wire.refusals),
+    ("Held changes, wrong tokens and large bodies have a `detail`", netbox_wire.own_refusals),
+    ("Nobody waits 200 ms behind a hostile body", netbox_wire.bodies),
+    ("The longest page fits", netbox_wire.largest),
+]
+FILTERS = [("Filters find what they mean, in any spelling and several of one name", lambda front: filters.run(front, 400, 1))]
+RANDOM = [
+    ("A random record that is written and read back is that record", netbox_random.written),
+    ("No request makes more than one change, and every answer is JSON", netbox_random.answered),
 ]
 
 
@@ -64,25 +70,37 @@ def plays(port):
         return run(["/usr/bin/python3", "bench/plays.py", str(port), str(port + 1), front.token, front.certificate()])
 
 
+# what has registers of its own: the claim, its test, and whether it takes minutes
+ALONE = [
+    ("Without the register there is a `detail`", netbox_wire.gone, False),
+    ("The register's own form is unchanged behind nginx", netbox_wire.plain, False),
+    ("pynetbox does with every kind what it does with NetBox", pynetbox, False),
+    ("Ansible's modules find, create, change and delete, twice in a row", plays, True),
+]
+
+
+def pages():
+    """docs/CLIENTS.md claims what is tested here, and nothing else."""
+    with open(os.path.join(TOP, "docs/CLIENTS.md")) as page:
+        said = re.findall(r"^- \*\*(.+?)\.\*\*", page.read().split("## What works")[1].split("\n## ")[0], re.M)
+    tested = [one[0] for group in (RECORDS, BROKEN, WIRE, FILTERS, RANDOM, ALONE) for one in group]
+    assert sorted(said) == sorted(tested), f"only there or here: {sorted({*said} ^ {*tested})}"
+
+
 def main():
     port, short = int(sys.argv[1]), "--short" in sys.argv
     claims = Claims()
-    claims.check("the units of netbox/, by node", units)
-    for group in (RECORDS, BROKEN, WIRE):
+    claims.check("docs/CLIENTS.md claims what is tested here", pages)
+    claims.check("The units of netbox/ pass", units)
+    for group in (RECORDS, BROKEN, WIRE, FILTERS, RANDOM):
         with Front(port) as front:
             for claim, test in group:
                 claims.check(claim, test, front)
-    claims.check("without the register: 502 with a `detail`", netbox_wire.gone, port)
-    claims.check("the plain form at /register/api/ is the register's, but for the host of links", netbox_wire.plain, port)
-    with Front(port) as front:
-        claims.check("filters find what they mean, in any spelling and several of one name; others are refused", filters.run, front, 400, 1)
-    with Front(port) as front:
-        claims.check("a random record that is written and read back is that record", netbox_random.written, front)
-        claims.check("whatever is sent, the answer is JSON, and no request makes more than one change", netbox_random.answered, front)
-    claims.check("pynetbox: every kind, claimed records, filters, refusals, all pages", pynetbox, port)
+    for claim, test, is_long in ALONE:
+        if not (short and is_long):
+            claims.check(claim, test, port)
     if not short:
-        claims.check("Ansible: the modules of these kinds, twice each", plays, port)
-        claims.check("rates, requests a second by four connections", netbox_wire.rates, port)
+        claims.check("Requests a second, by four connections", netbox_wire.rates, port)
     print(f"netbox: {claims.held} claims hold, {claims.failed} do not")
     sys.exit(1 if claims.failed else 0)
 
