@@ -127,7 +127,10 @@ def run(front, count, seed):
     for _ in range(count):
         kind = pick.choice(list(FILTERS))
         pairs = []
-        for name in pick.sample(FILTERS[kind], pick.choice([1, 1, 2, 3])):
+        names = pick.sample(FILTERS[kind], pick.choice([1, 1, 2, 3]))
+        if kind == "ip-addresses" and pick.random() < 0.3:
+            names = pick.sample(["address", "parent", "vrf_id"], 2)
+        for name in names:
             pairs += [(name, text) for text in pick.sample(model.values(kind, name), pick.choice([1, 1, 1, 2]))]
         limit, offset = pick.choice([(50, 0), (1, 0), (2, 1), (3, 5)])
         isolated = pick.random() < 0.1

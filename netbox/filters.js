@@ -124,7 +124,14 @@ const FILTERS = {
         vrf_id: PLACED.vrf_id,
         status: choice('ip-addresses', 'status'),
         role: choice('ip-addresses', 'role'),
-        parent: blocks('address', (own, asked) => inside(own, asked), true),
+        parent: {
+            read: block,
+            test: (row, value) => {
+                const digits = address.hostOf(row.address).digits;
+                return address.contains(value, { digits: digits, length: digits.length * 4 });
+            },
+            native: address.blockText,
+        },
         dns_name: { read: (value) => value.toLowerCase(), test: (row, value) => row.dns_name === value, native: String },
         address: host('address'),
         mask_length: LENGTH,
