@@ -78,6 +78,28 @@ def unanswered(front):
     front.breaker.mode_of_changes = None
 
 
+def missing(front):
+    """What docs/CLIENTS.md says of what is not there, and of the views."""
+    for path in ("vlans/", "vlan-groups/", "asns/", "route-targets/", "services/", "fhrp-groups/", "../dcim/sites/", "../tenancy/tenants/", "../extras/tags/",
+                 "../graphql/", "../schema/", "../users/users/", "../docs/"):
+        assert "detail" in front.want(404, "GET", path), path
+    for name in ("tenant", "tags", "comments", "custom_fields", "nat_inside", "site", "vlan"):
+        assert front.want(400, "PATCH", "prefixes/1/", {name: [1]}) == {name: [f"the register has no {name} here"]}
+    for name in ("tenant", "tag", "description__ic", "created", "site_id", "vrf__n"):
+        assert front.want(400, "GET", f"prefixes/?{name}=x") == {name: [f"filter {name} is not served for prefixes"]}
+    made = front.want(200, "GET", "prefixes/1/")
+    assert front.want(200, "GET", "prefixes/1/?format=json&ordering=id") == made and made["created"] is None and "prefix_count" not in made
+    brief = {name: made[name] for name in ("id", "url", "display", "description", "family", "prefix", "_depth")}
+    assert front.want(200, "GET", "prefixes/1/?brief=true") == brief == front.want(200, "GET", "prefixes/?id=1&brief=1")["results"][0]
+    assert front.want(200, "GET", "prefixes/?id=1&fields=id,vrf")["results"] == [{"id": 1, "vrf": made["vrf"]}]
+    for query in ("format=csv", "ordering=prefix", "ordering=-id"):
+        assert list(front.want(400, "GET", f"prefixes/?{query}")) == [query.split("=")[0]]
+    front.breaker.mode, front.breaker.breaks = "20,001 records", ("/api/ipam/prefixes/?",)
+    assert "more than 20000 records" in front.want(400, "GET", "prefixes/?q=x")["detail"]
+    assert front.want(200, "GET", "prefixes/?status=active")["count"] == 20001
+    front.breaker.mode = None
+
+
 def moments(front):
     """Pages whose `Ipam-Place` differ are read again, three times, then 503."""
     for moved, status in ((0, 200), (2, 200), (4, 200), (6, 503)):

@@ -75,6 +75,8 @@ class Breaker:
         "much": (200, b'{"x":"' + b"a" * 3_000_000 + b'"}'), "a closed connection": None, "half an answer": (200, b'{"id":1,'),
     }
 
+    MORE = {"20,001 records": (200, b'{"count":20001,"next":null,"previous":null,"results":[]}')}
+
     def __init__(self, port, inner):
         self.breaks, self.mode, self.mode_of_changes, self.changes, self.moved = (), None, None, 0, 0
         breaker = self
@@ -104,10 +106,10 @@ class Breaker:
                 link.close()
 
             def broken(self, mode):
-                if Breaker.MODES[mode] is None:
+                if mode == "a closed connection":
                     self.close_connection = True
                     return
-                status, text = Breaker.MODES[mode]
+                status, text = {**Breaker.MODES, **Breaker.MORE}[mode]
                 self.answer(status, text, {"Content-Length": str(len(text) + (9 if mode == "half an answer" else 0))})
                 self.close_connection = True
 

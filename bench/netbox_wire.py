@@ -15,7 +15,8 @@ def paths(front):
     made = front.want(201, "POST", "prefixes/", {"prefix": "10.0.0.0/8"})
     for path in ("prefixes/1/", "%70refixes/1/", "x/../prefixes/1/", "/prefixes//1/", "prefixes/%31/", "./prefixes/1/"):
         assert front.ask("GET", path).value == made, path
-    for path in ("", "prefixes", "prefixes/01/", "prefixes/0/", "prefixes/4294967296/", "prefixes/1", "prefixes/1/x/", "vlans/", "vlan-groups/1/",
+    assert front.want(200, "GET", "")["prefixes"] == front.base + "/api/ipam/prefixes/"
+    for path in ("prefixes", "prefixes/01/", "prefixes/0/", "prefixes/4294967296/", "prefixes/1", "prefixes/1/x/", "vlans/", "vlan-groups/1/",
                  "prefixes/undefined/", "prefixes/1/available-ips", "vrfs/1/available-ips/", "ip-ranges/1/available-prefixes/",
                  "vrfs/1/utilization/", "prefixes/1/%0d%0aX:%20y/", "prefixes/1%3flimit=1/", "__proto__/", "constructor/1/", "prefixes/1/constructor/"):
         for method in ("GET", "POST", "DELETE"):
@@ -186,7 +187,7 @@ def bodies(front):
 
     def watch():
         while not ended:
-            begun, name = time.monotonic(), ended or now[0]
+            begun, name = time.monotonic(), now[0]
             assert link.ask("GET", "/api/ipam/prefixes/1/").status == 200
             waits[name] = max(waits.get(name, 0), time.monotonic() - begun)
             time.sleep(0.005)
@@ -201,9 +202,16 @@ def bodies(front):
         assert answer.status == status and (status == 201 or {"detail", "prefix"} & {*answer.value}), (name, answer.status)
         now[0] = "nothing"
         time.sleep(0.05)
+    now[0] = "1,000 claims in the register's own form"
+    assert front.plain.ask("POST", "/api/ipam/prefixes/2/available-ips/", HOSTILE["1,000 claims"][1]).status == 201
+    now[0] = "nothing"
+    time.sleep(0.05)
     ended.append("end")
     watcher.join()
-    longest = max((wait, name) for name, wait in waits.items() if name not in ("nothing", "1,000 claims"))
+    # the register lets nobody in while it makes a thousand records, so that wait is compared with the one behind the same claim in its own form
+    claims, own = waits.pop("1,000 claims"), waits.pop("1,000 claims in the register's own form")
+    assert claims < 0.2 + own, f"{claims * 1000:.0f} ms behind 1,000 claims, {own * 1000:.0f} ms if they are made in the register's own form"
+    longest = max((wait, name) for name, wait in waits.items() if name != "nothing")
     assert longest[0] < 0.2 + waits["nothing"], f"{longest[0] * 1000:.0f} ms behind {longest[1]}; behind nothing {waits['nothing'] * 1000:.0f} ms"
     wait, nothing = longest[0] * 1000, waits["nothing"] * 1000
     return f"{len(HOSTILE)} of up to 4 MiB; another client waits {wait:.0f} ms at most ({longest[1]}), and {nothing:.0f} ms without one"

@@ -171,6 +171,15 @@ async function make(call, route) {
     return send(call.r, answer.status, value, answer.place);
 }
 
+/** GET of `/api/ipam/`: where the lists are. */
+function index(call) {
+    const urls = {};
+    Object.keys(kinds.KINDS).forEach((kind) => {
+        urls[kind] = call.base + '/api/ipam/' + kind + '/';
+    });
+    send(call.r, 200, urls);
+}
+
 /** Answers what is thrown. */
 function refuse(call, e) {
     if (!(e instanceof refusals.Refusal)) {
@@ -190,6 +199,9 @@ async function handle(r) {
     const call = { r: r, base: r.variables.scheme + '://' + r.variables.asked_host, tables: {}, isList: false };
     try {
         const route = routeOf(r.uri);
+        if (r.uri === '/api/ipam/' && r.method === 'GET') {
+            return index(call);
+        }
         if (route === null) {
             throw refusals.detail(404, 'Not found.');
         }
