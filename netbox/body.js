@@ -3,6 +3,7 @@
  * what the register would read otherwise. Between the steps of a large body other requests are served.
  */
 import refusals from './refusals.js';
+import turns from './turns.js';
 
 const MOST_PARTS = 20000;
 /** After so many bytes, or pieces of the text, other requests are served. */
@@ -34,20 +35,13 @@ function malformed(why) {
     return refusals.detail(400, 'JSON parse error' + (why ? ': ' + why : ''));
 }
 
-/** @returns {Promise<void>} once the requests that wait were looked at */
-function pause() {
-    return new Promise((resolve) => {
-        setTimeout(resolve, 1);
-    });
-}
-
 /** The text of a body. @param {Buffer} bytes @returns {Promise<string>} */
 async function textOf(bytes) {
     const decoder = new TextDecoder('utf-8', { fatal: true, ignoreBOM: true });
     const parts = [];
     for (let at = 0; at < bytes.length; at += BYTES_AT_ONCE) {
         if (at > 0) {
-            await pause();
+            await turns.pause();
         }
         try {
             parts.push(decoder.decode(bytes.slice(at, at + BYTES_AT_ONCE), { stream: at + BYTES_AT_ONCE < bytes.length }));
@@ -83,7 +77,7 @@ async function look(text) {
             at += passed;
         }
         if (pieces % PIECES_AT_ONCE === 0) {
-            await pause();
+            await turns.pause();
         }
     }
 }
@@ -100,17 +94,17 @@ async function valueOf(bytes) {
     const text = await textOf(bytes);
     const isLarge = bytes.length > BYTES_AT_ONCE;
     if (isLarge) {
-        await pause();
+        await turns.pause();
     }
     const value = parsed(text);
     if (value === null || typeof value !== 'object') {
         throw malformed('an object or a list is asked for');
     }
     if (isLarge) {
-        await pause();
+        await turns.pause();
     }
     await look(text);
     return value;
 }
 
-export default { valueOf, pause, MOST_PARTS };
+export default { valueOf };

@@ -1,9 +1,9 @@
 /* Requests of NetBox's form as the register reads them. */
 import address from './address.js';
-import body from './body.js';
 import kinds from './kinds.js';
 import refusals from './refusals.js';
 import register from './register.js';
+import turns from './turns.js';
 
 /** No record of NetBox has so many members. */
 const MOST_MEMBERS = 100;
@@ -135,7 +135,7 @@ async function claimOf(call, route, value) {
     const out = [];
     for (let n = 0; n < items.length; n += 1) {
         if (n > 0 && n % ITEMS_AT_ONCE === 0) {
-            await body.pause();
+            await turns.pause();
         }
         const item = await plainOf(call, items[n], claim, same, claim.required);
         out.push(item);

@@ -1,10 +1,10 @@
 /* Lists of records: a page of the register's, or what is found in all its pages. */
-import body from './body.js';
 import kinds from './kinds.js';
 import queries from './queries.js';
 import records from './records.js';
 import refusals from './refusals.js';
 import register from './register.js';
+import turns from './turns.js';
 
 /** As many records of the register are read for one list at most, and as many ids looked up. */
 const MOST_READ = 20000;
@@ -43,7 +43,7 @@ async function sift(page, query, rows) {
     for (let at = 0; at < page.length; at += ROWS_AT_ONCE) {
         page.slice(at, at + ROWS_AT_ONCE).filter((row) => query.tests.every((test) => test(row))).forEach((row) => rows.push(row));
         if (page.length > ROWS_AT_ONCE) {
-            await body.pause();
+            await turns.pause();
         }
     }
 }
