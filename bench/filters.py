@@ -58,7 +58,7 @@ class Model:
         self.rows = rows
         rd = {row["id"]: row["rd"] for row in rows["vrfs"]}
         slug = {kind: {row["id"]: row["slug"] for row in rows[kind]} for kind in ("roles", "rirs")}
-        same = {name: lambda row, text, name=name: (row[name] or "") == text for name in ("name", "slug", "rd", "description")}
+        same = {name: lambda row, text, name=name: row[name] == text for name in ("name", "slug", "rd", "description")}
         id_of = {f"{name}_id": lambda row, text, name=name: str(row[name] or "null") == text for name in ("vrf", "role", "rir")}
         flags = {name: lambda row, text, name=name: row[name] == (text.lower() in ("true", "1")) for name in ("is_pool", "mark_utilized")}
         self.tests = {
@@ -101,6 +101,7 @@ def fill(front, pick):
     """Records of all kinds."""
     for n in (1, 2):
         front.plain.ask("POST", "/api/ipam/vrfs/", {"name": TEXTS[n], "rd": f"65000:{n}", "description": TEXTS[n], "enforce_unique": False})
+        front.plain.ask("POST", "/api/ipam/vrfs/", {"name": TEXTS[n], "description": TEXTS[n]})
         for kind in ("roles", "rirs"):
             front.plain.ask("POST", f"/api/ipam/{kind}/", {"name": "ab"[n - 1], "slug": "ab"[n - 1], "description": TEXTS[n + 1]})
     for n, block in enumerate(("10.0.0.0/8", "2001:db8::/32")):
@@ -130,6 +131,8 @@ def run(front, count, seed):
         names = pick.sample(FILTERS[kind], pick.choice([1, 1, 2, 3]))
         if kind == "ip-addresses" and pick.random() < 0.3:
             names = pick.sample(["address", "parent", "vrf_id"], 2)
+        elif pick.random() < 0.1:
+            names = ["id", pick.choice(FILTERS[kind][1:])]
         for name in names:
             pairs += [(name, text) for text in pick.sample(model.values(kind, name), pick.choice([1, 1, 1, 2]))]
         limit, offset = pick.choice([(50, 0), (1, 0), (2, 1), (3, 5)])

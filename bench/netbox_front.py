@@ -110,7 +110,7 @@ class Breaker:
                     self.close_connection = True
                     return
                 status, text = {**Breaker.MODES, **Breaker.MORE}[mode]
-                self.answer(status, text, {"Content-Length": str(len(text) + (9 if mode == "half an answer" else 0))})
+                self.answer(status, text, {"Content-Length": str(len(text) + (9 if mode == "half an answer" else 0)), "Connection": "close"})
                 self.close_connection = True
 
             def answer(self, status, text, headers):

@@ -34,7 +34,7 @@ function same(text) {
 
 /** A filter for exactly the text of a member, which the register has itself if it is native. */
 function text(name, native) {
-    return { read: same, test: (row, value) => (row[name] === null ? '' : row[name]) === value, native: native ? String : undefined };
+    return { read: same, test: (row, value) => row[name] === value, native: native ? String : undefined };
 }
 
 /** A filter for the value of a choice. */

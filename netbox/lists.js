@@ -39,9 +39,9 @@ function pageText(native, limit, offset) {
 }
 
 /** Adds to the rows those of a page that pass, a part of it at a time. */
-async function sift(page, query, rows) {
+async function sift(page, tests, rows) {
     for (let at = 0; at < page.length; at += ROWS_AT_ONCE) {
-        page.slice(at, at + ROWS_AT_ONCE).filter((row) => query.tests.every((test) => test(row))).forEach((row) => rows.push(row));
+        page.slice(at, at + ROWS_AT_ONCE).filter((row) => tests.every((test) => test(row))).forEach((row) => rows.push(row));
         if (page.length > ROWS_AT_ONCE) {
             await turns.pause();
         }
@@ -59,7 +59,7 @@ async function siftList(reading, kind, native, query, rows) {
             throw refusals.detail(400, 'these filters have to be looked for in more than ' + MOST_READ + ' records: add one that the register has itself');
         }
         reading.left -= page.results.length;
-        await sift(page.results, query, rows);
+        await sift(page.results, query.tests, rows);
     }
 }
 
@@ -72,7 +72,7 @@ async function siftIds(reading, kind, query, rows) {
         const answer = await register.read(reading.call.r, kind + '/' + query.ids[n] + '/');
         take(reading, answer);
         if (answer.status !== 404) {
-            await sift([register.valueOf(answer, kind)], query, rows);
+            await sift([register.valueOf(answer, kind)], query.tests.concat(query.nativeTests), rows);
         }
     }
 }
@@ -81,7 +81,7 @@ async function siftIds(reading, kind, query, rows) {
 async function look(call, kind, query) {
     const reading = new Reading(call);
     const rows = [];
-    if (query.ids !== null && Object.keys(query.native).length === 0) {
+    if (query.ids !== null) {
         await siftIds(reading, kind, query, rows);
     } else {
         for (let n = 0; n < query.narrow.length; n += 1) {

@@ -18,6 +18,7 @@ const NOT_FILTERS = ['limit', 'offset', 'brief', 'fields', 'ordering', 'format']
  * @property {boolean} brief
  * @property {(string[]|null)} fields
  * @property {Object<string, string>} native
+ * @property {Function[]} nativeTests what `native` means, for records that were not found by it
  * @property {Function[]} tests
  * @property {(number[]|null)} ids
  * @property {Object<string, string>[]} narrow
@@ -123,11 +124,13 @@ function take(query, kind, name, texts) {
         return value;
     });
     const isTaken = kinds.has(query.native, name) || kinds.has(query.narrow[0], name);
+    const test = (row) => values.some((value) => filter.test(row, value));
     if (filter.native && values.length === 1 && !isTaken) {
         query.native[name] = filter.native(values[0]);
+        query.nativeTests.push(test);
         return;
     }
-    query.tests.push((row) => values.some((value) => filter.test(row, value)));
+    query.tests.push(test);
     if (name === 'id') {
         query.ids = values;
     } else if (name === 'address' && !kinds.has(query.native, 'parent')) {
@@ -160,6 +163,7 @@ async function queryOf(call, kind, text) {
         limit: limitOf(pairs, DEFAULT_PAGE),
         offset: numberOf(pairs, 'offset', 0),
         native: {},
+        nativeTests: [],
         tests: [],
         ids: null,
         narrow: [{}],
