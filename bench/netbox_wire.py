@@ -181,14 +181,14 @@ def bodies(front):
     deepest = front.ask("POST", "roles/", b'{"x":' + b"[" * 30 + b"1" + b"]" * 30 + b"}")
     assert deepest.value["x"] == ["the register has no x here"], deepest.text
     assert front.want(201, "POST", "roles/", b'{"name":"\\ud83d\\ude00\xf0\x9f\x98\x80","slug":"x"}')["name"] == "\U0001f600\U0001f600"
-    front.want(201, "POST", "prefixes/", {"prefix": "172.16.0.0/12"})
+    path = f"prefixes/{front.want(201, 'POST', 'prefixes/', {'prefix': '172.16.0.0/12'})['id']}/"
     waits, ended = {}, []
     link = front.new_link()
 
     def watch():
         while not ended:
             begun, name = time.monotonic(), now[0]
-            assert link.ask("GET", "/api/ipam/prefixes/1/").status == 200
+            assert link.ask("GET", f"/api/ipam/{path}").status == 200
             waits[name] = max(waits.get(name, 0), time.monotonic() - begun)
             time.sleep(0.005)
     now = ["nothing"]
@@ -197,13 +197,12 @@ def bodies(front):
     time.sleep(1)
     for name, (status, body) in HOSTILE.items():
         now[0] = name
-        claim = "prefixes/2/available-ips/" if status == 201 else "prefixes/"
-        answer = front.ask("POST", claim, body)
+        answer = front.ask("POST", path + "available-ips/" if status == 201 else "prefixes/", body)
         assert answer.status == status and (status == 201 or {"detail", "prefix"} & {*answer.value}), (name, answer.status)
         now[0] = "nothing"
         time.sleep(0.05)
     now[0] = "1,000 claims in the register's own form"
-    assert front.plain.ask("POST", "/api/ipam/prefixes/2/available-ips/", HOSTILE["1,000 claims"][1]).status == 201
+    assert front.plain.ask("POST", f"/api/ipam/{path}available-ips/", HOSTILE["1,000 claims"][1]).status == 201
     now[0] = "nothing"
     time.sleep(0.05)
     ended.append("end")
