@@ -6,7 +6,6 @@
 
 /**
  * @typedef {Object} Kind
- * @property {string} path the part of the path that names it
  * @property {string[]} members what a request can set
  * @property {string[]} required what POST and PUT have to set
  * @property {Object<string, string>} references a member, and the kind whose id it holds
@@ -20,10 +19,9 @@ const STATUSES = ['active', 'reserved', 'deprecated'];
 const ROLES = ['loopback', 'secondary', 'anycast', 'vip', 'vrrp', 'hsrp', 'glbp', 'carp'];
 const PLACED = { comments: '', tenant: null };
 
-/** @type {Object<string, Kind>} */
+/** By the part of the path that names the kind. @type {Object<string, Kind>} */
 const KINDS = {
     'vrfs': {
-        path: 'vrfs',
         members: ['name', 'rd', 'enforce_unique', 'description'],
         required: ['name'],
         references: {},
@@ -33,7 +31,6 @@ const KINDS = {
         constants: Object.assign({ import_targets: [], export_targets: [] }, PLACED),
     },
     'rirs': {
-        path: 'rirs',
         members: ['name', 'slug', 'is_private', 'description'],
         required: ['name', 'slug'],
         references: {},
@@ -43,7 +40,6 @@ const KINDS = {
         constants: {},
     },
     'roles': {
-        path: 'roles',
         members: ['name', 'slug', 'weight', 'description'],
         required: ['name', 'slug'],
         references: {},
@@ -53,7 +49,6 @@ const KINDS = {
         constants: {},
     },
     'aggregates': {
-        path: 'aggregates',
         members: ['prefix', 'rir', 'description'],
         required: ['prefix', 'rir'],
         references: { rir: 'rirs' },
@@ -63,7 +58,6 @@ const KINDS = {
         constants: Object.assign({ date_added: null }, PLACED),
     },
     'prefixes': {
-        path: 'prefixes',
         members: ['prefix', 'vrf', 'status', 'role', 'is_pool', 'mark_utilized', 'description'],
         required: ['prefix'],
         references: { vrf: 'vrfs', role: 'roles' },
@@ -73,7 +67,6 @@ const KINDS = {
         constants: Object.assign({ site: null, scope_type: null, scope_id: null, vlan: null }, PLACED),
     },
     'ip-ranges': {
-        path: 'ip-ranges',
         members: ['start_address', 'end_address', 'vrf', 'status', 'role', 'mark_utilized', 'mark_populated', 'description'],
         required: ['start_address', 'end_address'],
         references: { vrf: 'vrfs', role: 'roles' },
@@ -83,7 +76,6 @@ const KINDS = {
         constants: PLACED,
     },
     'ip-addresses': {
-        path: 'ip-addresses',
         members: ['address', 'vrf', 'status', 'role', 'dns_name', 'description'],
         required: ['address'],
         references: { vrf: 'vrfs' },

@@ -6,6 +6,8 @@ import refusals from './refusals.js';
 import register from './register.js';
 
 const DEFAULT_PAGE = 50;
+/** Filters that are looked at first, since they leave few records. */
+const NARROWING = ['id', 'address'];
 const NOT_FILTERS = ['limit', 'offset', 'brief', 'fields', 'ordering', 'format'];
 
 /**
@@ -133,7 +135,7 @@ function take(query, kind, name, texts) {
     query.tests.push(test);
     if (name === 'id') {
         query.ids = values;
-    } else if (name === 'address' && !kinds.has(query.native, 'parent')) {
+    } else if (name === 'address') {
         query.narrow = narrowBy('parent', values.map((value) => address.textOf(value.digits) + '/' + value.digits.length * 4));
     } else if (name === 'prefix' && filter.native) {
         query.narrow = narrowBy('prefix', values.map(filter.native));
@@ -169,7 +171,7 @@ async function queryOf(call, kind, text) {
         narrow: [{}],
     });
     const asked = groups(pairs);
-    const names = Object.keys(asked);
+    const names = Object.keys(asked).sort((a, b) => NARROWING.includes(b) - NARROWING.includes(a));
     for (let n = 0; n < names.length; n += 1) {
         const named = filters.NAMED[kind];
         if (kinds.has(named, names[n])) {

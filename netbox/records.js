@@ -145,4 +145,4 @@ async function freeOf(call, rows) {
     });
 }
 
-export default { urlOf, rangeText, displayOf, briefOf, recordsOf, freeOf };
+export default { rangeText, briefOf, recordsOf, freeOf };
