@@ -74,6 +74,7 @@ def plays(port):
 # what has registers of its own: the claim, its test, and whether it takes minutes
 ALONE = [
     ("Without the register there is a `detail`", netbox_wire.gone, False),
+    ("A register that is too slow is 504", netbox_broken.late, False),
     ("The register's own form is unchanged behind nginx", netbox_wire.plain, False),
     ("pynetbox does with every kind what it does with NetBox", pynetbox, False),
     ("Ansible's modules find, create, change and delete, twice in a row", plays, True),

@@ -1,6 +1,6 @@
 """NetBox's form while the requests that the handler makes next to a change fail: the client gets the status of the change, which is there once; and while
 pages of a list are of different moments."""
-from netbox_front import Breaker
+from netbox_front import Breaker, Front
 
 FURTHER = ("/api/ipam/vrfs/", "/api/ipam/roles/", "/api/ipam/rirs/")
 
@@ -76,6 +76,22 @@ def unanswered(front):
         assert answer.status == status and said in answer.value["detail"] and front.breaker.changes == made + 1, (mode, answer.status, answer.text[:200])
         assert answer.headers["Content-Type"] == "application/json"
     front.breaker.mode_of_changes = None
+
+
+def late(port):
+    """The register does not answer in time: 504 for what was asked; a change that it answered has its status."""
+    with Front(port, read_timeout="1s") as front:
+        setting(front)
+        front.breaker.mode, front.breaker.breaks = "silence", FURTHER
+        made = front.want(201, "POST", "prefixes/1/available-ips/", {})
+        assert made["vrf"] == bare(front, "vrfs"), made
+        for path in ("/api/ipam/vrfs/1/", "/register/api/ipam/vrfs/1/"):
+            answer = front.link.ask("GET", path)
+            assert answer.status == 504 and "in time" in answer.value["detail"], (answer.status, answer.text)
+        front.breaker.mode_of_changes = "silence"
+        before = front.breaker.changes
+        answer = front.ask("POST", "prefixes/1/available-ips/", {})
+        assert answer.status == 504 and "ask whether it was made" in answer.value["detail"] and front.breaker.changes == before + 1
 
 
 def missing(front):

@@ -75,7 +75,7 @@ class Breaker:
         "much": (200, b'{"x":"' + b"a" * 3_000_000 + b'"}'), "a closed connection": None, "half an answer": (200, b'{"id":1,'),
     }
 
-    MORE = {"20,001 records": (200, b'{"count":20001,"next":null,"previous":null,"results":[]}')}
+    MORE = {"silence": None, "20,001 records": (200, b'{"count":20001,"next":null,"previous":null,"results":[]}')}
 
     def __init__(self, port, inner):
         self.breaks, self.mode, self.mode_of_changes, self.changes, self.moved = (), None, None, 0, 0
@@ -106,7 +106,9 @@ class Breaker:
                 link.close()
 
             def broken(self, mode):
-                if mode == "a closed connection":
+                if mode == "silence":
+                    time.sleep(3)
+                if mode in ("silence", "a closed connection"):
                     self.close_connection = True
                     return
                 status, text = {**Breaker.MODES, **Breaker.MORE}[mode]
@@ -130,8 +132,8 @@ class Breaker:
 class Front:
     """A new register at `port`, nginx at `port` + 1, and between both a Breaker at `port` + 2."""
 
-    def __init__(self, port, between=True):
-        self.port, self.between, self.children = port, between, []
+    def __init__(self, port, between=True, read_timeout="60s"):
+        self.port, self.between, self.children, self.env = port, between, [], {**os.environ, "READ_TIMEOUT": read_timeout}
 
     def __enter__(self):
         self.folder = tempfile.mkdtemp()
@@ -159,7 +161,7 @@ class Front:
         shutil.rmtree(self.folder)
 
     def start(self, command, errors):
-        self.children.append(subprocess.Popen(command, stdin=subprocess.DEVNULL, stdout=subprocess.DEVNULL, stderr=errors))
+        self.children.append(subprocess.Popen(command, stdin=subprocess.DEVNULL, stdout=subprocess.DEVNULL, stderr=errors, env=self.env))
 
     def new_link(self):
         context = ssl.create_default_context(cafile=self.certificate())

@@ -209,7 +209,8 @@ def bodies(front):
     watcher.join()
     # the register lets nobody in while it makes a thousand records, so that wait is compared with the one behind the same claim in its own form
     claims, own = waits.pop("1,000 claims"), waits.pop("1,000 claims in the register's own form")
-    assert claims < 0.2 + waits["nothing"] + 1.2 * own, f"{claims * 1000:.0f} ms behind 1,000 claims, {own * 1000:.0f} ms if they are made in the register's own form"
+    told = f"{claims * 1000:.0f} ms behind 1,000 claims, {own * 1000:.0f} ms if they are made in the register's own form"
+    assert claims < 0.2 + waits["nothing"] + 1.2 * own, told
     longest = max((wait, name) for name, wait in waits.items() if name != "nothing")
     assert longest[0] < 0.2 + waits["nothing"], f"{longest[0] * 1000:.0f} ms behind {longest[1]}; behind nothing {waits['nothing'] * 1000:.0f} ms"
     wait, nothing = longest[0] * 1000, waits["nothing"] * 1000
