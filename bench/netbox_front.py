@@ -79,54 +79,53 @@ class Breaker:
 
     def __init__(self, port, inner):
         self.breaks, self.mode, self.mode_of_changes, self.changes, self.moved = (), None, None, 0, 0
-        breaker = self
-
-        class Handler(http.server.BaseHTTPRequestHandler):
-            protocol_version = "HTTP/1.1"
-
-            def log_message(self, *_):
-                pass
-
-            def handle_any(self):
-                body = self.rfile.read(int(self.headers.get("Content-Length") or 0))
-                if self.command in CHANGES:
-                    breaker.changes += 1
-                    if breaker.mode_of_changes:
-                        return self.broken(breaker.mode_of_changes)
-                elif self.path.startswith(breaker.breaks) and breaker.breaks and breaker.mode:
-                    return self.broken(breaker.mode)
-                link = http.client.HTTPConnection("127.0.0.1", inner, timeout=60)
-                link.request(self.command, self.path, body or None)
-                answer = link.getresponse()
-                headers = {name: value for name, value in answer.headers.items() if name != "Connection"}
-                if breaker.moved:
-                    breaker.moved -= 1
-                    headers["Ipam-Place"] = f"{1_000_000 + breaker.moved}"
-                self.answer(answer.status, answer.read(), headers)
-                link.close()
-
-            def broken(self, mode):
-                if mode == "silence":
-                    time.sleep(3)
-                if mode in ("silence", "a closed connection"):
-                    self.close_connection = True
-                    return
-                status, text = {**Breaker.MODES, **Breaker.MORE}[mode]
-                self.answer(status, text, {"Content-Length": str(len(text) + (9 if mode == "half an answer" else 0)), "Connection": "close"})
-                self.close_connection = True
-
-            def answer(self, status, text, headers):
-                self.send_response_only(status)
-                for name, value in headers.items():
-                    self.send_header(name, value)
-                self.end_headers()
-                self.wfile.write(text)
-
-            do_GET = do_POST = do_PATCH = do_DELETE = do_PUT = do_HEAD = do_OPTIONS = handle_any
-
-        self.server = http.server.ThreadingHTTPServer(("127.0.0.1", port), Handler)
+        self.server = http.server.ThreadingHTTPServer(("127.0.0.1", port), type("Handler", (Handler,), {"breaker": self, "inner": inner}))
         self.server.daemon_threads = True
         threading.Thread(target=self.server.serve_forever, daemon=True).start()
+
+
+class Handler(http.server.BaseHTTPRequestHandler):
+    """One connection from nginx to a Breaker."""
+
+    protocol_version, breaker, inner = "HTTP/1.1", None, None
+
+    def log_message(self, *_):
+        pass
+
+    def handle_any(self):
+        body = self.rfile.read(int(self.headers.get("Content-Length") or 0))
+        if self.command in CHANGES:
+            self.breaker.changes += 1
+            if self.breaker.mode_of_changes:
+                return self.broken(self.breaker.mode_of_changes)
+        elif self.breaker.mode and self.breaker.breaks and self.path.startswith(self.breaker.breaks):
+            return self.broken(self.breaker.mode)
+        link = http.client.HTTPConnection("127.0.0.1", self.inner, timeout=60)
+        link.request(self.command, self.path, body or None)
+        answer = link.getresponse()
+        headers = {name: value for name, value in answer.headers.items() if name != "Connection"}
+        if self.breaker.moved:
+            self.breaker.moved -= 1
+            headers["Ipam-Place"] = f"{1_000_000 + self.breaker.moved}"
+        self.answer(answer.status, answer.read(), headers)
+        return link.close()
+
+    def broken(self, mode):
+        self.close_connection = True
+        if mode == "silence":
+            time.sleep(3)
+        if mode not in ("silence", "a closed connection"):
+            status, text = {**Breaker.MODES, **Breaker.MORE}[mode]
+            self.answer(status, text, {"Content-Length": str(len(text) + (9 if mode == "half an answer" else 0)), "Connection": "close"})
+
+    def answer(self, status, text, headers):
+        self.send_response_only(status)
+        for name, value in headers.items():
+            self.send_header(name, value)
+        self.end_headers()
+        self.wfile.write(text)
+
+    do_GET = do_POST = do_PATCH = do_DELETE = do_PUT = do_HEAD = do_OPTIONS = handle_any
 
 
 class Front:
