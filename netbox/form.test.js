@@ -99,6 +99,15 @@ test('filters of one member do not replace one another', async () => {
     }
 });
 
+test('a filter is there a bounded number of times', async () => {
+    for (const [name, most] of [['q', 10], ['status', 50], ['within', 50], ['prefix', 200], ['id', 1000]]) {
+        const args = Array.from({ length: most + 1 }, (_, n) => `${name}=${n + 1}`).join('&');
+        const r = request('GET', '/api/ipam/prefixes/', args, '', {});
+        await main.handle(r);
+        assert.deepStrictEqual([r.status, JSON.parse(r.text)], [400, { [name]: [`filter ${name} is served with at most ${most} values`] }]);
+    }
+});
+
 test('views: brief, fields; other forms and orders are refused', async () => {
     const told = { 'GET /register-read/api/ipam/prefixes/3/': ok({ ...PREFIX, vrf: null }) };
     const get = async (args) => {

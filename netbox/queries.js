@@ -8,6 +8,9 @@ import register from './register.js';
 const DEFAULT_PAGE = 50;
 /** Filters that are looked at first, since they leave few records. */
 const NARROWING = ['id', 'address'];
+/** How many values a filter may have, since each record is looked at for each of them. Ids, addresses and prefixes are looked up. */
+const MOST_VALUES = 50;
+const MOST_VALUES_OF = { id: 1000, address: 200, prefix: 200, q: 10 };
 const NOT_FILTERS = ['limit', 'offset', 'brief', 'fields', 'ordering', 'format'];
 
 /**
@@ -118,6 +121,10 @@ async function idsOf(call, name, named, texts) {
 /** Takes a filter into the query: for the register if it has it and there is one value, else to be looked at here. */
 function take(query, kind, name, texts) {
     const filter = filters.filterOf(kind, name);
+    const most = MOST_VALUES_OF[name] || MOST_VALUES;
+    if (texts.length > most) {
+        throw refusals.field(name, 'filter ' + name + ' is served with at most ' + most + ' values');
+    }
     const values = texts.map((one) => {
         const value = filter.read(one);
         if (value === undefined) {
