@@ -234,7 +234,8 @@ def largest(front):
         front.plain.ask("POST", "/api/ipam/vrfs/", {"name": f"{n:03}" + "\U0001f600" * 97, "description": "\U0001f600" * 200})
     for path in ("vrfs/?limit=0", "vrfs/?limit=0&q=%F0%9F%98%80"):
         page = front.want(200, "GET", path)
-        assert len(page["results"]) == page["count"] >= 999, page["count"]
+        ids = [one["id"] for one in page["results"]]
+        assert len({*ids}) == len(ids) == page["count"] >= 999 and ids == sorted(ids), (page["count"], len(ids))
     front.plain.ask("POST", "/api/ipam/prefixes/", {"prefix": "10.200.0.0/16", "vrf": 500})
     front.plain.ask("POST", "/api/ipam/prefixes/", {"prefix": "10.200.0.0/16", "vrf": 501})
     assert [one["vrf"]["id"] for one in front.want(200, "GET", "prefixes/?prefix=10.200.0.0/16")["results"]] == [500, 501]

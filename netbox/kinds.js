@@ -1,7 +1,9 @@
 /*
  * What the form knows of each kind of record. A further kind (AS numbers, VLANs) is one more entry of KINDS.
  *
- * njs 0.7.9 runs these files: no for-of, destructuring, spread, default parameters, optional chaining, classes, Map or Set.
+ * njs 0.7.9 runs these files. It has no for-of, destructuring, spread, default parameters, optional chaining, classes, Map or Set, and two faults that
+ * njs.test.js looks for: after `await` a variable that a closure uses has an older value, unless it is a constant; and a list that is written with a
+ * function in it makes a text of the number of its place, wherever that number stands in the program.
  */
 
 /**

@@ -41,8 +41,9 @@ function pageText(native, limit, offset) {
 async function sift(page, tests, rows) {
     let begun = Date.now();
     for (let n = 0; n < page.length; n += 1) {
-        if (tests.every((test) => test(page[n]))) {
-            rows.push(page[n]);
+        const row = page[n];
+        if (tests.every((test) => test(row))) {
+            rows.push(row);
         }
         if (Date.now() - begun > TURN) {
             await turns.pause();

@@ -106,14 +106,14 @@ function groups(pairs) {
 
 /** The ids of the records that these texts name; a refusal is thrown for one that names none. */
 async function idsOf(call, name, named, texts) {
-    let out = [];
+    const out = [];
     const rows = texts.every((one) => one === 'null') ? [] : await register.all(call, named.kind);
     texts.forEach((one) => {
         const ids = one === 'null' ? ['null'] : rows.filter((row) => row[named.by] === one).map((row) => String(row.id));
         if (ids.length === 0) {
             throw refusals.field(name, 'Select a valid choice. ' + one + ' is not one of the available choices.');
         }
-        out = out.concat(ids);
+        ids.forEach((id) => out.push(id));
     });
     return out;
 }
