@@ -30,6 +30,7 @@ BROKEN = [
     ("A change that cannot be prepared is not made", netbox_broken.before),
     ("A change that was not answered is 502, and was sent once", netbox_broken.unanswered),
     ("A list that is searched is of one moment", netbox_broken.moments),
+    ("A search through 20,000 records finds each once", netbox_broken.long),
     ("What is not there has the answers below", netbox_broken.missing),
 ]
 WIRE = [

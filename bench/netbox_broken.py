@@ -116,6 +116,24 @@ def missing(front):
     front.breaker.mode = None
 
 
+def long(front):
+    """A search through as many records as are read at most."""
+    front.breaker.many, front.breaker.breaks = 20_000, ()
+    two = [*range(1, 257), *range(769, 1025)]
+    for query, ids in (("q=number", range(1, 20_001)), ("q=number 77", [n + 1 for n in range(20_000) if str(n).startswith("77")]),
+                       ("mask_length=24&q=10.7.7.7", [7 * 256 + 8]), ("within=10.0.0.0/16&within=10.3.0.0/16&is_pool=false", two)):
+        found, target = [], "/api/ipam/prefixes/?limit=0&" + query.replace(" ", "%20")
+        while target:
+            page = front.link.ask("GET", target).value
+            assert page["count"] == len(ids), (query, page["count"], len(ids))
+            found += [one["id"] for one in page["results"]]
+            target = page["next"] and len(found) < 2000 and page["next"][len(front.base):]
+        assert found == [*ids][:len(found)] and len(found) in (len(ids), 2000), query
+    front.breaker.many = 20_001
+    assert "more than 20000 records" in front.want(400, "GET", "prefixes/?q=number")["detail"]
+    front.breaker.many = 0
+
+
 def moments(front):
     """Pages whose `Ipam-Place` differ are read again, three times, then 503."""
     for moved, status in ((0, 200), (2, 200), (4, 200), (6, 503)):

@@ -79,6 +79,7 @@ class Breaker:
 
     def __init__(self, port, inner):
         self.breaks, self.mode, self.mode_of_changes, self.changes, self.moved = (), None, None, 0, 0
+        self.many = 0
         self.server = http.server.ThreadingHTTPServer(("127.0.0.1", port), type("Handler", (Handler,), {"breaker": self, "inner": inner}))
         self.server.daemon_threads = True
         threading.Thread(target=self.server.serve_forever, daemon=True).start()
@@ -100,6 +101,8 @@ class Handler(http.server.BaseHTTPRequestHandler):
                 return self.broken(self.breaker.mode_of_changes)
         elif self.breaker.mode and self.breaker.breaks and self.path.startswith(self.breaker.breaks):
             return self.broken(self.breaker.mode)
+        elif self.breaker.many and self.path.startswith("/api/ipam/prefixes/?"):
+            return self.page(self.breaker.many)
         link = http.client.HTTPConnection("127.0.0.1", self.inner, timeout=60)
         link.request(self.command, self.path, body or None)
         answer = link.getresponse()
@@ -109,6 +112,16 @@ class Handler(http.server.BaseHTTPRequestHandler):
             headers["Ipam-Place"] = f"{1_000_000 + self.breaker.moved}"
         self.answer(answer.status, answer.read(), headers)
         return link.close()
+
+    def page(self, count):
+        """A page of so many prefixes, which the register need not have."""
+        query = dict(pair.split("=") for pair in self.path.split("?")[1].split("&"))
+        first, limit = int(query["offset"]), int(query["limit"])
+        rows = [{"children": 0, "depth": 0, "description": f"number {n}", "family": 4, "id": n + 1, "is_pool": False, "mark_utilized": False, "role": None,
+                 "prefix": f"10.{n // 256}.{n % 256}.0/24", "status": {"label": "Active", "value": "active"}, "vrf": None}
+                for n in range(first, min(count, first + limit))]
+        text = json.dumps({"count": count, "next": None, "previous": None, "results": rows}).encode()
+        self.answer(200, text, {"Content-Length": str(len(text)), "Ipam-Place": "1"})
 
     def broken(self, mode):
         self.close_connection = True
