@@ -69,7 +69,7 @@ class Proxy:
         return http.client.HTTPSConnection("localhost", self.port, timeout=60, context=ssl.create_default_context(cafile=f"{self.folder}/register.pem"))
 
     def asker(self):
-        return Asker(self.connection, self.token)
+        return Asker(self.connection, self.token, "/register/api/ipam/")
 
     def end(self):
         self.child.terminate()

@@ -16,7 +16,7 @@ need dpkg-shlibdeps dpkg-dev
 need strip binutils
 [ "$(id -u)" = 0 ] || { echo "systemd: only root can do this" >&2; exit 1; }
 root=${1:-/var/tmp/ipamd-debian}
-packages=systemd,systemd-sysv,dbus,curl,nginx-light,openssl,sqlite3,procps,iproute2,man-db
+packages=systemd,systemd-sysv,dbus,curl,nginx-light,libnginx-mod-http-js,openssl,sqlite3,procps,iproute2,man-db
 if [ ! -e "$root/made" ]; then
     debootstrap --variant=minbase --include="$packages" bookworm "$root" > "$root.log" 2>&1 || { echo "systemd: debootstrap failed, $root.log says why" >&2; exit 1; }
     touch "$root/made"

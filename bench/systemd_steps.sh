@@ -76,7 +76,7 @@ claim 64513
 
 # nginx before the register
 look 0 '' 'openssl req -x509 -newkey ec -pkeyopt ec_paramgen_curve:prime256v1 -nodes -days 2 -subj /CN=register.example.net -addext subjectAltName=DNS:register.example.net -keyout /etc/ssl/private/register.key -out /etc/ssl/certs/register.pem'
-step 0 '' 'cp examples/nginx-ipamd.conf /etc/nginx/conf.d/ipamd.conf'
+step 0 '' "sed 's|/usr/share/ipamd|/usr/local/share/ipamd|' examples/nginx-ipamd.conf > /etc/nginx/conf.d/ipamd.conf"
 users="printf 'anna:%s\\n' \"\$(openssl passwd -apr1)\" >> /etc/nginx/register.users"
 steps=$((steps + 1))
 grep -qxF -- "    $users" docs/OPERATING.md || { bad=$((bad + 1)); echo "BAD  not in OPERATING.md: $users"; }
@@ -89,6 +89,8 @@ step 0 '' 'chmod 600 /etc/nginx/register.tokens'
 step 0 'test is successful' 'nginx -t && systemctl reload nginx'
 outside="curl -s -w '%{http_code}' --cacert /etc/ssl/certs/register.pem --resolve register.example.net:443:127.0.0.1"
 look 0 '"count":1,.*200$' "sleep 1; $outside -u anna:secret https://register.example.net/api/ipam/prefixes/"
+look 0 '"display":.*200$' "$outside -u anna:secret https://register.example.net/api/ipam/prefixes/"
+look 0 '"count":1,.*200$' "$outside -u anna:secret https://register.example.net/register/api/ipam/prefixes/"
 look 0 '401$' "$outside https://register.example.net/api/ipam/prefixes/"
 look 0 '"count":1,.*200$' "$outside -H \"Authorization: \$(sed 's/\"\(.*\)\".*/\1/' /etc/nginx/register.tokens)\" https://register.example.net/api/ipam/prefixes/"
 look 0 ' bert ' 'cat /var/log/nginx/register.log'
