@@ -4,12 +4,17 @@
  */
 import { answers, ask, isLeft, Unanswered, whoAsks } from "./api.js";
 import { el, fill } from "./dom.js";
+import { KINDS } from "./kinds.js";
+import { showList } from "./list_view.js";
 import { Names } from "./names.js";
 import { showPlan } from "./plan_view.js";
+import { showPrefix } from "./prefix_view.js";
+import { showRecord } from "./record_view.js";
 import { hrefOf, readHash } from "./router.js";
+import { showSearch } from "./search_view.js";
 
 const POLL_SECONDS = 10;
-const VIEWS = { plan: showPlan };
+const PAGES = [["plan", "Plan"], ...["prefixes", "ip-addresses", "ip-ranges", "aggregates", "vrfs", "roles", "rirs"].map((kind) => [kind, KINDS[kind].many])];
 
 const main = document.getElementById("view");
 const notice = document.getElementById("notice");
@@ -58,6 +63,26 @@ function leave() {
   main.classList.remove("filled");
 }
 
+/** The view of an address. @param {string[]} path */
+function viewOf([first, second, ...more]) {
+  if (more.length > 0) return null;
+  if (first === "plan") return showPlan;
+  if (first === "search") return showSearch;
+  if (!(first in KINDS)) return null;
+  if (second === undefined) return showList;
+  if (!/^[1-9][0-9]{0,9}$/.test(second)) return null;
+  return first === "prefixes" ? showPrefix : showRecord;
+}
+
+/** Marks the page in the navigation, and has the search say what was asked. */
+function showPlace(route) {
+  const pages = document.getElementById("pages");
+  fill(pages, PAGES.map(([path, text]) => el("a", { href: hrefOf([path]), "aria-current": route.path[0] === path ? "page" : null }, text)));
+  const asked = document.getElementById("search-text");
+  if (document.activeElement !== asked) asked.value = route.path[0] === "search" ? route.query.get("q") ?? "" : "";
+  document.title = [...route.path.map((part) => KINDS[part]?.many ?? part), "Address plan"].join(" · ");
+}
+
 /** Shows the view that the address names. */
 export async function show() {
   leave();
@@ -68,7 +93,8 @@ export async function show() {
   }
   Object.assign(state, { viewPlace: null, isOld: false });
   showNotice();
-  const view = VIEWS[route.path[0]];
+  const view = viewOf(route.path);
+  showPlace(route);
   const { signal } = state.abort;
   const context = { route, signal, names: state.names, mayChange: state.user.mayChange, onFault: noteFault, onLeave: (task) => state.leaving.push(task), show };
   main.setAttribute("aria-busy", "true");
@@ -91,6 +117,10 @@ async function begin() {
   state.user = await whoAsks();
   document.body.classList.toggle("reading", !state.user.mayChange);
   window.addEventListener("hashchange", show);
+  document.getElementById("search").addEventListener("submit", (event) => {
+    event.preventDefault();
+    window.location.hash = hrefOf(["search"], { q: document.getElementById("search-text").value });
+  });
   window.setInterval(poll, POLL_SECONDS * 1000);
   document.addEventListener("visibilitychange", poll);
   await show();

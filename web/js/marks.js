@@ -13,3 +13,10 @@ export function bar(percent) {
   const fillOf = el("span", { class: "bar-fill", style: { width: `${Math.min(100, percent)}%` } });
   return el("span", { class: `bar ${level}` }, el("span", { class: "bar-track", "aria-hidden": "true" }, fillOf), el("span", { class: "bar-text" }, `${percent} %`));
 }
+
+/** Facts with their names, side by side. @param {Array<?[string, *]>} pairs */
+export const factList = (pairs) =>
+  el("dl", { class: "facts" }, pairs.filter(Boolean).map(([name, value]) => el("div", {}, el("dt", {}, name), el("dd", {}, value))));
+
+/** Who changed a record is not in the register. */
+export const logLine = () => el("p", { class: "muted log-line" }, "Who changed it is in the proxy’s log.");

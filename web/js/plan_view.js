@@ -5,7 +5,8 @@
 import { asides, get } from "./api.js";
 import { blockText, contains, readBlock } from "./address.js";
 import { el, fill } from "./dom.js";
-import { replaceQuery } from "./router.js";
+import { tableChoice } from "./list_view.js";
+import { hrefOf, replaceQuery } from "./router.js";
 import { Reader, tableNode, visibleRows } from "./plan.js";
 import { countOf, Tree } from "./tree.js";
 
@@ -64,7 +65,14 @@ function headOf(names, asked, actions) {
   const vrf = asked === undefined || asked === "global" ? null : names.byId.vrfs.get(Number(asked));
   const title = asked === undefined ? "All tables" : vrf === null ? "Global table" : vrf?.name ?? `VRF ${asked}`;
   const about = el("p", { class: "muted about" }, vrf?.rd ? `${vrf.rd} · ` : "", vrf?.description ?? "");
-  return el("div", { class: "view-head" }, el("div", {}, el("h1", {}, title), about), el("div", { class: "actions" }, actions));
+  return el("div", { class: "view-head" }, el("div", {}, el("h1", {}, title), about), el("div", { class: "actions" }, switchOf(names, asked), actions));
+}
+
+/** The switch of the table that is shown. */
+function switchOf(names, asked) {
+  return tableChoice(names, asked ?? "", (value) => {
+    window.location.hash = hrefOf(value === "" ? ["plan"] : ["plan", value]);
+  });
 }
 
 /** Says how many records there are, once they are counted. */
