@@ -2,6 +2,7 @@
  * The page: its top, its views by their addresses, and whether what is shown is still so.
  * @module
  */
+import { createRecord, listActions, planActions, recordActions } from "./actions.js";
 import { answers, ask, isLeft, Unanswered, whoAsks } from "./api.js";
 import { el, fill } from "./dom.js";
 import { KINDS } from "./kinds.js";
@@ -63,6 +64,22 @@ function leave() {
   main.classList.remove("filled");
 }
 
+/**
+ * What a view is given: its address, a signal that ends when it is left, the names of records, and the changes that the user may make.
+ * @param {{path: string[], query: URLSearchParams}} route @param {AbortSignal} signal
+ */
+function contextOf(route, signal) {
+  const { mayChange } = state.user;
+  const context = { route, signal, names: state.names, mayChange, onFault: noteFault, onLeave: (task) => state.leaving.push(task), show };
+  if (!mayChange) return context;
+  return Object.assign(context, {
+    create: (kind, first) => createRecord(kind, first, context),
+    recordActions: (kind, record) => recordActions(kind, record, context),
+    listActions: (kind) => listActions(kind, route, context),
+    planActions: (asked) => planActions(asked, context),
+  });
+}
+
 /** The view of an address. @param {string[]} path */
 function viewOf([first, second, ...more]) {
   if (more.length > 0) return null;
@@ -96,7 +113,7 @@ export async function show() {
   const view = viewOf(route.path);
   showPlace(route);
   const { signal } = state.abort;
-  const context = { route, signal, names: state.names, mayChange: state.user.mayChange, onFault: noteFault, onLeave: (task) => state.leaving.push(task), show };
+  const context = contextOf(route, signal);
   main.setAttribute("aria-busy", "true");
   try {
     if (view) await view(main, context);
@@ -115,7 +132,8 @@ function noteFault(fault) {
 
 async function begin() {
   state.user = await whoAsks();
-  document.body.classList.toggle("reading", !state.user.mayChange);
+  const who = document.getElementById("who");
+  fill(who, state.user.user ? el("span", { class: "user" }, state.user.user) : null, state.user.mayChange ? null : el("span", { class: "tag reading" }, "Reading only"));
   window.addEventListener("hashchange", show);
   document.getElementById("search").addEventListener("submit", (event) => {
     event.preventDefault();
