@@ -1,0 +1,141 @@
+/* Requests of NetBox's form as the register reads them. */
+import address from './address.js';
+import kinds from './kinds.js';
+import refusals from './refusals.js';
+import register from './register.js';
+
+/** Whether a member of a request says anything: null, the empty text, `[]` and `{}` do not. @param {*} value @returns {boolean} */
+function says(value) {
+    if (value === null || value === '') {
+        return false;
+    }
+    return typeof value !== 'object' || Object.keys(value).length > 0;
+}
+
+/** @param {string} name @returns {boolean} whether NetBox only answers this member */
+function isReadOnly(name) {
+    return kinds.READ_ONLY.includes(name) || /^\w+_count$/.test(name);
+}
+
+/** An object of a request; a refusal is thrown if it is none. */
+function objectOf(value) {
+    if (value === null || typeof value !== 'object' || Array.isArray(value)) {
+        throw refusals.detail(400, 'Invalid data. Expected a dictionary.');
+    }
+    return value;
+}
+
+/**
+ * The id that a reference means: an id, an object with one, or what a record of the kind has.
+ * @param {Object} call
+ * @param {string} name of the member
+ * @param {string} kind that is referred to
+ * @param {*} value
+ * @returns {Promise<*>} the id, or what the register refuses
+ */
+async function idOf(call, name, kind, value) {
+    if (typeof value === 'string' && /^[1-9][0-9]{0,9}$/.test(value)) {
+        return Number(value);
+    }
+    if (value === null || typeof value === 'number') {
+        return value;
+    }
+    const attributes = kinds.KINDS[kind].attributes;
+    const isObject = typeof value === 'object' && !Array.isArray(value);
+    if (isObject && kinds.has(value, 'id') && typeof value.id !== 'object') {
+        return await idOf(call, name, kind, value.id);
+    }
+    const asked = isObject ? Object.keys(value) : [];
+    if (asked.length === 0 || !asked.every((one) => attributes.includes(one))) {
+        throw refusals.field(name, 'a reference is an id, or an object with its id or with its ' + attributes.join(' or '));
+    }
+    const rows = await register.all(call, kind);
+    const found = rows.filter((row) => asked.every((one) => row[one] === value[one]));
+    if (found.length !== 1) {
+        const why = found.length ? 'Multiple objects match' : 'Related object not found using';
+        throw refusals.field(name, why + ' the provided attributes: ' + JSON.stringify(value));
+    }
+    return found[0].id;
+}
+
+/**
+ * An object of a request with the members that the register has, references as ids. What cannot be kept is refused by name.
+ * @param {Object} call
+ * @param {Object} value
+ * @param {{members: string[], references: Object<string, string>}} kind
+ * @param {Object<string, *>} same members that are left out if they are these
+ * @returns {Promise<Object>}
+ */
+async function plainOf(call, value, kind, same) {
+    const out = {};
+    const refused = {};
+    const names = Object.keys(objectOf(value));
+    for (let n = 0; n < names.length; n += 1) {
+        const name = names[n];
+        if (kinds.has(kind.references, name)) {
+            out[name] = await idOf(call, name, kind.references[name], value[name]);
+        } else if (kind.members.includes(name)) {
+            out[name] = value[name];
+        } else if (kinds.has(same, name) && says(value[name])) {
+            await isSame(call, name, value[name], same[name]);
+        } else if (!isReadOnly(name) && says(value[name])) {
+            refused[name] = ['the register has no ' + name + ' here'];
+        }
+    }
+    if (Object.keys(refused).length) {
+        throw new refusals.Refusal(400, refused);
+    }
+    return out;
+}
+
+/** Refuses a member of a claim that is not what the record has that is claimed from. */
+async function isSame(call, name, value, own) {
+    let equal;
+    if (name === 'vrf') {
+        const id = await idOf(call, 'vrf', 'vrfs', value);
+        equal = id === own;
+    } else {
+        const block = typeof value === 'string' ? address.blockOf(value) : null;
+        equal = block !== null && own !== undefined && address.blockText(block) === own;
+    }
+    if (!equal) {
+        throw refusals.field(name, 'a claim has the ' + name + ' of what it is claimed from');
+    }
+}
+
+/** Refuses an object without a required member. */
+function demand(kind, value) {
+    const body = {};
+    kinds.KINDS[kind].required.filter((name) => !kinds.has(objectOf(value), name)).forEach((name) => {
+        body[name] = ['This field is required.'];
+    });
+    if (Object.keys(body).length) {
+        throw new refusals.Refusal(400, body);
+    }
+}
+
+/** The items of a claim as the register reads them: an object, or a list of them. */
+async function claimOf(call, route, value) {
+    const claim = kinds.CLAIMS[route.part];
+    const items = Array.isArray(value) ? value : [value];
+    if (items.length > register.PAGE) {
+        throw new refusals.Refusal(507, { detail: 'claims would exceed ' + register.PAGE }, 'limit');
+    }
+    const same = {};
+    const named = Object.keys(claim.same).filter((name) => items.some((item) => kinds.has(objectOf(item), name) && says(item[name])));
+    if (named.length) {
+        const answer = await register.read(call.r, route.kind + '/' + route.id + '/');
+        const from = register.valueOf(answer, route.kind);
+        Object.keys(claim.same).forEach((name) => {
+            same[name] = from[claim.same[name]];
+        });
+    }
+    const out = [];
+    for (let n = 0; n < items.length; n += 1) {
+        const item = await plainOf(call, items[n], claim, same);
+        out.push(item);
+    }
+    return Array.isArray(value) ? out : out[0];
+}
+
+export default { plainOf, claimOf, demand, objectOf };

@@ -1,0 +1,124 @@
+/*
+ * What the form knows of each kind of record. A further kind (AS numbers, VLANs) is one more entry of KINDS.
+ *
+ * njs 0.7.9 runs these files: no for-of, destructuring, spread, default parameters, optional chaining, classes, Map or Set.
+ */
+
+/**
+ * @typedef {Object} Kind
+ * @property {string} path the part of the path that names it
+ * @property {string[]} members what a request can set
+ * @property {string[]} required what POST and PUT have to set
+ * @property {Object<string, string>} references a member, and the kind whose id it holds
+ * @property {string[]} attributes by which a record that refers to this kind may name it, next to its id
+ * @property {string[]} brief what a brief object has, next to id, url, display and description
+ * @property {Object} constants what NetBox's records have and the register's do not
+ */
+
+const PLACED = { comments: '', tenant: null };
+
+/** @type {Object<string, Kind>} */
+const KINDS = {
+    'vrfs': {
+        path: 'vrfs',
+        members: ['name', 'rd', 'enforce_unique', 'description'],
+        required: ['name'],
+        references: {},
+        attributes: ['name', 'rd'],
+        brief: ['name', 'rd'],
+        constants: Object.assign({ import_targets: [], export_targets: [] }, PLACED),
+    },
+    'rirs': {
+        path: 'rirs',
+        members: ['name', 'slug', 'is_private', 'description'],
+        required: ['name', 'slug'],
+        references: {},
+        attributes: ['name', 'slug'],
+        brief: ['name', 'slug'],
+        constants: {},
+    },
+    'roles': {
+        path: 'roles',
+        members: ['name', 'slug', 'weight', 'description'],
+        required: ['name', 'slug'],
+        references: {},
+        attributes: ['name', 'slug'],
+        brief: ['name', 'slug'],
+        constants: {},
+    },
+    'aggregates': {
+        path: 'aggregates',
+        members: ['prefix', 'rir', 'description'],
+        required: ['prefix', 'rir'],
+        references: { rir: 'rirs' },
+        attributes: [],
+        brief: ['family', 'prefix'],
+        constants: Object.assign({ date_added: null }, PLACED),
+    },
+    'prefixes': {
+        path: 'prefixes',
+        members: ['prefix', 'vrf', 'status', 'role', 'is_pool', 'mark_utilized', 'description'],
+        required: ['prefix'],
+        references: { vrf: 'vrfs', role: 'roles' },
+        attributes: [],
+        brief: ['family', 'prefix', '_depth'],
+        constants: Object.assign({ site: null, scope_type: null, scope_id: null, vlan: null }, PLACED),
+    },
+    'ip-ranges': {
+        path: 'ip-ranges',
+        members: ['start_address', 'end_address', 'vrf', 'status', 'role', 'mark_utilized', 'mark_populated', 'description'],
+        required: ['start_address', 'end_address'],
+        references: { vrf: 'vrfs', role: 'roles' },
+        attributes: [],
+        brief: ['family', 'start_address', 'end_address'],
+        constants: PLACED,
+    },
+    'ip-addresses': {
+        path: 'ip-addresses',
+        members: ['address', 'vrf', 'status', 'role', 'dns_name', 'description'],
+        required: ['address'],
+        references: { vrf: 'vrfs' },
+        attributes: [],
+        brief: ['family', 'address'],
+        constants: Object.assign({
+            nat_inside: null, nat_outside: [], assigned_object: null, assigned_object_type: null, assigned_object_id: null,
+        }, PLACED),
+    },
+};
+
+/** What every record of NetBox has, and none of the register's. */
+const CONSTANTS = { tags: [], custom_fields: {}, created: null, last_updated: null };
+
+/**
+ * What is claimed out of a record: by the last part of the path, the kind that a claim makes, what an item of a claim can set, and the members that an item may
+ * name if they are those of the record that is claimed from (by its own member's name).
+ */
+const CLAIMS = {
+    'available-ips': {
+        makes: 'ip-addresses',
+        from: ['prefixes', 'ip-ranges'],
+        members: ['status', 'role', 'dns_name', 'description'],
+        references: {},
+        same: { vrf: 'vrf', prefix: 'prefix', parent: 'prefix' },
+    },
+    'available-prefixes': {
+        makes: 'prefixes',
+        from: ['prefixes'],
+        members: ['prefix_length', 'status', 'role', 'is_pool', 'mark_utilized', 'description'],
+        references: { role: 'roles' },
+        same: { vrf: 'vrf', parent: 'prefix' },
+    },
+};
+
+/** The kinds whose records have `utilization/`. */
+const MEASURED = ['prefixes', 'ip-ranges', 'aggregates'];
+
+/** Members of a request that are ignored, since a client may send back what it was answered. Counts (`prefix_count`) are too. */
+const READ_ONLY = ['id', 'url', 'display', 'display_url', 'family', 'size', 'children', '_depth', 'created', 'last_updated'];
+
+/** Whether an object has a member of its own. @param {Object} object @param {string} name @returns {boolean} */
+function has(object, name) {
+    return Object.prototype.hasOwnProperty.call(object, name);
+}
+
+export default { KINDS, CONSTANTS, CLAIMS, MEASURED, READ_ONLY, has };

@@ -1,0 +1,152 @@
+/* Lists of records: a page of the register's, or what is found in all its pages. */
+import kinds from './kinds.js';
+import queries from './queries.js';
+import records from './records.js';
+import refusals from './refusals.js';
+import register from './register.js';
+
+/** As many records of the register are read for one list at most, and as many ids looked up. */
+const MOST_READ = 20000;
+const MOST_IDS = 1000;
+const TRIES = 3;
+
+/** That two pages are of different moments. */
+function Moved() {}
+
+/** What was read of the register for a list, and of which moment. */
+function Reading(call) {
+    this.call = call;
+    this.place = undefined;
+    this.left = MOST_READ;
+}
+
+/** An answer, of the same moment as those before it; else Moved is thrown. */
+function take(reading, answer) {
+    if (reading.place !== undefined && answer.place !== reading.place) {
+        throw new Moved();
+    }
+    reading.place = answer.place;
+    return answer;
+}
+
+/** The query text of a page of the register. */
+function pageText(native, limit, offset) {
+    const pairs = Object.keys(native).map((name) => [name, native[name]]);
+    return queries.textOf(pairs.concat([['limit', String(limit)], ['offset', String(offset)]]));
+}
+
+/** Hands the rows of all pages of a list of the register to a function. */
+async function eachPage(reading, kind, native, use) {
+    let offset = 0;
+    let count = 1;
+    while (offset < count) {
+        const answer = await register.read(reading.call.r, kind + '/', pageText(native, register.PAGE, offset));
+        const page = register.valueOf(take(reading, answer), kind);
+        count = page.count;
+        if (count - offset > reading.left) {
+            throw refusals.detail(400, 'these filters have to be looked for in more than ' + MOST_READ + ' records: add one that the register has itself');
+        }
+        reading.left -= page.results.length;
+        use(page.results);
+        offset += register.PAGE;
+    }
+}
+
+/** Hands the records of these ids, as far as they are there, to a function. */
+async function eachOf(reading, kind, ids, use) {
+    if (ids.length > MOST_IDS) {
+        throw refusals.field('id', 'at most ' + MOST_IDS + ' ids');
+    }
+    for (let n = 0; n < ids.length; n += 1) {
+        const answer = await register.read(reading.call.r, kind + '/' + ids[n] + '/');
+        take(reading, answer);
+        if (answer.status !== 404) {
+            use([register.valueOf(answer, kind)]);
+        }
+    }
+}
+
+/** The records that pass all filters, by id, as they were at one moment; Moved is thrown if there was none. */
+async function look(call, kind, query) {
+    const reading = new Reading(call);
+    const found = {};
+    const use = (rows) => rows.filter((row) => query.tests.every((test) => test(row))).forEach((row) => {
+        found[row.id] = row;
+    });
+    if (query.ids !== null && Object.keys(query.native).length === 0) {
+        await eachOf(reading, kind, query.ids, use);
+    } else {
+        const clash = (one) => Object.keys(one).some((name) => kinds.has(query.native, name));
+        const narrow = query.narrow === null || query.narrow.some(clash) ? [{}] : query.narrow;
+        for (let n = 0; n < narrow.length; n += 1) {
+            await eachPage(reading, kind, Object.assign({}, query.native, narrow[n]), use);
+        }
+    }
+    const rows = Object.keys(found).map((id) => found[id]).sort((a, b) => a.id - b.id);
+    return { count: rows.length, rows: rows.slice(query.offset, query.offset + query.limit), place: reading.place };
+}
+
+/** What is found, read again if the register was changed meanwhile. */
+async function found(call, kind, query) {
+    for (let tries = 0; tries < TRIES; tries += 1) {
+        try {
+            return await look(call, kind, query);
+        } catch (e) {
+            if (!(e instanceof Moved)) {
+                throw e;
+            }
+        }
+    }
+    throw refusals.detail(503, 'the register was changed each time that its pages were read; try again');
+}
+
+/** One page of the register, which has all the filters itself. */
+async function passed(call, kind, query) {
+    const answer = await register.read(call.r, kind + '/', pageText(query.native, query.limit, query.offset));
+    const page = register.valueOf(answer, kind);
+    return { count: page.count, rows: page.results, place: answer.place };
+}
+
+/** The target of another page. */
+function linkOf(call, kind, query, offset) {
+    const pairs = query.pairs.concat([['limit', String(query.limit)], ['offset', String(offset)]]);
+    return call.base + '/api/ipam/' + kind + '/?' + queries.textOf(pairs);
+}
+
+/** Records as the view has them: whole, brief, or with some members. */
+async function shown(call, kind, rows, view) {
+    const out = view.brief ? rows.map((row) => records.briefOf(call, kind, row)) : await records.recordsOf(call, kind, rows);
+    if (view.fields === null) {
+        return out;
+    }
+    return out.map((record) => {
+        const some = {};
+        view.fields.filter((name) => kinds.has(record, name)).forEach((name) => {
+            some[name] = record[name];
+        });
+        return some;
+    });
+}
+
+/**
+ * The answer to GET of a list.
+ * @param {Object} call
+ * @param {string} kind
+ * @param {string} text the query
+ * @returns {Promise<{value: Object, place: (string|undefined)}>}
+ */
+async function page(call, kind, text) {
+    const query = await queries.queryOf(call, kind, text);
+    const list = query.tests.length ? await found(call, kind, query) : await passed(call, kind, query);
+    return {
+        place: list.place,
+        value: {
+            count: list.count,
+            next: query.offset + query.limit < list.count ? linkOf(call, kind, query, query.offset + query.limit) : null,
+            previous: query.offset > 0 ? linkOf(call, kind, query, Math.max(0, query.offset - query.limit)) : null,
+            results: await shown(call, kind, list.rows, query),
+        },
+    };
+}
+
+export default { page, shown };

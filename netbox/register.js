@@ -1,0 +1,68 @@
+/* Requests to the register. nginx makes a GET of every reading one, whatever it is asked to send, so a request of a client makes at most one change. */
+import kinds from './kinds.js';
+import refusals from './refusals.js';
+
+const READING = '/register-read';
+const CHANGING = '/register-change';
+/** The register's longest page. */
+const PAGE = 1000;
+
+/** An answer of the register. @typedef {{status: number, text: string, place: (string|undefined)}} Answer */
+
+/** @returns {Answer} */
+function answerOf(reply) {
+    return { status: reply.status, text: reply.responseText || '', place: reply.headersOut['Ipam-Place'] };
+}
+
+/**
+ * A GET of the register.
+ * @param {Object} r the request of the client
+ * @param {string} path below /api/ipam/, as `prefixes/1/`
+ * @param {string} [query] without its question mark
+ * @returns {Promise<Answer>}
+ */
+async function read(r, path, query) {
+    const reply = await r.subrequest(READING + '/api/ipam/' + path, { method: 'GET', args: query || '' });
+    return answerOf(reply);
+}
+
+/**
+ * The one change of a request.
+ * @param {Object} r the request of the client
+ * @param {string} method POST, PATCH or DELETE
+ * @param {string} path below /api/ipam/
+ * @param {string} body
+ * @returns {Promise<Answer>}
+ */
+async function change(r, method, path, body) {
+    const reply = await r.subrequest(CHANGING + '/api/ipam/' + path, { method: method, body: body });
+    return answerOf(reply);
+}
+
+/** The value of an answer that has to be 200; a refusal is thrown. @param {Answer} answer @param {string} kind @returns {*} */
+function valueOf(answer, kind) {
+    if (answer.status !== 200) {
+        throw refusals.ofRegister(answer.status, answer.text, kind);
+    }
+    try {
+        return JSON.parse(answer.text);
+    } catch (e) {
+        throw refusals.detail(502, 'the answer of the register could not be read');
+    }
+}
+
+/**
+ * All records of a kind that has at most a thousand: VRFs, RIRs, roles. They are read once for each request of a client.
+ * @param {Object} call
+ * @param {string} kind
+ * @returns {Promise<Object[]>}
+ */
+async function all(call, kind) {
+    if (!kinds.has(call.tables, kind)) {
+        const answer = await read(call.r, kind + '/', 'limit=' + PAGE);
+        call.tables[kind] = valueOf(answer, kind).results;
+    }
+    return call.tables[kind];
+}
+
+export default { PAGE, read, change, valueOf, all };
