@@ -15,7 +15,13 @@ export class Refusal extends Error {
 /** No answer of the register came: what was asked may have been done or not. */
 export class Unanswered extends Error {}
 
-const BASE = new URL("../register/api/ipam/", document.baseURI);
+/** An address beside the folder of the page, without a name and a password that the page was opened with. @param {string} path */
+function beside(path) {
+  const url = new URL(path, document.baseURI);
+  return Object.assign(url, { username: "", password: "", hash: "", search: "" });
+}
+
+const BASE = beside("../register/api/ipam/");
 const READ_SECONDS = 30;
 const CHANGE_SECONDS = 60;
 
@@ -152,7 +158,7 @@ export const isLeft = (fault) => fault?.name === "AbortError";
 /** Who is asking, and whether that user may change; where the proxy does not say, changes are offered. */
 export async function whoAsks() {
   try {
-    const response = await fetch(new URL("../register/user", document.baseURI), { cache: "no-store", credentials: "same-origin" });
+    const response = await fetch(beside("../register/user"), { cache: "no-store", credentials: "same-origin" });
     const value = response.ok ? await response.json() : {};
     return { user: typeof value.user === "string" ? value.user : "", mayChange: value.may_change !== false };
   } catch {
