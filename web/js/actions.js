@@ -7,7 +7,7 @@ import { showClaim } from "./claim.js";
 import { button, el, fill } from "./dom.js";
 import { Form } from "./form.js";
 import { bodyValue, confirmOf, differences, KINDS, memberText, titleOf } from "./kinds.js";
-import { hrefOf } from "./router.js";
+import { hrefOf, replaceQuery } from "./router.js";
 import { greatestId, newSince, queryOf, showUncertain } from "./uncertain.js";
 
 /** Says what was done, with a link to it. @param {string} text @param {string} [href] */
@@ -59,6 +59,8 @@ export function createRecord(kind, first, context) {
       const { value: made } = await ask("POST", `${kind}/`, { body: values });
       form.close();
       toast(`Created ${titleOf(kind, made)}`, hrefOf([kind, made.id]));
+      const { path } = context.route;
+      if (path[0] === "plan" && kind === "prefixes") replaceQuery({ at: made.prefix, table: path.length === 1 ? made.vrf : null });
       refresh(context);
     } catch (fault) {
       if (!(fault instanceof Unanswered)) throw fault;

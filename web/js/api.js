@@ -49,10 +49,11 @@ function faultOf(response, text) {
   } catch {
     value = null;
   }
-  if (typeof value?.detail === "string") return new Refusal(response.status, String(value.code ?? ""), value.detail);
+  const isOfRegister = typeof value?.code === "string" || response.status < 500;
+  if (typeof value?.detail === "string" && isOfRegister) return new Refusal(response.status, String(value.code ?? ""), value.detail);
   if (response.status === 401) return new Refusal(401, "stranger", "The password is not known. Load the page again to give another one.");
   if (response.status < 500) return new Refusal(response.status, "", `The server answered ${response.status} ${response.statusText}`);
-  return new Unanswered(`The register did not answer (${response.status} ${response.statusText}).`);
+  return new Unanswered("The register did not answer.");
 }
 
 /** A signal that ends with the caller's, or after so many seconds. @param {?AbortSignal} signal @param {number} seconds */

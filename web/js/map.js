@@ -89,7 +89,7 @@ export class SpaceMap {
     const href = span.kind === "part" ? this.zoom(span.block) : span.record ? hrefOf(["prefixes", span.record.id]) : null;
     const fresh = { prefix: blockText(span.block), vrf: this.record.vrf };
     const onClick = span.kind === "free" && this.mayChange ? () => this.onFree("prefixes", fresh) : null;
-    const kind = `${span.kind} ${span.record?.status?.value ?? ""}`;
+    const kind = `${span.kind} ${span.record?.status?.value ?? ""}${place.begins ? "" : " goes-on"}`;
     const made = this.stop(span.name, kind, href, onClick, place.begins ? {} : { "aria-hidden": "true", data: {} });
     made.style.setProperty("left", `${place.left * 100}%`);
     made.style.setProperty("width", `${place.width * 100}%`);

@@ -2,12 +2,13 @@
  * The view of the plan: `#/plan` has all tables, `#/plan/global` and `#/plan/3` one; `?at=BLOCK` opens the way to a block.
  * @module
  */
-import { asides, get } from "./api.js";
+import { get } from "./api.js";
 import { blockText, contains, readBlock } from "./address.js";
+import { readerOf } from "./book.js";
 import { el, fill } from "./dom.js";
 import { tableChoice } from "./list_view.js";
 import { hrefOf, replaceQuery } from "./router.js";
-import { Reader, tableNode, visibleRows } from "./plan.js";
+import { tableNode, visibleRows } from "./plan.js";
 import { countOf, Tree } from "./tree.js";
 
 /** The trees that were shown, by the path of the view, to come back to. */
@@ -16,7 +17,7 @@ const kept = new Map();
 /** What a node is known by when a tree is read again. @param {import("./plan.js").PlanNode} node */
 const keyOf = (node) => `${node.kind} ${node.vrf} ${node.block ? blockText(node.block) : ""} ${node.record?.id ?? ""}`;
 
-/** Opens the nodes that were open before. @param {Reader} reader */
+/** Opens the nodes that were open before. @param {import("./plan.js").Reader} reader */
 async function reopen(reader, nodes, keys) {
   for (const node of nodes) {
     if (!keys.has(keyOf(node))) continue;
@@ -26,9 +27,14 @@ async function reopen(reader, nodes, keys) {
   }
 }
 
-/** Opens the way to a block; gives the node nearest to it. */
-async function openWay(reader, nodes, block) {
+/** Opens the way to a block; gives the node nearest to it. Where all tables are shown, the way begins in the one that is named. */
+async function openWay(reader, nodes, block, table) {
   let [level, nearest] = [nodes, null];
+  const root = nodes.find((node) => node.kind === "table" && String(node.vrf ?? "") === table);
+  if (root) {
+    level = await reader.read(root);
+    root.open = true;
+  }
   for (;;) {
     const next = level.find((node) => node.block && contains(node.block, block));
     if (!next) return nearest;
@@ -41,10 +47,17 @@ async function openWay(reader, nodes, block) {
   }
 }
 
-/** @param {object} names */
-function sourceOf(names, signal) {
-  const page = (query) => asides.run(() => get("prefixes/", query, signal), signal);
-  return { page, aggregates: names.lists.aggregates };
+/** How many rows a plan begins with, if its first request has read them. */
+const FIRST_ROWS = 40;
+
+/** Opens what is read already, level by level, while it fits. */
+function openFirst(roots) {
+  for (;;) {
+    const rows = visibleRows(roots);
+    const next = rows.find(({ node }) => !node.open && node.children?.length > 0 && rows.length + node.children.length <= FIRST_ROWS);
+    if (!next) return;
+    next.node.open = true;
+  }
 }
 
 /** The roots of a view: all tables, or what is inside one. */
@@ -86,10 +99,11 @@ async function showCounts(place, asked, signal) {
 /** The tree of the view: the one that was there, its open nodes read again, or a new one. */
 async function treeModel(key, context, asked) {
   const { names, signal } = context;
-  const reader = new Reader(sourceOf(names, signal));
+  const reader = readerOf(names.lists.aggregates, signal);
   const before = kept.get(key);
   const roots = await rootsOf(reader, names, asked);
   if (before) await reopen(reader, roots, before.open);
+  else if (!context.route.query.has("at")) openFirst(roots);
   return { reader, roots, before };
 }
 
@@ -101,18 +115,19 @@ export async function showPlan(main, context) {
   const key = route.path.join("/");
   const { reader, roots, before } = await treeModel(key, context, asked);
   const at = readBlock(route.query.get("at") ?? "");
-  const found = at ? await openWay(reader, roots, at) : null;
+  const found = at ? await openWay(reader, roots, at, route.query.get("table") ?? "") : null;
   const tree = new Tree(reader, roots, {
     signal,
     roleName: (id) => names.roleName(id),
     rirName: (id) => names.rirName(id),
     onFault: context.onFault,
-    onMove: (node) => node.block && replaceQuery({ at: blockText(node.block) }),
+    onMove: (node) => node.block && replaceQuery({ at: blockText(node.block), table: asked === undefined ? node.vrf : null }),
   });
   const head = headOf(names, asked, context.planActions?.(asked) ?? []);
-  fill(main, head, roots.length === 0 ? emptyPlan(context, asked) : tree.element);
+  const isEmpty = roots.length === 0 || (asked === undefined && roots.length === 1 && roots[0].children.length === 0);
+  fill(main, head, isEmpty ? emptyPlan(asked) : tree.element);
   main.classList.add("filled");
-  if (roots.length > 0) begin(tree, found, before);
+  if (!isEmpty) begin(tree, found, before);
   showCounts(head.querySelector(".about"), asked, signal).catch(context.onFault);
   context.onLeave(() => {
     const open = new Set(visibleRows(roots).filter(({ node }) => node.open).map(({ node }) => keyOf(node)));
@@ -134,13 +149,6 @@ function begin(tree, found, before) {
   }
 }
 
-function emptyPlan(context, asked) {
-  return el(
-    "div",
-    { class: "empty" },
-    el("h2", {}, "No prefixes yet"),
-    el("p", {}, asked === undefined ? "The register is empty." : "This table is empty."),
-    el("div", { class: "actions centred" }, context.planActions?.(asked) ?? []),
-  );
-}
-
+/** What is said where there is nothing. @param {string|undefined} asked the table */
+const emptyPlan = (asked) =>
+  el("div", { class: "empty" }, el("h2", {}, "No prefixes yet"), el("p", { class: "muted" }, asked === undefined ? "The register is empty." : "This table is empty."));
