@@ -1,9 +1,10 @@
 """Users who may only read, by password and by token; and changes that the page of another site asks for."""
 import http.server
 import json
+import signal
 import threading
 
-from page_stand import BASE, Browser, check
+from page_stand import BASE, Browser, check, wait
 
 CHANGES = ("New prefix", "New VRF", "Next free address", "Next free block", "Edit", "Delete", "New address", "New range", "Create")
 
@@ -27,7 +28,9 @@ def reads(stand):
     check(stand.ask("GET", "prefixes/", user="clara")[0] == 200, "a reader may not read")
     # a token may be a reader's, too
     stand.write("register.readers", "clara yes;\nbert yes;\n")
-    stand.proxy.send_signal(1)
+    stand.proxy.send_signal(signal.SIGHUP)
+    wait(lambda: stand.ask("PATCH", "prefixes/1/", {}, Authorization=f"Token {stand.token}")[0] == 403, "the token of a reader")
+    check(stand.ask("GET", "prefixes/1/", Authorization=f"Token {stand.token}")[0] == 200, "a reader's token may not read")
 
 
 ATTACK = """<!doctype html><meta charset=utf-8><title>other</title>
@@ -90,6 +93,7 @@ def heads(stand):
 
 def page_heads(stand):
     page = Browser(stand.url)
+    page.go("plan")
     told = page.run("""return fetch("/web/").then((answer) => ["Content-Security-Policy", "X-Content-Type-Options"].map((name) => answer.headers.get(name)))""")
     check(told == ["default-src 'self'; frame-ancestors 'none'; base-uri 'none'; form-action 'self'; object-src 'none'", "nosniff"], f"the fields of the page: {told}")
     page.go("plan")

@@ -69,13 +69,14 @@ function freeTable(record, what, context) {
   const offer = (one) => (name === "prefix" ? context.create("prefixes", { prefix: one.prefix, vrf: record.vrf }) : context.create("ip-addresses", { address: one.address, vrf: record.vrf }));
   const place = { title: name === "prefix" ? "Block" : "Address", name, text: (one) => one[name], cell: (one) => el("span", { class: "with-copy" }, el("span", { class: "address" }, one[name]), copyButton(one[name])) };
   const size = { title: "Addresses", name: "size", text: (one) => countText(1n << BigInt((one.family === 4 ? 32 : 128) - Number(one.prefix.split("/")[1]))), rank: 2 };
-  const take = { title: "", name: "", text: () => "", cell: (one) => (context.mayChange ? button("Create", () => offer(one), { class: "button small", "aria-label": `Create ${one[name]}` }) : ""), size: "100px" };
+  const offered = (one) => button("Create", () => offer(one), { class: "button small", "aria-label": `Create ${one[name]}` });
+  const take = context.mayChange ? [{ title: "Create", isAction: true, text: () => "", cell: offered, size: "100px" }] : [];
   const load = async () => {
     const rows = await get(`prefixes/${record.id}/${what}/`, { limit: PAGE }, context.signal);
     return { rows, total: rows.length };
   };
   const label = name === "prefix" ? "Free blocks" : "Free addresses";
-  const columns = name === "prefix" ? [place, size, take] : [place, take];
+  const columns = name === "prefix" ? [place, size, ...take] : [place, ...take];
   const table = new RecordTable({ label, file: `free-in-${record.prefix.replace("/", "_")}.csv`, columns, load, empty: "Nothing is free", onFault: context.onFault });
   const show = table.show.bind(table);
   table.show = () => {

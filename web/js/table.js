@@ -4,13 +4,14 @@
  */
 import { PAGE } from "./api.js";
 import { csvText, saveFile } from "./csv.js";
-import { button, el, fill } from "./dom.js";
+import { button, el, fill, spoken } from "./dom.js";
 import { RowWindow } from "./window.js";
 
 /**
  * @typedef {object} Column
  * @property {string} title
  * @property {string} [name] its name in a CSV
+ * @property {boolean} [isAction] whether it has buttons in place of a member
  * @property {function(object): string} text
  * @property {function(object): (Node|string|Array)} [cell] what is shown if it is not the text
  * @property {function(object): *} [key] what it is sorted by if it is not the text
@@ -52,7 +53,8 @@ export class RecordTable {
   drawHead() {
     const cells = this.columns.map((column, index) => {
       const order = this.sorted?.index === index ? (this.sorted.down ? "descending" : "ascending") : "none";
-      return el("span", { role: "columnheader", "aria-sort": order, class: `rank-${column.rank ?? 1}` }, button(column.title, () => this.sort(index), { class: "sort" }));
+      const head = column.isAction ? spoken(column.title) : button(column.title, () => this.sort(index), { class: "sort" });
+      return el("span", { role: "columnheader", "aria-sort": column.isAction ? null : order, class: `rank-${column.rank ?? 1}` }, head);
     });
     const focused = [...this.head.querySelectorAll("button")].indexOf(document.activeElement);
     fill(this.head, cells);
@@ -123,8 +125,9 @@ export class RecordTable {
   }
 
   saveCsv() {
-    const header = this.columns.map((column) => column.name ?? column.title);
-    saveFile(this.file, csvText(header, this.rows.map((record) => this.columns.map((column) => column.text(record)))));
+    const columns = this.columns.filter((column) => !column.isAction);
+    const header = columns.map((column) => column.name ?? column.title);
+    saveFile(this.file, csvText(header, this.rows.map((record) => columns.map((column) => column.text(record)))));
   }
 
   end() {

@@ -1,0 +1,176 @@
+"""A full register: 200,000 prefixes and 500,000 addresses, in a file that is written here. When the first rows of the tree are there, the median of five; that no
+task of the page takes more than 200 ms while its lists are scrolled; and that every prefix is found by opening the tree."""
+import os
+import random
+import sqlite3
+import statistics
+import tempfile
+import time
+
+from page_stand import TOP, Browser, Stand, check, wait
+
+PREFIXES, ADDRESSES, RANGES = 200_000, 500_000, 10_000
+MOST_SECONDS, MOST_TASK = 1.0, 200
+
+
+def text_of(number):
+    return ".".join(str(number >> shift & 255) for shift in (24, 16, 8, 0))
+
+
+def prefixes():
+    """10.0.0.0/8 with a level for each of /12, /16, /20 and /24, a /11 that is wider than a sixteenth, IPv6 beside it, and customers in no order below 11.0.0.0/8."""
+    rows = [("10.0.0.0/8", "container", "", "everything"), ("10.32.0.0/11", "container", "", "wider than a sixteenth of it")]
+    for length, status in ((12, "container"), (16, "container"), (20, "container"), (24, "active")):
+        rows += [(f"{text_of(0x0A000000 + (n << (32 - length)))}/{length}", status, str(1 + n % 3), f"net {n}") for n in range(1 << (length - 8))]
+    rows += [(f"2001:db8:{n:x}::/48", "active", "", f"site {n}") for n in range(4000)]
+    some = random.Random(1).sample(range(1 << 20), PREFIXES - len(rows))
+    return rows + [(f"{text_of(0x0B000000 + (n << 4))}/28", "active", "", f"customer {n}") for n in some]
+
+
+def write(path):
+    """The file of the register: bench/tables.sql has its tables."""
+    text = open(os.path.join(TOP, "bench/tables.sql")).read()
+    base = sqlite3.connect(path)
+    base.executescript(text[:text.index("INSERT INTO")])
+    nets = [n << 8 for n in range(1 << 16)]
+    hosts = [(f"{text_of(0x0A000000 + net + at)}/24", "active" if at % 5 else "dhcp", f"host-{net >> 8}-{at}.example.net") for net in nets[:ADDRESSES // 16] for at in range(1, 17)]
+    base.executemany("INSERT INTO vrfs VALUES (?, ?, ?, 'true', '')", [(1, "guests", "65000:1"), (2, "lab", "65000:2")])
+    base.executemany("INSERT INTO rirs VALUES (?, ?, ?, 'true', '')", [(1, "RFC 1918", "rfc-1918")])
+    base.executemany("INSERT INTO roles VALUES (?, ?, ?, '1000', '')", [(1, "LAN", "lan"), (2, "WAN", "wan"), (3, "Customers", "customers")])
+    base.execute("INSERT INTO aggregates VALUES (1, '10.0.0.0/8', '1', 'everything')")
+    base.executemany("INSERT INTO prefixes VALUES (?, ?, '', ?, ?, 'false', 'false', ?)", ((1 + n, *row) for n, row in enumerate(prefixes())))
+    base.executemany("INSERT INTO ip_ranges VALUES (?, ?, ?, '', 'active', '', 'false', 'true', 'DHCP')",
+                     ((1 + n, f"{text_of(0x0A000000 + net + 100)}/24", f"{text_of(0x0A000000 + net + 199)}/24") for n, net in enumerate(nets[:RANGES])))
+    base.executemany("INSERT INTO ip_addresses VALUES (?, ?, '', ?, '', ?, '')", ((1 + n, *row) for n, row in enumerate(hosts)))
+    base.executemany("INSERT INTO meta VALUES (?, ?)", [("version", 2), ("next_vrfs", 3), ("next_rirs", 2), ("next_roles", 4), ("next_aggregates", 2),
+                                                        ("next_prefixes", PREFIXES + 1), ("next_ip_ranges", RANGES + 1), ("next_ip_addresses", len(hosts) + 1)])
+    base.commit()
+    counts = [base.execute(f"SELECT count(*) FROM {table}").fetchone()[0] for table in ("prefixes", "ip_addresses", "ip_ranges")]
+    check(counts == [PREFIXES, ADDRESSES, RANGES], f"the file has {counts}")
+    base.close()
+
+
+WATCH = """
+window.tasks = [];
+new PerformanceObserver((list) => window.tasks.push(...list.getEntries().map((one) => one.duration))).observe({ type: "longtask", buffered: true });
+document.addEventListener("DOMContentLoaded", () => {
+    const look = () => {
+        if (document.querySelectorAll(".rows [role=row]").length > 1) window.firstRows = performance.now();
+        else requestAnimationFrame(look);
+    };
+    look();
+});
+"""
+
+
+def first_rows(page, view):
+    """Seconds from the address to the first rows, the median of five loads with an empty cache."""
+    took = []
+    for _ in range(5):
+        page.driver.get("about:blank")
+        page.devtools("Network.clearBrowserCache")
+        page.driver.get(f"{page.base}/web/#/{view}")
+        took.append(wait(lambda: page.run("return window.firstRows"), f"the rows of {view}") / 1000)
+        page.settle()
+    return statistics.median(took)
+
+
+SCROLL = """
+const [selector, end] = arguments;
+const place = document.querySelector(selector);
+window.tasks.length = 0;
+const step = (number) => {
+    if (number === 150) {
+        place.scrollTop = place.scrollHeight;
+        setTimeout(() => end([window.tasks, place.scrollHeight]), 600);
+        return;
+    }
+    place.scrollTop = number % 2 ? place.scrollTop + 700 : (place.scrollHeight * number) / 150;
+    requestAnimationFrame(() => step(number + 1));
+};
+step(0);
+"""
+
+
+def scroll(page, selector, what):
+    tasks, height = page.driver.execute_async_script(SCROLL, selector)
+    check(height > 5000, f"{what} is only {height} high")
+    worst = max(tasks, default=0)
+    check(worst <= MOST_TASK, f"{what}: a task of {worst:.0f} ms while it is scrolled")
+    return worst
+
+
+def keys_open(page, rows):
+    """Opens rows of the tree by their texts, one in the other."""
+    for text in rows:
+        page.run("""const row = [...document.querySelectorAll(".rows [role=row]")].find((one) => one.querySelector(".place .address, .place .table-name")?.textContent === arguments[0]);
+            row.querySelector(".twist").click();""", text)
+        wait(lambda: page.run("""const row = [...document.querySelectorAll(".rows [role=row]")].find((one) => one.querySelector(".place .address, .place .table-name")?.textContent === arguments[0]
+            && one.getAttribute("aria-expanded") === "true"); return Boolean(row)""", text), f"{text} to open")
+
+
+def tree(page):
+    page.go("plan/global")
+    shown = page.text("[role=treegrid]")
+    check("10.0.0.0/8" in shown and "11.0.0.0/8" in shown or "11." in shown, f"the tree begins with {shown[:300]}")
+    page.go("plan/global?at=10.40.3.0/24")
+    page.says("10.40.3.0/24", "[role=row].active")
+    texts = page.run("return [...document.querySelectorAll('.rows .place')].map((one) => one.innerText.split('\\n')[0])")
+    worst = scroll(page, ".tree", "the tree")
+    return worst, texts
+
+
+def lists(page):
+    page.go("ip-addresses")
+    page.says("1,000 of 500,000 are loaded")
+    page.click("Load all")
+    wait(lambda: page.run("return Number(document.querySelector('.said').textContent.split(' ')[0].replaceAll(',', ''))") >= 30_000, "30,000 addresses", 120)
+    page.click("Stop", "button")
+    page.says("are loaded", ".said")
+    time.sleep(0.5)
+    return scroll(page, ".table-box .scroller", "the table of addresses")
+
+
+def others(page):
+    """The views that a full register makes heavy are there in time."""
+    for view, words in (("prefixes/1", "10.32.0.0/11"), ("prefixes/1?map=10.32.0.0/12", "10.32.0.0/16"), ("search?q=10.3.4.5", "host-772-5.example.net"), ("search?q=11.0.0.0/8", "Prefixes inside it"),
+                        ("ip-ranges", "1,000 of 10,000 are loaded"), ("aggregates/1", "10.0.0.0/12")):
+        start = time.monotonic()
+        page.driver.get(f"{page.base}/web/#/{view}")
+        page.says(words, seconds=30)
+        page.settle()
+        check(time.monotonic() - start < 15, f"{view} takes {time.monotonic() - start:.1f} s")
+    page.go("search?q=customer%2077")
+    page.says("prefixes read", seconds=30)
+
+
+def stops_reading(page):
+    """The search in the texts of prefixes says how far it is, and stops."""
+    page.driver.get("about:blank")
+    page.driver.get(f"{page.base}/web/#/search?q=nothing-like-this")
+    page.says("of 200,000 prefixes read")
+    page.click("Stop", "button")
+    page.says("Stopped:")
+
+
+def run_alone(port):
+    with tempfile.TemporaryDirectory() as folder:
+        path = os.path.join(folder, "large.db")
+        write(path)
+        stand = Stand(port, path)
+        try:
+            page = Browser(stand.url)
+            page.devtools("Page.addScriptToEvaluateOnNewDocument", source=WATCH)
+            seconds = {view: first_rows(page, view) for view in ("plan", "plan/global")}
+            tree_task, _ = tree(page)
+            list_task = lists(page)
+            others(page)
+            stops_reading(page)
+            page.end()
+        finally:
+            stand.end()
+    said = ", ".join(f"{view} {took:.2f} s" for view, took in seconds.items())
+    print(f"{PREFIXES:,} prefixes, {ADDRESSES:,} addresses and {RANGES:,} ranges: the first rows after {said} (median of five); while scrolling no task over 50 ms"
+          if max(tree_task, list_task) == 0 else
+          f"{PREFIXES:,} prefixes, {ADDRESSES:,} addresses and {RANGES:,} ranges: the first rows after {said} (median of five); the longest task while scrolling {max(tree_task, list_task):.0f} ms")
+    check(max(seconds.values()) <= MOST_SECONDS, f"the first rows take {max(seconds.values()):.2f} s")
