@@ -95,6 +95,7 @@ function viewOf([first, second, ...more]) {
 function showPlace(route) {
   const pages = document.getElementById("pages");
   fill(pages, PAGES.map(([path, text]) => el("a", { href: hrefOf([path]), "aria-current": route.path[0] === path ? "page" : null }, text)));
+  pages.querySelector("[aria-current]")?.scrollIntoView({ block: "nearest", inline: "nearest" });
   const asked = document.getElementById("search-text");
   if (document.activeElement !== asked) asked.value = route.path[0] === "search" ? route.query.get("q") ?? "" : "";
   document.title = [...route.path.map((part) => KINDS[part]?.many ?? part), "Address plan"].join(" · ");

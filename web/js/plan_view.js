@@ -142,6 +142,7 @@ function begin(tree, found, before) {
   const index = tree.rows.findIndex(({ node }) => node === found);
   if (index >= 0) {
     tree.active = index;
+    tree.element.classList.add("located");
     tree.window.reveal(index);
     tree.markActive();
   } else if (before) {

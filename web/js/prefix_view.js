@@ -146,7 +146,7 @@ export async function showPrefix(main, context) {
   const record = await get(`prefixes/${id}/`, {}, signal);
   const block = readBlock(record.prefix);
   const [outer, figure] = await Promise.all([around(record.prefix, record.vrf, signal), get(`prefixes/${id}/utilization/`, {}, signal)]);
-  const tab = TABS.some(([name]) => name === route.query.get("tab")) ? route.query.get("tab") : record.children > 0 ? "prefixes" : "addresses";
+  const tab = TABS.some(([name]) => name === route.query.get("tab")) ? route.query.get("tab") : record.status.value === "container" ? "prefixes" : "addresses";
   const list = el("div", { class: "tab" });
   const title = el("h1", { class: "address with-copy" }, record.prefix, copyButton(record.prefix));
   const inPlan = el("a", { class: "button", href: hrefOf(["plan", record.vrf ?? "global"], { at: record.prefix }) }, "Show in plan");

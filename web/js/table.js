@@ -2,7 +2,7 @@
  * Records as a table: what is loaded can be sorted and saved as CSV, and more is loaded when asked for.
  * @module
  */
-import { PAGE } from "./api.js";
+import { isLeft, PAGE } from "./api.js";
 import { csvText, saveFile } from "./csv.js";
 import { button, el, fill, spoken } from "./dom.js";
 import { RowWindow } from "./window.js";
@@ -75,24 +75,26 @@ export class RecordTable {
       this.stopped = true;
       return;
     }
-    Object.assign(this, { loading: true, stopped: false });
+    Object.assign(this, { loading: true, stopped: false, fault: null });
     try {
       do {
         const { rows, total } = await this.loadPage(this.rows.length, PAGE);
-        this.rows = this.rows.concat(rows);
+        this.rows.push(...rows);
         this.total = total;
         this.show();
         if (rows.length === 0) break;
       } while (whole && !this.stopped && this.rows.length < this.total);
     } catch (fault) {
+      this.fault = fault;
       this.onFault(fault);
     }
     this.loading = false;
     this.show();
+    if (this.fault && !isLeft(this.fault)) this.said.textContent = `${this.said.textContent}. ${this.fault.message}`;
   }
 
   show() {
-    if (this.sorted) this.arrange();
+    if (this.sorted && !this.loading) this.arrange();
     const [loaded, total] = [this.rows.length, this.total ?? 0];
     const isPart = loaded < total;
     const numbers = isPart ? `${loaded.toLocaleString("en")} of ${total.toLocaleString("en")} are loaded` : `${total.toLocaleString("en")} in all`;
@@ -118,6 +120,7 @@ export class RecordTable {
 
   /** @param {number} index of the column */
   sort(index) {
+    if (this.loading) return;
     this.sorted = { index, down: this.sorted?.index === index && !this.sorted.down };
     this.drawHead();
     this.show();
