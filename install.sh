@@ -1,5 +1,6 @@
 #!/bin/sh
-# Copies a program, its manual page and its systemd unit below a prefix: PREFIX/bin, PREFIX/share/man/man1, PREFIX/lib/systemd/system.
+# Copies a program, its manual page and its systemd unit below a prefix: PREFIX/bin, PREFIX/share/man/man1, PREFIX/lib/systemd/system; with ipamd also the
+# files by which nginx makes NetBox's form: PREFIX/share/ipamd/netbox.
 # The program is ipamd, or the one that is named. It is built first where it is not built yet (./build); IPAMD=PROGRAM, or POOLD=PROGRAM,
 # installs one that is built. Nothing is started, and no user is made.
 # usage: ./install.sh PREFIX [ipamd|poold], as ./install.sh /usr/local
@@ -22,4 +23,10 @@ install -m 755 "$program" "$prefix/bin/$name"
 sed "s|@VERSION@|$version|" "$top/docs/$name.1" > "$prefix/share/man/man1/$name.1"
 sed "s|@BIN@|$prefix/bin|; s|@VERSION@|$version|" "$top/examples/$name.service" > "$prefix/lib/systemd/system/$name.service"
 chmod 644 "$prefix/share/man/man1/$name.1" "$prefix/lib/systemd/system/$name.service"
+if [ "$name" = ipamd ]; then
+    install -d "$prefix/share/ipamd/netbox"
+    for file in "$top"/netbox/*.js; do
+        case $file in *.test.js) ;; *) install -m 644 "$file" "$prefix/share/ipamd/netbox/" ;; esac
+    done
+fi
 echo "installed $name $version: $prefix/bin/$name, $prefix/share/man/man1/$name.1, $prefix/lib/systemd/system/$name.service"

@@ -1,9 +1,8 @@
 #!/usr/bin/env bash
 # The scripts of examples/ and the pictures of docs/, by the built programs (./build, ./build poold; IPAMD=PROGRAM and POOLD=PROGRAM take other ones): curl's
-# day; pynetbox, without nginx and behind it, and over poold; random filters behind nginx; plays of Ansible's netbox.netbox behind nginx, each twice; the moves
-# from NetBox, phpIPAM and a spreadsheet, with what they print and the CSV files that they write; and that docs/layers.svg and docs/tree.svg are still what their
-# scripts draw. Each has a register of its own. It needs Debian's packages curl, nginx-light,
-# openssl, python3-pynetbox and ansible.   bench/clients.sh [PORT]
+# day; pynetbox over poold; the moves from NetBox, phpIPAM and a spreadsheet, with what they print and the CSV files that they write; and that docs/layers.svg
+# and docs/tree.svg are still what their scripts draw. Each has a register of its own. What runs behind nginx (pynetbox, Ansible) is in bench/netbox.sh. It
+# needs Debian's packages curl and python3-pynetbox.   bench/clients.sh [PORT]
 set -euo pipefail
 top=$(cd "$(dirname "$0")/.." && pwd)
 program=${IPAMD:-$top/crates/ipamd/out/ipamd}
@@ -11,17 +10,13 @@ pools=${POOLD:-$top/crates/poold/out/poold}
 [ -x "$program" ] && [ -x "$pools" ] || { echo "build the programs first: ./build; ./build poold" >&2; exit 1; }
 . "$top/bench/need.sh"
 need curl curl
-need nginx nginx-light
-need openssl openssl
-need ansible-playbook ansible
 /usr/bin/python3 -c 'import pynetbox' 2> /dev/null || { echo "clients: /usr/bin/python3 has no pynetbox: apt-get install python3-pynetbox" >&2; exit 1; }
 export PYTHONDONTWRITEBYTECODE=1
 port=${1:-18490}
 url=http://127.0.0.1:$port
 folder=$(mktemp -d)
 server=
-front=
-trap 'for one in $server $front; do kill "$one" 2>/dev/null || true; done; rm -rf "$folder"' EXIT
+trap 'for one in $server; do kill "$one" 2>/dev/null || true; done; rm -rf "$folder"' EXIT
 
 fail() {
     echo "clients: $1" >&2
@@ -51,26 +46,6 @@ stop() {
     while listens; do sleep 0.1; done
 }
 
-# nginx in front of the register, at https://localhost:PORT+1 by the certificate $folder/front/register.pem and the token in $folder/front/token
-start_front() {
-    rm -rf "$folder/front"
-    mkdir "$folder/front"
-    "$top/bench/front.sh" "$folder/front" "$port" $((port + 1)) 2> "$folder/errors" &
-    front=$!
-    for _ in $(seq 600); do
-        listens $((port + 1)) && return
-        sleep 0.1
-    done
-    fail "nginx does not listen: $(cat "$folder/errors" "$folder/front/errors")"
-}
-
-stop_front() {
-    kill "$front"
-    wait "$front" 2>/dev/null || true
-    front=
-    stop
-}
-
 # a move twice: its status, what the first says last, and what the second does; and its CSV files
 move() {
     local source=$1 path=$2 csv=$3 wanted=$4 made=$5 again=$6 status=0
@@ -91,24 +66,9 @@ client() {
 start
 "$top/examples/client_curl.sh" "$url"
 stop
-start
-client client_pynetbox.py "$url"
-stop
 program=$pools start
 client client_pools.py "$url"
 stop
-start
-start_front
-REQUESTS_CA_BUNDLE=$folder/front/register.pem client client_netbox.py "https://localhost:$((port + 1))" "$(cat "$folder/front/token")"
-stop_front
-start
-start_front
-python3 "$top/bench/filters.py" "$port" "$folder/front" $((port + 1))
-stop_front
-start
-start_front
-python3 "$top/bench/plays.py" "$port" $((port + 1)) "$(cat "$folder/front/token")" "$folder/front/register.pem"
-stop_front
 start --db "$folder/moved.db"
 move netbox examples/netbox examples/netbox/csv 0 "made 24, present 0, refused 0" "made 0, present 24, refused 0"
 move phpipam examples/phpipam examples/phpipam/csv 1 "made 18, present 0, refused 1" "made 0, present 18, refused 1"

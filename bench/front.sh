@@ -3,6 +3,8 @@
 # All files are in FOLDER: the certificate register.pem for localhost and register.example.net, the password `secret` of anna, the token of bert in
 # FOLDER/token, the log register.log, and `hold`, which holds changes. It goes on until it is ended.   bench/front.sh FOLDER INNER OUTER
 set -euo pipefail
+module=/usr/lib/nginx/modules/ngx_http_js_module.so
+[ -e "$module" ] || { echo "front: nginx has no njs: apt-get install libnginx-mod-http-js" >&2; exit 1; }
 top=$(cd "$(dirname "$0")/.." && pwd)
 folder=$1 inner=$2 outer=$3
 openssl req -x509 -newkey ec -pkeyopt ec_paramgen_curve:prime256v1 -nodes -days 2 -subj /CN=register.example.net \
@@ -14,7 +16,7 @@ sed "s|127.0.0.1:8080|127.0.0.1:$inner|; s|listen 443|listen 127.0.0.1:$outer|; 
     s|/etc/nginx/|$folder/|; s|/var/log/nginx/|$folder/|; s|/run/ipamd.hold|$folder/hold|; s|/usr/share/ipamd/|$top/|" \
     "$top/examples/nginx-ipamd.conf" > "$folder/ipamd.conf"
 cat > "$folder/nginx.conf" <<N
-load_module /usr/lib/nginx/modules/ngx_http_js_module.so;
+load_module $module;
 $([ "$(id -u)" != 0 ] || echo "user root;")
 worker_processes 1; daemon off; pid $folder/nginx.pid; error_log $folder/errors;
 events {}

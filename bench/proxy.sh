@@ -1,9 +1,9 @@
 #!/usr/bin/env bash
 # nginx in front of `serve`, with examples/nginx-ipamd.conf as it stands but for its ports and files: TLS, passwords and tokens, and the user in the log; HEAD
-# and what follows it on the same connection, bodies of 4 MiB and one byte more, a body in chunks; filters that are refused, addresses with their masks, links
-# of pages; changes that are held; requests over kept connections; and a request every half second for more than twice the 30 seconds that the register gives
-# a connection, of which none may fail. By the built program (./ipamd builds it; IPAMD=PROGRAM takes another one). It needs nginx, curl, openssl and python3,
-# and two minutes and more; --short leaves the last two steps out.   bench/proxy.sh [--short] [PORT]
+# and what follows it on the same connection, bodies of 4 MiB and one byte more, a body in chunks, links of pages; changes that are held; requests over kept
+# connections; and a request every half second for more than twice the 30 seconds that the register gives a connection, of which none may fail. All of it of
+# the plain form, and what counts of NetBox's (bench/netbox.sh has the rest of that). By the built program (./ipamd builds it; IPAMD=PROGRAM takes another
+# one). It needs nginx with njs, curl, openssl and python3, and two minutes and more; --short leaves the last two steps out.   bench/proxy.sh [--short] [PORT]
 set -euo pipefail
 top=$(cd "$(dirname "$0")/.." && pwd)
 program=${IPAMD:-$top/crates/ipamd/out/ipamd}
@@ -61,17 +61,6 @@ gives() {
     [ "$(cat "$folder/answer")" = "$wanted" ] || fail "$3: $(head -c 600 "$folder/answer")"
 }
 
-# the ids of the addresses that are found, one behind the other
-finds() {
-    want 200 "$base/ip-addresses/?$2"
-    local told
-    told=$(python3 -c 'import json, sys
-page = json.load(sys.stdin)
-assert page["count"] == len(page["results"])
-print(*(row["id"] for row in page["results"]))' < "$folder/answer") || fail "$2: $(cat "$folder/answer")"
-    [ "$told" = "$1" ] || fail "$2: found '$told' in place of '$1'"
-}
-
 "$program" serve --bind "127.0.0.1:$port" --workers 16 > /dev/null 2> "$folder/serve_errors" < /dev/null &
 server=$!
 wait_for "$port"
@@ -79,7 +68,9 @@ wait_for "$port"
 proxy=$!
 wait_for "$outer"
 token=$(cat "$folder/token")
-base=https://register.example.net:$outer/api/ipam
+root=https://register.example.net:$outer
+base=$root/register/api/ipam
+form=$root/api/ipam
 
 # passwords and tokens: the right ones, wrong ones, and none
 refused_users() {
@@ -93,17 +84,22 @@ refused_users() {
         [ "$(outside -o /dev/null -w '%{http_code}' -H "Authorization: Token " "$told")" = 401 ] || fail "$told with an empty token"
     done
 }
-refused_users "$base/prefixes/" "$base/ip-addresses/" "$base/ip-addresses/?address=10.0.0.1/24" "${base%ipam}status/"
-[ "$(outside -o /dev/null -w '%{http_code}' "$base/prefixes/?tenant=1")" = 401 ] || fail "a filter that is refused, without a user"
-[ "$(outside -o /dev/null -w '%{http_code}' -X OPTIONS "$base/prefixes/")" = 401 ] || fail "OPTIONS without a user"
+refused_users "$base/prefixes/" "$form/ip-addresses/" "$form/ip-addresses/?address=10.0.0.1/24" "$root/api/status/"
+[ "$(outside -o /dev/null -w '%{http_code}' "$form/prefixes/?tenant=1")" = 401 ] || fail "a filter that is refused, without a user"
+[ "$(outside -o /dev/null -w '%{http_code}' "$root/api/other/")" = 401 ] || fail "a path that does not exist, without a user"
+for method in OPTIONS POST PUT PATCH DELETE; do
+    [ "$(outside -o /dev/null -w '%{http_code}' -X "$method" -d '{"prefix":"10.0.0.0/16"}' "$form/prefixes/")" = 401 ] || fail "$method without a user"
+done
 
 # a creation, HEAD and a GET behind it on one connection
 want 201 -d '{"prefix":"10.0.0.0/16"}' "$base/prefixes/"
 ask -I "$base/prefixes/" --next -sS --max-time 30 --cacert "$folder/register.pem" --resolve "register.example.net:$outer:127.0.0.1" -u anna:secret "$base/prefixes/1/" > "$folder/both"
 grep -q '^HTTP/1.1 405' "$folder/both" && grep -q '"prefix":"10.0.0.0/16"' "$folder/both" || fail "HEAD, and a GET behind it: $(cat "$folder/both")"
 want 200 -H "Authorization: Token $token" "$base/prefixes/1/"
+want 200 -H "Authorization: Token $token" "$form/prefixes/1/"
 sleep 0.2
-for line in ' anna .*"POST /api/ipam/prefixes/ HTTP/1.1" 201 ' ' bert .*"GET /api/ipam/prefixes/1/ HTTP/1.1" 200 '; do
+for line in ' anna .*"POST /register/api/ipam/prefixes/ HTTP/1.1" 201 ' ' bert .*"GET /register/api/ipam/prefixes/1/ HTTP/1.1" 200 ' \
+    ' bert .*"GET /api/ipam/prefixes/1/ HTTP/1.1" 200 '; do
     grep -q "$line" "$folder/register.log" || fail "the log: $(cat "$folder/register.log")"
 done
 
@@ -116,15 +112,18 @@ for size, name in ((4_194_304, "largest"), (4_194_305, "larger")):
 P
 want 201 --data-binary "@$folder/largest" "$base/prefixes/"
 want 413 --data-binary "@$folder/larger" "$base/prefixes/"
+want 413 --data-binary "@$folder/larger" "$form/prefixes/"
 want 201 -H 'Transfer-Encoding: chunked' -d '{"prefix":"10.2.0.0/16"}' "$base/prefixes/"
+want 201 -H 'Transfer-Encoding: chunked' -d '{"prefix":"10.3.0.0/16"}' "$form/prefixes/"
+want 400 -H 'Transfer-Encoding: chunked' --data-binary "@$folder/largest" "$form/prefixes/"
 
 # what the clients of NetBox ask beside the register's own paths
-outside -i "${base%ipam}" > "$folder/answer"
+outside -i "$root/api/" > "$folder/answer"
 grep -q '^API-Version: 4.1.$' "$folder/answer" || fail "the version: $(cat "$folder/answer")"
-want 200 "${base%ipam}status/"
+want 200 "$root/api/status/"
 [ "$(cat "$folder/answer")" = '{"netbox-version":"4.1.0"}' ] || fail "the status: $(cat "$folder/answer")"
 for kind in vrfs rirs roles aggregates prefixes ip-ranges ip-addresses; do
-    want 200 -X OPTIONS "$base/$kind/"
+    want 200 -X OPTIONS "$form/$kind/"
     # the choices of the kind are those of docs/openapi.json
     python3 - "$top/docs/openapi.json" "$kind" "$folder/answer" <<'P' || fail "the choices of $kind: $(cat "$folder/answer")"
 import json, sys
@@ -137,74 +136,14 @@ wanted = {name: {"choices": [{"value": one["value"], "display_name": one["label"
 assert json.load(open(sys.argv[3])) == {"actions": {"POST": wanted}}, wanted
 P
 done
-want 405 -X OPTIONS "$base/prefixes/1/"
+want 405 -X OPTIONS "$form/prefixes/1/"
 
 # links of pages have the scheme and the host; a text of a record that looks like one stays as it is
 want 200 "$base/prefixes/?limit=1&offset=1"
-links="{\"count\":3,\"next\":\"$base/prefixes/?limit=1&offset=2\",\"previous\":\"$base/prefixes/?limit=1&offset=0\","
+links="{\"count\":4,\"next\":\"$base/prefixes/?limit=1&offset=2\",\"previous\":\"$base/prefixes/?limit=1&offset=0\","
 [[ "$(cat "$folder/answer")" == "$links"* ]] || fail "the links: $(cat "$folder/answer")"
 want 201 -d '{"name":"x","description":"\"next\":\"/api/ \"previous\":\"/api/ {\"address\":\""}' "$base/vrfs/"
 gives 200 '{"description":"\"next\":\"/api/ \"previous\":\"/api/ {\"address\":\"","enforce_unique":true,"id":1,"name":"x","rd":null}' vrfs/1/
-
-# filters of other profiles, each of ours, and one twice
-for query in 'prefixes/?tenant=1' 'prefixes/?limit=1&q=x' 'vrfs/?name__ic=x' 'rirs/?name=x&id=1' 'roles/?tag=x' 'aggregates/?prefix=10.0.0.0/8' \
-    'ip-ranges/?parent=10.0.0.0/8' 'ip-addresses/?vrf=x' \
-    'ip-addresses/?address=10.0.0.1&device=1' 'prefixes/?%76rf_id=1' 'vrfs/?names=x' 'prefixes/1/?x=1' 'prefixes/1/utilization/?limit=1' \
-    'prefixes/1/available-ips/?offset=1' 'prefixes/1/available-prefixes/?limit=1&prefix_length=26' 'ip-ranges/1/available-ips/?x'; do
-    name=${query##*[?&]}
-    gives 400 "{\"detail\":\"filter ${name%%=*} is not in this profile\"}" "$query"
-done
-for query in 'prefixes/?status=active&family=4&status=reserved' 'vrfs/?name=x&name=x' 'ip-addresses/?address=10.0.0.1&address=10.0.0.2' \
-    'roles/?limit=1&limit=2' 'prefixes/1/available-ips/?limit=1&limit=1'; do
-    name=${query##*[?&]}
-    gives 400 "{\"detail\":\"filter ${name%%=*} is not in this profile more than once\"}" "$query"
-done
-for query in 'vrfs/?name=x&rd=1&limit=1&offset=0' 'rirs/?name=x&slug=x' 'roles/?name=x&slug=x' 'aggregates/?family=4&rir_id=1' \
-    'prefixes/?family=4&vrf_id=1&role_id=1&status=active' 'prefixes/?prefix=10.0.0.0/8&within=10.0.0.0/8&within_include=10.0.0.0/8&contains=10.0.0.0/8' \
-    'ip-ranges/?family=4&vrf_id=1&role_id=null&status=active&contains=10.0.0.1' 'prefixes/1/?' 'prefixes/1/available-ips/?limit=1' 'vrfs/?name' 'vrfs/?limit=1&' \
-    'ip-addresses/?family=4&vrf_id=1&status=active&role=vip&parent=10.0.0.0/8&dns_name=x'; do
-    want 200 "$base/$query"
-done
-
-# address=: with the mask of the record, with another one, without; encoded and bare; one host in several tables
-want 201 -d '{"address":"10.9.0.1/24"}' "$base/ip-addresses/"
-want 201 -d '{"address":"10.9.0.1/24","vrf":1}' "$base/ip-addresses/"
-want 201 -d '{"address":"10.9.0.2/24"}' "$base/ip-addresses/"
-want 201 -d '{"address":"10.9.0.2/25","vrf":1}' "$base/ip-addresses/"
-for text in 2001:db8::1/64 2001:db8:1:2:3:4:5:6/64 ::ffff:102:304/128 2001:db8:0:1:2:3:4:0/126 1:2::/64 1:2:3::4:5/64; do
-    want 201 -d "{\"address\":\"$text\"}" "$base/ip-addresses/"
-done
-finds "1 2" address=10.9.0.1/24
-finds 1 'address=10.9.0.1%2F24&vrf_id=null'
-finds 2 'vrf_id=1&address=10.9.0.1%2f24&limit=5'
-finds "" 'address=10.9.0.1/25&vrf_id=1'
-finds "" 'address=10.9.0.1%2F2&vrf_id=1'
-finds "" address=10.9.0.3/24
-finds 3 'address=10.9.0.2/24&vrf_id=null'
-finds "" 'address=10.9.0.2/24&vrf_id=1'
-finds "3 4" address=10.9.0.2
-finds "1 2 3 4" parent=10.9.0.0/24
-# two hosts of which one has another mask: no JSON
-want 200 "$base/ip-addresses/?address=10.9.0.2/24"
-python3 -c 'import json, sys; json.load(sys.stdin)' < "$folder/answer" 2> /dev/null && fail "an answer with a record of another mask: $(cat "$folder/answer")"
-id=5
-for text in 2001:db8::1 2001:db8:1:2:3:4:5:6 ::ffff:102:304 2001:db8:0:1:2:3:4:0 1:2:: 1:2:3::4:5; do
-    mask=$(ask "$base/ip-addresses/$id/" | sed 's|{"address":"[^/]*/\([0-9]*\)".*|\1|')
-    encoded=${text//:/%3A}
-    finds "$id" "address=$text/$mask"
-    finds "$id" "address=$encoded%2F$mask"
-    finds "$id" "address=$encoded/$mask&family=6"
-    finds "$id" "address=${encoded//%3A/%3a}%2f$mask"
-    finds "$id" "address=${encoded//%3A/%3a}"
-    finds "" "address=$text/63"
-    finds "" "address=$encoded%2F63"
-    id=$((id + 1))
-done
-gives 400 '{"detail":"filter address is not in this profile but with an address in lower case"}' 'ip-addresses/?address=gw'
-gives 400 '{"detail":"filter address is not in this profile but with an address in lower case"}' 'ip-addresses/?address='
-gives 400 '{"detail":"filter address is not in this profile but with an address in lower case"}' 'ip-addresses/?address=2001:DB8::1/64'
-gives 400 '{"detail":"filter address is not in this profile beside parent"}' 'ip-addresses/?address=10.9.0.1&parent=10.0.0.0/8'
-gives 400 '{"code":"field","detail":"parent is missing or malformed"}' 'ip-addresses/?address=10.9.0.1.2'
 
 # changes are held, and reading goes on
 touch "$folder/hold"
@@ -212,11 +151,13 @@ for method in POST PATCH DELETE; do
     want 503 -X "$method" -d '{}' -D "$folder/head" "$base/prefixes/1/"
     grep -q '^Retry-After: 2.$' "$folder/head" && grep -q '"code":"held"' "$folder/answer" ||
         fail "a change that is held: $(cat "$folder/head" "$folder/answer")"
+    want 503 -X "$method" -d '{}' -D "$folder/head" "$form/prefixes/1/"
+    grep -q '^Retry-After: 2.$' "$folder/head" && grep -q '^Ipam-Code: held.$' "$folder/head" || fail "a change that is held: $(cat "$folder/head")"
 done
 want 503 -d '{}' "$base/prefixes/1/available-ips/"
 want 200 "$base/prefixes/1/"
-finds 3 'address=10.9.0.2/24&vrf_id=null'
-want 200 -X OPTIONS "$base/prefixes/"
+want 200 "$form/prefixes/1/"
+want 200 -X OPTIONS "$form/prefixes/"
 rm "$folder/hold"
 want 200 -X PATCH -d '{}' "$base/prefixes/1/"
 if [ -z "$long" ]; then
@@ -235,13 +176,15 @@ made=$(grep -ci "0100007F:$(printf %04X "$port") " <(awk '{ print $3 " " }' /pro
 [ "$made" -le 40 ] || fail "$made connections to the register for two thousand requests"
 
 # a claim every half second, longer than twice what the register gives a connection; and one behind a pause
-for _ in $(seq 140); do
+for _ in $(seq 70); do
     want 201 -d '{}' "$base/prefixes/1/available-ips/"
+    sleep 0.5
+    want 201 -d '{}' "$form/prefixes/1/available-ips/"
     sleep 0.5
 done
 sleep 31
-want 201 -d '{}' "$base/prefixes/1/available-ips/"
+want 201 -d '{}' "$form/prefixes/1/available-ips/"
 claimed=$(ask "$base/ip-addresses/?parent=10.0.0.0/16&limit=1" | sed 's/{"count":\([0-9]*\),.*/\1/')
 [ "$claimed" = 141 ] || fail "$claimed addresses of 141 claims"
 [ ! -s "$folder/serve_errors" ] || fail "the messages: $(cat "$folder/serve_errors")"
-echo "proxy: TLS, passwords and tokens, filters, HEAD, bodies of 4 MiB and in chunks; 2,000 requests over at most $made connections to the register; 141 claims over $((140 / 2 + 31)) seconds and more, none lost or made twice; nginx $(nginx -v 2>&1 | sed 's|.*/||')"
+echo "proxy: TLS, passwords and tokens, HEAD, bodies of 4 MiB and in chunks; 2,000 requests over at most $made connections to the register; 141 claims over $((140 / 2 + 31)) seconds and more, none lost or made twice; nginx $(nginx -v 2>&1 | sed 's|.*/||')"

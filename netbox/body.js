@@ -1,26 +1,27 @@
 /*
- * The body of a change, read in bounded time: the signs that make values are counted first, then the text is looked through by regular expressions,
- * a piece at a time, and only then parsed. Between the steps of a large body other requests are served.
+ * The body of a change, read in bounded time and memory: the signs that make parts are counted first; the text is parsed; then it is looked through for
+ * what the register would read otherwise. Between the steps of a large body other requests are served.
  */
 import refusals from './refusals.js';
+import turns from './turns.js';
 
-const DEEPEST = 31;
 const MOST_PARTS = 20000;
-/** A text of JSON with that many parts has fewer pieces. */
-const MOST_PIECES = 200000;
-/** Pieces that are looked at, and bytes that are read, before other requests are served. */
-const PIECES_AT_ONCE = 4000;
-const BYTES_AT_ONCE = 65536;
+/** After so many bytes, or pieces of the text, other requests are served. */
+const BYTES_AT_ONCE = 131072;
+const PIECES_AT_ONCE = 64;
+/** The text is looked through by pieces of so many characters, since an expression of njs looks at all of the text that it is given. */
+const PIECE = 1024;
+const SIGNS = [0x7b, 0x5b, 0x2c];
 
-/** A piece of a string: up to 40 escapes, what is none, and the quotation mark if the string ends there. A surrogate has its other half after it. */
-const STRING_PIECE = /(?:[^"\\\x00-\x1f]+|\\["\\\/bfnrt]|\\u(?:[\dabcef][\da-f]{3}|d[0-7][\da-f]{2}|d[89ab][\da-f]{2}\\ud[c-f][\da-f]{2})){0,40}(")?/iy;
-/** Up to 200 spaces, commas, colons and values that are neither texts nor have parts. A number is a plain whole one. */
-const PLAIN_PIECE = /(?:[ \t\r\n]+|[,:]|(?:0|-?[1-9][0-9]{0,14})(?![0-9.eE+-])|true|false|null){1,200}/y;
+/** What a piece begins with outside of strings, and whole strings. A number is a plain whole one of at most 15 digits. */
+const OUTSIDE = /^(?:[^"\d-]+|(?:0|-?[1-9]\d{0,14})(?=[\s,\]}])|"[^"\\]*(?:\\(?:[^u]|u(?=..)(?!d[89a-f])|ud[89ab]..\\ud[c-f])[^"\\]*)*")*/i;
+/** What a piece begins with inside of a string. The escape of a surrogate has that of its other half after it. */
+const INSIDE = /^[^"\\]*(?:\\(?:[^u]|u(?=..)(?!d[89a-f])|ud[89ab]..\\ud[c-f])[^"\\]*)*/i;
 
 /** @param {Buffer} bytes @returns {number} how many of the signs `{`, `[` and `,` there are, but no more than one above the most */
 function partsOf(bytes) {
     let count = 0;
-    ['{', '[', ','].forEach((sign) => {
+    SIGNS.forEach((sign) => {
         let at = bytes.indexOf(sign);
         while (at >= 0 && count <= MOST_PARTS) {
             count += 1;
@@ -30,95 +31,29 @@ function partsOf(bytes) {
     return count;
 }
 
-/** @returns {Promise<void>} once the requests that wait were looked at */
-function pause() {
-    return new Promise((resolve) => {
-        setTimeout(resolve, 0);
-    });
-}
-
 function malformed(why) {
     return refusals.detail(400, 'JSON parse error' + (why ? ': ' + why : ''));
 }
 
-/** What is looked through: the text, the place that was reached, how deep it is, and whether that is inside a string. */
-function Scan(text) {
-    this.text = text;
-    this.at = 0;
-    this.depth = 0;
-    this.inString = false;
-}
-
-/** Goes behind the piece of this pattern that begins here. */
-function pass(scan, pattern, why) {
-    pattern.lastIndex = scan.at;
-    const found = pattern.exec(scan.text);
-    if (found === null || found[0] === '') {
-        throw malformed(why);
-    }
-    scan.at += found[0].length;
-    return found;
-}
-
-/** Goes behind one piece; a refusal is thrown. */
-function step(scan) {
-    if (scan.inString) {
-        scan.inString = pass(scan, STRING_PIECE, 'a text is not Unicode, or not closed')[1] === undefined;
-        return;
-    }
-    const sign = scan.text[scan.at];
-    if ('{}[]"'.includes(sign)) {
-        scan.inString = sign === '"';
-        scan.depth += sign === '{' || sign === '[' ? 1 : sign === '"' ? 0 : -1;
-        scan.at += 1;
-    } else {
-        pass(scan, PLAIN_PIECE, 'numbers are plain whole numbers of at most 15 digits');
-    }
-    if (scan.depth > DEEPEST || scan.depth < 0) {
-        throw malformed(scan.depth < 0 ? '' : 'deeper than ' + DEEPEST);
-    }
-}
-
-/** Looks through a text that may be none of JSON: its depth, its texts, its numbers. @param {string} text @returns {Promise<void>} */
-async function look(text) {
-    const scan = new Scan(text);
-    for (let pieces = 1; scan.at < text.length; pieces += 1) {
-        step(scan);
-        if (pieces > MOST_PIECES) {
-            throw malformed('too many parts');
+/** The text of a body. @param {Buffer} bytes @returns {Promise<string>} */
+async function textOf(bytes) {
+    const decoder = new TextDecoder('utf-8', { fatal: true, ignoreBOM: true });
+    const parts = [];
+    for (let at = 0; at < bytes.length; at += BYTES_AT_ONCE) {
+        if (at > 0) {
+            await turns.pause();
         }
-        if (pieces % PIECES_AT_ONCE === 0) {
-            await pause();
+        try {
+            parts.push(decoder.decode(bytes.slice(at, at + BYTES_AT_ONCE), { stream: at + BYTES_AT_ONCE < bytes.length }));
+        } catch (e) {
+            throw malformed('not UTF-8');
         }
     }
+    return parts.join('');
 }
 
-/**
- * The value of a body; a refusal is thrown.
- * @param {Buffer} bytes
- * @returns {Promise<*>}
- */
-async function valueOf(bytes) {
-    const large = bytes.length > BYTES_AT_ONCE;
-    if (partsOf(bytes) > MOST_PARTS) {
-        throw refusals.detail(413, 'the body has more than ' + MOST_PARTS + ' parts');
-    }
-    if (large) {
-        await pause();
-    }
-    let text;
-    try {
-        text = new TextDecoder('utf-8', { fatal: true, ignoreBOM: true }).decode(bytes);
-    } catch (e) {
-        throw malformed('not UTF-8');
-    }
-    if (large) {
-        await pause();
-    }
-    await look(text);
-    if (large) {
-        await pause();
-    }
+/** The value of a text. njs refuses what is deeper than 31. @param {string} text @returns {*} */
+function parsed(text) {
     try {
         return JSON.parse(text);
     } catch (e) {
@@ -126,4 +61,50 @@ async function valueOf(bytes) {
     }
 }
 
-export default { valueOf, DEEPEST, MOST_PARTS };
+/** Refuses a text of JSON that has another number than a plain whole one, or half a surrogate pair. @param {string} text @returns {Promise<void>} */
+async function look(text) {
+    let isInside = false;
+    let at = 0;
+    for (let pieces = 1; at < text.length; pieces += 1) {
+        const piece = text.slice(at, at + PIECE);
+        const passed = (isInside ? INSIDE : OUTSIDE).exec(piece)[0].length;
+        if (piece[passed] === '"' && (isInside || passed === 0)) {
+            isInside = !isInside;
+            at += passed + 1;
+        } else if (passed === 0) {
+            throw malformed(isInside ? 'half a surrogate pair' : 'numbers are plain whole numbers of at most 15 digits');
+        } else {
+            at += passed;
+        }
+        if (pieces % PIECES_AT_ONCE === 0) {
+            await turns.pause();
+        }
+    }
+}
+
+/**
+ * The value of a body, an object or a list; a refusal is thrown.
+ * @param {Buffer} bytes
+ * @returns {Promise<*>}
+ */
+async function valueOf(bytes) {
+    if (partsOf(bytes) > MOST_PARTS) {
+        throw refusals.detail(413, 'the body has more than ' + MOST_PARTS + ' parts');
+    }
+    const text = await textOf(bytes);
+    const isLarge = bytes.length > BYTES_AT_ONCE;
+    if (isLarge) {
+        await turns.pause();
+    }
+    const value = parsed(text);
+    if (value === null || typeof value !== 'object') {
+        throw malformed('an object or a list is asked for');
+    }
+    if (isLarge) {
+        await turns.pause();
+    }
+    await look(text);
+    return value;
+}
+
+export default { valueOf };

@@ -3,13 +3,19 @@ import address from './address.js';
 import kinds from './kinds.js';
 import refusals from './refusals.js';
 import register from './register.js';
+import turns from './turns.js';
 
-/** Whether a member of a request says anything: null, the empty text, `[]` and `{}` do not. @param {*} value @returns {boolean} */
+/** No record of NetBox has so many members. */
+const MOST_MEMBERS = 100;
+/** After so many items of a claim, other requests are served. */
+const ITEMS_AT_ONCE = 100;
+
+/** Whether a member of a request says anything: null, the empty text, and a list or an object of such do not. @param {*} value @returns {boolean} */
 function says(value) {
     if (value === null || value === '') {
         return false;
     }
-    return typeof value !== 'object' || Object.keys(value).length > 0;
+    return typeof value !== 'object' || (Array.isArray(value) ? value : Object.values(value)).some(says);
 }
 
 /** @param {string} name @returns {boolean} whether NetBox only answers this member */
@@ -64,12 +70,19 @@ async function idOf(call, name, kind, value) {
  * @param {Object} value
  * @param {{members: string[], references: Object<string, string>}} kind
  * @param {Object<string, *>} same members that are left out if they are these
+ * @param {string[]} required members that have to be there
  * @returns {Promise<Object>}
  */
-async function plainOf(call, value, kind, same) {
+async function plainOf(call, value, kind, same, required) {
     const out = {};
     const refused = {};
     const names = Object.keys(objectOf(value));
+    if (names.length > MOST_MEMBERS) {
+        throw refusals.detail(400, 'an object has at most ' + MOST_MEMBERS + ' members');
+    }
+    required.filter((name) => !kinds.has(value, name)).forEach((name) => {
+        refused[name] = ['This field is required.'];
+    });
     for (let n = 0; n < names.length; n += 1) {
         const name = names[n];
         if (kinds.has(kind.references, name)) {
@@ -78,8 +91,8 @@ async function plainOf(call, value, kind, same) {
             out[name] = value[name];
         } else if (kinds.has(same, name) && says(value[name])) {
             await isSame(call, name, value[name], same[name]);
-        } else if (!isReadOnly(name) && says(value[name])) {
-            refused[name] = ['the register has no ' + name + ' here'];
+        } else if (says(value[name]) && !isReadOnly(name)) {
+            kinds.put(refused, name, ['the register has no ' + name + ' here']);
         }
     }
     if (Object.keys(refused).length) {
@@ -103,17 +116,6 @@ async function isSame(call, name, value, own) {
     }
 }
 
-/** Refuses an object without a required member. */
-function demand(kind, value) {
-    const body = {};
-    kinds.KINDS[kind].required.filter((name) => !kinds.has(objectOf(value), name)).forEach((name) => {
-        body[name] = ['This field is required.'];
-    });
-    if (Object.keys(body).length) {
-        throw new refusals.Refusal(400, body);
-    }
-}
-
 /** The items of a claim as the register reads them: an object, or a list of them. */
 async function claimOf(call, route, value) {
     const claim = kinds.CLAIMS[route.part];
@@ -132,10 +134,13 @@ async function claimOf(call, route, value) {
     }
     const out = [];
     for (let n = 0; n < items.length; n += 1) {
-        const item = await plainOf(call, items[n], claim, same);
+        if (n > 0 && n % ITEMS_AT_ONCE === 0) {
+            await turns.pause();
+        }
+        const item = await plainOf(call, items[n], claim, same, claim.required);
         out.push(item);
     }
     return Array.isArray(value) ? out : out[0];
 }
 
-export default { plainOf, claimOf, demand, objectOf };
+export default { plainOf, claimOf, objectOf };

@@ -34,11 +34,12 @@ function same(text) {
 
 /** A filter for exactly the text of a member, which the register has itself if it is native. */
 function text(name, native) {
-    return { read: same, test: (row, value) => (row[name] === null ? '' : row[name]) === value, native: native ? String : undefined };
+    return { read: same, test: (row, value) => row[name] === value, native: native ? String : undefined };
 }
 
-/** A filter for one of these words, which is the value of a choice. */
-function choice(name, words) {
+/** A filter for the value of a choice. */
+function choice(kind, name) {
+    const words = kinds.KINDS[kind].choices[name];
     return {
         read: (value) => (words.includes(value) ? value : undefined),
         test: (row, value) => row[name] !== null && row[name].value === value,
@@ -88,48 +89,71 @@ function rangeHas(row, value) {
     return start.length === last.length && start <= value.digits && last <= address.hostOf(row.end_address).digits;
 }
 
-const FAMILY = { read: (value) => (value === '4' ? 4 : value === '6' ? 6 : undefined), test: (row, value) => row.family === value, native: String };
-const LENGTH = {
-    read: (value) => (NUMBER.test(value) ? Number(value) : undefined),
-    test: (row, value) => Number((row.prefix || row.address).split('/')[1]) === value,
-};
-const PLACED = { family: FAMILY, vrf_id: reference('vrf', idOrNull), role_id: reference('role', idOrNull) };
-const STATUSES = ['active', 'reserved', 'deprecated'];
-const ROLES = ['loopback', 'secondary', 'anycast', 'vip', 'vrrp', 'hsrp', 'glbp', 'carp'];
-const ALL = { id: { read: id, test: (row, value) => row.id === value }, description: text('description') };
+/** The filters of every kind. */
+function common() {
+    return { id: { read: id, test: (row, value) => row.id === value }, description: text('description') };
+}
 
-/** By kind the filters of its list, next to `q` and those that name what is referred to (NAMED). @type {Object<string, Object<string, Filter>>} */
+/** The filters of kinds that have a name and a slug. */
+function named() {
+    return Object.assign({ name: text('name', true), slug: text('slug', true) }, common());
+}
+
+function family() {
+    return { read: (value) => (value === '4' ? 4 : value === '6' ? 6 : undefined), test: (row, value) => row.family === value, native: String };
+}
+
+function length() {
+    return {
+        read: (value) => (NUMBER.test(value) ? Number(value) : undefined),
+        test: (row, value) => Number((row.prefix || row.address).split('/')[1]) === value,
+    };
+}
+
+/** The filters of what is in a table. */
+function placed(kind) {
+    const own = { family: family(), vrf_id: reference('vrf', idOrNull), status: choice(kind, 'status') };
+    return Object.assign(own, kinds.has(kinds.KINDS[kind].references, 'role') ? { role_id: reference('role', idOrNull) } : {}, common());
+}
+
+/**
+ * By kind what makes the filters of its list, next to `q` and those that name what is referred to (NAMED). A handler runs for each request, so they are made
+ * when they are asked for.
+ * @type {Object<string, function(): Object<string, Filter>>}
+ */
 const FILTERS = {
-    'vrfs': Object.assign({ name: text('name', true), rd: text('rd', true) }, ALL),
-    'rirs': Object.assign({ name: text('name', true), slug: text('slug', true) }, ALL),
-    'roles': Object.assign({ name: text('name', true), slug: text('slug', true) }, ALL),
-    'aggregates': Object.assign({ family: FAMILY, rir_id: reference('rir', id), prefix: blocks('prefix', equal) }, ALL),
-    'prefixes': Object.assign({
-        status: choice('status', ['container'].concat(STATUSES)),
+    'vrfs': () => Object.assign({ name: text('name', true), rd: text('rd', true) }, common()),
+    'rirs': named,
+    'roles': named,
+    'aggregates': () => Object.assign({ family: family(), rir_id: reference('rir', id), prefix: blocks('prefix', equal) }, common()),
+    'prefixes': () => Object.assign({
         prefix: blocks('prefix', equal, true),
         within: blocks('prefix', (own, asked) => inside(own, asked) && own.length > asked.length, true),
         within_include: blocks('prefix', inside, true),
         contains: blocks('prefix', address.contains, true),
-        mask_length: LENGTH,
+        mask_length: length(),
         is_pool: flag('is_pool'),
         mark_utilized: flag('mark_utilized'),
-    }, PLACED, ALL),
-    'ip-ranges': Object.assign({
-        status: choice('status', STATUSES),
+    }, placed('prefixes')),
+    'ip-ranges': () => Object.assign({
         contains: { read: block, test: rangeHas, native: address.blockText },
         start_address: host('start_address'),
         end_address: host('end_address'),
-    }, PLACED, ALL),
-    'ip-addresses': Object.assign({
-        family: FAMILY,
-        vrf_id: PLACED.vrf_id,
-        status: choice('status', STATUSES.concat(['dhcp', 'slaac'])),
-        role: choice('role', ROLES),
-        parent: blocks('address', (own, asked) => inside(own, asked), true),
+    }, placed('ip-ranges')),
+    'ip-addresses': () => Object.assign({
+        role: choice('ip-addresses', 'role'),
+        parent: {
+            read: block,
+            test: (row, value) => {
+                const digits = address.hostOf(row.address).digits;
+                return address.contains(value, { digits: digits, length: digits.length * 4 });
+            },
+            native: address.blockText,
+        },
         dns_name: { read: (value) => value.toLowerCase(), test: (row, value) => row.dns_name === value, native: String },
         address: host('address'),
-        mask_length: LENGTH,
-    }, ALL),
+        mask_length: length(),
+    }, placed('ip-addresses')),
 };
 
 /** By kind the filters that name a record that is referred to, by what of it, and the filter of its id. */
@@ -172,10 +196,11 @@ function filterOf(kind, name) {
     if (name === 'q') {
         return search(kind);
     }
-    if (!kinds.has(FILTERS[kind], name)) {
+    const own = FILTERS[kind]();
+    if (!kinds.has(own, name)) {
         throw refusals.field(name, 'filter ' + name + ' is not served for ' + kind);
     }
-    return FILTERS[kind][name];
+    return own[name];
 }
 
 export default { NAMED, filterOf };

@@ -12,9 +12,12 @@
  * @property {Object<string, string>} references a member, and the kind whose id it holds
  * @property {string[]} attributes by which a record that refers to this kind may name it, next to its id
  * @property {string[]} brief what a brief object has, next to id, url, display and description
+ * @property {Object<string, string[]>} choices the values of members that have a label
  * @property {Object} constants what NetBox's records have and the register's do not
  */
 
+const STATUSES = ['active', 'reserved', 'deprecated'];
+const ROLES = ['loopback', 'secondary', 'anycast', 'vip', 'vrrp', 'hsrp', 'glbp', 'carp'];
 const PLACED = { comments: '', tenant: null };
 
 /** @type {Object<string, Kind>} */
@@ -26,6 +29,7 @@ const KINDS = {
         references: {},
         attributes: ['name', 'rd'],
         brief: ['name', 'rd'],
+        choices: {},
         constants: Object.assign({ import_targets: [], export_targets: [] }, PLACED),
     },
     'rirs': {
@@ -35,6 +39,7 @@ const KINDS = {
         references: {},
         attributes: ['name', 'slug'],
         brief: ['name', 'slug'],
+        choices: {},
         constants: {},
     },
     'roles': {
@@ -44,6 +49,7 @@ const KINDS = {
         references: {},
         attributes: ['name', 'slug'],
         brief: ['name', 'slug'],
+        choices: {},
         constants: {},
     },
     'aggregates': {
@@ -53,6 +59,7 @@ const KINDS = {
         references: { rir: 'rirs' },
         attributes: [],
         brief: ['family', 'prefix'],
+        choices: {},
         constants: Object.assign({ date_added: null }, PLACED),
     },
     'prefixes': {
@@ -62,6 +69,7 @@ const KINDS = {
         references: { vrf: 'vrfs', role: 'roles' },
         attributes: [],
         brief: ['family', 'prefix', '_depth'],
+        choices: { status: ['container'].concat(STATUSES) },
         constants: Object.assign({ site: null, scope_type: null, scope_id: null, vlan: null }, PLACED),
     },
     'ip-ranges': {
@@ -71,6 +79,7 @@ const KINDS = {
         references: { vrf: 'vrfs', role: 'roles' },
         attributes: [],
         brief: ['family', 'start_address', 'end_address'],
+        choices: { status: STATUSES },
         constants: PLACED,
     },
     'ip-addresses': {
@@ -80,6 +89,7 @@ const KINDS = {
         references: { vrf: 'vrfs' },
         attributes: [],
         brief: ['family', 'address'],
+        choices: { status: STATUSES.concat(['dhcp', 'slaac']), role: ROLES },
         constants: Object.assign({
             nat_inside: null, nat_outside: [], assigned_object: null, assigned_object_type: null, assigned_object_id: null,
         }, PLACED),
@@ -98,6 +108,7 @@ const CLAIMS = {
         makes: 'ip-addresses',
         from: ['prefixes', 'ip-ranges'],
         members: ['status', 'role', 'dns_name', 'description'],
+        required: [],
         references: {},
         same: { vrf: 'vrf', prefix: 'prefix', parent: 'prefix' },
     },
@@ -105,6 +116,7 @@ const CLAIMS = {
         makes: 'prefixes',
         from: ['prefixes'],
         members: ['prefix_length', 'status', 'role', 'is_pool', 'mark_utilized', 'description'],
+        required: ['prefix_length'],
         references: { role: 'roles' },
         same: { vrf: 'vrf', parent: 'prefix' },
     },
@@ -116,9 +128,19 @@ const MEASURED = ['prefixes', 'ip-ranges', 'aggregates'];
 /** Members of a request that are ignored, since a client may send back what it was answered. Counts (`prefix_count`) are too. */
 const READ_ONLY = ['id', 'url', 'display', 'display_url', 'family', 'size', 'children', '_depth', 'created', 'last_updated'];
 
+/** The label of a choice. @param {string} value @returns {string} */
+function labelOf(value) {
+    return ['dhcp', 'slaac', 'vip', 'vrrp', 'hsrp', 'glbp', 'carp'].includes(value) ? value.toUpperCase() : value[0].toUpperCase() + value.slice(1);
+}
+
 /** Whether an object has a member of its own. @param {Object} object @param {string} name @returns {boolean} */
 function has(object, name) {
     return Object.prototype.hasOwnProperty.call(object, name);
 }
 
-export default { KINDS, CONSTANTS, CLAIMS, MEASURED, READ_ONLY, has };
+/** Gives an object a member of its own, also one called `__proto__`. @param {Object} object @param {string} name @param {*} value */
+function put(object, name, value) {
+    Object.defineProperty(object, name, { value: value, enumerable: true, configurable: true, writable: true });
+}
+
+export default { KINDS, CONSTANTS, CLAIMS, MEASURED, READ_ONLY, labelOf, has, put };

@@ -4,11 +4,14 @@ import queries from './queries.js';
 import records from './records.js';
 import refusals from './refusals.js';
 import register from './register.js';
+import turns from './turns.js';
 
 /** As many records of the register are read for one list at most, and as many ids looked up. */
 const MOST_READ = 20000;
 const MOST_IDS = 1000;
 const TRIES = 3;
+/** After so many records, other requests are served. */
+const ROWS_AT_ONCE = 250;
 
 /** That two pages are of different moments. */
 function Moved() {}
@@ -35,11 +38,20 @@ function pageText(native, limit, offset) {
     return queries.textOf(pairs.concat([['limit', String(limit)], ['offset', String(offset)]]));
 }
 
-/** Hands the rows of all pages of a list of the register to a function. */
-async function eachPage(reading, kind, native, use) {
-    let offset = 0;
+/** Adds to the rows those of a page that pass, a part of it at a time. */
+async function sift(page, tests, rows) {
+    for (let at = 0; at < page.length; at += ROWS_AT_ONCE) {
+        page.slice(at, at + ROWS_AT_ONCE).filter((row) => tests.every((test) => test(row))).forEach((row) => rows.push(row));
+        if (page.length > ROWS_AT_ONCE) {
+            await turns.pause();
+        }
+    }
+}
+
+/** Adds to the rows those of a list of the register that pass, page by page. */
+async function siftList(reading, kind, native, query, rows) {
     let count = 1;
-    while (offset < count) {
+    for (let offset = 0; offset < count; offset += register.PAGE) {
         const answer = await register.read(reading.call.r, kind + '/', pageText(native, register.PAGE, offset));
         const page = register.valueOf(take(reading, answer), kind);
         count = page.count;
@@ -47,21 +59,20 @@ async function eachPage(reading, kind, native, use) {
             throw refusals.detail(400, 'these filters have to be looked for in more than ' + MOST_READ + ' records: add one that the register has itself');
         }
         reading.left -= page.results.length;
-        use(page.results);
-        offset += register.PAGE;
+        await sift(page.results, query.tests, rows);
     }
 }
 
-/** Hands the records of these ids, as far as they are there, to a function. */
-async function eachOf(reading, kind, ids, use) {
-    if (ids.length > MOST_IDS) {
+/** Adds to the rows those of these ids that are there and pass. */
+async function siftIds(reading, kind, query, rows) {
+    if (query.ids.length > MOST_IDS) {
         throw refusals.field('id', 'at most ' + MOST_IDS + ' ids');
     }
-    for (let n = 0; n < ids.length; n += 1) {
-        const answer = await register.read(reading.call.r, kind + '/' + ids[n] + '/');
+    for (let n = 0; n < query.ids.length; n += 1) {
+        const answer = await register.read(reading.call.r, kind + '/' + query.ids[n] + '/');
         take(reading, answer);
         if (answer.status !== 404) {
-            use([register.valueOf(answer, kind)]);
+            await sift([register.valueOf(answer, kind)], query.tests.concat(query.nativeTests), rows);
         }
     }
 }
@@ -69,20 +80,17 @@ async function eachOf(reading, kind, ids, use) {
 /** The records that pass all filters, by id, as they were at one moment; Moved is thrown if there was none. */
 async function look(call, kind, query) {
     const reading = new Reading(call);
-    const found = {};
-    const use = (rows) => rows.filter((row) => query.tests.every((test) => test(row))).forEach((row) => {
-        found[row.id] = row;
-    });
-    if (query.ids !== null && Object.keys(query.native).length === 0) {
-        await eachOf(reading, kind, query.ids, use);
+    const rows = [];
+    if (query.ids !== null) {
+        await siftIds(reading, kind, query, rows);
     } else {
-        const clash = (one) => Object.keys(one).some((name) => kinds.has(query.native, name));
-        const narrow = query.narrow === null || query.narrow.some(clash) ? [{}] : query.narrow;
-        for (let n = 0; n < narrow.length; n += 1) {
-            await eachPage(reading, kind, Object.assign({}, query.native, narrow[n]), use);
+        for (let n = 0; n < query.narrow.length; n += 1) {
+            await siftList(reading, kind, Object.assign({}, query.native, query.narrow[n]), query, rows);
         }
     }
-    const rows = Object.keys(found).map((id) => found[id]).sort((a, b) => a.id - b.id);
+    if (query.ids !== null || query.narrow.length > 1) {
+        rows.sort((a, b) => a.id - b.id);
+    }
     return { count: rows.length, rows: rows.slice(query.offset, query.offset + query.limit), place: reading.place };
 }
 

@@ -32,7 +32,7 @@ function methodsOf(route) {
     if (route.part !== undefined) {
         return route.part === 'utilization' ? ['GET'] : ['GET', 'POST'];
     }
-    return route.id === undefined ? ['GET', 'POST', 'PUT', 'PATCH', 'DELETE'] : ['GET', 'PUT', 'PATCH', 'DELETE'];
+    return route.id === undefined ? ['GET', 'POST', 'PUT', 'PATCH', 'DELETE', 'OPTIONS'] : ['GET', 'PUT', 'PATCH', 'DELETE'];
 }
 
 /** Answers a request. */
@@ -52,6 +52,16 @@ function send(r, status, value, place, code, headers) {
     } else {
         r.return(status, typeof value === 'string' ? value : JSON.stringify(value));
     }
+}
+
+/** OPTIONS of a list: what POST may set of its choices. */
+function options(call, route) {
+    const actions = {};
+    const choices = kinds.KINDS[route.kind].choices;
+    Object.keys(choices).forEach((name) => {
+        actions[name] = { choices: choices[name].map((value) => ({ value: value, display_name: kinds.labelOf(value) })) };
+    });
+    send(call.r, 200, { actions: { POST: actions } });
 }
 
 /** GET of a list, a record, or a part of it. */
@@ -77,45 +87,63 @@ async function get(call, route) {
     return send(r, 200, shown[0], answer.place);
 }
 
-/** The method, path and body of the one change that a request means, and how it is answered. */
+/** The object of a request for a record, which may be the one of a list. A longer list would be several changes; an empty one is none, and null here. */
+function objectOf(call, route, value) {
+    const method = call.r.method;
+    if (route.id !== undefined || (!Array.isArray(value) && method === 'POST')) {
+        return changes.objectOf(value);
+    }
+    if (!Array.isArray(value) || value.length > 1) {
+        throw refusals.detail(400, 'a list has exactly one record here: send one request for each record');
+    }
+    call.isList = true;
+    return value.length ? changes.objectOf(value[0]) : null;
+}
+
+/** The path of the record that an object of a list names. */
+function pathOf(kind, object) {
+    const path = kind + '/' + object.id + '/';
+    if (!kinds.has(object, 'id') || !routeOf('/api/ipam/' + path)) {
+        throw refusals.field('id', 'the id of a record is required');
+    }
+    return path;
+}
+
+/** The bytes of the body. nginx may have put those of many small chunks into a file, where they can't be read. */
+function bytesOf(r) {
+    try {
+        return r.requestBuffer || Buffer.from('');
+    } catch (e) {
+        throw refusals.detail(413, 'the body came in too many chunks: send it with its length');
+    }
+}
+
+/** The method, path and body of the one change that a request means, and the kind of the records that it answers; or null if it means none. */
 async function changeOf(call, route) {
     const method = call.r.method;
     if (method === 'DELETE' && route.id !== undefined) {
-        return { method: 'DELETE', kind: route.kind, path: route.kind + '/' + route.id + '/', body: '' };
+        return { method: method, kind: route.kind, path: route.kind + '/' + route.id + '/', body: '' };
     }
-    const value = await body.valueOf(call.r.requestBuffer || Buffer.from(''));
+    const value = await body.valueOf(bytesOf(call.r));
     if (route.part !== undefined) {
         const claim = await changes.claimOf(call, route, value);
-        return { method: 'POST', kind: kinds.CLAIMS[route.part].makes, path: route.kind + '/' + route.id + '/' + route.part + '/', body: claim };
+        const path = route.kind + '/' + route.id + '/' + route.part + '/';
+        return { method: method, kind: kinds.CLAIMS[route.part].makes, path: path, body: JSON.stringify(claim) };
     }
-    const isList = Array.isArray(value);
-    if (route.id === undefined && (isList || method !== 'POST')) {
-        if (!isList || value.length !== 1) {
-            throw refusals.detail(400, 'a list has exactly one record here: send one request for each record');
-        }
-        call.isList = true;
+    const object = objectOf(call, route, value);
+    if (object === null) {
+        return null;
     }
-    const one = changes.objectOf(call.isList ? value[0] : value);
-    let id = route.id;
-    if (method !== 'POST' && id === undefined) {
-        id = String(one.id);
-        if (!routeOf('/api/ipam/' + route.kind + '/' + id + '/')) {
-            throw refusals.field('id', 'the id of a record is required');
-        }
-    }
-    const path = route.kind + '/' + (id === undefined ? '' : id + '/');
+    const path = route.id !== undefined ? route.kind + '/' + route.id + '/' : method === 'POST' ? route.kind + '/' : pathOf(route.kind, object);
     if (method === 'DELETE') {
-        return { method: 'DELETE', kind: route.kind, path: path, body: '' };
-    }
-    if (method !== 'PATCH') {
-        changes.demand(route.kind, one);
+        return { method: method, kind: route.kind, path: path, body: '' };
     }
     const kind = kinds.KINDS[route.kind];
-    const plain = await changes.plainOf(call, one, kind, {});
-    return { method: method === 'PUT' ? 'PATCH' : method, kind: route.kind, path: path, body: plain };
+    const plain = await changes.plainOf(call, object, kind, {}, method === 'PATCH' ? [] : kind.required);
+    return { method: method === 'PUT' ? 'PATCH' : method, kind: route.kind, path: path, body: JSON.stringify(plain) };
 }
 
-/** The records of an accepted change in NetBox's form; or as the register wrote them, if they can't be read. The change is made, so nothing is refused here. */
+/** The records of an accepted change in NetBox's form. The change is made, so nothing is refused here: what can't be read is said. */
 async function changed(call, kind, text) {
     try {
         const value = JSON.parse(text);
@@ -123,14 +151,17 @@ async function changed(call, kind, text) {
         return Array.isArray(value) || call.isList ? rows : rows[0];
     } catch (e) {
         call.r.error('the answer to a change could not be read: ' + e);
-        return text;
+        return { detail: 'the change was made, but the answer of the register could not be read' };
     }
 }
 
 /** POST, PUT, PATCH, DELETE. */
 async function make(call, route) {
     const wanted = await changeOf(call, route);
-    const answer = await register.change(call.r, wanted.method, wanted.path, wanted.method === 'DELETE' ? '' : JSON.stringify(wanted.body));
+    if (wanted === null) {
+        return send(call.r, call.r.method === 'DELETE' ? 204 : call.r.method === 'POST' ? 201 : 200, []);
+    }
+    const answer = await register.change(call.r, wanted.method, wanted.path, wanted.body);
     if (answer.status < 200 || answer.status > 299) {
         const refusal = refusals.ofRegister(answer.status, answer.text, wanted.kind);
         refusal.place = answer.place;
@@ -138,6 +169,15 @@ async function make(call, route) {
     }
     const value = answer.status === 204 ? '' : await changed(call, wanted.kind, answer.text);
     return send(call.r, answer.status, value, answer.place);
+}
+
+/** GET of `/api/ipam/`: where the lists are. */
+function index(call) {
+    const urls = {};
+    Object.keys(kinds.KINDS).forEach((kind) => {
+        urls[kind] = call.base + '/api/ipam/' + kind + '/';
+    });
+    send(call.r, 200, urls);
 }
 
 /** Answers what is thrown. */
@@ -159,6 +199,9 @@ async function handle(r) {
     const call = { r: r, base: r.variables.scheme + '://' + r.variables.asked_host, tables: {}, isList: false };
     try {
         const route = routeOf(r.uri);
+        if (r.uri === '/api/ipam/' && r.method === 'GET') {
+            return index(call);
+        }
         if (route === null) {
             throw refusals.detail(404, 'Not found.');
         }
@@ -168,7 +211,11 @@ async function handle(r) {
             refusal.headers.Allow = methods.join(', ');
             throw refusal;
         }
-        await (r.method === 'GET' ? get(call, route) : make(call, route));
+        if (r.method === 'OPTIONS') {
+            options(call, route);
+        } else {
+            await (r.method === 'GET' ? get(call, route) : make(call, route));
+        }
     } catch (e) {
         refuse(call, e);
     }

@@ -9,7 +9,8 @@ const DEFAULT_PAGE = 50;
 const NOT_FILTERS = ['limit', 'offset', 'brief', 'fields', 'ordering', 'format'];
 
 /**
- * What a list is asked for. `native` is for the register; `tests` are looked at here; `ids` and `hosts` are where to look first, if they are no null.
+ * What a list is asked for. `native` is for the register; `tests` are looked at here; `ids` are the only ones that can be found, if it is no null; `narrow`
+ * has the filters of the register by which to look, one list after the other.
  * @typedef {Object} Query
  * @property {Array<string[]>} pairs names and values, without limit and offset
  * @property {number} limit
@@ -17,9 +18,10 @@ const NOT_FILTERS = ['limit', 'offset', 'brief', 'fields', 'ordering', 'format']
  * @property {boolean} brief
  * @property {(string[]|null)} fields
  * @property {Object<string, string>} native
+ * @property {Function[]} nativeTests what `native` means, for records that were not found by it
  * @property {Function[]} tests
  * @property {(number[]|null)} ids
- * @property {(Object<string, string>[]|null)} narrow
+ * @property {Object<string, string>[]} narrow
  */
 
 /** The pairs of a query text, decoded; a refusal is thrown. @param {string} text @returns {Array<string[]>} */
@@ -88,7 +90,7 @@ function groups(pairs) {
     const out = {};
     pairs.filter((pair) => !NOT_FILTERS.includes(pair[0])).forEach((pair) => {
         if (!kinds.has(out, pair[0])) {
-            out[pair[0]] = [];
+            kinds.put(out, pair[0], []);
         }
         if (!out[pair[0]].includes(pair[1])) {
             out[pair[0]].push(pair[1]);
@@ -121,18 +123,30 @@ function take(query, kind, name, texts) {
         }
         return value;
     });
-    if (filter.native && values.length === 1 && !kinds.has(query.native, name)) {
+    const isTaken = kinds.has(query.native, name) || kinds.has(query.narrow[0], name);
+    const test = (row) => values.some((value) => filter.test(row, value));
+    if (filter.native && values.length === 1 && !isTaken) {
         query.native[name] = filter.native(values[0]);
+        query.nativeTests.push(test);
         return;
     }
-    query.tests.push((row) => values.some((value) => filter.test(row, value)));
+    query.tests.push(test);
     if (name === 'id') {
         query.ids = values;
-    } else if (name === 'address') {
-        query.narrow = values.map((value) => ({ parent: address.textOf(value.digits) + '/' + value.digits.length * 4 }));
+    } else if (name === 'address' && !kinds.has(query.native, 'parent')) {
+        query.narrow = narrowBy('parent', values.map((value) => address.textOf(value.digits) + '/' + value.digits.length * 4));
     } else if (name === 'prefix' && filter.native) {
-        query.narrow = values.map((value) => ({ prefix: filter.native(value) }));
+        query.narrow = narrowBy('prefix', values.map(filter.native));
     }
+}
+
+/** Lists of the register by one filter of it, one for each text. */
+function narrowBy(name, texts) {
+    return texts.filter((text, n) => texts.indexOf(text) === n).map((text) => {
+        const native = {};
+        native[name] = text;
+        return native;
+    });
 }
 
 /**
@@ -149,9 +163,10 @@ async function queryOf(call, kind, text) {
         limit: limitOf(pairs, DEFAULT_PAGE),
         offset: numberOf(pairs, 'offset', 0),
         native: {},
+        nativeTests: [],
         tests: [],
         ids: null,
-        narrow: null,
+        narrow: [{}],
     });
     const asked = groups(pairs);
     const names = Object.keys(asked);

@@ -1,6 +1,10 @@
 /* Records of the register in NetBox's form. */
 import kinds from './kinds.js';
 import register from './register.js';
+import turns from './turns.js';
+
+/** After so many records, other requests are served. */
+const ROWS_AT_ONCE = 250;
 
 /** @param {Object} call @param {string} kind @param {number} id @returns {string} */
 function urlOf(call, kind, id) {
@@ -59,7 +63,7 @@ function briefOf(call, kind, row) {
 /** The whole record, with the brief objects that it refers to. */
 function recordOf(call, kind, row, briefs) {
     const out = beginning(call, kind, row);
-    out.display_url = call.base + '/#/' + kind + '/' + row.id;
+    out.display_url = call.base + '/web/#/' + kind + '/' + row.id;
     const references = kinds.KINDS[kind].references;
     Object.keys(row).forEach((name) => {
         if (name === 'family') {
@@ -122,7 +126,14 @@ async function recordsWith(call, kind, ids) {
  */
 async function recordsOf(call, kind, rows) {
     const briefs = await briefsOf(call, kind, rows);
-    return rows.map((row) => recordOf(call, kind, row, briefs));
+    let out = [];
+    for (let at = 0; at < rows.length; at += ROWS_AT_ONCE) {
+        if (at > 0) {
+            await turns.pause();
+        }
+        out = out.concat(rows.slice(at, at + ROWS_AT_ONCE).map((row) => recordOf(call, kind, row, briefs)));
+    }
+    return out;
 }
 
 /** Free addresses or blocks, which are no records: the family is a number, and there is no `url`. */

@@ -37,7 +37,7 @@ function detail(status, text) {
 /** 400 for one member or parameter. @param {string} name @param {string} text @returns {Refusal} */
 function field(name, text) {
     const body = {};
-    body[name] = [text];
+    kinds.put(body, name, [text]);
     return new Refusal(400, body);
 }
 

@@ -34,6 +34,12 @@ pack() {
 pack ipamd "${IPAMD:-$top/crates/ipamd/out/ipamd}"
 pack poold "${POOLD:-$top/crates/poold/out/poold}"
 
+# the files by which nginx makes NetBox's form, where examples/nginx-ipamd.conf has them
+install -d "$root/usr/share/ipamd/netbox"
+for file in "$top"/netbox/*.js; do
+    case $file in *.test.js) ;; *) install -m 644 "$file" "$root/usr/share/ipamd/netbox/" ;; esac
+done
+
 # the pages keep their places beside one another, so that their links hold
 install -m 644 "$top/README.md" "$top/CHANGES.md" "$doc/"
 install -m 644 "$top"/docs/*.md "$top"/docs/*.svg "$top"/docs/openapi*.json "$doc/docs/"
