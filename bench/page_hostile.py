@@ -34,9 +34,11 @@ def fill(stand):
 
 
 def harmless(page, where):
-    found = page.run("return [window.hacked ?? null, document.querySelectorAll('main img, main script, main iframe, main b, dialog img, dialog script, dialog iframe, dialog b').length]")
+    found = page.run("""const made = ["img", "script", "iframe", "b"].map((one) => `main ${one}, dialog ${one}`).join();
+        return [window.hacked ?? null, document.querySelectorAll(made).length]""")
     check(found == [None, 0], f"{where}: {found}")
-    check(not page.run("return document.querySelectorAll('[href^=javascript], [onerror], [onload], [onclick], [style*=url]').length"), f"{where}: an element runs something")
+    check(not page.run("return document.querySelectorAll('[href^=javascript], [onerror], [onload], [onclick], [style*=url]').length"),
+        f"{where}: an element runs something")
 
 
 def look(page, view, *texts):
@@ -70,7 +72,8 @@ def run(stand):
         look(page, view, *(text for text in visible if text.count(" ") < 4))
     look(page, "plan", *visible[:3])
     for number, text in enumerate(TEXTS, 1):
-        for view in (f"vrfs/{number}", f"roles/{number}", f"rirs/{number}", f"aggregates/{number}", f"prefixes/{2 * number}", f"prefixes/{2 * number - 1}", f"ip-ranges/{number}",
+        for view in (f"vrfs/{number}", f"roles/{number}", f"rirs/{number}", f"aggregates/{number}", f"prefixes/{2 * number}",
+            f"prefixes/{2 * number - 1}", f"ip-ranges/{number}",
                      f"ip-addresses/{2 * number}", f"plan/{number}"):
             look(page, view)
         if number % 3 == 1:
@@ -82,7 +85,8 @@ def run(stand):
         page.settle()
         check(page.run("return document.querySelectorAll('.found').length") >= 4, f"a search of {text!r} finds {page.text('main')!r}")
         harmless(page, f"a search of {text!r}")
-    for view in ("vrfs/%3Cimg%20src=x%20onerror=window.hacked=8%3E", "<img src=x onerror=window.hacked=9>", "prefixes/1?tab=<script>&map=<b>", "plan/'\"><script>?at=<b>", "prefixes/__proto__", "constructor/1", "__proto__"):
+    for view in ("vrfs/%3Cimg%20src=x%20onerror=window.hacked=8%3E", "<img src=x onerror=window.hacked=9>", "prefixes/1?tab=<script>&map=<b>",
+        "plan/'\"><script>?at=<b>", "prefixes/__proto__", "constructor/1", "__proto__"):
         page.run("window.location.hash = '#/' + arguments[0]", view)
         page.settle()
         harmless(page, view)
@@ -91,4 +95,5 @@ def run(stand):
     faults = [line for line in page.faults() if "Security Policy" in line]
     check(not faults, f"the browser refused something of a record: {faults}")
     page.end()
-    print(f"{len(TEXTS) + 1} hostile texts in every field of every kind: shown as they are in lists, records, trees, maps, forms and searches, and nothing runs")
+    print(f"{len(TEXTS) + 1} hostile texts in every field of every kind: shown as they are in lists, records, trees, maps, forms and searches, "
+          "and nothing runs")

@@ -1,4 +1,4 @@
-"""An office's first day on the page: it creates, claims, edits, deletes and searches, and is refused. After each step the register is asked whether it is so."""
+"""An office's first day on the page: it creates, claims, edits, deletes and searches, and is refused. After each step the register is asked."""
 import os
 import time
 
@@ -125,12 +125,14 @@ def ranges(stand, page):
     page.go("prefixes/2?tab=ranges")
     page.says("No ranges here")
     page.go("ip-ranges")
-    create(page, "New range", **{"First address": "10.1.0.100/24", "Last address": "10.1.0.149/24", "Filled by others, as by a DHCP server: nothing is claimed here": True})
+    create(page, "New range", **{"First address": "10.1.0.100/24", "Last address": "10.1.0.149/24",
+        "Filled by others, as by a DHCP server: nothing is claimed here": True})
     page.go("prefixes/2")
     page.says("filled by others")
     names = page.run("return [...document.querySelectorAll('.map .stop')].map((one) => one.getAttribute('aria-label'))")
     check(len(names) == 256, f"the map has {len(names)} addresses")
-    check(names[1].startswith("10.1.0.1, gw.example.net") and "withheld" in names[120] and names[200] == "10.1.0.200, free", f"the map: {names[1]}, {names[120]}, {names[200]}")
+    check(names[1].startswith("10.1.0.1, gw.example.net") and "withheld" in names[120] and names[200] == "10.1.0.200, free",
+        f"the map: {names[1]}, {names[120]}, {names[200]}")
     check(stand.ask("GET", "ip-ranges/1/")[1]["mark_populated"] is True, "the mark of the range")
 
 
@@ -254,5 +256,6 @@ def run(stand):
     faults = [line for line in page.faults() if "the server responded with a status of 4" not in line]
     check(not faults, f"the browser complained: {faults}")
     page.end()
-    print("an office's first day: created, claimed, edited (also beside another's change), refused next to the field, searched, deleted by name; views by their addresses, "
+    print("an office's first day: created, claimed, edited (also beside another's change), refused next to the field, searched, deleted by name; "
+          "views by their addresses, "
           "Back, an old list, a sorted table and its CSV")

@@ -82,7 +82,8 @@ class Firefox:
     def __init__(self, port):
         self.profile, self.count = tempfile.mkdtemp(prefix="page-firefox-"), 0
         with open(os.path.join(self.profile, "user.js"), "w") as file:
-            file.write(f'user_pref("marionette.port", {port});\nuser_pref("browser.shell.checkDefaultBrowser", false);\nuser_pref("datareporting.policy.dataSubmissionEnabled", false);\n')
+            for name, value in (("marionette.port", port), ("browser.shell.checkDefaultBrowser", False), ("datareporting.policy.dataSubmissionEnabled", False)):
+                file.write(f'user_pref("{name}", {json.dumps(value)});\n')
         words = ["firefox-esr", "--headless", "--no-remote", "--marionette", "--profile", self.profile]
         environment = {**os.environ, "HOME": self.profile, "MOZ_HEADLESS_WIDTH": "1280", "MOZ_HEADLESS_HEIGHT": "885"}
         self.process = subprocess.Popen(words, env=environment, stdout=subprocess.DEVNULL, stderr=subprocess.DEVNULL)
@@ -124,7 +125,8 @@ class Firefox:
 def in_firefox(url, port):
     firefox = Firefox(port)
     firefox.ask("WebDriver:Navigate", {"url": f"{url}/web/#/plan"})
-    wait(lambda: firefox.run("return document.querySelectorAll('.rows [role=row]').length > 10 && !document.querySelector('.bar.waiting')"), "the tree in Firefox", 30)
+    wait(lambda: firefox.run("return document.querySelectorAll('.rows [role=row]').length > 10 && !document.querySelector('.bar.waiting')"),
+        "the tree in Firefox", 30)
     firefox.run("[...document.querySelectorAll('.tree a')].find((one) => one.textContent === '10.20.1.0/24').click()")
     wait(lambda: firefox.run("return document.querySelectorAll('.map .stop').length === 256"), "the map in Firefox", 30)
     firefox.run("[...document.querySelectorAll('button')].find((one) => one.textContent === 'Next free address').click()")

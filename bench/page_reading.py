@@ -11,7 +11,8 @@ CHANGES = ("New prefix", "New VRF", "Next free address", "Next free block", "Edi
 
 def reads(stand):
     page = Browser(stand.url, user="clara")
-    for view in ("plan", "plan/global", "prefixes/1", "prefixes/1?tab=blocks", "prefixes/1?tab=free", "prefixes/2", "ip-addresses/1", "ip-addresses", "ip-ranges", "search?q=10.1.0.7"):
+    for view in ("plan", "plan/global", "prefixes/1", "prefixes/1?tab=blocks", "prefixes/1?tab=free", "prefixes/2", "ip-addresses/1", "ip-addresses",
+        "ip-ranges", "search?q=10.1.0.7"):
         page.go(view)
         page.says("Reading only", ".who")
         for words in CHANGES:
@@ -81,9 +82,12 @@ def other_site(stand, port):
 def heads(stand):
     """By the fields of the request alone, at both forms of the register."""
     for path in ("prefixes/1/available-ips/",):
-        for headers, status in (({"Sec_Fetch_Site": "cross-site"}, 403), ({"Sec_Fetch_Site": "same-site"}, 403), ({"Sec_Fetch_Site": "none"}, 403), ({"Origin": "https://evil.example"}, 403),
-                                ({"Origin": "null"}, 403), ({"Origin": stand.url + "0"}, 403), ({"Origin": stand.url[:-1]}, 403), ({"Sec_Fetch_Site": "same-origin", "Origin": "https://evil.example"}, 403),
-                                ({"Sec_Fetch_Site": "cross-site", "Origin": stand.url}, 403), ({"Origin": stand.url}, 201), ({"Sec_Fetch_Site": "same-origin", "Origin": stand.url}, 201), ({}, 201)):
+        for headers, status in (({"Sec_Fetch_Site": "cross-site"}, 403), ({"Sec_Fetch_Site": "same-site"}, 403), ({"Sec_Fetch_Site": "none"}, 403),
+            ({"Origin": "https://evil.example"}, 403),
+                                ({"Origin": "null"}, 403), ({"Origin": stand.url + "0"}, 403), ({"Origin": stand.url[:-1]},
+                                    403), ({"Sec_Fetch_Site": "same-origin", "Origin": "https://evil.example"}, 403),
+                                ({"Sec_Fetch_Site": "cross-site", "Origin": stand.url}, 403), ({"Origin": stand.url},
+                                    201), ({"Sec_Fetch_Site": "same-origin", "Origin": stand.url}, 201), ({}, 201)):
             told = stand.ask("POST", path, {}, **headers)
             check(told[0] == status, f"{headers}: {told} in place of {status}")
             told = stand.ask("POST", "../../../api/ipam/" + path, {}, **headers)
@@ -95,7 +99,8 @@ def page_heads(stand):
     page = Browser(stand.url)
     page.go("plan")
     told = page.run("""return fetch("/web/").then((answer) => ["Content-Security-Policy", "X-Content-Type-Options"].map((name) => answer.headers.get(name)))""")
-    check(told == ["default-src 'self'; frame-ancestors 'none'; base-uri 'none'; form-action 'self'; object-src 'none'", "nosniff"], f"the fields of the page: {told}")
+    check(told == ["default-src 'self'; frame-ancestors 'none'; base-uri 'none'; form-action 'self'; object-src 'none'", "nosniff"],
+        f"the fields of the page: {told}")
     page.go("plan")
     page.run("const made = document.createElement('script'); made.textContent = 'window.hacked = 1'; document.body.append(made)")
     check(page.run("return window.hacked ?? null") is None, "an inline script ran")

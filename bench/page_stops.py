@@ -117,5 +117,6 @@ def run(stand):
     lost_changes(stand, page)
     restarted(stand, page)
     page.end()
-    print("the register killed and started again: said, and seen when it is back; a claim, a creation, an edit and a deletion without an answer are said to be uncertain, "
+    print("the register killed and started again: said, and seen when it is back; a claim, a creation, an edit and a deletion without an "
+          "answer are said to be uncertain, "
           "what is new is shown, and none was sent twice")

@@ -3,9 +3,11 @@ from selenium.webdriver.common.keys import Keys
 
 from page_stand import Browser, check
 
-VIEWS = ("plan", "plan/global", "prefixes", "prefixes/1", "prefixes/2", "prefixes/2?tab=free", "prefixes/4", "ip-addresses", "ip-addresses/1", "ip-ranges", "ip-ranges/1", "aggregates", "aggregates/1",
+VIEWS = ("plan", "plan/global", "prefixes", "prefixes/1", "prefixes/2", "prefixes/2?tab=free", "prefixes/4", "ip-addresses", "ip-addresses/1",
+    "ip-ranges", "ip-ranges/1", "aggregates", "aggregates/1",
          "vrfs", "vrfs/1", "roles", "roles/1", "rirs", "rirs/1", "search?q=10.1.0.1", "search?q=10.1.0.0/16", "search?q=office")
-NAMED = {"button", "link", "textbox", "searchbox", "combobox", "checkbox", "treegrid", "table", "region", "dialog", "navigation", "form", "search", "image", "img", "progressbar", "columnheader", "main", "banner"}
+NAMED = {"button", "link", "textbox", "searchbox", "combobox", "checkbox", "treegrid", "table", "region", "dialog", "navigation", "form", "search",
+    "image", "img", "progressbar", "columnheader", "main", "banner"}
 
 
 def fill(stand):
@@ -13,7 +15,8 @@ def fill(stand):
     stand.make("roles/", {"name": "Office LAN", "slug": "office-lan"})
     stand.make("vrfs/", {"name": "lab", "rd": "65000:1"})
     stand.make("aggregates/", {"prefix": "10.0.0.0/8", "rir": 1})
-    stand.make("prefixes/", {"prefix": "10.1.0.0/16", "status": "container", "description": "the office with a description that is longer than a narrow window"})
+    stand.make("prefixes/", {"prefix": "10.1.0.0/16", "status": "container",
+        "description": "the office with a description that is longer than a narrow window"})
     stand.make("prefixes/", {"prefix": "10.1.0.0/24", "role": 1, "description": "first floor"})
     stand.make("prefixes/", {"prefix": "2001:db8:1234:5678:9abc:def0:1234:0/112", "description": "the longest block text"})
     stand.make("prefixes/", {"prefix": "10.1.16.0/22"})
@@ -28,15 +31,18 @@ def narrow(stand):
         page.go(view)
         wide = page.run("""const main = document.querySelector("main");
             return [document.documentElement.scrollWidth <= 360, main.scrollWidth <= main.clientWidth,
-                [...document.querySelectorAll("h1, .about, .facts, .map, .actions, .search input")].filter((one) => one.getBoundingClientRect().right > 361).map((one) => one.className)];""")
+                [...document.querySelectorAll("h1, .about, .facts, .map, .actions, .search input")]
+                    .filter((one) => one.getBoundingClientRect().right > 361).map((one) => one.className)];""")
         check(wide == [True, True, []], f"{view} is wider than 360: {wide}")
-        small = page.run("""return [...document.querySelectorAll("main button, main select, header input")].filter((one) => one.getClientRects().length && !one.matches(".stop, .sort"))
+        small = page.run("""return [...document.querySelectorAll("main button, main select, header input")]
+            .filter((one) => one.getClientRects().length && !one.matches(".stop, .sort"))
             .filter((one) => one.getBoundingClientRect().height < 24).map((one) => one.outerHTML)""")
         check(not small, f"{view}: too small to be touched: {small}")
     page.go("prefixes/2")
     for words in ("Next free address", "Next free block", "Edit", "Delete"):
         page.click(words)
-        box = page.run("const box = document.querySelector('dialog').getBoundingClientRect(); return [box.left, box.right, document.querySelector('dialog').scrollWidth - document.querySelector('dialog').clientWidth]")
+        box = page.run("""const dialog = document.querySelector("dialog"), box = dialog.getBoundingClientRect();
+            return [box.left, box.right, dialog.scrollWidth - dialog.clientWidth]""")
         check(box[0] >= 0 and box[1] <= 360 and box[2] <= 0, f"the dialog of '{words}' is too wide: {box}")
         page.click("Cancel")
         page.closed()
@@ -50,7 +56,8 @@ class Keyboard:
         self.page = Browser(stand.url)
 
     def focus(self):
-        return self.page.run("const one = document.activeElement; return one ? (one.getAttribute('aria-label') || one.labels?.[0]?.innerText || one.innerText || one.tagName).trim() : ''")
+        return self.page.run("""const one = document.activeElement;
+            return one ? (one.getAttribute("aria-label") || one.labels?.[0]?.innerText || one.innerText || one.tagName).trim() : "";""")
 
     def tab_to(self, words, most=60):
         """Presses Tab until what has the focus has these words."""
@@ -70,8 +77,6 @@ def keyboard(stand):
     use = Keyboard(stand)
     page = use.page
     page.go("plan/global")
-    use.tab_to("Address plan")
-    use.tab_to("Address plan") if page.run("return document.activeElement.getAttribute('role')") == "treegrid" else None
     page.run("document.querySelector('#search-text').focus()")
     for _ in range(40):
         page.keys(Keys.TAB)
@@ -84,7 +89,7 @@ def keyboard(stand):
     page.keys(Keys.ARROW_RIGHT)
     page.keys(Keys.ARROW_RIGHT)
     check("10.1.0.0/16" in use.active(), f"the arrow to the right: {use.active()}")
-    page.keys(Keys.ARROW_RIGHT, Keys.ARROW_DOWN) if page.run("return document.querySelector('[role=row].active').getAttribute('aria-expanded')") == "false" else page.keys(Keys.ARROW_DOWN)
+    page.keys(Keys.ARROW_DOWN)
     check("10.1.0.0/24" in use.active(), f"the arrow down: {use.active()}")
     page.keys(Keys.ENTER)
     page.says("10.1.0.0/24", "h1")
@@ -144,7 +149,8 @@ def names(stand):
         page.click("Cancel")
         page.closed()
     page.go("plan/global")
-    rows = page.run("return [...document.querySelectorAll('.rows [role=row]')].map((one) => [one.getAttribute('aria-level'), one.getAttribute('aria-expanded')])")
+    rows = page.run("""return [...document.querySelectorAll(".rows [role=row]")]
+        .map((one) => [one.getAttribute("aria-level"), one.getAttribute("aria-expanded")])""")
     check(rows[0] == ["1", "true"] and rows[1] == ["2", "true"] and rows[2][0] == "3", f"the levels of the rows: {rows}")
     page.end()
 

@@ -1,6 +1,6 @@
 #!/usr/bin/env bash
-# A register with example records and its page: starts both on loopback ports, without TLS and passwords, prints the page's address, and removes everything at its
-# end (Ctrl-C). The records are those of docs/OPERATING.md (NetBox's example), with an aggregate, ranges and more addresses. It needs nginx, curl and python3.
+# A register with example records and its page: starts both on loopback ports, without TLS and passwords, prints the page's address, and removes everything at
+# its end (Ctrl-C). The records are those of docs/OPERATING.md (NetBox's example), with aggregates, ranges and more addresses. It needs nginx, curl, python3.
 # IPAMD=PROGRAM takes a built program; else the installed one or that of ./build is taken, which is built first if it is not there.
 #   examples/demo.sh [PORT]     the page is on PORT (8090 by default), the register on the next one
 set -euo pipefail
@@ -59,13 +59,16 @@ create prefixes/ '{"prefix":"10.20.1.192/27","status":"reserved","role":1,"descr
 create ip-ranges/ '{"start_address":"10.20.1.100/24","end_address":"10.20.1.149/24","mark_populated":true,"description":"DHCP, desks"}'
 create ip-ranges/ '{"start_address":"10.20.2.128/24","end_address":"10.20.2.159/24","role":3,"description":"virtual machines"}'
 office=$(curl -sS "$base/prefixes/?prefix=10.20.1.0/24" | grep -o '"id":[0-9]*' | head -n 1)
-create "prefixes/${office#*:}/available-ips/" "[$(printf '{"description":"desk"},%.0s' $(seq 37)){\"dns_name\":\"printer.example.net\",\"description\":\"printer\"}]"
+desks=$(printf '{"description":"desk"},%.0s' $(seq 37))
+create "prefixes/${office#*:}/available-ips/" "[$desks{\"dns_name\":\"printer.example.net\",\"description\":\"printer\"}]"
 servers=$(curl -sS "$base/prefixes/?prefix=10.20.2.0/24" | grep -o '"id":[0-9]*' | head -n 1)
 create "prefixes/${servers#*:}/available-ips/" "[$(printf '{},%.0s' $(seq 11)){}]"
 create prefixes/ '{"prefix":"10.30.0.0/16","status":"container","description":"the second site"}'
 site=$(curl -sS "$base/prefixes/?prefix=10.30.0.0/16" | grep -o '"id":[0-9]*' | head -n 1)
-create "prefixes/${site#*:}/available-prefixes/" '[{"prefix_length":20,"status":"container","description":"ground floor"},{"prefix_length":20,"description":"first floor"},
-    {"prefix_length":22,"description":"guests"},{"prefix_length":19,"status":"reserved","description":"kept for the new wing"},{"prefix_length":24,"status":"deprecated","description":"old printers"}]'
+create "prefixes/${site#*:}/available-prefixes/" '[{"prefix_length":20,"status":"container","description":"ground floor"},
+    {"prefix_length":20,"description":"first floor"}, {"prefix_length":22,"description":"guests"},
+    {"prefix_length":19,"status":"reserved","description":"kept for the new wing"},
+    {"prefix_length":24,"status":"deprecated","description":"old printers"}]'
 
 cat > "$folder/nginx.conf" <<N
 worker_processes 1; daemon off; pid $folder/nginx.pid; error_log $folder/errors;

@@ -3,7 +3,8 @@ import assert from "node:assert/strict";
 import { execFileSync } from "node:child_process";
 import test from "node:test";
 
-import { addressText, blockAround, blocksBetween, blockText, compareBlocks, contains, countText, lastOf, partLength, partsOf, readAddress, readBlock, readMasked } from "../../web/js/address.js";
+import { addressText, blockAround, blocksBetween, blockText, compareBlocks, contains, countText, lastOf, partLength, partsOf, readAddress, readBlock,
+  readMasked } from "../../web/js/address.js";
 
 const canonical = (text) => addressText(readAddress(text));
 
@@ -18,10 +19,12 @@ test("texts of RFC 4291 2.2 are read, and written as RFC 5952 4 says", () => {
 });
 
 test("what is no address is not read", () => {
-  for (const text of ["", ":", ":::", "::::", ":1::", "1::2:", "1.2.3", "1.2.3.4.5", "01.2.3.4", "256.1.1.1", "1.2.3.4::", "12345::1", "1:2:3:4:5:6:7:8::", "::1.2.3", "g::1", "1.2.3.4/24", " 1.2.3.4", "::1::"]) {
+  for (const text of ["", ":", ":::", "::::", ":1::", "1::2:", "1.2.3", "1.2.3.4.5", "01.2.3.4", "256.1.1.1", "1.2.3.4::", "12345::1",
+    "1:2:3:4:5:6:7:8::", "::1.2.3", "g::1", "1.2.3.4/24", " 1.2.3.4", "::1::"]) {
     assert.equal(readAddress(text), null, text);
   }
-  for (const text of ["10.0.0.0", "10.0.0.0/", "10.0.0.0/33", "10.0.0.0/08", "10.0.0.0/8/9", "::/129", "10.0.0.1/24"]) assert.equal(readBlock(text), null, text);
+  for (const text of ["10.0.0.0", "10.0.0.0/", "10.0.0.0/33", "10.0.0.0/08", "10.0.0.0/8/9", "::/129", "10.0.0.1/24"]) assert.equal(readBlock(text), null,
+    text);
 });
 
 const RANDOM = `

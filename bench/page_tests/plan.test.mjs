@@ -12,7 +12,8 @@ function registerOf(texts) {
   let asked = 0;
   const passes = (query) => (record) =>
     (!query.within || (contains(readBlock(query.within), record.block) && record.block.length > readBlock(query.within).length)) &&
-    (!query.within_include || contains(readBlock(query.within_include), record.block)) && (!query.contains || contains(record.block, readBlock(query.contains)));
+    (!query.within_include || contains(readBlock(query.within_include), record.block)) &&
+      (!query.contains || contains(record.block, readBlock(query.contains)));
   const page = async (query) => {
     asked += 1;
     const found = records.filter(passes(query));
@@ -91,5 +92,6 @@ test("nodes of one block are beside each other, and rows have their levels", () 
   const nodes = nest([node(3, "10.0.0.0/24"), node(1, "10.0.0.0/24"), node(2, "10.0.0.0/8"), node(4, "11.0.0.0/8")]);
   assert.deepEqual(nodes.map(({ record }) => record.id), [2, 4]);
   assert.deepEqual(nodes[0].children.map(({ record }) => record.id), [1, 3]);
-  assert.deepEqual(visibleRows(nodes).map(({ node: { record }, level, at, of }) => [record.id, level, at, of]), [[2, 1, 1, 2], [1, 2, 1, 2], [3, 2, 2, 2], [4, 1, 2, 2]]);
+  assert.deepEqual(visibleRows(nodes).map(({ node: { record }, level, at, of }) => [record.id, level, at, of]),
+    [[2, 1, 1, 2], [1, 2, 1, 2], [3, 2, 2, 2], [4, 1, 2, 2]]);
 });

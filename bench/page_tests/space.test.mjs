@@ -18,7 +18,8 @@ test("what is free beside prefixes, as docs/USING.md's example of `free` has it"
 });
 
 test("the addresses that a prefix keeps back (RFC 3021, RFC 6164)", () => {
-  const counts = [["10.0.0.0/24", 2], ["10.0.0.0/30", 2], ["10.0.0.0/31", 0], ["10.0.0.0/32", 0], ["2001:db8::/64", 1], ["2001:db8::/126", 1], ["2001:db8::/127", 0]];
+  const counts = [["10.0.0.0/24", 2], ["10.0.0.0/30", 2], ["10.0.0.0/31", 0], ["10.0.0.0/32", 0], ["2001:db8::/64", 1], ["2001:db8::/126", 1],
+    ["2001:db8::/127", 0]];
   for (const [text, wanted] of counts) assert.equal(keptBack(readBlock(text), false).length, wanted, text);
   assert.equal(keptBack(readBlock("10.0.0.0/24"), true).length, 0);
 });
@@ -26,15 +27,18 @@ test("the addresses that a prefix keeps back (RFC 3021, RFC 6164)", () => {
 test("the cells of a small prefix", () => {
   const block = readBlock("10.0.0.0/28");
   const address = { id: 7, address: "10.0.0.1/28", dns_name: "gw.example", description: "", status: { label: "Active" } };
-  const cells = cellsOf(block, block, false, { nodes: [prefix("10.0.0.12/30")], ranges: [range("10.0.0.4", "10.0.0.5", true), range("10.0.0.6", "10.0.0.7")], addresses: [address] });
-  const kinds = ["kept", "address", "free", "free", "withheld", "withheld", "range", "range", "free", "free", "free", "free", "prefix", "prefix", "prefix", "prefix"];
+  const cells = cellsOf(block, block, false, { nodes: [prefix("10.0.0.12/30")],
+    ranges: [range("10.0.0.4", "10.0.0.5", true), range("10.0.0.6", "10.0.0.7")], addresses: [address] });
+  const kinds = ["kept", "address", "free", "free", "withheld", "withheld", "range", "range", "free", "free", "free", "free", "prefix", "prefix",
+    "prefix", "prefix"];
   assert.deepEqual(cells.map(({ kind }) => kind), kinds);
   assert.equal(cells[1].name, "10.0.0.1, gw.example, Active");
 });
 
 test("spans are to scale in a row", () => {
   const row = readBlock("10.0.16.0/20");
-  assert.deepEqual(placeIn(row, { first: readBlock("10.0.24.0/21").number, last: readBlock("10.0.31.255/32").number }), { left: 0.5, width: 0.5, begins: true });
+  assert.deepEqual(placeIn(row, { first: readBlock("10.0.24.0/21").number, last: readBlock("10.0.31.255/32").number }),
+    { left: 0.5, width: 0.5, begins: true });
   assert.deepEqual(placeIn(row, { first: 0n, last: (1n << 32n) - 1n }), { left: 0, width: 1, begins: false });
   assert.equal(placeIn(row, { first: 0n, last: 5n }), null);
 });
@@ -52,7 +56,8 @@ test("ranges of a block, facts, and whether an address is free", () => {
 
 test("a refusal is shown next to the field that it names", () => {
   const fields = KINDS.prefixes.fields;
-  const rows = [["field", "status is missing or malformed", "status"], ["host_bits", "host bits are set, the prefix is 10.0.0.0/8", "prefix"], ["no_such", "vrfs 9 is not there", "vrf"],
+  const rows = [["field", "status is missing or malformed", "status"], ["host_bits", "host bits are set, the prefix is 10.0.0.0/8", "prefix"],
+    ["no_such", "vrfs 9 is not there", "vrf"],
     ["duplicate", "coincides with 1", "prefix"], ["limit", "prefixes would exceed 200000", null], ["keeper", "the store could not be written", null]];
   for (const [code, detail, wanted] of rows) assert.equal(fieldOfRefusal(code, detail, fields), wanted, code);
   assert.equal(fieldOfRefusal("range_overlap", "overlaps range 1", KINDS["ip-ranges"].fields), "start_address");
@@ -60,7 +65,8 @@ test("a refusal is shown next to the field that it names", () => {
 });
 
 test("records differ by their members, not by what is computed", () => {
-  const one = { prefix: "10.0.0.0/8", vrf: null, status: { value: "active", label: "Active" }, role: null, is_pool: false, mark_utilized: false, description: "", children: 1 };
+  const one = { prefix: "10.0.0.0/8", vrf: null, status: { value: "active", label: "Active" }, role: null, is_pool: false, mark_utilized: false,
+    description: "", children: 1 };
   assert.deepEqual(differences("prefixes", one, { ...one, children: 9 }), []);
   assert.deepEqual(differences("prefixes", one, { ...one, status: { value: "reserved", label: "Reserved" } }).map(({ name }) => name), ["status"]);
 });

@@ -13,14 +13,16 @@ import { greatestId, newSince, queryOf, showUncertain } from "./uncertain.js";
 /** Says what was done, with a link to it. @param {string} text @param {string} [href] */
 export function toast(text, href) {
   const place = document.getElementById("toast");
-  fill(place, el("span", {}, text), href ? el("a", { href }, "Open") : null, button("×", () => fill(place), { class: "close", "aria-label": "Close the message" }));
+  fill(place, el("span", {}, text), href ? el("a", { href }, "Open") : null,
+    button("×", () => fill(place), { class: "close", "aria-label": "Close the message" }));
   clearTimeout(toast.timer);
   toast.timer = setTimeout(() => fill(place), 12_000);
 }
 
 /** A list of links to records. @param {string} kind @param {object[]} records */
 export const recordList = (kind, records) =>
-  el("ul", { class: "plain made" }, records.map((record) => el("li", {}, el("a", { href: hrefOf([kind, record.id]), class: "address" }, titleOf(kind, record)), record.dns_name ? ` ${record.dns_name}` : "",
+  el("ul", { class: "plain made" }, records.map((record) => el("li", {},
+    el("a", { href: hrefOf([kind, record.id]), class: "address" }, titleOf(kind, record)), record.dns_name ? ` ${record.dns_name}` : "",
     record.description ? ` · ${record.description}` : "")));
 
 /** The names of all kinds are read again, and the view is shown as it is now. */
@@ -77,16 +79,20 @@ export function createRecord(kind, first, context) {
 
 /** The members that a user changed. */
 function changesOf(kind, shown, values) {
-  const named = Object.entries(values).filter(([name, value]) => (bodyValue(shown[name]) ?? null) !== (value ?? null) && !(value === "" && bodyValue(shown[name]) === null));
+  const named = Object.entries(values).filter(([name, value]) => (bodyValue(shown[name]) ?? null) !== (value ?? null) &&
+    !(value === "" && bodyValue(shown[name]) === null));
   return Object.fromEntries(named);
 }
 
 /** Shows the record as it was shown, as it is, and what was to be saved. */
 function showBoth(form, kind, { shown, now, values }, names, { mine, theirs }) {
-  const fields = KINDS[kind].fields.filter(({ name }) => differences(kind, shown, now).some((one) => one.name === name) || name in changesOf(kind, shown, values));
-  const rows = fields.map((field) => el("tr", {}, el("th", { scope: "row" }, field.label.split(":")[0]), [shown, now, values].map((one) => el("td", {}, memberText(field, one[field.name] ?? null, names)))));
+  const fields = KINDS[kind].fields.filter(({ name }) => differences(kind, shown, now).some((one) => one.name === name) ||
+    name in changesOf(kind, shown, values));
+  const rows = fields.map((field) => el("tr", {}, el("th", { scope: "row" }, field.label.split(":")[0]),
+    [shown, now, values].map((one) => el("td", {}, memberText(field, one[field.name] ?? null, names)))));
   const head = el("tr", {}, el("td", {}), ["Shown to you", "In the register now", "Yours"].map((text) => el("th", { scope: "col" }, text)));
-  form.replace("Somebody changed it meanwhile", [el("p", {}, "Nothing was saved. Both are here:"), el("div", { class: "both" }, el("table", {}, el("thead", {}, head), el("tbody", {}, rows)))],
+  form.replace("Somebody changed it meanwhile", [el("p", {}, "Nothing was saved. Both are here:"),
+    el("div", { class: "both" }, el("table", {}, el("thead", {}, head), el("tbody", {}, rows)))],
     [button("Cancel", () => form.close()), button("Save mine", mine, { class: "button" }), button("Edit the new one", theirs, { class: "button main" })]);
 }
 
@@ -178,7 +184,8 @@ export function recordActions(kind, record, context) {
     claims.push(button("Next free block", () => showClaim("available-prefixes", kind, record, context), { class: isContainer ? "button main" : "button" }));
   }
   if (kind === "ip-ranges") claims.push(button("Next free address", () => showClaim("available-ips", kind, record, context), { class: "button main" }));
-  return [...claims, button("Edit", () => editRecord(kind, record, context)), button("Delete", () => deleteRecord(kind, record, context), { class: "button danger" })];
+  return [...claims, button("Edit", () => editRecord(kind, record, context)),
+    button("Delete", () => deleteRecord(kind, record, context), { class: "button danger" })];
 }
 
 /** The button of a list. */

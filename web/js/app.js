@@ -53,7 +53,8 @@ function showFault(fault) {
   if (isLeft(fault)) return;
   const again = el("button", { type: "button", class: "button", on: { click: show } }, "Try again");
   const text = fault instanceof Unanswered ? fault.message : fault.code ? `${fault.code}: ${fault.message}` : fault.message;
-  fill(main, el("div", { class: "empty", role: "alert" }, el("h2", {}, fault.status === 404 ? "Not there" : "This could not be shown"), el("p", {}, text), again));
+  fill(main, el("div", { class: "empty", role: "alert" }, el("h2", {}, fault.status === 404 ? "Not there" : "This could not be shown"), el("p", {}, text),
+    again));
 }
 
 /** Leaves the view that is shown. */
@@ -134,7 +135,8 @@ function noteFault(fault) {
 async function begin() {
   state.user = await whoAsks();
   const who = document.getElementById("who");
-  fill(who, state.user.user ? el("span", { class: "user" }, state.user.user) : null, state.user.mayChange ? null : el("span", { class: "tag reading" }, "Reading only"));
+  fill(who, state.user.user ? el("span", { class: "user" }, state.user.user) : null,
+    state.user.mayChange ? null : el("span", { class: "tag reading" }, "Reading only"));
   window.addEventListener("hashchange", show);
   document.getElementById("search").addEventListener("submit", (event) => {
     event.preventDefault();

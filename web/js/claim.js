@@ -35,9 +35,11 @@ function fieldsOf(what, record) {
 function showClaimed(form, what, made, context) {
   const texts = made.map((record) => (what === "available-ips" ? record.address.split("/")[0] : record.prefix));
   const one = el("p", { class: "claimed" }, el("span", { class: "address" }, texts[0]), copyButton(texts[0]));
-  const all = el("div", {}, el("p", {}, `${made.length.toLocaleString("en")} are yours:`), el("div", { class: "made-box", tabindex: 0 }, recordList(MADE[what], made)));
+  const all = el("div", {}, el("p", {}, `${made.length.toLocaleString("en")} are yours:`),
+    el("div", { class: "made-box", tabindex: 0 }, recordList(MADE[what], made)));
   const copy = button(made.length === 1 ? "Copy" : "Copy all", () => copyText(texts.join("\n")), { class: "button" });
-  form.replace(made.length === 1 ? "It is yours" : "They are yours", [made.length === 1 ? one : all], [copy, button("Done", () => form.close(), { class: "button main" })]);
+  form.replace(made.length === 1 ? "It is yours" : "They are yours", [made.length === 1 ? one : all],
+    [copy, button("Done", () => form.close(), { class: "button main" })]);
   form.dialog.addEventListener("close", () => context.show(), { once: true });
 }
 
@@ -62,7 +64,8 @@ export function showClaim(what, kind, record, context) {
       const look = async () => {
         const fresh = await newSince(MADE[what], query, greatest);
         if (fresh.length === 0) return { text: `Nothing is new in ${titleOf(kind, record)}: the claim was not made.` };
-        return { text: `New in ${titleOf(kind, record)} since then (${fresh.length}); look whether they are yours:`, list: el("div", { class: "made-box", tabindex: 0 }, recordList(MADE[what], fresh)) };
+        return { text: `New in ${titleOf(kind, record)} since then (${fresh.length}); look whether they are yours:`,
+          list: el("div", { class: "made-box", tabindex: 0 }, recordList(MADE[what], fresh)) };
       };
       const again = () => {
         form.restore(title, { number, ...item });

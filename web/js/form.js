@@ -12,15 +12,18 @@ function inputOf(field, value, names) {
   const described = `${id}-help ${id}-fault`;
   if (field.type === "flag") return el("input", { type: "checkbox", id, name: field.name, checked: Boolean(value), "aria-describedby": described });
   if (field.type === "choice" || field.type === "record") {
-    const records = field.type === "record" ? names.lists[field.of].map((record) => [String(record.id), record.rd ? `${record.name} (${record.rd})` : record.name]) : [];
+    const records = field.type === "record" ? names.lists[field.of].map((record) =>
+      [String(record.id), record.rd ? `${record.name} (${record.rd})` : record.name]) : [];
     const first = field.type === "record" ? [["", field.none ?? "Choose"]] : [];
     const options = [...first, ...records, ...(field.choices ?? [])];
-    const select = el("select", { id, name: field.name, "aria-describedby": described, "aria-required": field.required ? "true" : null }, options.map(([one, text]) => el("option", { value: one }, text)));
+    const select = el("select", { id, name: field.name, "aria-describedby": described, "aria-required": field.required ? "true" : null },
+      options.map(([one, text]) => el("option", { value: one }, text)));
     select.value = value === null || value === undefined ? "" : String(value);
     return select;
   }
   return el("input", {
-    type: "text", id, name: field.name, value: value ?? "", autocomplete: "off", spellcheck: "false", maxlength: field.most && field.type === "text" ? field.most : null,
+    type: "text", id, name: field.name, value: value ?? "", autocomplete: "off", spellcheck: "false",
+      maxlength: field.most && field.type === "text" ? field.most : null,
     inputmode: field.type === "number" ? "numeric" : null, class: ["block", "address"].includes(field.type) ? "address" : null,
     "aria-describedby": described, "aria-required": field.required ? "true" : null,
   });

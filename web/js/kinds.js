@@ -68,7 +68,8 @@ export const KINDS = {
     many: "Prefixes",
     title: (record) => record.prefix,
     isPlace: true,
-    fields: [{ name: "prefix", label: "Block", type: "block", required: true, help: "For example 10.0.0.0/24" }, VRF, PREFIX_STATUS, ROLE, POOL, UTILIZED, DESCRIPTION],
+    fields: [{ name: "prefix", label: "Block", type: "block", required: true, help: "For example 10.0.0.0/24" }, VRF, PREFIX_STATUS, ROLE, POOL, UTILIZED,
+      DESCRIPTION],
   },
   "ip-ranges": {
     one: "range",
@@ -86,7 +87,8 @@ export const KINDS = {
     title: (record) => record.address,
     confirm: (record) => record.address.split("/")[0],
     isPlace: true,
-    fields: [{ name: "address", label: "Address", type: "address", required: true, help: "With its mask, as 10.0.0.1/24" }, VRF, ADDRESS_STATUS, ADDRESS_ROLE, DNS_NAME, DESCRIPTION],
+    fields: [{ name: "address", label: "Address", type: "address", required: true, help: "With its mask, as 10.0.0.1/24" }, VRF, ADDRESS_STATUS,
+      ADDRESS_ROLE, DNS_NAME, DESCRIPTION],
   },
 };
 
@@ -126,7 +128,8 @@ export function fieldOfRefusal(code, detail, fields) {
   if (code === "no_such") return first({ vrfs: "vrf", rirs: "rir", roles: "role" }[detail.split(" ")[0]]);
   const place = ["prefix", "address", "start_address"];
   const known = {
-    host_bits: place, zero_mask: place, duplicate: place, populated: place, aggregate_overlap: place, name_taken: ["name"], slug_taken: ["slug"], rd_taken: ["rd"],
+    host_bits: place, zero_mask: place, duplicate: place, populated: place, aggregate_overlap: place, name_taken: ["name"], slug_taken: ["slug"],
+      rd_taken: ["rd"],
     coincide: ["enforce_unique"], range_family: ["end_address"], range_mask: ["end_address"], range_order: ["end_address"], range_size: ["end_address"],
     range_overlap: ["start_address"], wanted_length: ["prefix_length"], no_space: ["prefix_length", "number"], slaac_family: ["status"], dns_name: ["dns_name"],
   };

@@ -9,9 +9,13 @@ import { KINDS } from "./kinds.js";
 import { hrefOf } from "./router.js";
 import { RecordTable } from "./table.js";
 
-/** A choice that changes the address of the view. @param {string} label @param {[string, string][]} options @param {string} value @param {function(string): void} onChange */
+/**
+ * A choice that changes the address of the view.
+ * @param {string} label @param {[string, string][]} options @param {string} value @param {function(string): void} onChange
+ */
 export function choice(label, options, value, onChange) {
-  const select = el("select", { "aria-label": label, on: { change: () => onChange(select.value) } }, options.map(([one, text]) => el("option", { value: one }, text)));
+  const select = el("select", { "aria-label": label, on: { change: () => onChange(select.value) } },
+    options.map(([one, text]) => el("option", { value: one }, text)));
   select.value = options.some(([one]) => one === value) ? value : options[0][0];
   return el("label", { class: "choice" }, el("span", {}, label), select);
 }
@@ -50,7 +54,8 @@ export function recordTable(kind, filters, context, label = KINDS[kind].many) {
     const page = await get(`${kind}/`, { ...filters, limit, offset }, context.signal);
     return { rows: page.results, total: page.count };
   };
-  const table = new RecordTable({ label, file: `${kind}.csv`, columns: columnsOf(kind, context.names), load, empty: `No ${KINDS[kind].many.toLowerCase().replace("vrfs", "VRFs").replace("rirs", "RIRs")} here`, onFault: context.onFault });
+  const table = new RecordTable({ label, file: `${kind}.csv`, columns: columnsOf(kind, context.names), load,
+    empty: `No ${KINDS[kind].many.toLowerCase().replace("vrfs", "VRFs").replace("rirs", "RIRs")} here`, onFault: context.onFault });
   context.onLeave(() => table.end());
   return table;
 }
@@ -61,7 +66,8 @@ export async function showList(main, context) {
   const kind = route.path[0];
   await names.load(signal);
   const table = recordTable(kind, filtersOf(route.query), context);
-  const head = el("div", { class: "view-head" }, el("h1", {}, KINDS[kind].many), el("div", { class: "actions" }, choicesOf(kind, context), context.listActions?.(kind, route)));
+  const head = el("div", { class: "view-head" }, el("h1", {}, KINDS[kind].many),
+    el("div", { class: "actions" }, choicesOf(kind, context), context.listActions?.(kind, route)));
   main.classList.add("filled");
   fill(main, head, table.element);
   await table.load();

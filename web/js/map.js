@@ -38,8 +38,10 @@ export class SpaceMap {
   legend() {
     const kinds = isGrid(this.block)
       ? [["address", "taken"], ["free", "free"], ["prefix", "in a prefix"], ["range", "in a range"], ["withheld", "filled by others"], ["kept", "kept back"]]
-      : [["prefix", "prefix"], ["part", "many prefixes"], ["free", "no prefix"], ["range", "range"], ["withheld", "range filled by others"], ["address", "address"]];
-    return el("figcaption", { class: "legend" }, kinds.map(([kind, text]) => el("span", {}, el("span", { class: `key ${kind}`, "aria-hidden": "true" }), text)));
+      : [["prefix", "prefix"], ["part", "many prefixes"], ["free", "no prefix"], ["range", "range"], ["withheld", "range filled by others"],
+        ["address", "address"]];
+    return el("figcaption", { class: "legend" }, kinds.map(([kind, text]) =>
+      el("span", {}, el("span", { class: `key ${kind}`, "aria-hidden": "true" }), text)));
   }
 
   /** Names what is under the pointer. @param {?Element} target */
@@ -60,7 +62,8 @@ export class SpaceMap {
   drawCells() {
     const mask = this.prefix.length;
     return cellsOf(this.block, this.prefix, this.record.is_pool, this.found).map((cell) => {
-      const href = cell.kind === "address" ? hrefOf(["ip-addresses", cell.record.id]) : cell.kind === "prefix" && cell.prefix ? hrefOf(["prefixes", cell.prefix.id]) : null;
+      const href = cell.kind === "address" ? hrefOf(["ip-addresses", cell.record.id]) : cell.kind === "prefix" && cell.prefix
+        ? hrefOf(["prefixes", cell.prefix.id]) : null;
       const isOpen = this.mayChange && (cell.kind === "free" || cell.kind === "range");
       const onClick = isOpen ? () => this.onFree("ip-addresses", { address: `${cell.address}/${mask}`, vrf: this.record.vrf }) : null;
       const made = this.stop(cell.name, cell.range && cell.kind !== "range" ? `${cell.kind} in-range` : cell.kind, href, onClick);
@@ -78,7 +81,8 @@ export class SpaceMap {
       for (const span of spans) this.drawSpan(lane, row, span);
       for (const range of ranges) this.drawRange(lane, row, range);
       for (const number of hosts) this.drawHost(lane, row, number);
-      return el("div", { class: "map-row" }, el("span", { class: "map-start" }, addressText(row)), lane, el("span", { class: "map-end", data: { row: index } }));
+      return el("div", { class: "map-row" }, el("span", { class: "map-start" }, addressText(row)), lane,
+        el("span", { class: "map-end", data: { row: index } }));
     });
   }
 

@@ -11,7 +11,8 @@ export const statusMark = (status) => (status ? el("span", { class: `status ${/^
 export function bar(percent) {
   const level = percent >= 95 ? "full" : percent >= 80 ? "high" : "";
   const fillOf = el("span", { class: "bar-fill", style: { width: `${Math.min(100, percent)}%` } });
-  return el("span", { class: `bar ${level}` }, el("span", { class: "bar-track", "aria-hidden": "true" }, fillOf), el("span", { class: "bar-text" }, `${percent} %`));
+  return el("span", { class: `bar ${level}` }, el("span", { class: "bar-track", "aria-hidden": "true" }, fillOf),
+    el("span", { class: "bar-text" }, `${percent} %`));
 }
 
 /** Facts with their names, side by side. @param {Array<?[string, *]>} pairs */

@@ -152,4 +152,5 @@ function begin(tree, found, before) {
 
 /** What is said where there is nothing. @param {string|undefined} asked the table */
 const emptyPlan = (asked) =>
-  el("div", { class: "empty" }, el("h2", {}, "No prefixes yet"), el("p", { class: "muted" }, asked === undefined ? "The register is empty." : "This table is empty."));
+  el("div", { class: "empty" }, el("h2", {}, "No prefixes yet"), el("p", { class: "muted" },
+    asked === undefined ? "The register is empty." : "This table is empty."));

@@ -18,7 +18,8 @@ const TABS = [["prefixes", "Prefixes"], ["addresses", "Addresses"], ["ranges", "
 
 /** Where a record is: its table, and the prefixes around it. */
 export function crumbs(names, vrf, outer) {
-  const links = [el("a", { href: hrefOf(["plan", vrf ?? "global"]) }, names.tableName(vrf)), ...outer.map((one) => el("a", { href: hrefOf(["prefixes", one.id]), class: "address" }, one.prefix))];
+  const links = [el("a", { href: hrefOf(["plan", vrf ?? "global"]) }, names.tableName(vrf)),
+    ...outer.map((one) => el("a", { href: hrefOf(["prefixes", one.id]), class: "address" }, one.prefix))];
   return el("nav", { class: "crumbs", "aria-label": "Place" }, el("ol", {}, links.map((link) => el("li", {}, link))));
 }
 
@@ -44,10 +45,13 @@ async function mapOf(context, record, block) {
   const shown = asked && contains(block, asked) ? asked : block;
   const found = await foundIn(record, shown, context.signal);
   const zoom = (part) => hrefOf(context.route.path, { map: blockText(part), tab: context.route.query.get("tab") });
-  const map = new SpaceMap({ block: shown, prefix: block, record, found, mayChange: context.mayChange, zoom, onFree: (kind, first) => context.create(kind, first) });
+  const map = new SpaceMap({ block: shown, prefix: block, record, found, mayChange: context.mayChange, zoom,
+    onFree: (kind, first) => context.create(kind, first) });
   if (found.total > found.addresses.length && !isGrid(shown)) countRows(map, record, shown, context);
-  const whole = shown === block ? null : el("a", { href: hrefOf(context.route.path, { tab: context.route.query.get("tab") }), class: "button small" }, `Whole ${record.prefix}`);
-  const title = el("div", { class: "section-head" }, el("h2", {}, "Space", shown === block ? null : [" of ", el("span", { class: "address" }, blockText(shown))]), whole);
+  const whole = shown === block ? null : el("a", { href: hrefOf(context.route.path, { tab: context.route.query.get("tab") }), class: "button small" },
+    `Whole ${record.prefix}`);
+  const title = el("div", { class: "section-head" }, el("h2", {}, "Space",
+    shown === block ? null : [" of ", el("span", { class: "address" }, blockText(shown))]), whole);
   return el("section", { class: "panel" }, title, map.element);
 }
 
@@ -66,9 +70,12 @@ function countRows(map, record, block, { signal, onFault }) {
 /** The free blocks or addresses: the register answers the first thousand. */
 function freeTable(record, what, context) {
   const name = what === "available-prefixes" ? "prefix" : "address";
-  const offer = (one) => (name === "prefix" ? context.create("prefixes", { prefix: one.prefix, vrf: record.vrf }) : context.create("ip-addresses", { address: one.address, vrf: record.vrf }));
-  const place = { title: name === "prefix" ? "Block" : "Address", name, text: (one) => one[name], cell: (one) => el("span", { class: "with-copy" }, el("span", { class: "address" }, one[name]), copyButton(one[name])) };
-  const size = { title: "Addresses", name: "size", text: (one) => countText(1n << BigInt((one.family === 4 ? 32 : 128) - Number(one.prefix.split("/")[1]))), rank: 2 };
+  const offer = (one) => (name === "prefix" ? context.create("prefixes", { prefix: one.prefix, vrf: record.vrf })
+    : context.create("ip-addresses", { address: one.address, vrf: record.vrf }));
+  const place = { title: name === "prefix" ? "Block" : "Address", name, text: (one) => one[name],
+    cell: (one) => el("span", { class: "with-copy" }, el("span", { class: "address" }, one[name]), copyButton(one[name])) };
+  const size = { title: "Addresses", name: "size", text: (one) => countText(
+    1n << BigInt((one.family === 4 ? 32 : 128) - Number(one.prefix.split("/")[1]))), rank: 2 };
   const offered = (one) => button("Create", () => offer(one), { class: "button small", "aria-label": `Create ${one[name]}` });
   const take = context.mayChange ? [{ title: "Create", isAction: true, text: () => "", cell: offered, size: "100px" }] : [];
   const load = async () => {
@@ -77,7 +84,8 @@ function freeTable(record, what, context) {
   };
   const label = name === "prefix" ? "Free blocks" : "Free addresses";
   const columns = name === "prefix" ? [place, size, ...take] : [place, ...take];
-  const table = new RecordTable({ label, file: `free-in-${record.prefix.replace("/", "_")}.csv`, columns, load, empty: "Nothing is free", onFault: context.onFault });
+  const table = new RecordTable({ label, file: `free-in-${record.prefix.replace("/", "_")}.csv`, columns, load, empty: "Nothing is free",
+    onFault: context.onFault });
   const show = table.show.bind(table);
   table.show = () => {
     show();
@@ -112,7 +120,8 @@ export async function treeInside(kind, record, context) {
   });
   tree.element.setAttribute("aria-label", `Prefixes in ${record.prefix}`);
   context.onLeave(() => tree.end());
-  return { element: nodes.length === 0 ? el("p", { class: "muted none" }, "No prefixes here") : el("div", { class: "table-box" }, tree.element), start: () => nodes.length > 0 && tree.start() };
+  return { element: nodes.length === 0 ? el("p", { class: "muted none" }, "No prefixes here") : el("div", { class: "table-box" }, tree.element),
+    start: () => nodes.length > 0 && tree.start() };
 }
 
 /** Shows the list of a tab below the map. */
@@ -150,7 +159,8 @@ export async function showPrefix(main, context) {
   const list = el("div", { class: "tab" });
   const title = el("h1", { class: "address with-copy" }, record.prefix, copyButton(record.prefix));
   const inPlan = el("a", { class: "button", href: hrefOf(["plan", record.vrf ?? "global"], { at: record.prefix }) }, "Show in plan");
-  const head = el("div", { class: "view-head" }, el("div", {}, title, el("p", { class: "muted about" }, record.description)), el("div", { class: "actions" }, context.recordActions?.("prefixes", record), inPlan));
+  const head = el("div", { class: "view-head" }, el("div", {}, title, el("p", { class: "muted about" }, record.description)),
+    el("div", { class: "actions" }, context.recordActions?.("prefixes", record), inPlan));
   const map = el("div", {}, el("section", { class: "panel waiting" }));
   fill(main, crumbs(names, record.vrf, outer.filter((one) => one.id !== record.id && one.prefix !== record.prefix)), head,
     facts(names, record, block, bar(figure.utilization)), map, tabs(context, tab), list, logLine());

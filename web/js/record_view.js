@@ -28,14 +28,16 @@ function memberFacts(kind, record, names) {
     const label = field.label.split(":")[0].split(",")[0];
     if (field.type === "record" && value !== null && field.of !== "vrfs") return [label, el("a", { href: hrefOf([field.of, value]) }, text)];
     if (field.name === "vrf") return [label, el("a", { href: hrefOf(value === null ? ["plan", "global"] : ["vrfs", value]) }, text)];
-    if (field.type === "address" || field.name === "dns_name") return text && [label, el("span", { class: "with-copy" }, el("span", { class: "address" }, text), copyButton(text))];
+    if (field.type === "address" || field.name === "dns_name") return text &&
+      [label, el("span", { class: "with-copy" }, el("span", { class: "address" }, text), copyButton(text))];
     return text && [label, text];
   });
 }
 
 /** How many records name this one, with links to them. */
 async function linkedCounts(kind, record, signal) {
-  const filters = { vrfs: ["vrf_id", "vrf", ["prefixes", "ip-ranges", "ip-addresses"]], roles: ["role_id", "role", ["prefixes", "ip-ranges"]], rirs: ["rir_id", "rir", ["aggregates"]] };
+  const filters = { vrfs: ["vrf_id", "vrf", ["prefixes", "ip-ranges", "ip-addresses"]], roles: ["role_id", "role", ["prefixes", "ip-ranges"]],
+    rirs: ["rir_id", "rir", ["aggregates"]] };
   const [filter, word, kinds] = filters[kind] ?? [null, null, []];
   const words = { prefixes: ["prefix", "prefixes"], "ip-ranges": ["range"], "ip-addresses": ["address", "addresses"], aggregates: ["aggregate"] };
   return Promise.all(kinds.map(async (one) => {
@@ -74,7 +76,8 @@ async function below(kind, record, context) {
     return { element: [el("h2", { class: "below-title" }, "Prefixes that have it"), table.element], start: () => table.load() };
   }
   if (kind === "ip-ranges") {
-    const table = new RecordTable({ label: "Addresses in it", file: "addresses-of-range.csv", columns: columnsOf("ip-addresses", names), load: loadFrom(await addressesOf(record, signal)), empty: "No addresses here", onFault });
+    const table = new RecordTable({ label: "Addresses in it", file: "addresses-of-range.csv", columns: columnsOf("ip-addresses", names),
+      load: loadFrom(await addressesOf(record, signal)), empty: "No addresses here", onFault });
     context.onLeave(() => table.end());
     return { element: [el("h2", { class: "below-title" }, "Addresses in it"), table.element], start: () => table.load() };
   }
@@ -89,7 +92,8 @@ async function placesOf(kind, record, signal) {
     const text = addressText(block);
     const [outer, ranges] = await Promise.all([around(text, record.vrf, signal), rangesOf(record.vrf, record.family, signal)]);
     const holding = ranges.filter((range) => rangeEnds(range).first <= block.number && block.number <= rangeEnds(range).last);
-    return { outer, facts: holding.map((range) => ["In range", el("a", { href: hrefOf(["ip-ranges", range.id]), class: "address" }, titleOf("ip-ranges", range))]) };
+    return { outer, facts: holding.map((range) => ["In range", el("a", { href: hrefOf(["ip-ranges", range.id]), class: "address" },
+      titleOf("ip-ranges", range))]) };
   }
   if (kind !== "ip-ranges") return { outer: null, facts: [] };
   const [start, end] = [record.start_address, record.end_address].map((text) => text.split("/")[0]);
@@ -111,8 +115,10 @@ export async function showRecord(main, context) {
   const text = titleOf(kind, record);
   const copied = kind === "ip-addresses" ? text.split("/")[0] : text;
   const title = el("h1", { class: KINDS[kind].isPlace ? "address with-copy" : "with-copy" }, text, copyButton(copied));
-  const head = el("div", { class: "view-head" }, el("div", {}, title, el("p", { class: "muted about" }, record.description)), el("div", { class: "actions" }, context.recordActions?.(kind, record)));
-  const up = place.outer ? crumbs(names, record.vrf, place.outer) : el("nav", { class: "crumbs", "aria-label": "Place" }, el("ol", {}, el("li", {}, el("a", { href: hrefOf([kind]) }, KINDS[kind].many))));
+  const head = el("div", { class: "view-head" }, el("div", {}, title, el("p", { class: "muted about" }, record.description)),
+    el("div", { class: "actions" }, context.recordActions?.(kind, record)));
+  const up = place.outer ? crumbs(names, record.vrf, place.outer) : el("nav", { class: "crumbs", "aria-label": "Place" },
+    el("ol", {}, el("li", {}, el("a", { href: hrefOf([kind]) }, KINDS[kind].many))));
   const facts = factList([figure && ["Used", bar(figure.utilization)], ...memberFacts(kind, record, names), ...place.facts, ...counts]);
   fill(main, up, head, facts, rest.element ? el("div", { class: "tab" }, rest.element) : null, logLine());
   await rest.start();

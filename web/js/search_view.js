@@ -28,7 +28,8 @@ export function readQuestion(text) {
 /** A list of records with its title; nothing if there are none. */
 function section(title, kind, records, context) {
   if (records.length === 0) return null;
-  const table = new RecordTable({ label: title, file: `${kind}.csv`, columns: columnsOf(kind, context.names), load: loadFrom(records), onFault: context.onFault });
+  const table = new RecordTable({ label: title, file: `${kind}.csv`, columns: columnsOf(kind, context.names), load: loadFrom(records),
+    onFault: context.onFault });
   context.onLeave(() => table.end());
   queueMicrotask(() => table.load());
   table.element.style.setProperty("--shown", String(Math.min(records.length, 12)));
@@ -53,14 +54,18 @@ function answerOf(address, found, context) {
   const { isFree, why } = verdictOf(address, prefix, found.ranges, found.addresses);
   const text = addressText(address);
   const holders = found.addresses.map((one) =>
-    el("li", {}, el("a", { href: hrefOf(["ip-addresses", one.id]), class: "address" }, one.address), one.dns_name ? ` ${one.dns_name}` : "", one.description ? ` · ${one.description}` : "", ` · ${one.status.label}`));
-  const ranges = found.ranges.map((one) => el("li", {}, "in range ", el("a", { href: hrefOf(["ip-ranges", one.id]), class: "address" }, KINDS["ip-ranges"].title(one))));
+    el("li", {}, el("a", { href: hrefOf(["ip-addresses", one.id]), class: "address" }, one.address), one.dns_name ? ` ${one.dns_name}` : "",
+      one.description ? ` · ${one.description}` : "", ` · ${one.status.label}`));
+  const ranges = found.ranges.map((one) => el("li", {}, "in range ", el("a", { href: hrefOf(["ip-ranges", one.id]), class: "address" },
+    KINDS["ip-ranges"].title(one))));
   const take = isFree && context.mayChange
-    ? button("Create it", () => context.create("ip-addresses", { address: `${text}/${readBlock(prefix.prefix).length}`, vrf: found.vrf }), { class: "button small" }) : null;
+    ? button("Create it", () => context.create("ip-addresses", { address: `${text}/${readBlock(prefix.prefix).length}`, vrf: found.vrf }),
+      { class: "button small" }) : null;
   const word = found.addresses.length > 0 ? "Taken" : isFree ? "Free" : "Not free";
   return el("section", { class: "panel answer" },
     crumbs(names, found.vrf, outer),
-    el("p", { class: "verdict-line" }, el("span", { class: `verdict ${isFree ? "free" : "taken"}` }, word), found.addresses.length > 0 || isFree ? null : ` ${why}`, take),
+    el("p", { class: "verdict-line" }, el("span", { class: `verdict ${isFree ? "free" : "taken"}` }, word),
+      found.addresses.length > 0 || isFree ? null : ` ${why}`, take),
     el("ul", { class: "plain" }, holders, ranges));
 }
 
@@ -69,11 +74,13 @@ async function showAddress(place, address, context) {
   const text = addressText(address);
   const host = blockText(blockAround(address, width(address.family)));
   const [prefixes, ranges, addresses] = await Promise.all([
-    get("prefixes/", { contains: text, limit: 1000 }, signal), get("ip-ranges/", { contains: text, limit: 1000 }, signal), get("ip-addresses/", { parent: host, limit: 1000 }, signal),
+    get("prefixes/", { contains: text, limit: 1000 }, signal), get("ip-ranges/", { contains: text, limit: 1000 }, signal),
+      get("ip-addresses/", { parent: host, limit: 1000 }, signal),
   ]);
   const tables = byTable(prefixes.results, ranges.results, addresses.results);
   const none = el("p", { class: "muted none" }, "No prefix, range or address has it.");
-  fill(place, el("h2", { class: "asked" }, el("span", { class: "address with-copy" }, text, copyButton(text))), tables.length === 0 ? none : tables.map((found) => answerOf(address, found, context)));
+  fill(place, el("h2", { class: "asked" }, el("span", { class: "address with-copy" }, text, copyButton(text))),
+    tables.length === 0 ? none : tables.map((found) => answerOf(address, found, context)));
 }
 
 async function showBlock(place, block, context) {
@@ -85,15 +92,20 @@ async function showBlock(place, block, context) {
   ]);
   const aggregates = names.lists.aggregates.filter((one) => one.prefix === text);
   const wider = outer.results.filter((one) => one.prefix !== text);
-  const more = (page, what) => (page.count > page.results.length ? `${what} (the first ${page.results.length.toLocaleString("en")} of ${page.count.toLocaleString("en")})` : what);
-  const free = same.count === 0 ? el("p", { class: "muted none" }, "No prefix is this block.", context.mayChange ? [" ", button("Create it", () => context.create("prefixes", { prefix: text }), { class: "button small" })] : null) : null;
+  const some = (number) => number.toLocaleString("en");
+  const more = ({ count, results }, what) => (count > results.length ? `${what} (the first ${some(results.length)} of ${some(count)})` : what);
+  const free = same.count === 0 ? el("p", { class: "muted none" }, "No prefix is this block.",
+    context.mayChange ? [" ", button("Create it", () => context.create("prefixes", { prefix: text }), { class: "button small" })] : null) : null;
   fill(place, el("h2", { class: "asked" }, el("span", { class: "address with-copy" }, text, copyButton(text))), free,
-    section("The prefix", "prefixes", same.results, context), section("The aggregate", "aggregates", aggregates, context), section("Around it", "prefixes", wider, context),
-    section(more(inner, "Prefixes inside it"), "prefixes", inner.results, context), section(more(addresses, "Addresses inside it"), "ip-addresses", addresses.results, context));
+    section("The prefix", "prefixes", same.results, context), section("The aggregate", "aggregates", aggregates, context),
+      section("Around it", "prefixes", wider, context),
+    section(more(inner, "Prefixes inside it"), "prefixes", inner.results, context),
+      section(more(addresses, "Addresses inside it"), "ip-addresses", addresses.results, context));
 }
 
 /** Whether a text of a record has the words, without regard to case. */
-const mentions = (record, words) => ["name", "slug", "rd", "description"].some((name) => typeof record[name] === "string" && record[name].toLowerCase().includes(words));
+const mentions = (record, words) => ["name", "slug", "rd", "description"].some((name) => typeof record[name] === "string" &&
+  record[name].toLowerCase().includes(words));
 
 /** Reads all prefixes, says how far it is, and can be stopped. */
 async function readPrefixes(place, words, context) {
@@ -125,7 +137,8 @@ async function showText(place, text, context) {
   const { signal, names } = context;
   const words = text.toLowerCase();
   const [named, ranges] = await Promise.all([get("ip-addresses/", { dns_name: text, limit: 1000 }, signal), readAll("ip-ranges", {}, signal)]);
-  const lists = ["vrfs", "roles", "rirs", "aggregates"].map((kind) => section(KINDS[kind].many, kind, names.lists[kind].filter((record) => mentions(record, words)), context));
+  const lists = ["vrfs", "roles", "rirs", "aggregates"].map((kind) => section(KINDS[kind].many, kind,
+    names.lists[kind].filter((record) => mentions(record, words)), context));
   const reading = el("div", {});
   fill(place, section("Addresses with this DNS name", "ip-addresses", named.results, context), lists,
     section("Ranges", "ip-ranges", ranges.filter((record) => mentions(record, words)), context), reading);

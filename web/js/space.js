@@ -14,7 +14,10 @@ export const MOST_CELLS = 256n;
 /** Whether a block is shown as a grid of its addresses. @param {Block} block */
 export const isGrid = (block) => sizeOf(block) <= MOST_CELLS;
 
-/** The addresses that a prefix keeps back if it is no pool (RFC 919, RFC 4291 2.6.1; not in /31, /32, /127 and /128). @param {Block} block @param {boolean} isPool */
+/**
+ * The addresses that a prefix keeps back if it is no pool (RFC 919, RFC 4291 2.6.1; not in /31, /32, /127 and /128).
+ * @param {Block} block @param {boolean} isPool
+ */
 export function keptBack(block, isPool) {
   const most = block.family === 4 ? 30 : 126;
   if (isPool || block.length > most) return [];
@@ -96,7 +99,8 @@ export function cellsOf(block, prefix, isPool, { nodes, ranges, addresses }) {
       Object.assign(cell, give(cell));
     }
   };
-  for (const number of keptBack(prefix, isPool)) put(number, number, (cell) => ({ kind: "kept", name: `${cell.address}, kept back: ${number === prefix.number ? "the first" : "the last"} address of the prefix` }));
+  for (const number of keptBack(prefix, isPool)) put(number, number, (cell) =>
+    ({ kind: "kept", name: `${cell.address}, kept back: ${number === prefix.number ? "the first" : "the last"} address of the prefix` }));
   for (const range of ranges) {
     const { first, last } = rangeEnds(range);
     const title = `range ${range.start_address.split("/")[0]} – ${range.end_address.split("/")[0]}`;
@@ -108,7 +112,8 @@ export function cellsOf(block, prefix, isPool, { nodes, ranges, addresses }) {
   }
   for (const record of addresses) {
     const { number } = readMasked(record.address);
-    put(number, number, (cell) => ({ kind: "address", record, name: [cell.address, record.dns_name || "taken", record.description, record.status.label].filter(Boolean).join(", ") }));
+    put(number, number, (cell) => ({ kind: "address", record, name: [cell.address, record.dns_name || "taken", record.description,
+      record.status.label].filter(Boolean).join(", ") }));
   }
   return cells;
 }

@@ -45,7 +45,8 @@ export class RecordTable {
     this.more = button("Load more", () => this.load(), { class: "button small" });
     this.all = button("Load all", () => this.load(true), { class: "button small" });
     this.save = button("CSV", () => this.saveCsv(), { class: "button small", title: "Save what is loaded as CSV" });
-    this.element = el("div", { class: "table-box" }, el("div", { class: "table-bar" }, this.said, el("div", { class: "actions" }, this.more, this.all, this.save)), this.scroller);
+    this.element = el("div", { class: "table-box" }, el("div", { class: "table-bar" }, this.said,
+      el("div", { class: "actions" }, this.more, this.all, this.save)), this.scroller);
     this.window = new RowWindow(this.scroller, this.body, (index) => this.drawRow(index));
     this.drawHead();
   }

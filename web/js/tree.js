@@ -68,7 +68,8 @@ export class Tree {
       data: { index },
     });
     row.append(
-      el("span", { role: "gridcell", class: "place", style: { "--level": level - 1 } }, el("span", { class: below ? "twist" : "twist none", "aria-hidden": "true" }), this.nameOf(node)),
+      el("span", { role: "gridcell", class: "place", style: { "--level": level - 1 } },
+        el("span", { class: below ? "twist" : "twist none", "aria-hidden": "true" }), this.nameOf(node)),
       el("span", { role: "gridcell", class: "used" }, this.figureOf(node)),
       el("span", { role: "gridcell" }, node.kind === "prefix" ? statusMark(node.record.status) : ""),
       el("span", { role: "gridcell", class: "cut" }, this.roleOf(node)),
