@@ -15,6 +15,7 @@ import urllib.error
 import urllib.request
 
 from selenium import webdriver
+from selenium.common.exceptions import WebDriverException
 from selenium.webdriver.chrome.options import Options
 from selenium.webdriver.chrome.service import Service
 from selenium.webdriver.common.action_chains import ActionChains
@@ -183,7 +184,7 @@ class Browser:
         for word in ("--headless=new", "--no-sandbox", "--disable-dev-shm-usage", "--ignore-certificate-errors", "--hide-scrollbars", "--lang=en"):
             options.add_argument(word)
         options.set_capability("goog:loggingPrefs", {"browser": "ALL"})
-        self.driver = webdriver.Chrome(options=options, service=Service("/usr/bin/chromedriver"))
+        self.driver = self.started(options)
         self.driver.set_script_timeout(60)
         self.size(*size, scale)
         if dark:
@@ -192,6 +193,16 @@ class Browser:
         if user:
             self.driver.get(url.replace("://", f"://{user}:secret@") + "/web/")
             self.settle()
+
+    @staticmethod
+    def started(options):
+        """Chromium; on a busy machine it may not begin in the time that its driver gives it."""
+        for _ in range(4):
+            try:
+                return webdriver.Chrome(options=options, service=Service("/usr/bin/chromedriver"))
+            except WebDriverException as fault:
+                said = fault
+        fail(f"chromium does not begin: {said}")
 
     def devtools(self, command, **words):
         return self.driver.execute_cdp_cmd(command, words)
