@@ -113,7 +113,8 @@ export function memberText(field, value, names) {
   if (field.type === "flag") return value ? "yes" : "no";
   if (field.type === "record") return names.nameOf(field.of, value, field.none ?? "");
   if (value !== null && typeof value === "object") return value.label;
-  return value === null || value === undefined ? "" : String(value);
+  const chosen = field.choices?.find(([one]) => one === value);
+  return chosen ? chosen[1] : value === null || value === undefined ? "" : String(value);
 }
 
 /** The members that differ. @param {string} kind @param {object} one @param {object} other @returns {Field[]} */
