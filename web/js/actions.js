@@ -183,7 +183,8 @@ export function recordActions(kind, record, context) {
     claims.push(button("Next free address", () => showClaim("available-ips", kind, record, context), { class: isContainer ? "button" : "button main" }));
     claims.push(button("Next free block", () => showClaim("available-prefixes", kind, record, context), { class: isContainer ? "button main" : "button" }));
   }
-  if (kind === "ip-ranges" && !record.mark_populated) claims.push(button("Next free address", () => showClaim("available-ips", kind, record, context), { class: "button main" }));
+  if (kind === "ip-ranges" && !record.mark_populated) claims.push(button("Next free address", () => showClaim("available-ips", kind, record, context),
+    { class: "button main" }));
   return [...claims, button("Edit", () => editRecord(kind, record, context)),
     button("Delete", () => deleteRecord(kind, record, context), { class: "button danger" })];
 }
