@@ -114,7 +114,14 @@ class Stand:
         self.port, self.folder = port, tempfile.mkdtemp(prefix="page-")
         self.database = database or os.path.join(self.folder, "office.db")
         self.relay = Relay(port + 1, port + 2)
-        self.server, self.errors = None, open(os.path.join(self.folder, "messages"), "w")
+        self.server, self.proxy, self.errors = None, None, open(os.path.join(self.folder, "messages"), "w")
+        try:
+            self.begin(port)
+        except BaseException:
+            self.end()
+            raise
+
+    def begin(self, port):
         self.start()
         front = [os.path.join(TOP, "bench/front.sh"), self.folder, str(port + 1), str(port)]
         self.write("register.readers", "clara yes;\n")
@@ -140,16 +147,17 @@ class Stand:
     def start(self):
         words = [PROGRAM, "serve", "--bind", f"127.0.0.1:{self.port + 2}", "--workers", "16", "--db", self.database]
         self.server = subprocess.Popen(words, stdout=subprocess.DEVNULL, stderr=self.errors, stdin=subprocess.DEVNULL)
-        wait(lambda: self.listens(self.port + 2), "the register", 120)
+        wait(lambda: self.listens(self.port + 2) or self.server.poll() is not None, "the register", 120)
+        check(self.server.poll() is None, f"the register ends: {open(self.errors.name).read()}")
 
     def kill(self):
         self.server.send_signal(signal.SIGKILL)
         self.server.wait()
 
     def end(self):
-        self.kill()
-        self.proxy.terminate()
-        self.proxy.wait()
+        for process in filter(None, (self.server, self.proxy)):
+            process.terminate()
+            process.wait()
         self.errors.close()
 
     def ask(self, method, path, body=None, user="anna", **headers):
