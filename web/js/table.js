@@ -19,6 +19,9 @@ import { RowWindow } from "./window.js";
  * @property {number} [rank] 1 is shown in the narrowest window, 2 in a wider one, 3 in a wide one
  */
 
+/** The most rows that are loaded: a browser has no longer lists. */
+const MOST_ROWS = 400_000;
+
 /** @param {*} one @param {*} other */
 const compare = (one, other) => (one < other ? -1 : one > other ? 1 : 0);
 
@@ -84,7 +87,7 @@ export class RecordTable {
         this.total = total;
         this.show();
         if (rows.length === 0) break;
-      } while (whole && !this.stopped && this.rows.length < this.total);
+      } while (whole && !this.stopped && this.rows.length < Math.min(this.total, MOST_ROWS));
     } catch (fault) {
       this.fault = fault;
       this.onFault(fault);
@@ -100,8 +103,9 @@ export class RecordTable {
     const isPart = loaded < total;
     const numbers = isPart ? `${loaded.toLocaleString("en")} of ${total.toLocaleString("en")} are loaded` : `${total.toLocaleString("en")} in all`;
     this.said.textContent = total === 0 ? this.empty : isPart && this.sorted ? `${numbers}; only these are sorted` : numbers;
-    this.more.hidden = !isPart || this.loading;
-    this.all.hidden = !isPart;
+    const isFull = !isPart || loaded >= MOST_ROWS;
+    this.more.hidden = isFull || this.loading;
+    this.all.hidden = isFull;
     this.all.textContent = this.loading ? "Stop" : "Load all";
     this.save.hidden = loaded === 0;
     this.scroller.hidden = loaded === 0;

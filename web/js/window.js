@@ -3,8 +3,9 @@
  * @module
  */
 
-/** How many rows above and below those in sight are drawn, too. */
+/** How many rows above and below those in sight are drawn, too, and how many at most. */
 const MARGIN = 8;
+const MOST_DRAWN = 300;
 
 export class RowWindow {
   /**
@@ -31,7 +32,7 @@ export class RowWindow {
 
   /** Draws once before the next frame, however often it is called. */
   later() {
-    if (this.asked) return;
+    if (this.asked || this.isEnded) return;
     this.asked = requestAnimationFrame(() => {
       this.asked = 0;
       this.update();
@@ -71,10 +72,11 @@ export class RowWindow {
     const top = this.scroller.scrollTop - this.body.offsetTop;
     const first = Math.max(0, Math.floor(top / this.height) - MARGIN);
     const last = Math.min(this.count, Math.ceil((top + this.scroller.clientHeight) / this.height) + MARGIN);
-    return [first, Math.max(first, last)];
+    return [first, Math.min(Math.max(first, last), first + MOST_DRAWN)];
   }
 
   update() {
+    if (this.isEnded) return;
     this.body.style.setProperty("height", `${this.count * this.height}px`);
     const [first, last] = this.inSight();
     for (const [index, row] of this.drawn) {
@@ -104,7 +106,9 @@ export class RowWindow {
     this.update();
   }
 
+  /** The list is left: without the height of its view all its rows would be in sight. */
   end() {
+    this.isEnded = true;
     this.observer.disconnect();
     cancelAnimationFrame(this.asked ?? 0);
   }
