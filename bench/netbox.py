@@ -30,6 +30,7 @@ BROKEN = [
     ("A change that cannot be prepared is not made", netbox_broken.before),
     ("A change that was not answered is 502, and was sent once", netbox_broken.unanswered),
     ("A list that is searched is of one moment", netbox_broken.moments),
+    ("A search through 20,000 records finds each once", netbox_broken.long),
     ("What is not there has the answers below", netbox_broken.missing),
 ]
 WIRE = [
@@ -74,6 +75,7 @@ def plays(port):
 # what has registers of its own: the claim, its test, and whether it takes minutes
 ALONE = [
     ("Without the register there is a `detail`", netbox_wire.gone, False),
+    ("A register that is too slow is 504", netbox_broken.late, False),
     ("The register's own form is unchanged behind nginx", netbox_wire.plain, False),
     ("pynetbox does with every kind what it does with NetBox", pynetbox, False),
     ("Ansible's modules find, create, change and delete, twice in a row", plays, True),

@@ -1,6 +1,6 @@
 """NetBox's form while the requests that the handler makes next to a change fail: the client gets the status of the change, which is there once; and while
 pages of a list are of different moments."""
-from netbox_front import Breaker
+from netbox_front import Breaker, Front
 
 FURTHER = ("/api/ipam/vrfs/", "/api/ipam/roles/", "/api/ipam/rirs/")
 
@@ -78,6 +78,22 @@ def unanswered(front):
     front.breaker.mode_of_changes = None
 
 
+def late(port):
+    """The register does not answer in time: 504 for what was asked; a change that it answered has its status."""
+    with Front(port, read_timeout="1s") as front:
+        setting(front)
+        front.breaker.mode, front.breaker.breaks = "silence", FURTHER
+        made = front.want(201, "POST", "prefixes/1/available-ips/", {})
+        assert made["vrf"] == bare(front, "vrfs"), made
+        for path in ("/api/ipam/vrfs/1/", "/register/api/ipam/vrfs/1/"):
+            answer = front.link.ask("GET", path)
+            assert answer.status == 504 and "in time" in answer.value["detail"], (answer.status, answer.text)
+        front.breaker.mode_of_changes = "silence"
+        before = front.breaker.changes
+        answer = front.ask("POST", "prefixes/1/available-ips/", {})
+        assert answer.status == 504 and "ask whether it was made" in answer.value["detail"] and front.breaker.changes == before + 1
+
+
 def missing(front):
     """What docs/CLIENTS.md says of what is not there, and of the views."""
     for path in ("vlans/", "vlan-groups/", "asns/", "route-targets/", "services/", "fhrp-groups/", "../dcim/sites/", "../tenancy/tenants/", "../extras/tags/",
@@ -98,6 +114,24 @@ def missing(front):
     assert "more than 20000 records" in front.want(400, "GET", "prefixes/?q=x")["detail"]
     assert front.want(200, "GET", "prefixes/?status=active")["count"] == 20001
     front.breaker.mode = None
+
+
+def long(front):
+    """A search through as many records as are read at most."""
+    front.breaker.many, front.breaker.breaks = 20_000, ()
+    two = [*range(1, 257), *range(769, 1025)]
+    for query, ids in (("q=number", range(1, 20_001)), ("q=number 77", [n + 1 for n in range(20_000) if str(n).startswith("77")]),
+                       ("mask_length=24&q=10.7.7.7", [7 * 256 + 8]), ("within=10.0.0.0/16&within=10.3.0.0/16&is_pool=false", two)):
+        found, target = [], "/api/ipam/prefixes/?limit=0&" + query.replace(" ", "%20")
+        while target:
+            page = front.link.ask("GET", target).value
+            assert page["count"] == len(ids), (query, page["count"], len(ids))
+            found += [one["id"] for one in page["results"]]
+            target = page["next"] and len(found) < 2000 and page["next"][len(front.base):]
+        assert found == [*ids][:len(found)] and len(found) in (len(ids), 2000), query
+    front.breaker.many = 20_001
+    assert "more than 20000 records" in front.want(400, "GET", "prefixes/?q=number")["detail"]
+    front.breaker.many = 0
 
 
 def moments(front):

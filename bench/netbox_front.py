@@ -75,63 +75,77 @@ class Breaker:
         "much": (200, b'{"x":"' + b"a" * 3_000_000 + b'"}'), "a closed connection": None, "half an answer": (200, b'{"id":1,'),
     }
 
-    MORE = {"20,001 records": (200, b'{"count":20001,"next":null,"previous":null,"results":[]}')}
+    MORE = {"silence": None, "20,001 records": (200, b'{"count":20001,"next":null,"previous":null,"results":[]}')}
 
     def __init__(self, port, inner):
         self.breaks, self.mode, self.mode_of_changes, self.changes, self.moved = (), None, None, 0, 0
-        breaker = self
-
-        class Handler(http.server.BaseHTTPRequestHandler):
-            protocol_version = "HTTP/1.1"
-
-            def log_message(self, *_):
-                pass
-
-            def handle_any(self):
-                body = self.rfile.read(int(self.headers.get("Content-Length") or 0))
-                if self.command in CHANGES:
-                    breaker.changes += 1
-                    if breaker.mode_of_changes:
-                        return self.broken(breaker.mode_of_changes)
-                elif self.path.startswith(breaker.breaks) and breaker.breaks and breaker.mode:
-                    return self.broken(breaker.mode)
-                link = http.client.HTTPConnection("127.0.0.1", inner, timeout=60)
-                link.request(self.command, self.path, body or None)
-                answer = link.getresponse()
-                headers = {name: value for name, value in answer.headers.items() if name != "Connection"}
-                if breaker.moved:
-                    breaker.moved -= 1
-                    headers["Ipam-Place"] = f"{1_000_000 + breaker.moved}"
-                self.answer(answer.status, answer.read(), headers)
-                link.close()
-
-            def broken(self, mode):
-                if mode == "a closed connection":
-                    self.close_connection = True
-                    return
-                status, text = {**Breaker.MODES, **Breaker.MORE}[mode]
-                self.answer(status, text, {"Content-Length": str(len(text) + (9 if mode == "half an answer" else 0)), "Connection": "close"})
-                self.close_connection = True
-
-            def answer(self, status, text, headers):
-                self.send_response_only(status)
-                for name, value in headers.items():
-                    self.send_header(name, value)
-                self.end_headers()
-                self.wfile.write(text)
-
-            do_GET = do_POST = do_PATCH = do_DELETE = do_PUT = do_HEAD = do_OPTIONS = handle_any
-
-        self.server = http.server.ThreadingHTTPServer(("127.0.0.1", port), Handler)
+        self.many = 0
+        self.server = http.server.ThreadingHTTPServer(("127.0.0.1", port), type("Handler", (Handler,), {"breaker": self, "inner": inner}))
         self.server.daemon_threads = True
         threading.Thread(target=self.server.serve_forever, daemon=True).start()
+
+
+class Handler(http.server.BaseHTTPRequestHandler):
+    """One connection from nginx to a Breaker."""
+
+    protocol_version, breaker, inner = "HTTP/1.1", None, None
+
+    def log_message(self, *_):
+        pass
+
+    def handle_any(self):
+        body = self.rfile.read(int(self.headers.get("Content-Length") or 0))
+        if self.command in CHANGES:
+            self.breaker.changes += 1
+            if self.breaker.mode_of_changes:
+                return self.broken(self.breaker.mode_of_changes)
+        elif self.breaker.mode and self.breaker.breaks and self.path.startswith(self.breaker.breaks):
+            return self.broken(self.breaker.mode)
+        elif self.breaker.many and self.path.startswith("/api/ipam/prefixes/?"):
+            return self.page(self.breaker.many)
+        link = http.client.HTTPConnection("127.0.0.1", self.inner, timeout=60)
+        link.request(self.command, self.path, body or None)
+        answer = link.getresponse()
+        headers = {name: value for name, value in answer.headers.items() if name != "Connection"}
+        if self.breaker.moved:
+            self.breaker.moved -= 1
+            headers["Ipam-Place"] = f"{1_000_000 + self.breaker.moved}"
+        self.answer(answer.status, answer.read(), headers)
+        return link.close()
+
+    def page(self, count):
+        """A page of so many prefixes, which the register need not have."""
+        query = dict(pair.split("=") for pair in self.path.split("?")[1].split("&"))
+        first, limit = int(query["offset"]), int(query["limit"])
+        rows = [{"children": 0, "depth": 0, "description": f"number {n}", "family": 4, "id": n + 1, "is_pool": False, "mark_utilized": False, "role": None,
+                 "prefix": f"10.{n // 256}.{n % 256}.0/24", "status": {"label": "Active", "value": "active"}, "vrf": None}
+                for n in range(first, min(count, first + limit))]
+        text = json.dumps({"count": count, "next": None, "previous": None, "results": rows}).encode()
+        self.answer(200, text, {"Content-Length": str(len(text)), "Ipam-Place": "1"})
+
+    def broken(self, mode):
+        self.close_connection = True
+        if mode == "silence":
+            time.sleep(3)
+        if mode not in ("silence", "a closed connection"):
+            status, text = {**Breaker.MODES, **Breaker.MORE}[mode]
+            self.answer(status, text, {"Content-Length": str(len(text) + (9 if mode == "half an answer" else 0)), "Connection": "close"})
+
+    def answer(self, status, text, headers):
+        self.send_response_only(status)
+        for name, value in headers.items():
+            self.send_header(name, value)
+        self.end_headers()
+        self.wfile.write(text)
+
+    do_GET = do_POST = do_PATCH = do_DELETE = do_PUT = do_HEAD = do_OPTIONS = handle_any
 
 
 class Front:
     """A new register at `port`, nginx at `port` + 1, and between both a Breaker at `port` + 2."""
 
-    def __init__(self, port, between=True):
-        self.port, self.between, self.children = port, between, []
+    def __init__(self, port, between=True, read_timeout="60s"):
+        self.port, self.between, self.children, self.env = port, between, [], {**os.environ, "READ_TIMEOUT": read_timeout}
 
     def __enter__(self):
         self.folder = tempfile.mkdtemp()
@@ -159,7 +173,7 @@ class Front:
         shutil.rmtree(self.folder)
 
     def start(self, command, errors):
-        self.children.append(subprocess.Popen(command, stdin=subprocess.DEVNULL, stdout=subprocess.DEVNULL, stderr=errors))
+        self.children.append(subprocess.Popen(command, stdin=subprocess.DEVNULL, stdout=subprocess.DEVNULL, stderr=errors, env=self.env))
 
     def new_link(self):
         context = ssl.create_default_context(cafile=self.certificate())

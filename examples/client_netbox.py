@@ -147,7 +147,8 @@ def pages(ipam):
     ids = [one.id for one in ipam.ip_addresses.all()]
     assert there > MANY and len(ids) == there and ids == sorted(set(ids))
     assert len({one.id for one in ipam.ip_addresses.filter(parent="10.40.0.0/16")}) == MANY
-    assert len({one.id for one in ipam.ip_addresses.filter(parent="10.40.0.0/16", mask_length=16, status=["active", "dhcp"])}) == MANY
+    found = [one.id for one in ipam.ip_addresses.filter(parent="10.40.0.0/16", mask_length=16, status=["active", "dhcp"])]
+    assert len(found) == MANY and found == sorted({*found})
     print(f"pages: all() and filter() give {there} and {MANY} addresses")
 
 

@@ -113,4 +113,4 @@ function contains(outer, inner) {
     return outer.digits.length === inner.digits.length && outer.length <= inner.length && masked(inner.digits, outer.length) === outer.digits;
 }
 
-export default { digitsOf, textOf, masked, hostOf, blockOf, blockText, contains };
+export default { digitsOf, textOf, hostOf, blockOf, blockText, contains };

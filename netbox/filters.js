@@ -55,19 +55,31 @@ function flag(name) {
     return { read: truth, test: (row, value) => row[name] === value };
 }
 
-/** A filter of the register for a block, with what has to hold for the block of a record and the one that is asked for. */
+/** What a member of a record means, read once for all values of a filter. */
+function reading(member, read) {
+    let last = null;
+    let value = null;
+    return (row) => {
+        if (row !== last) {
+            last = row;
+            value = read(row[member]);
+        }
+        return value;
+    };
+}
+
+/** A filter for a block, with what has to hold for the block of a record and the one that is asked for. */
 function blocks(member, holds, native) {
-    return { read: block, test: (row, value) => holds(address.blockOf(row[member]), value), native: native ? address.blockText : undefined };
+    const own = reading(member, address.blockOf);
+    return { read: block, test: (row, value) => holds(own(row), value), native: native ? address.blockText : undefined };
 }
 
 /** A filter for an address, with its mask or with any. */
 function host(member) {
+    const own = reading(member, address.hostOf);
     return {
         read: (value) => address.hostOf(value) || undefined,
-        test: (row, value) => {
-            const own = address.hostOf(row[member]);
-            return own.digits === value.digits && (value.bare || own.length === value.length);
-        },
+        test: (row, value) => own(row).digits === value.digits && (value.bare || own(row).length === value.length),
     };
 }
 
@@ -87,6 +99,12 @@ function rangeHas(row, value) {
         return (parseInt(digit, 16) | (0xf >> fixed)).toString(16);
     }).join('');
     return start.length === last.length && start <= value.digits && last <= address.hostOf(row.end_address).digits;
+}
+
+/** A filter for addresses in a block, whatever their masks. */
+function parent() {
+    const own = reading('address', (text) => address.blockOf(text.split('/')[0]));
+    return { read: block, test: (row, value) => address.contains(value, own(row)), native: address.blockText };
 }
 
 /** The filters of every kind. */
@@ -142,14 +160,7 @@ const FILTERS = {
     }, placed('ip-ranges')),
     'ip-addresses': () => Object.assign({
         role: choice('ip-addresses', 'role'),
-        parent: {
-            read: block,
-            test: (row, value) => {
-                const digits = address.hostOf(row.address).digits;
-                return address.contains(value, { digits: digits, length: digits.length * 4 });
-            },
-            native: address.blockText,
-        },
+        parent: parent(),
         dns_name: { read: (value) => value.toLowerCase(), test: (row, value) => row.dns_name === value, native: String },
         address: host('address'),
         mask_length: length(),

@@ -89,13 +89,22 @@ test('filters of one member do not replace one another', async () => {
     const row = { ...PREFIX, id: 1, prefix: undefined, address: '10.0.0.1/24', vrf: null };
     const page = ok({ count: 1, next: null, previous: null, results: [row] });
     const base = 'GET /register-read/api/ipam/ip-addresses/?parent=';
-    const told = { [`${base}10.0.0.1%2F32&limit=1000&offset=0`]: page, [`${base}10.0.0.0%2F8&limit=1000&offset=0`]: page };
+    const told = { [`${base}10.0.0.1%2F32&limit=1000&offset=0`]: page };
     const lists = [['address=10.0.0.1&parent=11.0.0.0/8', 0], ['parent=10.0.0.0/8&address=10.0.0.1/24', 1], ['parent=10.0.0.0/8&address=10.0.0.1/25', 0],
         ['address=10.0.0.1&parent=10.0.0.0/25', 1], ['address=10.0.0.1&parent=10.0.0.0/25&parent=11.0.0.0/8', 1], ['address=10.0.0.1/24&address=10.0.0.1', 1]];
     for (const [args, count] of lists) {
         const r = request('GET', '/api/ipam/ip-addresses/', args, '', told);
         await main.handle(r);
         assert.strictEqual(JSON.parse(r.text).count, count, `${args} ${r.text} ${r.asked}`);
+    }
+});
+
+test('a filter is there a bounded number of times', async () => {
+    for (const [name, most] of [['q', 10], ['status', 50], ['within', 50], ['prefix', 200], ['id', 1000]]) {
+        const args = Array.from({ length: most + 1 }, (_, n) => `${name}=${n + 1}`).join('&');
+        const r = request('GET', '/api/ipam/prefixes/', args, '', {});
+        await main.handle(r);
+        assert.deepStrictEqual([r.status, JSON.parse(r.text)], [400, { [name]: [`filter ${name} is served with at most ${most} values`] }]);
     }
 });
 

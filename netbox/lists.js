@@ -6,12 +6,11 @@ import refusals from './refusals.js';
 import register from './register.js';
 import turns from './turns.js';
 
-/** As many records of the register are read for one list at most, and as many ids looked up. */
+/** As many records of the register are read for one list at most. */
 const MOST_READ = 20000;
-const MOST_IDS = 1000;
 const TRIES = 3;
-/** After so many records, other requests are served. */
-const ROWS_AT_ONCE = 250;
+/** After so many milliseconds, other requests are served. */
+const TURN = 20;
 
 /** That two pages are of different moments. */
 function Moved() {}
@@ -38,12 +37,17 @@ function pageText(native, limit, offset) {
     return queries.textOf(pairs.concat([['limit', String(limit)], ['offset', String(offset)]]));
 }
 
-/** Adds to the rows those of a page that pass, a part of it at a time. */
+/** Adds to the rows those of a page that pass. Other requests are served from time to time. */
 async function sift(page, tests, rows) {
-    for (let at = 0; at < page.length; at += ROWS_AT_ONCE) {
-        page.slice(at, at + ROWS_AT_ONCE).filter((row) => tests.every((test) => test(row))).forEach((row) => rows.push(row));
-        if (page.length > ROWS_AT_ONCE) {
+    let begun = Date.now();
+    for (let n = 0; n < page.length; n += 1) {
+        const row = page[n];
+        if (tests.every((test) => test(row))) {
+            rows.push(row);
+        }
+        if (Date.now() - begun > TURN) {
             await turns.pause();
+            begun = Date.now();
         }
     }
 }
@@ -65,9 +69,6 @@ async function siftList(reading, kind, native, query, rows) {
 
 /** Adds to the rows those of these ids that are there and pass. */
 async function siftIds(reading, kind, query, rows) {
-    if (query.ids.length > MOST_IDS) {
-        throw refusals.field('id', 'at most ' + MOST_IDS + ' ids');
-    }
     for (let n = 0; n < query.ids.length; n += 1) {
         const answer = await register.read(reading.call.r, kind + '/' + query.ids[n] + '/');
         take(reading, answer);

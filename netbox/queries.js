@@ -6,6 +6,11 @@ import refusals from './refusals.js';
 import register from './register.js';
 
 const DEFAULT_PAGE = 50;
+/** Filters that are looked at first, since they leave few records. */
+const NARROWING = ['id', 'address'];
+/** How many values a filter may have, since each record is looked at for each of them. Ids, addresses and prefixes are looked up. */
+const MOST_VALUES = 50;
+const MOST_VALUES_OF = { id: 1000, address: 200, prefix: 200, q: 10 };
 const NOT_FILTERS = ['limit', 'offset', 'brief', 'fields', 'ordering', 'format'];
 
 /**
@@ -101,14 +106,14 @@ function groups(pairs) {
 
 /** The ids of the records that these texts name; a refusal is thrown for one that names none. */
 async function idsOf(call, name, named, texts) {
-    let out = [];
+    const out = [];
     const rows = texts.every((one) => one === 'null') ? [] : await register.all(call, named.kind);
     texts.forEach((one) => {
         const ids = one === 'null' ? ['null'] : rows.filter((row) => row[named.by] === one).map((row) => String(row.id));
         if (ids.length === 0) {
             throw refusals.field(name, 'Select a valid choice. ' + one + ' is not one of the available choices.');
         }
-        out = out.concat(ids);
+        ids.forEach((id) => out.push(id));
     });
     return out;
 }
@@ -116,6 +121,10 @@ async function idsOf(call, name, named, texts) {
 /** Takes a filter into the query: for the register if it has it and there is one value, else to be looked at here. */
 function take(query, kind, name, texts) {
     const filter = filters.filterOf(kind, name);
+    const most = MOST_VALUES_OF[name] || MOST_VALUES;
+    if (texts.length > most) {
+        throw refusals.field(name, 'filter ' + name + ' is served with at most ' + most + ' values');
+    }
     const values = texts.map((one) => {
         const value = filter.read(one);
         if (value === undefined) {
@@ -133,7 +142,7 @@ function take(query, kind, name, texts) {
     query.tests.push(test);
     if (name === 'id') {
         query.ids = values;
-    } else if (name === 'address' && !kinds.has(query.native, 'parent')) {
+    } else if (name === 'address') {
         query.narrow = narrowBy('parent', values.map((value) => address.textOf(value.digits) + '/' + value.digits.length * 4));
     } else if (name === 'prefix' && filter.native) {
         query.narrow = narrowBy('prefix', values.map(filter.native));
@@ -169,7 +178,7 @@ async function queryOf(call, kind, text) {
         narrow: [{}],
     });
     const asked = groups(pairs);
-    const names = Object.keys(asked);
+    const names = Object.keys(asked).sort((a, b) => NARROWING.includes(b) - NARROWING.includes(a));
     for (let n = 0; n < names.length; n += 1) {
         const named = filters.NAMED[kind];
         if (kinds.has(named, names[n])) {

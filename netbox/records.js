@@ -88,12 +88,13 @@ async function briefsOf(call, kind, rows) {
     const names = Object.keys(references);
     const briefs = {};
     for (let n = 0; n < names.length; n += 1) {
-        const other = references[names[n]];
+        const name = names[n];
+        const other = references[name];
         briefs[other] = {};
         const ids = {};
         rows.forEach((row) => {
-            if (row[names[n]]) {
-                ids[row[names[n]]] = true;
+            if (row[name]) {
+                ids[row[name]] = true;
             }
         });
         try {
@@ -145,4 +146,4 @@ async function freeOf(call, rows) {
     });
 }
 
-export default { urlOf, rangeText, displayOf, briefOf, recordsOf, freeOf };
+export default { rangeText, briefOf, recordsOf, freeOf };
