@@ -133,7 +133,7 @@ function noteFault(fault) {
 }
 
 async function begin() {
-  state.user = await whoAsks();
+  [state.user] = await Promise.all([whoAsks(), state.names.load().catch(() => null)]);
   const who = document.getElementById("who");
   fill(who, state.user.user ? el("span", { class: "user" }, state.user.user) : null,
     state.user.mayChange ? null : el("span", { class: "tag reading" }, "Reading only"));

@@ -104,7 +104,7 @@ export class Reader {
     const whole = await this.source.page({ vrf_id: node.vrf, limit: MOST });
     node.count = whole.count;
     if (whole.count <= MOST) return this.forest(whole.results, this.aggregatesIn(null, node.vrf, 0));
-    const families = await Promise.all([4, 6].map((family) => this.inside(readBlock(WHOLE[family]), node.vrf, false, 0)));
+    const families = await Promise.all([4, 6].map((family) => this.inside(readBlock(WHOLE[family]), node.vrf, false, 0, 1)));
     return families.flat();
   }
 
@@ -126,10 +126,13 @@ export class Reader {
    * @param {import("./address.js").Block} block @param {?number} vrf
    * @param {boolean} itself whether prefixes that equal the block are meant, too
    * @param {number} without the id of an aggregate that is left out
+   * @param {number} [first] how many are asked for at first: one, if there are many in all likelihood
    */
-  async inside(block, vrf, itself, without) {
+  async inside(block, vrf, itself, without, first = MOST) {
     const aggregates = this.aggregatesIn(block, vrf, without).filter((node) => itself || node.block.length > block.length);
-    const page = await this.source.page({ vrf_id: vrf, [itself ? "within_include" : "within"]: blockText(block), limit: MOST });
+    const query = { vrf_id: vrf, [itself ? "within_include" : "within"]: blockText(block) };
+    let page = await this.source.page({ ...query, limit: first });
+    if (page.count <= MOST && page.results.length < page.count) page = await this.source.page({ ...query, limit: MOST });
     if (page.count <= MOST) return this.forest(page.results, aggregates);
     const tight = await this.tightened(block, vrf, page);
     return this.parts(block, tight, vrf, itself, page.count, aggregates);
