@@ -1,6 +1,6 @@
 #!/bin/sh
 # Copies a program, its manual page and its systemd unit below a prefix: PREFIX/bin, PREFIX/share/man/man1, PREFIX/lib/systemd/system; with ipamd also the
-# files by which nginx makes NetBox's form: PREFIX/share/ipamd/netbox.
+# files by which nginx makes NetBox's form, PREFIX/share/ipamd/netbox, and those of the page, PREFIX/share/ipamd/web.
 # The program is ipamd, or the one that is named. It is built first where it is not built yet (./build); IPAMD=PROGRAM, or POOLD=PROGRAM,
 # installs one that is built. Nothing is started, and no user is made.
 # usage: ./install.sh PREFIX [ipamd|poold], as ./install.sh /usr/local
@@ -28,5 +28,8 @@ if [ "$name" = ipamd ]; then
     for file in "$top"/netbox/*.js; do
         case $file in *.test.js) ;; *) install -m 644 "$file" "$prefix/share/ipamd/netbox/" ;; esac
     done
+    install -d "$prefix/share/ipamd/web/js"
+    install -m 644 "$top"/web/*.* "$prefix/share/ipamd/web/"
+    install -m 644 "$top"/web/js/*.js "$prefix/share/ipamd/web/js/"
 fi
 echo "installed $name $version: $prefix/bin/$name, $prefix/share/man/man1/$name.1, $prefix/lib/systemd/system/$name.service"

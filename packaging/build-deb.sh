@@ -40,9 +40,14 @@ for file in "$top"/netbox/*.js; do
     case $file in *.test.js) ;; *) install -m 644 "$file" "$root/usr/share/ipamd/netbox/" ;; esac
 done
 
+# the page
+install -d "$root/usr/share/ipamd/web/js"
+install -m 644 "$top"/web/*.* "$root/usr/share/ipamd/web/"
+install -m 644 "$top"/web/js/*.js "$root/usr/share/ipamd/web/js/"
+
 # the pages keep their places beside one another, so that their links hold
 install -m 644 "$top/README.md" "$top/CHANGES.md" "$doc/"
-install -m 644 "$top"/docs/*.md "$top"/docs/*.svg "$top"/docs/openapi*.json "$doc/docs/"
+install -m 644 "$top"/docs/*.md "$top"/docs/*.svg "$top"/docs/*.png "$top"/docs/openapi*.json "$doc/docs/"
 cp -r "$top/examples" "$doc/examples"
 rm -rf "$doc/examples/__pycache__" "$doc"/examples/*.service
 find "$doc/examples" -type f | while IFS= read -r file; do case $(head -c 2 "$file") in "#!") chmod 755 "$file" ;; *) chmod 644 "$file" ;; esac; done
