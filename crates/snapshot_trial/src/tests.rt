@@ -188,7 +188,21 @@ fn a_reader_is_answered_from_one_published_change(rt: HostRuntime) -> Result<(),
     Ok(())
 }
 
-/// The number that a look answers with that is told what the feed published, where it is told, with how many rows are listed then.
+/// How many rows there are by the page of a list.
+fn rows_listed(reply: Reply) -> Option<u32> {
+    match reply {
+        Reply::Page { count, views } => {
+            drop(views);
+            Some(count)
+        }
+        other => {
+            drop(other);
+            None
+        }
+    }
+}
+
+/// The number that a look answers with once it knows all that the feed published, and how many rows are listed then. None if it does not.
 fn number_learnt(feed: &mut Feed, look: &mut Look, call: &Call) -> Option<(u64, u32)>
     requires { IsLookOf feed.old look.old }
 {
@@ -196,14 +210,12 @@ fn number_learnt(feed: &mut Feed, look: &mut Look, call: &Call) -> Option<(u64, 
         return None;
     }
     match look.read(call, 0) {
-        Looked::Given(Reply::Page { count, views }, number) => {
-            drop(views);
-            Some((number, count))
-        }
-        other => {
-            drop(other);
-            None
-        }
+        Looked::Given(reply, number) => match rows_listed(reply) {
+            Some(count) => Some((number, count)),
+            None => None,
+        },
+        Looked::Behind(_) => None,
+        Looked::Memory => None,
     }
 }
 
