@@ -8,12 +8,13 @@ import subprocess
 import sys
 
 TOP = os.path.dirname(os.path.dirname(os.path.abspath(__file__)))
-SCRIPTS = (".ci", "bench", "docs", "packaging", "examples")
+SCRIPTS = (".ci", "bench", "docs", "packaging", "examples", "netbox", "web")
 # Each prints what is not up to date, and how it is made.
 MADE = (
     ["docs/layers.py", "--check"],
     ["docs/crate_pages.py", "--check"],
     ["docs/figures.py", "--check"],
+    ["docs/proof_page.py", "--check"],
     ["bench/worked_rows.py"],
     ["bench/edit_files.py"],
 )
