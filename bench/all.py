@@ -34,6 +34,7 @@ BENCHES = [
     Bench("serve_smoke", ["serve_smoke.sh"], ["serve_smoke.sh"], 120, ["curl"]),
     Bench("clients", ["clients.sh"], ["clients.sh"], 600, ["curl", POOLD]),
     Bench("netbox", ["netbox.sh"], ["netbox.sh", "--short"], 1800, ["curl", "nginx", "openssl", "ansible-playbook", "node"]),
+    Bench("page", ["page.sh"], ["page.sh"], 1800, ["chromium", "chromedriver", "nginx", "openssl", "node"]),
     Bench("copies", ["copies.sh", "--full"], ["copies.sh"], 900, ["nginx", "openssl"]),
     Bench("operating", ["operating.sh"], ["operating.sh"], 300, ["curl", "sqlite3"]),
     Bench("pages", ["pages.py", "--quiet"], ["pages.py", "--quiet"], 300, ["curl", "socat", "dpkg-shlibdeps", "strip"]),
