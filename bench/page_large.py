@@ -25,7 +25,7 @@ def prefixes():
     rows = [("10.0.0.0/8", "container", "", "everything"), ("10.32.0.0/11", "container", "", "wider than a sixteenth of it")]
     for length, status in ((12, "container"), (16, "container"), (20, "container"), (24, "active"))[:4 if PARTS == 1 else 3]:
         rows += [(f"{text_of(0x0A000000 + (n << (32 - length)))}/{length}", status, str(1 + n % 3), f"net {n}") for n in range(1 << (length - 8))]
-    rows += [(f"2001:db8:{n:x}::/48", "active", "", f"site {n}") for n in range(4000)]
+    rows += [(f"2001:db8:{n:x}::/48", "active", "", f"site {n}") for n in range(1, 4001)]
     some = random.Random(1).sample(range(1 << 20), PREFIXES - len(rows))
     return rows + [(f"{text_of(0x0B000000 + (n << 4))}/28", "active", "", f"customer {n}") for n in some]
 
@@ -122,7 +122,7 @@ def scroll(page, selector, what):
 
 def open_some(page, wanted):
     """Opens row after row, the last closed one in sight first, until the tree is so high."""
-    for _ in range(80):
+    for _ in range(240):
         height = page.run("return document.querySelector('.tree').scrollHeight")
         if height > wanted:
             return
