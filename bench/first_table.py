@@ -72,7 +72,6 @@ class Row:
     figure: float
     peers: list
     sync_ms: float = None
-    memory_gb: float = None
 
 
 def free_rows(size):
@@ -125,8 +124,9 @@ def import_rows(size):
     with tempfile.TemporaryDirectory(dir=os.environ.get("SCRATCH")) as folder:
         what = f"a file of {size.prefixes - size.rows:,} prefixes and {size.addresses - size.rows:,} addresses"
         stores.full_file(PROGRAM, path := os.path.join(folder, "full.db"), size.prefixes - size.rows, size.addresses - size.rows)
-        seconds, memory = stores.opening(PROGRAM, path, size.runs)
-        rows.append(Row("opening", f"opening {what}", "s", seconds, [], memory_gb=round(memory, 2)))
+        # (not its memory: a child of a large process is counted with that process)
+        seconds, _ = stores.opening(PROGRAM, path, size.runs)
+        rows.append(Row("opening", f"opening {what}", "s", seconds, []))
         taken = stores.imports_into(PROGRAM, path, "prefixes", size.runs, size.rows)
         rows.append(Row("import full", f"an import of {size.rows:,} prefixes into that file, with its opening", "s", taken, [], machine.sync_ms(folder)))
     return rows

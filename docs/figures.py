@@ -130,7 +130,7 @@ def table_lines(table):
     yield "| What | ipamd | Peer | Its figure | Times better | One fdatasync of 4 KiB |\n|---|---|---|---|---|---|\n"
     for row in table["rows"]:
         sync = "" if row["sync_ms"] is None else f"{row['sync_ms']:.2f} ms"
-        own = with_unit(row) + ("" if row["memory_gb"] is None else f", {row['memory_gb']} GB")
+        own = with_unit(row)
         for peer in row["peers"] or [None]:
             if peer is None:
                 yield f"| {row['what']} | {own} | | | | {sync} |\n"
