@@ -1,16 +1,14 @@
 -- What a run of `serve` leaves whose register was served, as the command's record has it.
-use Rattle.std.proofs.Common.{◌≡◌, ℕ, ◌⊎◌, List, inl, inr, Option, arith}
-use Rattle.stored_tables.specs.declared.tables.Tables.{Tables}
+use Rattle.std.proofs.Common.{◌≡◌, ℕ, ◌⊎◌, inl, inr, arith}
 use Rattle.http_lanes.specs.Listened.{IsListening}
 use Rattle.http_lanes.specs.declared.listening.Listening.{Listening}
 use Rattle.http_lanes.specs.declared.listening.Listening.TheVariants.{Whole, Broken}
-use Rattle.register_server.specs.Serving.{IsServedFrom}
 use Rattle.command_words.specs.declared.asked.Serving.{Serving}
-use Rattle.command_streams.specs.Streams.{Told, Gains, GainsFront, Failed, EndsWith}
+use Rattle.command_streams.specs.Streams.{Gains, GainsFront, Failed, EndsWith}
 use Rattle.command_store.specs.Outside.{Outside}
 use Rattle.machine_serving.specs.Serve.{entries_line, listening_status}
 use Rattle.machine_serving.specs.Views.{ListenerView, ListeningFailed, NoneFailed}
-use Rattle.command_serve.specs.Serve.{AllCame, IsBoundBy, ServesStore, IsServe}
+use Rattle.command_serve.specs.Serve.{AllCame, ServesStore, IsServe}
 use Rattle.command_serve.proofs.Unserved.{Whatever}
 
 -- the count of the changes is on the output
@@ -68,38 +66,11 @@ not_printed serving old new before after entries status all serves three failed 
   quiet = all.quiet;
 }
 
--- the store was served, by the keeper that came back
-serves_store : {K : Type 0} (told : K → Option Tables) (serving : Serving) (old new : Outside) (before after : ListenerView) (entries : ℕ)
-    → IsServedFrom told serving.store.db serving.store.global_unique old.stores.stored new.stores.stored old.stores.faults new.stores.faults
-    before.returned after.returned (AllCame serving before after) entries
-    → IsBoundBy serving after → new.streams.errors ≡ old.streams.errors → ServesStore serving old new before after entries
-serves_store told serving old new before after entries from bound silent = record {
-  bound = bound;
-  state = from.opening;
-  loaded = from.opened;
-  history = from.whole.history;
-  served = from.whole.served;
-  entries_are = from.whole.length_is;
-  holds = (told from.kept, from.telling, from.whole.told_are, from.returned);
-  silent = silent;
-}
-
 -- the register was served, and its count was said as far as that could be
-pub of_served : {K : Type 0} (told : K → Option Tables) (serving : Serving) (old new : Outside) (before after : ListenerView) (entries : ℕ) (listening : Listening) (status : ℕ)
-    → Whatever serving old new before after status
-    → IsServedFrom told serving.store.db serving.store.global_unique old.stores.stored new.stores.stored old.stores.faults new.stores.faults
-    before.returned after.returned (AllCame serving before after) entries
-    → IsBoundBy serving after
-    → IsListening (AllCame serving before after × NoneFailed before after) (ListeningFailed before after) listening → new.streams.errors ≡ old.streams.errors
+pub of_served : (serving : Serving) (old new : Outside) (before after : ListenerView) (entries : ℕ) (listening : Listening) (status : ℕ)
+    → Whatever serving old new before after status → ServesStore serving old new before after entries
+    → IsListening (AllCame serving before after × NoneFailed before after) (ListeningFailed before after) listening
     → EndsWith old.streams.output new.streams.output (entries_line entries) (listening_status listening) status
     → IsServe serving old new before after status
-of_served told serving old new before after entries listening status all from bound heard silent (inl said) =
-    printed serving old new before after entries listening status all (serves_store told serving old new before after entries from bound silent) heard said.0 said.1
-of_served told serving old new before after entries listening status all from bound heard silent (inr said) =
-    not_printed serving old new before after entries status all (serves_store told serving old new before after entries from bound silent) said.0 said.1 said.2
-
--- a count that was said, or could not be, is no want of memory
-pub not_want : (old new : Told) (line : List ℕ) (listening : Listening) (status : ℕ) → EndsWith old new line (listening_status listening) status → status ≡ 5 → ⊥
-not_want old new line Whole status (inl said) five = (let zero_ = said.0 in absurd (omega arith))
-not_want old new line Broken status (inl said) five = (let three = said.0 in absurd (omega arith))
-not_want old new line listening status (inr said) five = (let three = said.0 in absurd (omega arith))
+of_served serving old new before after entries listening status all serves heard (inl said) = printed serving old new before after entries listening status all serves heard said.0 said.1
+of_served serving old new before after entries listening status all serves heard (inr said) = not_printed serving old new before after entries status all serves said.0 said.1 said.2

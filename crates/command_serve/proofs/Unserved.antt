@@ -5,20 +5,17 @@ use Rattle.stored_tables.specs.declared.tables.Tables.{Tables}
 use Rattle.stored_tables.specs.declared.opening.OpenFault.{OpenFault}
 use Rattle.stored_tables.specs.declared.opening.OpenFault.TheVariants.{Keeper, BadTables, Memory, BadRow, Version, BadNext, Limit}
 use Rattle.stored_tables.specs.Opening.{IsOfTables}
+use Rattle.register_core.specs.Opened.{IsUnopened}
 use Rattle.ipam_listen.specs.Connections.{Returned}
-use Rattle.register_server.specs.Serving.{AreLeft, IsFaultOf, IsListened}
-use Rattle.machine_serving.specs.declared.ending.Served.{Served}
-use Rattle.register_server.specs.declared.ending.Unserved.{Unserved}
-use Rattle.register_server.specs.declared.ending.Unserved.TheVariants.{Opening, Place}
 use Rattle.command_words.specs.declared.asked.Store.{Store}
 use Rattle.command_words.specs.declared.asked.Serving.{Serving}
 use Rattle.command_streams.specs.Streams.{Told, Streams, EndsWith}
 use Rattle.command_store.specs.Outside.{Outside, StoreFailed, AreSame, IsUnused, NoCountFalls, NoCountRises}
 use Rattle.command_store.specs.FaultWords.{IsSaid, fault_line}
 use Rattle.command_store.specs.Opening.{found_tables, IsBadStore}
-use Rattle.command_store.proofs.Refused.{back_again, not_used, quiet_refused, unchanged}
+use Rattle.command_store.proofs.Refused.{not_used}
 use Rattle.machine_serving.specs.Views.{ListenerView, ListeningFailed, NoneFailed, NobodyCame}
-use Rattle.command_serve.specs.Serve.{AllCame, IsBoundBy, IsUnserved, IsUnservedSaid, IsServe}
+use Rattle.command_serve.specs.Serve.{IsBoundBy, IsUnserved, IsServe}
 
 -- what holds of a run whatever its status
 pub record Whatever (serving : Serving) (old new : Outside) (before after : ListenerView) (status : ℕ) : Type 0 where
@@ -35,14 +32,7 @@ same_streams a b i o e =
     ∙ ap (λ (t : Told). record { input = a.input; output = t; errors = b.errors }) o
     ∙ ap (λ (t : Told). record { input = a.input; output = a.output; errors = t }) e
 
--- where no lane came back and as many came back as were handed out, none was handed out
-nobody : (before after : ListenerView) → after.returned ≡ before.returned → length after.returned + before.lanes ≡ length before.returned + after.lanes
-    → NobodyCame before after
-nobody before after same back =
-    let e = ap (λ (l : List Returned). length l) same in
-    record { lanes = omega arith; returned = same }
-
--- nor where the listener was not used
+-- nobody came where the listener was not used
 nobody_came : (before after : ListenerView) → after ≡ before → NobodyCame before after
 nobody_came before after idle = record { lanes = ap (λ (d : ListenerView). d.lanes) idle; returned = ap (λ (d : ListenerView). d.returned) idle }
 
@@ -50,13 +40,8 @@ nobody_came before after idle = record { lanes = ap (λ (d : ListenerView). d.la
 nobody_bound : (serving : Serving) (before after : ListenerView) → NobodyCame before after → before.lanes < after.lanes → IsBoundBy serving after
 nobody_bound serving before after none came = let same = none.lanes in absurd (omega arith)
 
--- those of all paths are as they were, where one keeper or none came back with what it told
-left_same : {K : Type 0} (told : K → Option Tables) (store : Store) (old new : Outside) → AreLeft told store.db old.stores.stored new.stores.stored → AreSame old.stores.stored new.stores.stored
-left_same told store old new (inl same) = unchanged old.stores.stored new.stores.stored same
-left_same told store old new (inr (kept, is, returned)) = back_again store.db (told kept) old.stores.stored new.stores.stored is returned
-
 -- for lack of memory
-of_memory : (serving : Serving) (old new : Outside) (before after : ListenerView) (status : ℕ) → Whatever serving old new before after status
+pub of_memory : (serving : Serving) (old new : Outside) (before after : ListenerView) (status : ℕ) → Whatever serving old new before after status
     → new.streams.output ≡ old.streams.output → AreSame old.stores.stored new.stores.stored → after ≡ before
     → status ≡ 5 → new.streams.errors ≡ old.streams.errors → IsServe serving old new before after status
 of_memory serving old new before after status all output left idle five silent = let none = nobody_came before after idle in record {
@@ -155,7 +140,7 @@ of_tables serving old new before after status fault all output left idle bad (in
 of_tables serving old new before after status fault all output left idle bad (inr said) = of_memory serving old new before after status all output left idle said.0 said.1
 
 -- the place could not be had
-of_place : (serving : Serving) (old new : Outside) (before after : ListenerView) (status : ℕ) → Whatever serving old new before after status
+pub of_place : (serving : Serving) (old new : Outside) (before after : ListenerView) (status : ℕ) → Whatever serving old new before after status
     → new.streams.output ≡ old.streams.output → AreSame old.stores.stored new.stores.stored → NobodyCame before after → ListeningFailed before after
     → status ≡ 3 → new.streams.errors ≡ old.streams.errors → IsServe serving old new before after status
 of_place serving old new before after status all output left none failed three silent = record {
@@ -176,42 +161,25 @@ of_place serving old new before after status all output left none failed three s
   quiet = all.quiet;
 }
 
-of_why : (serving : Serving) (old new : Outside) (before after : ListenerView) (status : ℕ) (why : Unserved) → Whatever serving old new before after status
-    → new.streams.output ≡ old.streams.output → AreSame old.stores.stored new.stores.stored → NobodyCame before after
-    → IsFaultOf (found_tables serving.store old) serving.store.global_unique old.stores.faults new.stores.faults why
-    → IsListened (AllCame serving before after × NoneFailed before after) (ListeningFailed before after) (after ≡ before) (Err why)
-    → IsUnservedSaid why old.streams.errors new.streams.errors status → IsServe serving old new before after status
-of_why serving old new before after status (Opening Keeper) all output left none of heard said =
-    of_keeper serving old new before after status all (of.1 refl) (unused serving old new before after status all output left) heard said
-of_why serving old new before after status (Opening Memory) all output left none of heard said =
-    of_memory serving old new before after status all output left heard said.0 said.1
-of_why serving old new before after status (Opening (BadTables kind n rule)) all output left none of heard said =
-    of_tables serving old new before after status (BadTables kind n rule) all output left heard (record { of_tables = tt; refused = of.0 tt }) said
-of_why serving old new before after status (Opening (BadRow kind n)) all output left none of heard said =
-    of_tables serving old new before after status (BadRow kind n) all output left heard (record { of_tables = tt; refused = of.0 tt }) said
-of_why serving old new before after status (Opening (Version n)) all output left none of heard said =
-    of_tables serving old new before after status (Version n) all output left heard (record { of_tables = tt; refused = of.0 tt }) said
-of_why serving old new before after status (Opening (BadNext kind)) all output left none of heard said =
-    of_tables serving old new before after status (BadNext kind) all output left heard (record { of_tables = tt; refused = of.0 tt }) said
-of_why serving old new before after status (Opening (Limit which n)) all output left none of heard said =
-    of_tables serving old new before after status (Limit which n) all output left heard (record { of_tables = tt; refused = of.0 tt }) said
-of_why serving old new before after status Place all output left none of heard said =
-    of_place serving old new before after status all output left none heard said.0 said.1
-
--- what is said of the listener's value is said of what it tells
-pub heard_of_view : (came failed : Type 0) (unused idle : Type 0) (why : Unserved) → (unused → idle) → IsListened came failed unused (Err why) → IsListened came failed idle (Err why)
-heard_of_view came failed unused idle (Opening fault) tell heard = tell heard
-heard_of_view came failed unused idle Place tell heard = heard
-
--- nobody was served
-pub of_unserved : {K : Type 0} (told : K → Option Tables) (serving : Serving) (old new : Outside) (before after : ListenerView) (status : ℕ) (why : Unserved)
-    → Whatever serving old new before after status → new.streams.output ≡ old.streams.output
-    → AreLeft told serving.store.db old.stores.stored new.stores.stored × (after.returned ≡ before.returned)
-    × IsFaultOf (found_tables serving.store old) serving.store.global_unique old.stores.faults new.stores.faults why
-    → IsListened (AllCame serving before after × NoneFailed before after) (ListeningFailed before after) (after ≡ before) (Err why)
-    → IsUnservedSaid why old.streams.errors new.streams.errors status → IsServe serving old new before after status
-of_unserved told serving old new before after status why all output (left, returned, of) heard said =
-    of_why serving old new before after status why all output (left_same told serving.store old new left) (nobody before after returned all.lanes_back) of heard said
+-- the opening was refused for this
+pub of_fault : (serving : Serving) (old new : Outside) (before after : ListenerView) (status : ℕ) (fault : OpenFault) → Whatever serving old new before after status
+    → new.streams.output ≡ old.streams.output → AreSame old.stores.stored new.stores.stored → after ≡ before
+    → (IsOfTables fault → IsUnopened (found_tables serving.store old) serving.store.global_unique fault) → (fault ≡ Keeper → StoreFailed old new)
+    → IsSaid fault old.streams.errors new.streams.errors status → IsServe serving old new before after status
+of_fault serving old new before after status Keeper all output left idle cause failed said =
+    of_keeper serving old new before after status all (failed refl) (unused serving old new before after status all output left) idle said
+of_fault serving old new before after status Memory all output left idle cause failed said =
+    of_memory serving old new before after status all output left idle said.0 said.1
+of_fault serving old new before after status (BadTables kind n rule) all output left idle cause failed said =
+    of_tables serving old new before after status (BadTables kind n rule) all output left idle (record { of_tables = tt; refused = cause tt }) said
+of_fault serving old new before after status (BadRow kind n) all output left idle cause failed said =
+    of_tables serving old new before after status (BadRow kind n) all output left idle (record { of_tables = tt; refused = cause tt }) said
+of_fault serving old new before after status (Version n) all output left idle cause failed said =
+    of_tables serving old new before after status (Version n) all output left idle (record { of_tables = tt; refused = cause tt }) said
+of_fault serving old new before after status (BadNext kind) all output left idle cause failed said =
+    of_tables serving old new before after status (BadNext kind) all output left idle (record { of_tables = tt; refused = cause tt }) said
+of_fault serving old new before after status (Limit which n) all output left idle cause failed said =
+    of_tables serving old new before after status (Limit which n) all output left idle (record { of_tables = tt; refused = cause tt }) said
 
 -- where memory ran out before anything was used
 pub not_begun : (serving : Serving) (old new : Outside) (before after : ListenerView) (status : ℕ) → status ≡ 5 → new ≡ old → after ≡ before
@@ -228,11 +196,3 @@ not_begun serving old new before after status five same same_listener =
       quiet = λ z. record { streams = record { input = refl; output = refl; errors = refl }; stores = refl };
     })
     refl (not_used old.stores.stored) refl five refl))
-
--- where memory ran out no count rose
-pub quiet_unserved : (old new : Outside) (why : Unserved) (status : ℕ)
-    → ((fault : OpenFault) → why ≡ Opening fault → (fault ≡ Keeper) ⊎ (new.stores.faults ≡ old.stores.faults))
-    → IsUnservedSaid why old.streams.errors new.streams.errors status → new.streams.input.faults ≡ old.streams.input.faults → new.streams.output.faults ≡ old.streams.output.faults
-    → status ≡ 5 → NoCountRises old new
-quiet_unserved old new (Opening fault) status still said read wrote five = quiet_refused old new fault status (still fault refl) said read wrote five
-quiet_unserved old new Place status still said read wrote five = (let three = said.0 in absurd (omega arith))

@@ -8,13 +8,11 @@ use Rattle.ipam_data.specs.Steps.{plain_step}
 use Rattle.ipam_listen.specs.Connections.{binding}
 use Rattle.machine_serving.specs.Serve.{entries_line}
 use Rattle.machine_serving.specs.Views.{ListenerView, ListeningFailed, NobodyCame, NoneFailed}
-use Rattle.register_server.specs.Serving.{IsServedBy}
-use Rattle.register_server.specs.declared.ending.Unserved.{Unserved}
-use Rattle.register_server.specs.declared.ending.Unserved.TheVariants.{Opening, Place}
+use Rattle.machine_server.specs.History.{IsServedBy}
+use Rattle.rest_ipam.specs.Protocol.{register_protocol}
 use Rattle.command_words.specs.declared.asked.Serving.{Serving}
-use Rattle.command_streams.specs.Streams.{Told, Gains, GainsFront, Failed}
+use Rattle.command_streams.specs.Streams.{Gains, GainsFront, Failed}
 use Rattle.command_store.specs.Outside.{AreSame, Outside, NoCountFalls, NoCountRises}
-use Rattle.command_store.specs.FaultWords.{IsSaid}
 use Rattle.command_store.specs.Opening.{IsLoaded, HoldsTold, NamesFault, NamesFailure, FailsToSay}
 
 -- as many lanes came as workers were asked for
@@ -34,7 +32,7 @@ pub record ServesStore (serving : Serving) (old new : Outside) (before after : L
   -- all answers of all connections are out of the one history, which has their changes, in order, and no others; each lane that came back
   -- tells the connections that were served; where all lanes came none has an accept left; and no more answers tell that the keeper
   -- failed than the opener's count rose, as far as that goes
-  pub served : IsServedBy state old.stores.faults new.stores.faults before.returned after.returned (AllCame serving before after) history
+  pub served : IsServedBy register_protocol state old.stores.faults new.stores.faults before.returned after.returned (AllCame serving before after) history
   pub entries_are : entries ≡ length history
   -- the store has the history's replay, and tells it where its tables were told
   pub holds : HoldsTold serving.store old new (replay plain_step state history)
@@ -73,11 +71,6 @@ pub record IsUnserved (old new : Outside) (before after : ListenerView) : Type 0
 pub record HasNoPlace (old new : Outside) (before after : ListenerView) : Type 0 where
   pub failed : ListeningFailed before after
   pub unserved : IsUnserved old new before after
-
--- what is said where nobody was served: why the opening was refused, and of a place that could not be had nothing
-abbrev pub IsUnservedSaid : Unserved → Told → Told → ℕ → Type 0
-IsUnservedSaid (Opening fault) old new status = IsSaid fault old new status
-IsUnservedSaid Place old new status = (status ≡ 3) × (new ≡ old)
 
 -- a run of `serve` with these words
 pub record IsServe (serving : Serving) (old new : Outside) (before after : ListenerView) (status : ℕ) : Type 0 where

@@ -3,5 +3,6 @@
 #![tactic(auto)]
 
 mod serve;
+mod workers;
 
 pub use serve::run_serve;

@@ -1,2 +1,4 @@
 pub mod Sessions
 pub mod Refused
+pub mod Beside
+pub mod Generic

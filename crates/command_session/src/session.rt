@@ -1,56 +1,60 @@
 //! The command `session`.
 
-ghost use Rattle.std.specs.Prelude.{◌≡◌, ◌≤◌, ◌⊎◌, [], Some};
-ghost use Rattle.ipam_keeper.specs.Keeping.{started};
-ghost use Rattle.register_core.specs.Opened.{IsOpened};
-ghost use Rattle.command_streams.specs.Streams.{Told, streams, told};
-ghost use Rattle.command_store.specs.Outside.{Stores, outside, stores};
-ghost use Rattle.command_session.specs.Session.{Serves, IsSession};
-ghost use Rattle.command_words.specs.declared.asked.Store.{Store as AskedStore};
-ghost use Rattle.ipam_edge.specs.Faults.{Rose as EdgeRose};
+ghost use Rattle.std.specs.Prelude.{◌≡◌};
+ghost use Rattle.command_streams.specs.Streams.{streams, told};
+ghost use Rattle.command_store.specs.Outside.{outside, stores};
+ghost use Rattle.command_session.specs.Session.{IsSession};
+ghost use Rattle.machine_command.specs.Outside.{outside as any_outside, stores as any_stores};
+ghost use Rattle.machine_command.specs.Session.{IsSession as IsAnySession};
+ghost use Rattle.register_store.specs.Meaning.{register_opener};
+ghost use Rattle.rest_ipam.specs.Protocol.{seen_protocol};
 
-use command_store::{open_store, say_fault};
 use command_words::Store;
-use http_session::SessionEnd;
 use ipam_edge::{Sink, Source};
 use ipam_keeper::keeper::KeeperOpener;
-use machine_command::status_of;
-use machine_session::{NoFollower, serve_own};
 use register_core::Register;
+use register_store::RegisterStore;
 use rest_ipam::RegisterService;
 use std::alloc::Global;
 
-/// Serves the requests of the input by a register that was opened, and gives its keeper back.
-fn serve_opened<So: Source, Si: Sink, O: KeeperOpener>(
+/// Answers the requests of the input on the output, by a register of the store. The store keeps the opener that is lent to it.
+fn session_of<So: Source, Si: Sink, Se: Sink, O: KeeperOpener>(
     alloc: Global,
-    register: Register<O::Kept>,
     input: &mut So,
     output: &mut Si,
-    opener: &mut O,
-) -> SessionEnd
-    requires log { register.log ≡ [] }
-    ensures serves { (store : AskedStore) (first : Stores) (errors : Told) → O.lent opener.old ≡ Some store.db → first.stored ≡ O.stored opener.old → O.faults opener.old ≡ first.faults → O.Kept.faults register.keeper ≡ 0
-        → IsOpened (started first.stored store.db) store.global_unique register.state
-        → O.Kept.told register.keeper ≡ started first.stored store.db
-        → Serves store (outside (streams (told So.left So.faults input.old) (told Si.written Si.faults output.old) errors) first)
-        (outside (streams (told So.left So.faults input.new) (told Si.written Si.faults output.new) errors) (stores O.stored O.faults opener.new)) result }
-    ensures source_later { So.faults input.old ≤ So.faults input.new }
-    ensures source { result ≡ SessionEnd.SourceFault → EdgeRose (So.faults input.old) (So.faults input.new) }
-    ensures source_kept { (result ≡ SessionEnd.SourceFault) ⊎ (So.faults input.new ≡ So.faults input.old) }
-    ensures sink_later { Si.faults output.old ≤ Si.faults output.new }
-    ensures sink { result ≡ SessionEnd.SinkFault → EdgeRose (Si.faults output.old) (Si.faults output.new) }
-    ensures sink_kept { (result ≡ SessionEnd.SinkFault) ⊎ (Si.faults output.new ≡ Si.faults output.old) }
-    ensures later { O.faults opener.old ≤ O.faults opener.new }
+    errors: &mut Se,
+    store: &mut RegisterStore<'_, '_, O>,
+) -> u8
+    ensures session { IsAnySession seen_protocol register_opener store.old.store.now
+        (any_outside (streams (told So.left So.faults input.old) (told Si.written Si.faults output.old) (told Se.written Se.faults errors.old)) (any_stores O.stored O.faults store.old.opener.now))
+        (any_outside (streams (told So.left So.faults input.new) (told Si.written Si.faults output.new) (told Se.written Se.faults errors.new)) (any_stores O.stored O.faults store.new.opener.now)) result }
+    ensures lent { store.new.opener.ghost_name ≡ store.old.opener.ghost_name }
 {
-    // Hints to the prover: what holds of every register.
-    register.replayed();
-    let (register, _, end) = serve_own::<Register<O::Kept>, RegisterService, NoFollower, So, Si>(
-        alloc, register, NoFollower, input, output,
-    );
-    register.told();
-    register.replayed();
-    opener.done(register.into_keeper());
-    end
+    machine_command::run_session::<
+        Register<O::Kept>,
+        RegisterService,
+        RegisterStore<'_, '_, O>,
+        So,
+        Si,
+        Se,
+    >(alloc, input, output, errors, store)
+}
+
+/// The same by the store of the words.
+fn session_at<So: Source, Si: Sink, Se: Sink, O: KeeperOpener>(
+    alloc: Global,
+    store: &Store,
+    input: &mut So,
+    output: &mut Si,
+    errors: &mut Se,
+    opener: &mut O,
+) -> u8
+    ensures { IsAnySession seen_protocol register_opener store.now
+        (any_outside (streams (told So.left So.faults input.old) (told Si.written Si.faults output.old) (told Se.written Se.faults errors.old)) (any_stores O.stored O.faults opener.old))
+        (any_outside (streams (told So.left So.faults input.new) (told Si.written Si.faults output.new) (told Se.written Se.faults errors.new)) (any_stores O.stored O.faults opener.new)) result }
+{
+    let mut lent = RegisterStore { opener, store };
+    session_of(alloc, input, output, errors, &mut lent)
 }
 
 /// Runs `session`: answers the requests of the input on the output, by a register over the store. What a refused opening says goes to the
@@ -67,8 +71,5 @@ pub fn run_session<So: Source, Si: Sink, Se: Sink, O: KeeperOpener>(
         (outside (streams (told So.left So.faults input.old) (told Si.written Si.faults output.old) (told Se.written Se.faults errors.old)) (stores O.stored O.faults opener.old))
         (outside (streams (told So.left So.faults input.new) (told Si.written Si.faults output.new) (told Se.written Se.faults errors.new)) (stores O.stored O.faults opener.new)) result }
 {
-    match open_store(alloc, store, opener) {
-        Ok(register) => status_of(serve_opened(alloc, register, input, output, opener)),
-        Err(fault) => say_fault(alloc, &fault, errors),
-    }
+    session_at(alloc, store, input, output, errors, opener)
 }

@@ -1,28 +1,27 @@
 -- What is seen of all objects that a command is given, before it and after it: its streams, and its opener of stores.
-use Rattle.std.specs.Prelude.{◌≡◌, ℕ, ◌≤◌, ◌⊎◌, List, Option, Some, None}
+use Rattle.std.specs.Prelude.{◌≡◌, ℕ, ◌⊎◌, List, Option, Some, None}
 use Rattle.stored_tables.specs.declared.tables.Tables.{Tables}
-use Rattle.ipam_keeper.specs.Keeping.{Rose, tables_at}
-use Rattle.command_streams.specs.Streams.{Streams, SomeFailed, NeverFalls, NeverRises}
+use Rattle.ipam_keeper.specs.Keeping.{tables_at}
+use Rattle.command_streams.specs.Streams.{Streams, SomeFailed, NeverRises}
+use Rattle.machine_command.specs.Outside as any
 
 -- what an opener tells: the tables under each path, where it tells them, and its count of faults
-pub record Stores : Type 0 where
-  pub stored : Option (List (List ℕ × Tables))
-  pub faults : ℕ
+abbrev pub Stores : Type 0
+Stores = any.Stores Tables
 
 -- what an opener tells, by the members of its trait
 abbrev pub stores : {O : Type 0} → (O → Option (List (List ℕ × Tables))) → (O → ℕ) → O → Stores
-stores stored faults opener = record { stored = stored opener; faults = faults opener }
+stores stored faults opener = any.stores stored faults opener
 
-pub record Outside : Type 0 where
-  pub streams : Streams
-  pub stores : Stores
+abbrev pub Outside : Type 0
+Outside = any.Outside Tables
 
 abbrev pub outside : Streams → Stores → Outside
-outside streams stores = record { streams = streams; stores = stores }
+outside streams stores = any.outside streams stores
 
 -- the opener failed meanwhile, or a keeper that it took back had failed
 abbrev pub StoreFailed : Outside → Outside → Type 0
-StoreFailed old new = Rose old.stores.faults new.stores.faults
+StoreFailed old new = any.StoreFailed old new
 
 -- where tables are told, those under each path are as they were
 abbrev pub AreSame : Option (List (List ℕ × Tables)) → Option (List (List ℕ × Tables)) → Type 0
@@ -41,9 +40,8 @@ abbrev pub AnyFailed : Outside → Outside → Type 0
 AnyFailed old new = SomeFailed old.streams new.streams ⊎ StoreFailed old new
 
 -- no count of faults falls
-pub record NoCountFalls (old new : Outside) : Type 0 where
-  pub streams : NeverFalls old.streams new.streams
-  pub stores : old.stores.faults ≤ new.stores.faults
+abbrev pub NoCountFalls : Outside → Outside → Type 0
+NoCountFalls old new = any.NoCountFalls old new
 
 -- no count of faults rose
 pub record NoCountRises (old new : Outside) : Type 0 where

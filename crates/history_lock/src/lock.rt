@@ -19,7 +19,7 @@ use std::sync::Wait;
 /// A contract sees it as the identity that its seats tell as their `lock`.
 #[derive(Drop)]
 pub struct Shared<M: Machine> {
-    table: Table<Option<M>, View<M::State, M::Said>, Snapshot<M>, Rule, Global>,
+    table: Table<Option<Box<M>>, View<M::State, M::Said>, Snapshot<Box<M>>, Rule, Global>,
 }
 
 impl<M: Machine> Model for Shared<M> {
@@ -38,7 +38,7 @@ pub struct Seat<M: Machine> {
     who: u32,
     spare: u32,
     weight: u32,
-    place: atomic_table::Seat<Option<M>, View<M::State, M::Said>>,
+    place: atomic_table::Seat<Option<Box<M>>, View<M::State, M::Said>>,
 }
 
 impl<M: Machine> Model for Seat<M> {
@@ -56,6 +56,22 @@ impl<M: Machine> Shared<M> {
     pub fn new(alloc: Global, machine: M) -> Result<(Shared<M>, Seat<M>), M>
         requires { M.log machine ≡ [] }
         ensures ok { IfOk result (λ r. r.1 ≡ first_seat r.0 (M.opening machine) (M.faults machine)) }
+        ensures err { IfErr result (λ m. m ≡ machine) }
+    {
+        // In a box, so that no call moves it.
+        match Box::new(alloc, machine) {
+            Ok(machine) => match Shared::over(alloc, machine) {
+                Ok(made) => Ok(made),
+                Err(machine) => Err(Box::into_inner(machine)),
+            },
+            Err(AllocFailed { value }) => Err(value),
+        }
+    }
+
+    /// The same over a machine in a box.
+    fn over(alloc: Global, machine: Box<M>) -> Result<(Shared<M>, Seat<M>), Box<M>>
+        requires { M.log machine.value ≡ [] }
+        ensures ok { IfOk result (λ r. r.1 ≡ first_seat r.0 (M.opening machine.value) (M.faults machine.value)) }
         ensures err { IfErr result (λ m. m ≡ machine) }
     {
         // Its clauses say that the machine's state is the replay of its accepted changes.
@@ -204,7 +220,7 @@ impl<M: Machine> Shared<M> {
         let mut closed = table.close_with(place);
         let slot = closed.take(0);
         closed.free();
-        machine_of(slot)
+        Box::into_inner(machine_of(slot))
     }
 }
 

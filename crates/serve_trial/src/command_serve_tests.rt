@@ -35,8 +35,8 @@ struct Left {
     errors: Vec<u8>,
 }
 
-/// A lane with one connection, which asks for this.
-fn lane_of(alloc: Global, asked: &str) -> Result<ListLane, AllocError>
+/// A lane with one connection, which asks for this; the accepts of these numbers fail.
+fn lane_of(alloc: Global, asked: &str, fails: &[u32]) -> Result<ListLane, AllocError>
     ensures { IfOk result (λ l. lane_told l ≡ []) }
 {
     let source = BytesSource::new(
@@ -47,14 +47,14 @@ fn lane_of(alloc: Global, asked: &str) -> Result<ListLane, AllocError>
     let sink = BytesSink::new(alloc, Vec::new(alloc), 1000, 4096)?;
     let mut pairs = Vec::new(alloc);
     pairs.push((source, sink))?;
-    ListLane::new(alloc, pairs, Vec::new(alloc))
+    ListLane::new(alloc, pairs, Vec::from_slice(alloc, fails)?)
 }
 
 /// A listener with a lane for each client.
-fn listener_of(alloc: Global) -> Result<ListListener, AllocError> {
+fn listener_of(alloc: Global, fails: &[u32]) -> Result<ListListener, AllocError> {
     let mut lanes = Vec::new(alloc);
-    lanes.push(lane_of(alloc, CLIENTS[0])?)?;
-    lanes.push(lane_of(alloc, CLIENTS[1])?)?;
+    lanes.push(lane_of(alloc, CLIENTS[0], fails)?)?;
+    lanes.push(lane_of(alloc, CLIENTS[1], fails)?)?;
     ListListener::new(alloc, lanes)
 }
 
@@ -144,7 +144,7 @@ fn who_is_served_and_who_is_not(rt: HostRuntime) -> Result<(), Fail> {
         "--db=a",
     ];
     let mut opener = opener_of(alloc, 2)?;
-    let mut listener = listener_of(alloc)?;
+    let mut listener = listener_of(alloc, &[])?;
     let left = ran(&rt, alloc, &words, &mut listener, &mut opener)?;
     assert!(rt; left.status == 0 && left.errors.is_empty());
     assert!(rt; left.output.as_slice() == b"entries 6\n".as_slice());
@@ -164,5 +164,24 @@ fn who_is_served_and_who_is_not(rt: HostRuntime) -> Result<(), Fail> {
     let left = ran(&rt, alloc, &words, &mut listener, &mut opener)?;
     assert!(rt; left.status == 1 && left.output.is_empty());
     assert!(rt; left.errors.as_slice() == b"store: version 9\n".as_slice());
+    Ok(())
+}
+
+#[test]
+fn a_failed_accept_is_told(rt: HostRuntime) -> Result<(), Fail> {
+    let alloc = rt.alloc();
+    let words = ["serve", "--bind", "x", "--workers=2", "--connections=2"];
+    let mut opener = opener_of(alloc, 2)?;
+    let mut listener = listener_of(alloc, &[0])?;
+    let left = ran(&rt, alloc, &words, &mut listener, &mut opener)?;
+    assert!(rt; left.status == 3 && left.errors.is_empty());
+    assert!(rt; left.output.as_slice() == b"entries 6\n".as_slice());
+    let mut told = String::new(alloc);
+    tell(&listener, &mut told)?;
+    assert_eq!(rt;
+        times(told.as_str(), "HTTP/1.1 201 Created\r\n"),
+        6,
+        "{told}"
+    );
     Ok(())
 }

@@ -8,8 +8,6 @@ mod halves;
 #[cfg(test)]
 mod ports;
 #[cfg(test)]
-mod register_server_tests;
-#[cfg(test)]
 mod registers;
 #[cfg(test)]
 mod serving;

@@ -1,25 +1,5 @@
-use Rattle.std.proofs.Common.{sym, refl, arith}
-use Rattle.command_streams.specs.Streams.{told}
-use Rattle.command_store.specs.Outside.{stores}
-use Rattle.command_store.proofs.Refused.{quiet_refused}
-use Rattle.command_session.proofs.Sessions.{of_ended}
-use Rattle.command_session.proofs.Refused.{of_refused}
+use Rattle.command_session.proofs.Generic.{of_generic}
 use Rattle.command_session.proofs.session.run_session.Goals as goal
 
-pub returns-in-Ok : goal.returns-in-Ok
-returns-in-Ok g c =
-    let before = c.open_store.ensures.later in
-    let after = c.serve_opened.ensures.later in
-    of_ended c.args.store.now _ _ _ c.status_of.result c.status_of.ensures
-    (c.serve_opened.ensures.serves c.args.store.now (stores g.O.KeeperOpener.stored g.O.KeeperOpener.faults c.args.opener.now)
-    (told g.Se.Sink.written g.Se.Sink.faults c.args.errors.now) c.in-Ok.ensures.lent (sym c.in-Ok.ensures.stays) c.in-Ok.ensures.still c.in-Ok.ensures.fresh c.in-Ok.ensures.state c.in-Ok.ensures.told)
-    c.serve_opened.ensures.source c.serve_opened.ensures.sink
-    (record { streams = record { input = c.serve_opened.ensures.source_later; output = c.serve_opened.ensures.sink_later; errors = omega arith }; stores = omega arith })
-    c.serve_opened.ensures.source_kept c.serve_opened.ensures.sink_kept
-
-pub returns-in-Err : goal.returns-in-Err
-returns-in-Err g c =
-    of_refused c.args.store.now _ _ _ c.in-Err.fault c.in-Err.ensures.fault c.in-Err.ensures.cause c.say_fault.ensures.said
-    (record { input = refl; output = refl; stored = c.in-Err.ensures.same })
-    (record { streams = record { input = omega arith; output = omega arith; errors = c.say_fault.ensures.later }; stores = c.open_store.ensures.later })
-    (λ five. quiet_refused _ _ c.in-Err.fault c.say_fault.result c.in-Err.ensures.err_still c.say_fault.ensures.said refl refl five)
+pub returns : goal.returns
+returns g c = of_generic c.args.store.now _ _ _ c.session_at.ensures

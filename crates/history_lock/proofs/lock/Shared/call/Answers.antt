@@ -1,4 +1,4 @@
-use Rattle.std.proofs.Common.{◌≡◌, ℕ, ap, sym, subst, ◌∙◌}
+use Rattle.std.proofs.Common.{Box, Global, ◌≡◌, ℕ, ap, sym, subst, ◌∙◌}
 use Rattle.history_lock.specs.declared.views.View.{View}
 use Rattle.history_lock.specs.Seats.{SeatView, seat_view_of, IsCall}
 use Rattle.history_lock.specs.Views.{told, rested, leading}
@@ -10,7 +10,7 @@ use Rattle.history_lock.proofs.lock.Shared.call.Goals as goal
 
 pub invariant_of-result : goal.invariant_of-result
 invariant_of-result g c =
-    let W = meaning g.M.Machine.opening g.M.Machine.state g.M.Machine.log g.M.Machine.faults g.M.Machine.step in
+    let W = meaning (λ (b : Box g.row.M.Denot Global). g.M.Machine.opening b.value) (λ b. g.M.Machine.state b.value) (λ b. g.M.Machine.log b.value) (λ b. g.M.Machine.faults b.value) g.M.Machine.step in
     let v : View g.row.M-State.Denot g.row.M-Said.Denot = c.seat.inside.place.me.0 in
     let x = c.take_turn-machine.result in
     let kind = g.M.Machine.kind c.act-reply.result in
@@ -23,7 +23,7 @@ invariant_of-result g c =
 
 pub returns : goal.returns
 returns g c =
-    let W = meaning g.M.Machine.opening g.M.Machine.state g.M.Machine.log g.M.Machine.faults g.M.Machine.step in
+    let W = meaning (λ (b : Box g.row.M.Denot Global). g.M.Machine.opening b.value) (λ b. g.M.Machine.state b.value) (λ b. g.M.Machine.log b.value) (λ b. g.M.Machine.faults b.value) g.M.Machine.step in
     let p = c.seat.inside.place in
     let v : View g.row.M-State.Denot g.row.M-Said.Denot = p.me.0 in
     let x = c.take_turn-machine.result in
