@@ -4,8 +4,8 @@
 Each bench/planted/CRATE/NAME.edit is one bug of the crate CRATE. Its first line is `seen by: CRATE MODULE::TEST`, with the test that must fail, or
 `seen by: check`, where the prover must refuse the crate itself. Then comes an edit as in crates/*/must-fail: `file: src/lib.rt`, `old: TEXT`, which that file
 has once, and `new: TEXT`; further pairs apply to what the earlier ones made. Each bug is put into a copy of the crates that are needed, and `rt try --test`
-runs there in the test's crate (or `rt check`). It prints a line a bug and, at the end, a sum; its status is 1 where one is not seen. A bug takes one to three
-minutes.
+runs there in the test's crate, from which the other tests are taken (or `rt check`). It prints a line a bug and, at the end, a sum; its status is 1 where one
+is not seen. A bug takes one to three minutes.
 
 usage: bench/planted.py [CRATE | CRATE/NAME ..]     all bugs, where none is named
 environment: RT=COMMAND                             what runs as `rt`
@@ -25,6 +25,7 @@ RT = os.environ.get("RT", "rt")
 # A test has 60 seconds; there are a dozen at most in a crate, and they are compiled first.
 SECONDS = 1800
 PART = re.compile(r"^(seen by|file|old|new): ?(.*)$")
+A_TEST = re.compile(r"(?:^///.*\n)*^#\[test\]\nfn (\w+)\((?:.*\n)*?\}\n", re.M)
 
 
 class Wrong(Exception):
@@ -79,6 +80,19 @@ def copy_crates(copy, name, line_of, below):
         shutil.copytree(f"{TOP}/crates/{it}", f"{copy}/crates/{it}", ignore=shutil.ignore_patterns("out", "must-fail"))
 
 
+def leave_test(folder, test):
+    """Takes all tests but this one from a crate, so that no other one is compiled and run."""
+    for at, _, names in os.walk(f"{folder}/src"):
+        for name in names:
+            path = f"{at}/{name}"
+            module = os.path.relpath(path, f"{folder}/src").removesuffix(".rt").replace("/", "::")
+            with open(path, encoding="utf-8") as it:
+                text = it.read()
+            left = A_TEST.sub(lambda found: found.group(0) if f"{module}::{found.group(1)}" == test else "", text)
+            with open(path, "w", encoding="utf-8") as it:
+                it.write(left)
+
+
 def run_in(folder, words):
     """What a command says. One that takes too long is ended, with all that it started."""
     how = {"stdin": subprocess.DEVNULL, "stdout": subprocess.PIPE, "stderr": subprocess.STDOUT, "start_new_session": True}
@@ -99,8 +113,9 @@ def outcome(bug, copy):
         if "no proof" in said:
             return True, "refused by the prover"
         return False, "proved" if status == 0 else "no verdict: " + last_of(said)
-    _, said = run_in(folder, ["try", "--test"])
     test = bug.seen_by[1]
+    leave_test(folder, test)
+    _, said = run_in(folder, ["try", "--test"])
     found = re.search(rf"^test {re.escape(test)} \.\.\. (\w+)", said, re.M)
     if not found:
         return False, f"{test} did not run: {last_of(said)}"

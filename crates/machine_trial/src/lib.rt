@@ -4,6 +4,8 @@
 
 mod board;
 mod crew;
+#[cfg(test)]
+mod numbered;
 mod service;
 #[cfg(test)]
 mod tests;

@@ -41,7 +41,7 @@ fn place_at(place: u64) -> NumberField
 }
 
 /// An answer with a field, where there is one, and a short body.
-fn answer_with(status: StatusCode, field: Option<NumberField>, text: &[u8]) -> Answer
+pub(crate) fn answer_with(status: StatusCode, field: Option<NumberField>, text: &[u8]) -> Answer
     requires { length text.now ≤ 128 }
     ensures { answer_of result ≡ answer_with status field text.now }
 {
@@ -60,7 +60,7 @@ fn answer_with(status: StatusCode, field: Option<NumberField>, text: &[u8]) -> A
 }
 
 /// The answer of a reply, which has a place.
-fn told(reply: Reply, place: u64) -> Answer
+pub(crate) fn told(reply: Reply, place: u64) -> Answer
     ensures { answer_of result ≡ reply_answer reply place }
 {
     let field = Some(place_at(place));

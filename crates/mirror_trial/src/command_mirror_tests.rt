@@ -4,11 +4,12 @@ ghost use Rattle.ipam_listen.specs.ListLanes.{lane_told};
 
 use command_mirror::run_mirror;
 use command_words::{Command, Mirroring, read_words};
-use ipam_edge::{BytesSink, BytesSource};
+use ipam_edge::{BytesSink, BytesSource, Source};
 use ipam_keeper::empty::empty_tables;
 use ipam_keeper::memory::MemoryKeeper;
 use ipam_keeper::opener::MemoryOpener;
 use ipam_listen::{ListLane, ListListener, Listener};
+use meeting_lanes::{Meeting, MeetingListener, MeetingSource};
 use std::alloc::{AllocError, Global};
 use std::marker::Sync;
 use std::str;
@@ -25,6 +26,9 @@ const OPERATOR: &str =
 /// What each reader is asked.
 const READER: &str = "GET /api/ipam/prefixes/ HTTP/1.1\r\nHost: ipam\r\n\r\n\
      GET /api/ipam/roles/ HTTP/1.1\r\nHost: ipam\r\n\r\n";
+
+/// How often a reader looks whether the other one has come, at most.
+const TURNS: u32 = 1_000_000;
 
 /// What a run left: its status, the output, the messages.
 #[derive(Drop)]
@@ -109,11 +113,11 @@ fn asked(alloc: Global) -> Result<Mirroring, AllocError> {
 }
 
 /// Runs `mirror` for as many readers as may be asked for.
-fn run_few<R: Threads + Wait + Sync, L: Listener>(
+fn run_few<R: Threads + Wait + Sync, So: Source, L: Listener>(
     rt: &R,
     alloc: Global,
     asked: &Mirroring,
-    streams: (&mut BytesSource, &mut BytesSink, &mut BytesSink),
+    streams: (&mut So, &mut BytesSink, &mut BytesSink),
     listener: &mut L,
     opener: &mut MemoryOpener,
 ) -> u8 {
@@ -132,6 +136,17 @@ fn ran<R: Threads + Wait + Sync, L: Listener>(
     opener: &mut MemoryOpener,
 ) -> Result<Left, AllocError> {
     let mut input = source_of(alloc, OPERATOR)?;
+    ran_over(rt, alloc, &mut input, listener, opener)
+}
+
+/// Runs it over an input.
+fn ran_over<R: Threads + Wait + Sync, So: Source, L: Listener>(
+    rt: &R,
+    alloc: Global,
+    input: &mut So,
+    listener: &mut L,
+    opener: &mut MemoryOpener,
+) -> Result<Left, AllocError> {
     let mut output = BytesSink::new(alloc, Vec::new(alloc), 1000, 4096)?;
     let mut errors = BytesSink::new(alloc, Vec::new(alloc), 1000, 4096)?;
     let asked = asked(alloc)?;
@@ -139,7 +154,7 @@ fn ran<R: Threads + Wait + Sync, L: Listener>(
         rt,
         alloc,
         &asked,
-        (&mut input, &mut output, &mut errors),
+        (input, &mut output, &mut errors),
         listener,
         opener,
     );
@@ -180,5 +195,30 @@ fn who_is_served_and_who_is_not(rt: HostRuntime) -> Result<(), Fail> {
     assert!(rt; left.status == 1 && left.output.is_empty());
     assert!(rt; left.errors.as_slice() == b"store: version 9\n".as_slice());
     assert!(rt; listener.returned().is_empty());
+    Ok(())
+}
+
+/// What each reader is asked when the operator's changes are published.
+const LATER: &str = "GET /api/ipam/prefixes/?least=2&limit=1 HTTP/1.1\r\nHost: ipam\r\n\r\n";
+
+/// Whether a reader was told of both prefixes.
+fn has_both(sink: &BytesSink) -> bool {
+    let told = str::from_utf8(sink.bytes()).unwrap_or("");
+    times(told, "HTTP/1.1 200 OK\r\n") == 1 && times(told, "{\"count\":2,") == 1
+}
+
+/// The readers wait for each other, and for the operator's last answer.
+#[test]
+fn readers_run_at_once_and_see_what_was_made(rt: HostRuntime) -> Result<(), Fail> {
+    let alloc = rt.alloc();
+    let meeting = Meeting::new(3, TURNS);
+    let mut opener = opener_of(alloc, 2)?;
+    let mut listener = MeetingListener::new(alloc, &[LATER, LATER], &meeting)?;
+    let mut input = MeetingSource::last(source_of(alloc, OPERATOR)?, &meeting);
+    let left = ran_over(&rt, alloc, &mut input, &mut listener, &mut opener)?;
+    assert!(rt; left.status == 0 && left.errors.is_empty());
+    assert_eq!(rt; meeting.given_up(), 0);
+    assert_eq!(rt; listener.answers().len(), 2);
+    assert!(rt; listener.answers().iter().all(|sink| has_both(sink)));
     Ok(())
 }

@@ -1,11 +1,9 @@
 //! `poold`: pools of AS numbers and of VLANs. Its commands stand in `pool_command`; its stores are SQLite files.
 #![tactic(auto)]
 
-mod files;
-
-use files::HostFiles;
 use ipam_listen::TcpDoors;
 use pool_command::program;
+use pool_files::HostPoolFiles;
 use pool_keeper::keeper::PoolOpener;
 use sqlite_pools::SqlitePoolOpener;
 use std::marker::Sync;
@@ -28,6 +26,6 @@ fn run_over<
 }
 
 fn main(rt: HostRuntime) -> ExitCode {
-    let mut opener = SqlitePoolOpener::new(rt.alloc(), HostFiles::of(&rt));
+    let mut opener = SqlitePoolOpener::new(rt.alloc(), HostPoolFiles::of(&rt));
     run_over(&rt, &rt, &mut opener)
 }

@@ -7,6 +7,7 @@ use crate::running::run_words;
 use crate::stores::opener_of;
 use ipam_edge::{BytesSink, BytesSource};
 use ipam_listen::{ListLane, ListListener};
+use meeting_lanes::{Meeting, MeetingListener};
 use std::alloc::{AllocError, Global};
 use std::str;
 use std::test::Fail;
@@ -16,6 +17,9 @@ const STORE: &str = "2 1;range 1 asn a 64512 64531";
 
 /// A claim of one number of it.
 const CLAIM: &str = "POST /api/ipam/asn-ranges/1/available-asns/|{}";
+
+/// How often a worker looks whether the other one has come, at most.
+const TURNS: u32 = 1_000_000;
 
 /// What a client asks that makes ten claims.
 fn asked(alloc: Global) -> Result<Vec<u8>, AllocError> {
@@ -103,5 +107,21 @@ fn two_workers_claim_twenty_numbers(rt: HostRuntime) -> Result<(), Fail> {
         "{told}"
     );
     assert_eq!(rt; told_once(rt.alloc(), told.as_str())?, 20, "{told}");
+    Ok(())
+}
+
+#[test]
+fn workers_run_at_once(rt: HostRuntime) -> Result<(), Fail> {
+    let alloc = rt.alloc();
+    let meeting = Meeting::new(2, TURNS);
+    let bytes = asked(alloc)?;
+    let text = str::from_utf8(bytes.as_slice()).unwrap_or("");
+    let mut opener = opener_of(alloc, STORE)?;
+    let mut listener = MeetingListener::new(alloc, &[text, text], &meeting)?;
+    let words = "serve --bind x --workers 2 --connections 1 --db a";
+    let left = run_words(&rt, alloc, words, b"", 1_000, &mut listener, &mut opener)?;
+    assert!(rt; left.status == 0 && left.output.as_slice() == b"entries 20\n".as_slice());
+    assert_eq!(rt; meeting.given_up(), 0);
+    assert_eq!(rt; listener.answers().len(), 2);
     Ok(())
 }

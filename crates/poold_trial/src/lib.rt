@@ -6,8 +6,12 @@ mod cases;
 #[cfg(test)]
 mod claims;
 #[cfg(test)]
+mod conversation;
+#[cfg(test)]
 mod exchanges;
 #[cfg(test)]
 mod running;
 #[cfg(test)]
 mod stores;
+#[cfg(test)]
+mod talks;

@@ -1,7 +1,7 @@
 //! `run_pools` over objects in memory.
 
 use ipam_edge::{BytesSink, BytesSource};
-use ipam_listen::ListListener;
+use ipam_listen::Listener;
 use pool_command::run_pools;
 use pool_keeper::opener::MemoryPoolOpener;
 use std::alloc::{AllocError, Global};
@@ -30,13 +30,13 @@ fn words_of<'a>(alloc: Global, text: &'a str) -> Result<Vec<&'a str>, AllocError
 }
 
 /// Runs words over an input that comes in pieces of this size.
-pub fn run_words<R: Threads + Wait + Sync>(
+pub fn run_words<R: Threads + Wait + Sync, L: Listener>(
     rt: &R,
     alloc: Global,
     words: &str,
     input: &[u8],
     piece: usize,
-    listener: &mut ListListener,
+    listener: &mut L,
     opener: &mut MemoryPoolOpener,
 ) -> Result<Left, AllocError> {
     let piece = piece.max(1);

@@ -9,6 +9,7 @@ use ipam_keeper::empty::empty_tables;
 use ipam_keeper::memory::MemoryKeeper;
 use ipam_keeper::opener::MemoryOpener;
 use ipam_listen::{ListLane, ListListener, Listener};
+use meeting_lanes::{Meeting, MeetingListener};
 use std::alloc::{AllocError, Global};
 use std::marker::Sync;
 use std::str;
@@ -18,14 +19,20 @@ use std::thread::Threads;
 use stored_tables::tables::{Tables, Text};
 
 /// What the clients ask, a line each: three prefixes are made.
-const CLIENTS: [&str; 2] = [
+const CLIENTS: [&str; 3] = [
     "POST /api/ipam/prefixes/ HTTP/1.1\r\nHost: ipam\r\nContent-Length: 24\r\n\r\n{\"prefix\":\"10.1.0.0/16\"}\
      POST /api/ipam/prefixes/ HTTP/1.1\r\nHost: ipam\r\nContent-Length: 24\r\n\r\n{\"prefix\":\"10.2.0.0/16\"}\
      POST /api/ipam/prefixes/ HTTP/1.1\r\nHost: ipam\r\nContent-Length: 24\r\n\r\n{\"prefix\":\"10.3.0.0/16\"}",
     "POST /api/ipam/prefixes/ HTTP/1.1\r\nHost: ipam\r\nContent-Length: 24\r\n\r\n{\"prefix\":\"10.4.0.0/16\"}\
      POST /api/ipam/prefixes/ HTTP/1.1\r\nHost: ipam\r\nContent-Length: 24\r\n\r\n{\"prefix\":\"10.5.0.0/16\"}\
      POST /api/ipam/prefixes/ HTTP/1.1\r\nHost: ipam\r\nContent-Length: 24\r\n\r\n{\"prefix\":\"10.6.0.0/16\"}",
+    "POST /api/ipam/prefixes/ HTTP/1.1\r\nHost: ipam\r\nContent-Length: 24\r\n\r\n{\"prefix\":\"10.7.0.0/16\"}\
+     POST /api/ipam/prefixes/ HTTP/1.1\r\nHost: ipam\r\nContent-Length: 24\r\n\r\n{\"prefix\":\"10.8.0.0/16\"}\
+     POST /api/ipam/prefixes/ HTTP/1.1\r\nHost: ipam\r\nContent-Length: 24\r\n\r\n{\"prefix\":\"10.9.0.0/16\"}",
 ];
+
+/// How often a worker looks whether the other ones have come, at most.
+const TURNS: u32 = 1_000_000;
 
 /// What a run left: its status, the output, the messages.
 #[derive(Drop)]
@@ -55,6 +62,19 @@ fn listener_of(alloc: Global, fails: &[u32]) -> Result<ListListener, AllocError>
     let mut lanes = Vec::new(alloc);
     lanes.push(lane_of(alloc, CLIENTS[0], fails)?)?;
     lanes.push(lane_of(alloc, CLIENTS[1], fails)?)?;
+    lanes.push(lane_of(alloc, CLIENTS[2], fails)?)?;
+    ListListener::new(alloc, lanes)
+}
+
+/// A listener with as many lanes as there may be workers, each with a client that makes one prefix.
+fn listener_of_all(alloc: Global) -> Result<ListListener, AllocError> {
+    let mut lanes = Vec::new(alloc);
+    for number in 10..42u32 {
+        let asked = format!(in alloc;
+            "POST /api/ipam/prefixes/ HTTP/1.1\r\nHost: ipam\r\nContent-Length: 25\r\n\r\n{{\"prefix\":\"10.{number}.0.0/16\"}}"
+        )?;
+        lanes.push(lane_of(alloc, asked.as_str(), &[])?)?;
+    }
     ListListener::new(alloc, lanes)
 }
 
@@ -73,6 +93,17 @@ fn tell(listener: &ListListener, told: &mut String) -> Result<(), AllocError> {
 /// How often a part stands in a text.
 fn times<'a>(text: &'a str, part: &'a str) -> usize {
     text.split(part).count().saturating_sub(1)
+}
+
+/// Whether each of the ids from 1 up to this one is told once, and no other prefix is made.
+fn has_each_once(alloc: Global, told: &str, last: u32) -> Result<bool, AllocError> {
+    for id in 1..=last {
+        let named = format!(in alloc; "\"id\":{id},")?;
+        if times(told, named.as_str()) != 1 {
+            return Ok(false);
+        }
+    }
+    Ok(times(told, "HTTP/1.1 201 Created\r\n") == last as usize)
 }
 
 /// An opener that has tables of this version under the path `a`.
@@ -139,7 +170,7 @@ fn who_is_served_and_who_is_not(rt: HostRuntime) -> Result<(), Fail> {
         "serve",
         "--bind",
         "x",
-        "--workers=2",
+        "--workers=3",
         "--connections=1",
         "--db=a",
     ];
@@ -147,14 +178,10 @@ fn who_is_served_and_who_is_not(rt: HostRuntime) -> Result<(), Fail> {
     let mut listener = listener_of(alloc, &[])?;
     let left = ran(&rt, alloc, &words, &mut listener, &mut opener)?;
     assert!(rt; left.status == 0 && left.errors.is_empty());
-    assert!(rt; left.output.as_slice() == b"entries 6\n".as_slice());
+    assert!(rt; left.output.as_slice() == b"entries 9\n".as_slice());
     let mut told = String::new(alloc);
     tell(&listener, &mut told)?;
-    assert_eq!(rt;
-        times(told.as_str(), "HTTP/1.1 201 Created\r\n"),
-        6,
-        "{told}"
-    );
+    assert!(rt; has_each_once(alloc, told.as_str(), 9)?, "{told}");
     let mut listener = ListListener::new(alloc, Vec::new(alloc))?;
     let left = ran(&rt, alloc, &words, &mut listener, &mut opener)?;
     assert!(rt; left.status == 3 && left.errors.is_empty());
@@ -170,18 +197,43 @@ fn who_is_served_and_who_is_not(rt: HostRuntime) -> Result<(), Fail> {
 #[test]
 fn a_failed_accept_is_told(rt: HostRuntime) -> Result<(), Fail> {
     let alloc = rt.alloc();
-    let words = ["serve", "--bind", "x", "--workers=2", "--connections=2"];
+    let words = ["serve", "--bind", "x", "--workers=3", "--connections=2"];
     let mut opener = opener_of(alloc, 2)?;
     let mut listener = listener_of(alloc, &[0])?;
     let left = ran(&rt, alloc, &words, &mut listener, &mut opener)?;
     assert!(rt; left.status == 3 && left.errors.is_empty());
-    assert!(rt; left.output.as_slice() == b"entries 6\n".as_slice());
+    assert!(rt; left.output.as_slice() == b"entries 9\n".as_slice());
     let mut told = String::new(alloc);
     tell(&listener, &mut told)?;
-    assert_eq!(rt;
-        times(told.as_str(), "HTTP/1.1 201 Created\r\n"),
-        6,
-        "{told}"
-    );
+    assert!(rt; has_each_once(alloc, told.as_str(), 9)?, "{told}");
+    Ok(())
+}
+
+#[test]
+fn as_many_workers_as_there_may_be_serve_one_register(rt: HostRuntime) -> Result<(), Fail> {
+    let alloc = rt.alloc();
+    let words = ["serve", "--bind", "x", "--workers=32", "--connections=1"];
+    let mut opener = opener_of(alloc, 2)?;
+    let mut listener = listener_of_all(alloc)?;
+    let left = ran(&rt, alloc, &words, &mut listener, &mut opener)?;
+    assert!(rt; left.status == 0 && left.errors.is_empty());
+    assert!(rt; left.output.as_slice() == b"entries 32\n".as_slice());
+    let mut told = String::new(alloc);
+    tell(&listener, &mut told)?;
+    assert!(rt; has_each_once(alloc, told.as_str(), 32)?, "{told}");
+    Ok(())
+}
+
+#[test]
+fn workers_run_at_once(rt: HostRuntime) -> Result<(), Fail> {
+    let alloc = rt.alloc();
+    let words = ["serve", "--bind", "x", "--workers=3", "--connections=1"];
+    let meeting = Meeting::new(3, TURNS);
+    let mut opener = opener_of(alloc, 2)?;
+    let mut listener = MeetingListener::new(alloc, &CLIENTS, &meeting)?;
+    let left = ran(&rt, alloc, &words, &mut listener, &mut opener)?;
+    assert!(rt; left.status == 0 && left.errors.is_empty());
+    assert_eq!(rt; meeting.given_up(), 0);
+    assert_eq!(rt; listener.answers().len(), 3);
     Ok(())
 }

@@ -1,9 +1,9 @@
 //! A database of version 1 that the program `sqlite3` made of bench/tables_first.sql is migrated, and loaded again.
 
+use crate::changing::followed;
 use crate::database::{Trial, over_file};
 use crate::first_file::FILE;
 use crate::migrating::is_migrated;
-use crate::tests::followed;
 use crate::told::loaded;
 use ipam_keeper::keeper::Keeper;
 use sqlite::{Alter, Connection};

@@ -3,7 +3,15 @@
 #![tactic(auto)]
 
 #[cfg(test)]
+mod alone_tests;
+#[cfg(test)]
+mod changing;
+#[cfg(test)]
+mod closed;
+#[cfg(test)]
 mod database;
+#[cfg(test)]
+mod edge_tests;
 #[cfg(test)]
 mod files;
 #[cfg(test)]
@@ -11,13 +19,23 @@ mod first;
 #[cfg(test)]
 mod first_file;
 #[cfg(test)]
+mod going_on;
+#[cfg(test)]
 mod host_tests;
 #[cfg(test)]
 mod lines;
 #[cfg(test)]
+mod many;
+#[cfg(test)]
 mod migrating;
 #[cfg(test)]
 mod other_tests;
+#[cfg(test)]
+mod pool_alone_tests;
+#[cfg(test)]
+mod pool_changing;
+#[cfg(test)]
+mod pool_edge_tests;
 #[cfg(test)]
 mod pool_file;
 #[cfg(test)]
@@ -26,6 +44,8 @@ mod pool_lines;
 mod pool_tests;
 #[cfg(test)]
 mod register_file;
+#[cfg(test)]
+mod schema_tests;
 #[cfg(test)]
 mod stop_tests;
 #[cfg(test)]

@@ -1,13 +1,11 @@
 //! Changes of a register, each a line of text.
 
+use crate::many::{imported, many_ranges, many_vrfs, odd_rows, sparse_rows};
 use crate::words::{number_of, part, text_of};
 use ipam_data::kinds::Kind;
 use ipam_data::update::Ids;
 use std::alloc::{AllocError, Global};
 use stored_tables::tables::{Change, Row, Rows, Texts};
-
-/// How many VRFs are many.
-const MANY: u32 = 1_100;
 
 /// The kind of this name. Another name fails as for lack of memory.
 fn kind_of(name: Option<&str>) -> Result<Kind, AllocError> {
@@ -36,26 +34,26 @@ fn row_of(alloc: Global, words: &str) -> Result<Row, AllocError> {
     })
 }
 
-/// Many VRFs.
-fn many_rows(alloc: Global) -> Result<Rows, AllocError> {
-    let mut rows = Vec::new(alloc);
-    for id in 100..100 + MANY {
-        let words = format!(in alloc; "vrfs,{id},name {id},65000:{id},true,row {id}")?;
-        rows.push(row_of(alloc, words.as_str())?)?;
-    }
+/// The rows of these texts: `many` VRFs, many `ranges`, an `import`, rows with `sparse` ids, with `odd` texts, or those that are written out.
+fn rows_of(alloc: Global, text: &str) -> Result<Rows, AllocError> {
+    let rows = match text {
+        "many" => many_vrfs(alloc)?,
+        "ranges" => many_ranges(alloc)?,
+        "import" => imported(alloc)?,
+        "sparse" => sparse_rows(alloc)?,
+        "odd" => odd_rows(alloc)?,
+        _ => written_rows(alloc, text)?,
+    };
     Ok(Rows::of(rows))
 }
 
-/// The rows of these texts.
-fn rows_of(alloc: Global, text: &str) -> Result<Rows, AllocError> {
-    if text == "many" {
-        return many_rows(alloc);
-    }
+/// The rows that are written out, each behind a semicolon but the first.
+fn written_rows(alloc: Global, text: &str) -> Result<Vec<Row>, AllocError> {
     let mut rows = Vec::new(alloc);
     for words in text.split(';').filter(|words| !words.is_empty()) {
         rows.push(row_of(alloc, words)?)?;
     }
-    Ok(Rows::of(rows))
+    Ok(rows)
 }
 
 /// The numbers of these texts, each with its kind.

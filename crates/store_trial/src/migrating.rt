@@ -15,7 +15,7 @@ use std::alloc::{AllocError, Global};
 use stored_tables::migration::migrate;
 
 /// Makes the tables of version 1, with three ranges.
-const FIRST: &str = "BEGIN; \
+pub(crate) const FIRST: &str = "BEGIN; \
 CREATE TABLE meta (name TEXT PRIMARY KEY, value INTEGER NOT NULL) STRICT; \
 CREATE TABLE vrfs (id INTEGER PRIMARY KEY, name TEXT NOT NULL, rd TEXT NOT NULL, enforce_unique TEXT NOT NULL, description TEXT NOT NULL) STRICT; \
 CREATE TABLE rirs (id INTEGER PRIMARY KEY, name TEXT NOT NULL, slug TEXT NOT NULL, is_private TEXT NOT NULL, description TEXT NOT NULL) STRICT; \

@@ -5,7 +5,7 @@ use number_pools::{Listed, Member, NumberRange, PoolKind};
 use pool_keeper::tables::PoolChange;
 use std::alloc::{AllocError, Global};
 
-/// How many members are many.
+/// How many ranges, or members, are many: as many as there may be of ranges, and as one claim may ask for.
 const MANY: u32 = 1_000;
 
 /// The kind of this name. Another name fails as for lack of memory.
@@ -38,8 +38,27 @@ fn member_of(alloc: Global, words: &str) -> Result<Member, AllocError> {
     })
 }
 
-/// The ranges of these texts.
+/// Many ranges of AS numbers of four bytes, whose ids lie far from one another.
+fn many_ranges(alloc: Global) -> Result<Listed<NumberRange>, AllocError> {
+    let mut ranges = Vec::new(alloc);
+    for number in 0..MANY {
+        let first = 4_294_867_296 + number * 100;
+        ranges.push(NumberRange {
+            id: 70_000 + number * 4_000_000,
+            kind: PoolKind::Asn,
+            name: text_of(alloc, format!(in alloc; " range '{number}' ")?.as_str())?,
+            first,
+            last: first + 99,
+        })?;
+    }
+    Ok(Listed::of(ranges))
+}
+
+/// The ranges of these texts, or many.
 fn ranges_of(alloc: Global, text: &str) -> Result<Listed<NumberRange>, AllocError> {
+    if text == "many" {
+        return many_ranges(alloc);
+    }
     let mut ranges = Vec::new(alloc);
     for words in text.split(';').filter(|words| !words.is_empty()) {
         ranges.push(range_of(alloc, words)?)?;
@@ -61,10 +80,27 @@ fn many_members(alloc: Global) -> Result<Listed<Member>, AllocError> {
     Ok(Listed::of(members))
 }
 
-/// The members of these texts.
+/// A claim of the last AS numbers of a range, under the greatest ids.
+fn claimed(alloc: Global) -> Result<Listed<Member>, AllocError> {
+    let mut members = Vec::new(alloc);
+    for number in 0..MANY {
+        members.push(Member {
+            id: 4_294_966_295 + number,
+            range: 3_996_070_000,
+            number: 4_294_966_296 + number,
+            name: text_of(alloc, format!(in alloc; "Zürich\0 {number}  ")?.as_str())?,
+        })?;
+    }
+    Ok(Listed::of(members))
+}
+
+/// The members of these texts, or many, or those of a claim.
 fn members_of(alloc: Global, text: &str) -> Result<Listed<Member>, AllocError> {
     if text == "many" {
         return many_members(alloc);
+    }
+    if text == "claim" {
+        return claimed(alloc);
     }
     let mut members = Vec::new(alloc);
     for words in text.split(';').filter(|words| !words.is_empty()) {

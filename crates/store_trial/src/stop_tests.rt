@@ -1,10 +1,10 @@
 //! Every stop of both files while the tables are made and ten rows are imported, while a file of version 1 is migrated, and while a
-//! group of VLANs is made and ten of them are claimed.
+//! group of VLANs is made and ten of them are claimed; and ten stops of an import of many rows.
 
 use crate::files::{Found, Side, Stop};
 use crate::migrating::Migration;
 use crate::stops::{Ending, ending_of};
-use crate::store_kinds::{Pools, Register, StoreKind};
+use crate::store_kinds::{Import, Pools, Register, StoreKind};
 use std::alloc::{AllocError, Global};
 use std::test::Fail;
 
@@ -81,5 +81,40 @@ fn no_stop_breaks_the_tables_of_a_migration(rt: HostRuntime) -> Result<(), Fail>
     let stops = all_stops::<Migration>(rt.alloc(), 1, &mut wrong)?;
     assert!(rt; wrong.is_empty(), "{wrong}");
     assert!(rt; stops >= LEAST, "{stops} stops");
+    Ok(())
+}
+
+/// By how many calls of the log a stop is moved, one after another: so ten stops come ever nearer to the last call before the import stands.
+const STEPS: [u64; 10] = [512, 256, 128, 64, 32, 16, 8, 4, 2, 1];
+
+/// The number of calls before the last one of the log, by ten stops. One that breaks the tables is noted.
+fn last_stop<K: StoreKind>(
+    alloc: Global,
+    found: Found,
+    wrong: &mut String,
+) -> Result<u64, AllocError> {
+    let mut last = 0u64;
+    for step in STEPS {
+        let calls = last.saturating_add(step);
+        let stop = Stop {
+            side: Side::Log,
+            calls,
+            found,
+        };
+        match ending_of::<K>(alloc, 1, stop)? {
+            Ending::Whole => last = calls,
+            Ending::Broken => wrong.push_str(format!(in alloc; "{found:?} {calls} ")?.as_str())?,
+            Ending::Beyond => {}
+        }
+    }
+    Ok(last)
+}
+
+#[test]
+fn no_stop_breaks_an_import_of_many_rows(rt: HostRuntime) -> Result<(), Fail> {
+    let mut wrong = String::new(rt.alloc());
+    let last = last_stop::<Import>(rt.alloc(), Found::Lost, &mut wrong)?;
+    assert!(rt; wrong.is_empty(), "{wrong}");
+    assert!(rt; last > 10 && last < 1_023, "{last}");
     Ok(())
 }

@@ -4,7 +4,7 @@ ghost use Rattle.std.specs.Prelude.{IfOk, IsTrue};
 
 use crate::database::Trial;
 use crate::files::{Stop, stopping_files};
-use crate::stored::{store, store_pools};
+use crate::stored::{CHANGES, IMPORT, store, store_pools};
 use crate::told::{loaded, pools_loaded};
 use ipam_keeper::empty::empty_tables;
 use ipam_keeper::memory::MemoryKeeper;
@@ -47,7 +47,7 @@ impl Stores for Register {
         changes: u32,
     ) -> (Result<u32, AllocError>, S) {
         let mut keeper = SqliteKeeper::adopt(alloc, conn);
-        let stored = store(alloc, &mut keeper, changes);
+        let stored = store(alloc, &mut keeper, CHANGES, changes);
         (stored, keeper.into_connection().into_store())
     }
 }
@@ -71,7 +71,44 @@ impl StoreKind for Register {
 
     fn tables_after(alloc: Global, changes: u32) -> Result<String, AllocError> {
         let mut keeper = MemoryKeeper::new(empty_tables(alloc)?, Vec::new(alloc));
-        store(alloc, &mut keeper, changes)?;
+        store(alloc, &mut keeper, CHANGES, changes)?;
+        loaded(alloc, &mut keeper)
+    }
+}
+
+/// A register into which many rows are imported at once.
+pub(crate) struct Import;
+
+impl Stores for Import {
+    fn store<S: Alter + Drop>(
+        alloc: Global,
+        conn: Connection<S>,
+        changes: u32,
+    ) -> (Result<u32, AllocError>, S) {
+        let mut keeper = SqliteKeeper::adopt(alloc, conn);
+        let stored = store(alloc, &mut keeper, IMPORT, changes);
+        (stored, keeper.into_connection().into_store())
+    }
+}
+
+impl Trial for Import {
+    fn over<S: Alter + Drop>(
+        alloc: Global,
+        conn: Connection<S>,
+        words: &str,
+    ) -> Result<String, AllocError> {
+        Register::over(alloc, conn, words)
+    }
+}
+
+impl StoreKind for Import {
+    fn files(alloc: Global, stop: Stop) -> Result<Files<Fuse<Memory>>, AllocError> {
+        Ok(stopping_files(alloc, stop))
+    }
+
+    fn tables_after(alloc: Global, changes: u32) -> Result<String, AllocError> {
+        let mut keeper = MemoryKeeper::new(empty_tables(alloc)?, Vec::new(alloc));
+        store(alloc, &mut keeper, IMPORT, changes)?;
         loaded(alloc, &mut keeper)
     }
 }

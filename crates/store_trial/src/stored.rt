@@ -6,7 +6,7 @@ use pool_keeper::keeper::PoolKeeper;
 use std::alloc::{AllocError, Global};
 
 /// An import of ten prefixes, ten creations of VRFs and a deletion.
-const CHANGES: &str = "\
+pub(crate) const CHANGES: &str = "\
 done|prefixes,1,10.0.1.0/24,,active,,false,false,;prefixes,2,10.0.2.0/24,,active,,false,false,;prefixes,3,10.0.3.0/24,,active,,false,false,;prefixes,4,10.0.4.0/24,,active,,false,false,;prefixes,5,10.0.5.0/24,,active,,false,false,;prefixes,6,10.0.6.0/24,,active,,false,false,;prefixes,7,10.0.7.0/24,,active,,false,false,;prefixes,8,10.0.8.0/24,,active,,false,false,;prefixes,9,10.0.9.0/24,,active,,false,false,;prefixes,10,10.0.10.0/24,,active,,false,false,||prefixes,11
 done|vrfs,1,customer 1,65000:1,true,||vrfs,2
 done|vrfs,2,customer 2,65000:2,true,||vrfs,3
@@ -34,17 +34,21 @@ fn is_stored<K: Keeper>(alloc: Global, keeper: &mut K, line: &str) -> Result<boo
     Ok(keeper.apply(&change).is_ok())
 }
 
-/// Loads the tables, and stores the first changes up to this many, until a call fails. It says how many were stored.
+/// An import of many rows.
+pub(crate) const IMPORT: &str = "done|import||prefixes,4201\n";
+
+/// Loads the tables, and stores the first changes of these lines up to this many, until a call fails. It says how many were stored.
 pub(crate) fn store<K: Keeper>(
     alloc: Global,
     keeper: &mut K,
+    lines: &str,
     changes: u32,
 ) -> Result<u32, AllocError> {
     if keeper.load().is_err() {
         return Ok(0);
     }
     let mut stored = 0u32;
-    for line in CHANGES.lines().take(changes as usize) {
+    for line in lines.lines().take(changes as usize) {
         if !is_stored(alloc, keeper, line)? {
             return Ok(stored);
         }

@@ -1,13 +1,9 @@
 //! Keepers over databases: what they load, and that what they hold after changes is what a keeper in memory holds.
 
-use crate::database::{Trial, is_run, over_file, told_lines};
-use crate::lines::change_of;
+use crate::changing::wrong_over;
+use crate::database::{Trial, is_run, told_lines};
 use crate::register_file::FILE;
 use crate::told::loaded;
-use crate::words::word_of;
-use ipam_keeper::empty::empty_tables;
-use ipam_keeper::keeper::Keeper;
-use ipam_keeper::memory::MemoryKeeper;
 use sqlite::{Alter, Connection};
 use sqlite_keeper::SqliteKeeper;
 use std::alloc::{AllocError, Global};
@@ -61,130 +57,16 @@ fn databases_are_loaded(rt: HostRuntime) -> Result<(), Fail> {
     Ok(())
 }
 
-/// What a keeper loads after the change of a line, and what it answered to it.
-fn told_change<K: Keeper>(alloc: Global, keeper: &mut K, line: &str) -> Result<String, AllocError> {
-    let change = change_of(alloc, line)?;
-    let answer = word_of(keeper.apply(&change));
-    let mut text = loaded(alloc, keeper)?;
-    text.push_str(answer)?;
-    Ok(text)
-}
-
-/// What a keeper in memory loads, and that it failed.
-fn told_failure(alloc: Global, memory: &mut MemoryKeeper) -> Result<String, AllocError> {
-    let mut text = loaded(alloc, memory)?;
-    text.push_str("Failed")?;
-    Ok(text)
-}
-
-/// What that should be, by a keeper in memory, which makes the change where the line says that it is done.
-fn wanted_change(
-    alloc: Global,
-    memory: &mut MemoryKeeper,
-    line: &str,
-) -> Result<String, AllocError> {
-    if line.starts_with("done") {
-        told_change(alloc, memory, line)
-    } else {
-        told_failure(alloc, memory)
-    }
-}
-
-/// Puts a line at the end of those that are wrong, where a keeper does not do as a keeper in memory.
-fn note<K: Keeper>(
-    alloc: Global,
-    keeper: &mut K,
-    memory: &mut MemoryKeeper,
-    line: &str,
-    wrong: &mut String,
-) -> Result<(), AllocError> {
-    let found = told_change(alloc, keeper, line)?;
-    let wanted = wanted_change(alloc, memory, line)?;
-    if found.as_str() == wanted.as_str() {
-        return Ok(());
-    }
-    wrong.push_str(line)
-}
-
-/// A keeper that a second one follows over the same database.
-pub(crate) fn followed<S: Alter>(alloc: Global, keeper: SqliteKeeper<S>) -> SqliteKeeper<S> {
-    SqliteKeeper::adopt(alloc, keeper.into_connection())
-}
-
-/// A keeper in memory after so many of the changes.
-fn memory_after(alloc: Global, made: usize) -> Result<MemoryKeeper, AllocError> {
-    let mut memory = MemoryKeeper::new(empty_tables(alloc)?, Vec::new(alloc));
-    for line in CHANGES.lines().take(made) {
-        let change = change_of(alloc, line)?;
-        if memory.apply(&change).is_err() {
-            return Err(AllocError);
-        }
-    }
-    Ok(memory)
-}
-
-/// Says so where a keeper loads other tables than one in memory.
-fn note_first<K: Keeper>(
-    alloc: Global,
-    keeper: &mut K,
-    memory: &mut MemoryKeeper,
-    wrong: &mut String,
-) -> Result<(), AllocError> {
-    let found = loaded(alloc, keeper)?;
-    let wanted = loaded(alloc, memory)?;
-    if found.as_str() == wanted.as_str() {
-        return Ok(());
-    }
-    wrong.push_str("other tables at first")
-}
-
-/// Notes the lines whose changes leave other tables in a keeper over a database, where so many are made, than in one in memory. A second
-/// keeper follows behind each.
-fn note_lines<S: Alter + Drop>(
-    alloc: Global,
-    mut keeper: SqliteKeeper<S>,
-    memory: &mut MemoryKeeper,
-    made: usize,
-    wrong: &mut String,
-) -> Result<(), AllocError> {
-    let mut noted = note_first(alloc, &mut keeper, memory, wrong);
-    for line in CHANGES.lines().skip(made) {
-        if noted.is_ok() {
-            noted = note(alloc, &mut keeper, memory, line, wrong);
-        }
-        keeper = followed(alloc, keeper);
-    }
-    noted
-}
-
-/// The changes, as many of which are made as the words say.
-struct Changing;
-
-impl Trial for Changing {
-    fn over<S: Alter + Drop>(
-        alloc: Global,
-        conn: Connection<S>,
-        words: &str,
-    ) -> Result<String, AllocError> {
-        let made = words.parse::<usize>().unwrap_or(0);
-        let mut memory = memory_after(alloc, made)?;
-        let mut wrong = String::new(alloc);
-        let keeper = SqliteKeeper::adopt(alloc, conn);
-        note_lines(alloc, keeper, &mut memory, made, &mut wrong)?;
-        Ok(wrong)
-    }
-}
-
 #[test]
 fn changes_are_stored_whole_or_not_at_all(rt: HostRuntime) -> Result<(), Fail> {
-    let wrong = over_file::<Changing>(rt.alloc(), "", "0")?;
+    let wrong = wrong_over(rt.alloc(), "", "0", CHANGES)?;
     assert!(rt; wrong.is_empty(), "{wrong}");
     Ok(())
 }
 
 #[test]
 fn a_database_of_sqlite3_is_loaded_and_changed(rt: HostRuntime) -> Result<(), Fail> {
-    let wrong = over_file::<Changing>(rt.alloc(), FILE, "1")?;
+    let wrong = wrong_over(rt.alloc(), FILE, "1", CHANGES)?;
     assert!(rt; wrong.is_empty(), "{wrong}");
     Ok(())
 }

@@ -26,3 +26,19 @@ pub(crate) fn word_of(answer: Result<(), KeepFault>) -> &'static str {
         Err(KeepFault::Memory) => "Memory",
     }
 }
+
+/// Lines of changes, the first so many of which are made.
+#[derive(Clone, Copy)]
+pub(crate) struct Lines<'a> {
+    pub(crate) made: usize,
+    pub(crate) text: &'a str,
+}
+
+/// The lines behind the first one, which says how many of them are made.
+pub(crate) fn lines_of(words: &str) -> Result<Lines<'_>, AllocError> {
+    let (made, text) = words.split_once('\n').ok_or(AllocError)?;
+    Ok(Lines {
+        made: number_of(Some(made))? as usize,
+        text,
+    })
+}

@@ -1,7 +1,7 @@
 use denote.Exit.{no}
 use denote.Param.Send.{param_send, arg_send, sendable}
 use Rattle.std.proofs.Crossing.{crosses}
-use Rattle.poold.proofs.Sent.{kept_send}
+use Rattle.pool_files.proofs.Sent.{kept_send}
 use Rattle.poold.proofs.main.Goals as goal
 
 pub run_over-requires : goal.run_over-requires

@@ -19,7 +19,7 @@ use Rattle.sqlite_pools.specs.contracts.keeper.SqlitePools as SqlitePools
 use Rattle.sqlite_pools.proofs.keeper.SqlitePools.TheSendSync as sqlite_pools
 use Rattle.sqlite_pools.specs.contracts.opener.StorePools as StorePools
 use Rattle.sqlite_pools.proofs.opener.StorePools.TheSendSync as store_pools
-use Rattle.poold.specs.contracts.files.HostPools as HostPools
+use Rattle.pool_files.specs.contracts.files.HostPools as HostPools
 
 record_send : IsSend Record.the_row
 record_send = owning_send Record.the_type (search sendable, tt) (λ d. tt) (λ k x w. tt)

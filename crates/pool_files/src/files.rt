@@ -40,18 +40,18 @@ impl CountedPools for HostPools {
 
 /// What opens the files of the host.
 #[derive(Drop)]
-pub struct HostFiles<'a> {
+pub struct HostPoolFiles<'a> {
     rt: &'a HostRuntime,
 }
 
-impl<'a> HostFiles<'a> {
+impl<'a> HostPoolFiles<'a> {
     /// The files of the host that `rt` runs on: `ConnectsPools` opens one by its path.
-    pub fn of(rt: &'a HostRuntime) -> HostFiles<'a> {
-        HostFiles { rt }
+    pub fn of(rt: &'a HostRuntime) -> HostPoolFiles<'a> {
+        HostPoolFiles { rt }
     }
 }
 
-impl<'a> ConnectsPools for HostFiles<'a> {
+impl<'a> ConnectsPools for HostPoolFiles<'a> {
     type Kept = HostPools;
 
     fn connect(&mut self, path: &Text) -> Result<HostPools, Error> {

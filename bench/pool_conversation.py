@@ -1,0 +1,69 @@
+#!/usr/bin/env python3
+"""A conversation with `poold session`, for the test of `poold_trial`: the rows of bench/plain_pools.py, which were written by hand, a claim of 40
+numbers, and what a seed of bench/agree_pools.py says behind them. The answers are those of the plain pools.
+
+usage: bench/pool_conversation.py [--write]     says whether the test has this conversation, or writes it there
+"""
+import os
+import sys
+
+from agree_pools import Talker
+from plain_pools import PoolService, conversation, request_of
+from plain_register import converse
+
+TOP = os.path.dirname(os.path.dirname(os.path.abspath(__file__)))
+PLACE = f"{TOP}/crates/poold_trial/src/conversation.rt"
+SEED, SPOKEN = 1, 120
+HEAD = """//! A conversation with the pools, and its answers by other pools, written from the rules alone: bench/pool_conversation.py makes it.
+
+/// What is asked, and behind it what is answered.
+pub(crate) const EXCHANGES: [&str; {}] = [
+"""
+
+
+def is_text(request):
+    try:
+        request.decode()
+        return True
+    except UnicodeDecodeError:
+        return False
+
+
+def exchanges():
+    """The requests and their answers, one after another over one service."""
+    service = PoolService()
+    talker = Talker(SEED, service)
+    asked = conversation()[0] + [request_of("POST", "vlan-groups/3/available-vlans/", [{"name": f"room {at}"} for at in range(40)])]
+    for request in asked:
+        yield request, b"".join(converse(request, service))
+    for _ in range(SPOKEN):
+        request = talker.request()
+        if is_text(request) and len(request) < 1000:
+            yield request, b"".join(converse(request, service))
+
+
+def literal(text):
+    """The text as a string of the source."""
+    out = ""
+    for it in text.decode():
+        out += {"\\": "\\\\", '"': '\\"', "\r": "\\r", "\n": "\\n", "\t": "\\t"}.get(it) or (it if " " <= it != "\x7f" else f"\\u{{{ord(it):x}}}")
+    return f'"{out}"'
+
+
+def written():
+    texts = [text for pair in exchanges() for text in pair]
+    return HEAD.format(len(texts)) + "".join(f"    {literal(text)},\n" for text in texts) + "];\n"
+
+
+def main():
+    if sys.argv[1:] == ["--write"]:
+        with open(PLACE, "w", encoding="utf-8") as file:
+            file.write(written())
+        return
+    with open(PLACE, encoding="utf-8") as file:
+        if file.read() != written():
+            sys.exit("crates/poold_trial/src/conversation.rt is not what bench/pool_conversation.py --write writes")
+
+
+if __name__ == "__main__":
+    main()

@@ -1,0 +1,140 @@
+//! Changes of pools one after another over a database: what a keeper holds behind each is what a keeper in memory holds.
+
+use crate::database::{Trial, over_file};
+use crate::pool_lines::change_of;
+use crate::told::pools_loaded;
+use crate::words::{Lines, lines_of, word_of};
+use pool_keeper::keeper::PoolKeeper;
+use pool_keeper::memory::MemoryPools;
+use pool_keeper::tables::empty_tables;
+use sqlite::{Alter, Connection};
+use sqlite_pools::SqlitePools;
+use std::alloc::{AllocError, Global};
+
+/// What a keeper loads after the change of a line, and what it answered to it.
+fn told_change<K: PoolKeeper>(
+    alloc: Global,
+    keeper: &mut K,
+    line: &str,
+) -> Result<String, AllocError> {
+    let change = change_of(alloc, line)?;
+    let answer = word_of(keeper.apply(&change));
+    let mut text = pools_loaded(alloc, keeper)?;
+    text.push_str(answer)?;
+    Ok(text)
+}
+
+/// What a keeper in memory loads, and that it failed.
+fn told_failure(alloc: Global, memory: &mut MemoryPools) -> Result<String, AllocError> {
+    let mut text = pools_loaded(alloc, memory)?;
+    text.push_str("Failed")?;
+    Ok(text)
+}
+
+/// What that should be, by a keeper in memory, which makes the change where the line says that it is done.
+fn wanted_change(
+    alloc: Global,
+    memory: &mut MemoryPools,
+    line: &str,
+) -> Result<String, AllocError> {
+    if line.starts_with("done") {
+        told_change(alloc, memory, line)
+    } else {
+        told_failure(alloc, memory)
+    }
+}
+
+/// Puts a line at the end of those that are wrong, where a keeper does not do as a keeper in memory.
+fn note<K: PoolKeeper>(
+    alloc: Global,
+    keeper: &mut K,
+    memory: &mut MemoryPools,
+    line: &str,
+    wrong: &mut String,
+) -> Result<(), AllocError> {
+    let found = told_change(alloc, keeper, line)?;
+    let wanted = wanted_change(alloc, memory, line)?;
+    if found.as_str() == wanted.as_str() {
+        return Ok(());
+    }
+    wrong.push_str(line)
+}
+
+/// A keeper that a second one follows over the same database.
+fn followed<S: Alter>(alloc: Global, keeper: SqlitePools<S>) -> SqlitePools<S> {
+    SqlitePools::adopt(alloc, keeper.into_connection())
+}
+
+/// A keeper in memory after so many of the changes.
+fn memory_after(alloc: Global, lines: &str, made: usize) -> Result<MemoryPools, AllocError> {
+    let mut memory = MemoryPools::new(empty_tables(alloc), Vec::new(alloc));
+    for line in lines.lines().take(made) {
+        let change = change_of(alloc, line)?;
+        if memory.apply(&change).is_err() {
+            return Err(AllocError);
+        }
+    }
+    Ok(memory)
+}
+
+/// Says so where a keeper loads other tables than one in memory.
+fn note_first<K: PoolKeeper>(
+    alloc: Global,
+    keeper: &mut K,
+    memory: &mut MemoryPools,
+    wrong: &mut String,
+) -> Result<(), AllocError> {
+    let found = pools_loaded(alloc, keeper)?;
+    let wanted = pools_loaded(alloc, memory)?;
+    if found.as_str() == wanted.as_str() {
+        return Ok(());
+    }
+    wrong.push_str("other tables at first")
+}
+
+/// Notes the lines whose changes leave other tables in a keeper over a database than in one in memory. A second keeper follows behind each.
+fn note_lines<S: Alter + Drop>(
+    alloc: Global,
+    mut keeper: SqlitePools<S>,
+    memory: &mut MemoryPools,
+    lines: Lines<'_>,
+    wrong: &mut String,
+) -> Result<(), AllocError> {
+    let mut noted = note_first(alloc, &mut keeper, memory, wrong);
+    for line in lines.text.lines().skip(lines.made) {
+        if noted.is_ok() {
+            noted = note(alloc, &mut keeper, memory, line, wrong);
+        }
+        keeper = followed(alloc, keeper);
+    }
+    noted
+}
+
+/// The changes of the lines behind the first one, which says how many are made.
+struct Changing;
+
+impl Trial for Changing {
+    fn over<S: Alter + Drop>(
+        alloc: Global,
+        conn: Connection<S>,
+        words: &str,
+    ) -> Result<String, AllocError> {
+        let lines = lines_of(words)?;
+        let mut memory = memory_after(alloc, lines.text, lines.made)?;
+        let mut wrong = String::new(alloc);
+        let keeper = SqlitePools::adopt(alloc, conn);
+        note_lines(alloc, keeper, &mut memory, lines, &mut wrong)?;
+        Ok(wrong)
+    }
+}
+
+/// What a keeper over the database in a file of these bytes does else than one in memory, over these lines, so many of which are made.
+pub(crate) fn wrong_over(
+    alloc: Global,
+    digits: &str,
+    made: &str,
+    lines: &str,
+) -> Result<String, AllocError> {
+    let words = format!(in alloc; "{made}\n{lines}")?;
+    over_file::<Changing>(alloc, digits, words.as_str())
+}
