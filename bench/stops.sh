@@ -19,7 +19,7 @@ awk -F': *' '!/^#/ && NF { split($1, words, " "); line[words[1]] = $0; below[wor
     }' "$top/crates.txt" > "$scratch/crates.txt"
 tar -C "$top" --exclude='crates/*/out' -cf - $(sed 's|^\([^: ]*\).*|crates/\1|' "$scratch/crates.txt") | tar -C "$scratch" -xf -
 sed -n 's/^store_trial:/all_stops: anyhow/p' "$top/crates.txt" >> "$scratch/crates.txt"
-for part in database files lines pool_lines stops store_kinds stored told words; do cp "$top/crates/store_trial/src/$part.rt" "$scratch/crates/all_stops/src/"; done
+for part in database files lines many pool_lines stops store_kinds stored told words; do cp "$top/crates/store_trial/src/$part.rt" "$scratch/crates/all_stops/src/"; done
 rm -rf "$scratch"/crates/*/must-fail
 cat > "$scratch/crates/all_stops/src/main.rt" <<E2
 //! Every stop of a store.
@@ -28,6 +28,7 @@ cat > "$scratch/crates/all_stops/src/main.rt" <<E2
 mod database;
 mod files;
 mod lines;
+mod many;
 mod pool_lines;
 mod stops;
 mod store_kinds;
