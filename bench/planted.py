@@ -22,8 +22,8 @@ from edits import lines_of_crates, with_all_below
 TOP = os.path.dirname(os.path.dirname(os.path.abspath(__file__)))
 PLANTED = f"{TOP}/bench/planted"
 RT = os.environ.get("RT", "rt")
-# A test has 60 seconds; there are a dozen at most in a crate, and they are compiled first.
-SECONDS = 1800
+# A test is compiled first, and runs checked, which is slow; one that does not end sees nothing.
+SECONDS, TEST_SECONDS = 3600, 1200
 PART = re.compile(r"^(seen by|file|old|new): ?(.*)$")
 A_TEST = re.compile(r"(?:^///.*\n)*^#\[test\]\nfn (\w+)\((?:.*\n)*?\}\n", re.M)
 
@@ -115,10 +115,12 @@ def outcome(bug, copy):
         return False, "proved" if status == 0 else "no verdict: " + last_of(said)
     test = bug.seen_by[1]
     leave_test(folder, test)
-    _, said = run_in(folder, ["try", "--test"])
-    found = re.search(rf"^test {re.escape(test)} \.\.\. (\w+)", said, re.M)
+    _, said = run_in(folder, ["try", "--test", "--seconds", str(TEST_SECONDS)])
+    found = re.search(rf"^test {re.escape(test)} \.\.\. (\w+)(?:\n +.*)*", said, re.M)
     if not found:
         return False, f"{test} did not run: {last_of(said)}"
+    if "no-answer" in found.group(0):
+        return False, f"{test} did not end"
     return found.group(1) == "FAILED", f"{test} {'fails' if found.group(1) == 'FAILED' else 'passes'}"
 
 

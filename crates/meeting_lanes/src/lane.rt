@@ -1,4 +1,5 @@
 //! A lane with one connection, which meets others.
+ghost use Rattle.std.specs.Prelude.{◌≡◌};
 
 use crate::meeting::Meeting;
 use ipam_edge::{BytesSink, BytesSource, Failed, Source};
@@ -43,7 +44,9 @@ impl<'a> MeetingSource<'a> {
     }
 
     /// Comes, where it is time to, before a read.
-    fn come(&mut self) {
+    fn come(&mut self)
+        ensures { self.new.source ≡ self.old.source }
+    {
         match self.comes {
             Comes::First => {
                 self.comes = Comes::Not;

@@ -17,7 +17,10 @@ const SELECT: &str = "SELECT name, sql FROM sqlite_schema WHERE type = 'table' O
 const MOST: u32 = 100;
 
 /// What a database says of its tables.
-fn schema_of<S: Alter + Drop>(alloc: Global, mut conn: Connection<S>) -> Result<String, AllocError> {
+fn schema_of<S: Alter + Drop>(
+    alloc: Global,
+    mut conn: Connection<S>,
+) -> Result<String, AllocError> {
     let mut told = String::new(alloc);
     let mut found = conn.query(SELECT, &[]).map_err(|_| AllocError)?;
     for _ in 0..MOST {
