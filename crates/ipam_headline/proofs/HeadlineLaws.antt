@@ -1,15 +1,14 @@
 -- What the commands ensure of a store gives the headline, by the laws of the register.
-use Rattle.std.proofs.Common.{◌≡◌, ◌⊎◌, inl, inr, ℕ, zero, suc, All, Contains, List, [], ◌∷◌, map, take, Some, refl, ap, sym, ◌∙◌, subst}
+use Rattle.std.proofs.Common.{◌≡◌, ◌⊎◌, inl, inr, ℕ, zero, suc, List, [], ◌∷◌, map, take, Some, refl, ap, sym, ◌∙◌, subst}
 use Rattle.std.specs.List.{AllByRecursion, slice_get}
-use Rattle.std.proofs.lemmas.List.Elements.{All-from_recursion, recursion_from_All}
 use Rattle.history_lock.specs.Replay.{replay}
 use Rattle.history_lock.specs.Replies.{accepted}
 use Rattle.ipam_listen.specs.Connections.{Ends, ends_of}
-use Rattle.machine_answers.specs.Answers.{AreNumbered, Caller, IsAnswered, IsChange}
-use Rattle.machine_answers.proofs.Flat.{CallersOf, callers_of}
+use Rattle.machine_answers.specs.Answers.{AreCallers, Caller, IsChange}
+use Rattle.machine_answers.specs.Laws.{HasCaller, HasCallers}
+use Rattle.machine_answers.proofs.Flat.{served as listed_served}
 use Rattle.machine_answers.proofs.Entries.{entries}
-use Rattle.machine_answers.proofs.Alone.{CallerAlone, caller_alone}
-use Rattle.machine_server.specs.History.{HasItsChanges, IsHistoryOf, IsShift, Shift}
+use Rattle.machine_answers.proofs.Alone.{alone as listed_alone}
 use Rattle.machine_serving.specs.Views.{ListenerView}
 use Rattle.http_session.specs.declared.session.SessionEnd.{SessionEnd}
 use Rattle.rest_ipam.specs.Protocol.{register_protocol}
@@ -161,17 +160,14 @@ bounded : (opening : State) (history : List (ℕ × Call)) → AreChanges openin
 bounded opening history change =
     all_of_map history (all_from_get (λ (e : ℕ × Call). HasCallBounds e.1) history (λ n e at. (change n e.0 e.1 at).asked.bounded))
 
-headline : Laws → (opening : State) (history : List (ℕ × Call)) → IsLawful opening → (callers : List (Caller Call Reply)) (first : ℕ)
-    → All (IsAnswered register_protocol opening history) callers → AreNumbered first callers
-    → All (λ entry. Contains (map (λ caller. caller.number) callers) entry.0) history → Headline opening history callers
-headline laws opening history is callers first answered numbered nobody =
-    let change : AreChanges opening history = entries register_protocol opening history callers answered nobody in
+headline : Laws → (opening : State) (history : List (ℕ × Call)) → IsLawful opening → (callers : List (Caller Call Reply)) → AreCallers register_protocol opening history callers
+    → Headline opening history callers
+headline laws opening history is callers are =
+    let change : AreChanges opening history = entries register_protocol opening history callers are in
     let in_order : IsListed opening = laws.listed.lawful opening is in
     let all : AreBounded (map entry_of history) = bounded opening history change in
     record {
-      answers = answered;
-      numbers = (first, numbered);
-      nobody_else = nobody;
+      answers = are;
       entries = change;
       least = λ n who call at. gets_least laws.new (state_after opening history n) call (listed_at laws.listed opening history n in_order) (accepted_at opening history change n who call at);
       space = laws.space;
@@ -185,20 +181,15 @@ headline laws opening history is callers first answered numbered nobody =
 served : Laws → (serving : Serving) (old new : Outside) (before after : ListenerView) (entries : ℕ) → ServesStore serving old new before after entries
     → Served serving.store old new before after entries
 served laws serving old new before after entries h =
-    let one : IsHistoryOf register_protocol h.state h.history h.served.shifts = h.served.one_history in
-    let of : CallersOf register_protocol h.state h.history one.numbers.0 h.served.back h.served.shifts =
-    callers_of register_protocol h.state h.history one.numbers.0 h.served.back h.served.shifts
-    (recursion_from_All (IsShift register_protocol h.state h.history) h.served.shifts one.answered)
-    (recursion_from_All (HasItsChanges h.history) h.served.shifts one.changes) one.numbers.1 h.served.lanes in
+    let of : HasCallers register_protocol h.state h.history h.served.back =
+    listed_served register_protocol h.state h.history h.served.back h.served.shifts h.served.one_history h.served.lanes in
     record {
       callers = of.callers;
       kept = record {
         opening = h.state;
         stood = h.loaded;
         history = h.history;
-        headline = headline laws h.state h.history h.loaded.2.lawful of.callers one.numbers.0
-            (All-from_recursion (IsAnswered register_protocol h.state h.history) of.callers of.answered) of.numbered
-            (subst (λ (numbers : List ℕ). All (λ (entry : ℕ × Call). Contains numbers entry.0) h.history) (sym of.numbers_are) one.nobody_else);
+        headline = headline laws h.state h.history h.loaded.2.lawful of.callers of.are;
         holds = h.holds;
       };
       counted = h.entries_are;
@@ -212,16 +203,14 @@ alone laws store old new how h =
     let before : Ends = ends_of old.streams.input.bytes old.streams.output.bytes old.streams.input.faults old.streams.output.faults in
     let after : Ends = ends_of new.streams.input.bytes new.streams.output.bytes new.streams.input.faults new.streams.output.faults in
     let history = h.last.now.log in
-    let of : CallerAlone register_protocol h.state history before after = caller_alone register_protocol h.state h.last before after h.bytes how h.grown h.ends in
+    let of : HasCaller register_protocol h.state history before after = listed_alone register_protocol h.state h.last before after h.bytes how h.grown h.ends in
     record {
       caller = of.caller;
       kept = record {
         opening = h.state;
         stood = h.loaded;
         history = history;
-        headline = headline laws h.state history h.loaded.2.lawful (of.caller ∷ []) 0
-            (All-from_recursion (IsAnswered register_protocol h.state history) (of.caller ∷ []) (of.answered, tt)) (of.number_is, tt)
-            (subst (λ (n : ℕ). All (λ (entry : ℕ × Call). Contains (n ∷ []) entry.0) history) (sym of.number_is) of.nobody_else);
+        headline = headline laws h.state history h.loaded.2.lawful (of.caller ∷ []) of.are;
         holds = h.holds;
       };
       streams = of.connections_are;

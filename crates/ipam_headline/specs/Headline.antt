@@ -1,9 +1,9 @@
 -- What a register promises to its callers, in one record: one history, out of which all are answered, and what it means for claims.
-use Rattle.std.specs.Prelude.{◌≡◌, ℕ, ◌≤◌, ◌++◌, All, Bool, Contains, List, [], ◌∷◌, Some, length, map, take, slice_get}
+use Rattle.std.specs.Prelude.{◌≡◌, ℕ, ◌≤◌, ◌++◌, Bool, List, [], ◌∷◌, Some, length, map, take, slice_get}
 use Rattle.history_lock.specs.Replay.{replay}
 use Rattle.ipam_listen.specs.Connections.{Returned, ends_of, finished}
 use Rattle.machine_serving.specs.Views.{ListenerView}
-use Rattle.machine_answers.specs.Answers.{AreLanesOf, AreNumbered, Caller, IsAnswered, IsChange}
+use Rattle.machine_answers.specs.Answers.{AreCallers, AreLanesOf, Caller, IsChange}
 use Rattle.ipam_data.specs.declared.calls.Call.{Call}
 use Rattle.ipam_data.specs.declared.replies.Reply.{Reply}
 use Rattle.ipam_data.specs.declared.update.Update.{Update}
@@ -22,11 +22,9 @@ use Rattle.ipam_headline.specs.Claims.{AddressesApart, BlocksApart, EachEntry, G
 -- a register that opened in this state had these callers; the history has each accepted change with the number of its caller
 pub record Headline (opening : State) (history : List (ℕ × Call)) (callers : List (Caller Call Reply)) : Type 0 where
   -- every answer of every connection is the plain register's after the first entries of the history: no fewer than those of the caller's
-  -- answer before, and all of its own changes; an accepted change is the next entry
-  pub answers : All (IsAnswered register_protocol opening history) callers
-  -- there are no other entries; each was asked for by a request, and accepted at its place
-  pub numbers : (first : ℕ) × AreNumbered first callers
-  pub nobody_else : All (λ entry. Contains (map (λ caller. caller.number) callers) entry.0) history
+  -- answer before, and all of its own changes; an accepted change is the next entry, and there are no other entries
+  pub answers : AreCallers register_protocol opening history callers
+  -- each entry was asked for by a request, and accepted at its place
   pub entries : (n : ℕ) (who : ℕ) (call : Call) → slice_get history n ≡ Some (who, call) → IsChange register_protocol opening (take n history) call
   -- a claim got the least that nothing had; it was refused for space only where there was none; no two claims met
   pub least : EachEntry opening history GetsTheLeast

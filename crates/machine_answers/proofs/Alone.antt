@@ -1,9 +1,9 @@
 -- A session of one caller is a connection of the caller with the number 0, in the history of its accepted changes.
-use Rattle.std.proofs.Common.{◌≡◌, ◌+◌, ◌≤◌, ◌==◌, ℕ, zero, suc, All, Contains, List, [], ◌∷◌, ◌++◌, append-nil, length, length-append, map, take, Option, Some, Result, Ok, Err, refl, sym, ap, ◌∙◌, subst, arith}
+use Rattle.std.proofs.Common.{◌≡◌, ◌+◌, ℕ, All, Contains, List, [], ◌∷◌, ◌++◌, append-nil, length, length-append, take, Some, Result, Ok, Err, refl, sym, ap, ◌∙◌, subst, arith}
 use Rattle.std.specs.List.{AllByRecursion, slice_get}
 use Rattle.std.proofs.lemmas.List.Elements.{All-from_recursion}
 use mathlib.Core.List.{IsPrefix}
-use Rattle.ipam_listen.specs.Connections.{Connection, Ends, finished}
+use Rattle.ipam_listen.specs.Connections.{Ends, finished}
 use Rattle.history_lock.specs.Replies.{ReplyKind, accepted, fault, memory, plain, AnswersAs, failures_of, grown, rise_of}
 use Rattle.history_lock.specs.Replay.{own_entries, replay}
 use Rattle.history_lock.specs.Places.{IsLegalAt}
@@ -15,10 +15,10 @@ use Rattle.http_session.specs.Ends.{IsEnd}
 use Rattle.http_session.specs.declared.session.SessionEnd.{SessionEnd}
 use Rattle.machine_session.specs.Protocols.{Protocol}
 use Rattle.machine_session.specs.Told.{IsAnswerIn, IsTold, Standing, answers_in, newcomer}
-use Rattle.machine_session.specs.Owned.{Counted, IsCountedAnswer, IsOwnCall, Owned, answers_counted, counted, owned}
+use Rattle.machine_session.specs.Owned.{Counted, IsCountedAnswer, IsOwnCall, answers_counted, counted, owned}
 use Rattle.machine_session.proofs.Carried.{IsCarried, end_carried}
 use Rattle.machine_session.proofs.Talks.{prefix_refl, prefix_trans}
-use Rattle.machine_answers.specs.Answers.{Caller, Exchange, IsAnswered, IsHeld, IsRight, Talk, Told, changes_in, told_in, told_to, with_change}
+use Rattle.machine_answers.specs.Answers.{Caller, IsAnswered, IsHeld, Talk, Told, changes_in, told_in, told_to, with_change}
 use Rattle.machine_answers.specs.Laws.{HasCaller}
 use Rattle.machine_answers.proofs.Entries.{own_at}
 use Rattle.machine_answers.proofs.Flat.{Held, Mark, Goes, Right, changed, end_flat, goes_joined, in_order, mark}

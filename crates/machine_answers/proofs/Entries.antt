@@ -1,16 +1,15 @@
 -- Each entry of a history is a change that its caller asked for, and that the machine accepts at its place.
-use Rattle.std.proofs.Common.{◌≡◌, ◌≤◌, ◌<◌, ◌+◌, ◌-◌, ◌==◌, ◌⊎◌, ℕ, zero, suc, Bool, true, false, cond, All, Contains, List, [], ◌∷◌, ◌++◌, length, map, filter, take, drop, Option, None, Some, Result, Ok, Err, refl, sym, ap, ◌∙◌, subst, inl, inr, arith}
+use Rattle.std.proofs.Common.{◌≡◌, ◌≤◌, ◌<◌, ◌+◌, ◌-◌, ◌==◌, ◌⊎◌, ℕ, zero, suc, Bool, true, false, cond, All, Contains, List, [], ◌∷◌, ◌++◌, length, map, take, drop, Option, None, Some, Ok, refl, sym, ap, ◌∙◌, subst, inl, inr, arith}
 use Rattle.std.specs.List.{AllByRecursion, slice_get, slice_index_or}
 use Rattle.std.proofs.lemmas.Bool.Decides.{nat_tests}
-use Rattle.std.proofs.lemmas.List.Elements.{All-from_recursion, recursion_from_All}
+use Rattle.std.proofs.lemmas.List.Elements.{recursion_from_All}
 use Rattle.history_lock.specs.Replies.{ReplyKind, accepted, fault, memory, plain, AnswersAs, rise_of}
 use Rattle.history_lock.specs.Replay.{own_entries, replay}
 use Rattle.history_lock.specs.Places.{IsLegalAt}
 use Rattle.http_session.specs.Requests.{Asks, Framed, Item, Refuses}
 use Rattle.http_session.specs.Talk.{Answer}
 use Rattle.machine_session.specs.Protocols.{Protocol}
-use Rattle.machine_answers.specs.Answers.{AreInOrder, Caller, Exchange, IsAnswered, IsChange, IsRight, Talk, Told, changes_in, told_in, told_to, with_change, with_told}
-use Rattle.machine_answers.specs.Laws.{AreCallers}
+use Rattle.machine_answers.specs.Answers.{AreCallers, AreInOrder, Caller, Exchange, IsAnswered, IsChange, IsRight, Talk, Told, changes_in, told_in, told_to, with_change, with_told}
 
 -- ---- numbers and lists
 

@@ -1,24 +1,23 @@
 -- What a server and a session say of their answers gives one flat list for each caller.
-use Rattle.std.proofs.Common.{◌≡◌, ◌≤◌, ◌+◌, ◌⊎◌, ℕ, All, Contains, List, [], ◌∷◌, ◌++◌, append-nil, append_assoc, map, Option, None, Some, IfSome, Result, Ok, Err, refl, sym, ap, ◌∙◌, subst, inl, inr}
+use Rattle.std.proofs.Common.{◌≡◌, ◌≤◌, ◌+◌, ℕ, All, Contains, List, [], ◌∷◌, ◌++◌, append-nil, append_assoc, map, Option, None, Some, IfSome, Result, Ok, Err, refl, sym, ap, ◌∙◌, subst, inl, inr}
 use Rattle.std.specs.List.{AllByRecursion}
 use Rattle.std.specs.Io.KnownBytes.{Appends, IsAtEnd}
 use Rattle.std.proofs.lemmas.List.Elements.{All-from_recursion, recursion_from_All}
-use Rattle.ipam_edge.specs.Writing.{AppendsFront, IsFrontOf}
+use Rattle.ipam_edge.specs.Writing.{AppendsFront}
 use Rattle.ipam_listen.specs.Connections.{Connection, Ends, Returned}
 use Rattle.history_lock.specs.Replies.{ReplyKind, accepted, fault, memory, plain, grown, rise_of}
-use Rattle.history_lock.specs.Replay.{own_entries}
 use Rattle.http_session.specs.Requests.{AreItems, Asks, Framed, Item, Refuses}
 use Rattle.http_session.specs.Talk.{Answer, Answered, May, Run, text_of, texts}
 use Rattle.http_session.specs.Ends.{IsEnd, IsTalk}
 use Rattle.http_session.specs.declared.session.SessionEnd.{SessionEnd}
 use Rattle.http_session.specs.declared.session.SessionEnd.TheVariants.{Closed, SourceFault, SinkFault, Memory}
 use Rattle.http_session.proofs.ItemLemmas.{items_in_all}
-use Rattle.http_lanes.specs.Served.{AreServed, IsServedWhole}
+use Rattle.http_lanes.specs.Served.{AreServed}
 use Rattle.machine_session.specs.Protocols.{Protocol}
 use Rattle.machine_session.specs.Told.{IsAnswerIn, Standing, answers_in, newcomer}
 use Rattle.machine_server.specs.History.{AreNumberedFrom, HasItsChanges, IsHistoryOf, IsShift, Shift}
 use Rattle.machine_server.specs.History as server
-use Rattle.machine_answers.specs.Answers.{AreHeld, AreInOrder, AreLanesOf, AreNumbered, AreWritten, Caller, Exchange, IsAnswered, IsHeld, IsRight, Talk, Told, changes_in, items_of, text_of_all, told_in, told_to, with_change, with_told}
+use Rattle.machine_answers.specs.Answers.{AreInOrder, AreLanesOf, AreNumbered, AreWritten, Caller, Exchange, IsAnswered, IsHeld, IsRight, Talk, Told, changes_in, items_of, text_of_all, told_in, told_to, with_change, with_told}
 use Rattle.machine_answers.specs.Laws.{HasCallers}
 
 -- ---- lists

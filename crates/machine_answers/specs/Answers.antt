@@ -1,5 +1,5 @@
 -- What the callers of a machine were answered: for each one flat list, with the place of every answer in the one history.
-use Rattle.std.specs.Prelude.{◌≡◌, ◌⊎◌, ◌+◌, ◌++◌, ◌≤◌, ℕ, All, List, [], ◌∷◌, map, Option, Some, None, IfSome, Ok, Err}
+use Rattle.std.specs.Prelude.{◌≡◌, ◌⊎◌, ◌+◌, ◌++◌, ◌≤◌, ℕ, All, Contains, List, [], ◌∷◌, map, Option, Some, None, IfSome, Ok, Err}
 use Rattle.std.specs.Io.KnownBytes.{Appends, IsAtEnd}
 use Rattle.ipam_edge.specs.Writing.{AppendsFront}
 use Rattle.ipam_listen.specs.Connections.{Connection, Ends, Returned}
@@ -119,6 +119,12 @@ pub record IsAnswered {S C A R W E : Type 0} (P : Protocol S C A R W E) (opening
 abbrev pub AreNumbered : {C R : Type 0} → ℕ → List (Caller C R) → Type 0
 AreNumbered n [] = Unit {0}
 AreNumbered n (caller ∷ callers) = (caller.number ≡ n) × AreNumbered (n + 1) callers
+
+-- these callers were answered out of this history, which has no other entries than theirs
+pub record AreCallers {S C A R W E : Type 0} (P : Protocol S C A R W E) (opening : S) (history : List (ℕ × C)) (callers : List (Caller C R)) : Type 0 where
+  pub answered : All (IsAnswered P opening history) callers
+  pub numbered : (first : ℕ) × AreNumbered first callers
+  pub nobody_else : All (λ entry. Contains (map (λ caller. caller.number) callers) entry.0) history
 
 -- a lane that was given back tells the connections of this caller, if it tells any
 abbrev pub IsLaneOf : {C R : Type 0} → Returned → Caller C R → Type 0

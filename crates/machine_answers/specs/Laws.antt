@@ -1,5 +1,5 @@
 -- What a server and a session ensure of their answers gives one flat list for each caller.
-use Rattle.std.specs.Prelude.{◌≡◌, ℕ, All, Contains, List, [], ◌∷◌, map, slice_get, take, Some}
+use Rattle.std.specs.Prelude.{◌≡◌, ℕ, List, [], ◌∷◌, map, slice_get, take, Some}
 use Rattle.ipam_listen.specs.Connections.{Ends, Returned, finished}
 use Rattle.http_session.specs.Steps.{Grown}
 use Rattle.http_session.specs.Ends.{IsEnd}
@@ -8,13 +8,7 @@ use Rattle.machine_session.specs.Owned.{Counted, answers_counted, counted, owned
 use Rattle.machine_session.specs.Protocols.{Protocol}
 use Rattle.machine_server.specs.History.{IsHistoryOf, Shift}
 use Rattle.machine_server.specs.History as server
-use Rattle.machine_answers.specs.Answers.{AreLanesOf, AreNumbered, Caller, IsAnswered, IsChange}
-
--- these callers were answered out of this history, which has no other entries than theirs
-pub record AreCallers {S C A R W E : Type 0} (P : Protocol S C A R W E) (opening : S) (history : List (ℕ × C)) (callers : List (Caller C R)) : Type 0 where
-  pub answered : All (IsAnswered P opening history) callers
-  pub numbered : (first : ℕ) × AreNumbered first callers
-  pub nobody_else : All (λ entry. Contains (map (λ caller. caller.number) callers) entry.0) history
+use Rattle.machine_answers.specs.Answers.{AreCallers, AreLanesOf, Caller, IsChange}
 
 -- a history that was served to lanes has callers, whose connections the lanes tell
 pub record HasCallers {S C A R W E : Type 0} (P : Protocol S C A R W E) (opening : S) (history : List (ℕ × C)) (back : List Returned) : Type 0 where

@@ -1,18 +1,17 @@
 -- A run of pools has the headline of its command.
-use Rattle.std.proofs.Common.{◌≡◌, ◌⊎◌, ◌<◌, ℕ, zero, suc, All, Contains, List, [], ◌∷◌, map, take, Option, Some, None, refl, sym, ap, ◌∙◌, subst, inl, inr, arith}
+use Rattle.std.proofs.Common.{◌≡◌, ◌⊎◌, ◌<◌, ℕ, zero, suc, List, [], ◌∷◌, map, take, Option, Some, None, refl, sym, ap, ◌∙◌, subst, inl, inr, arith}
 use Rattle.std.specs.List.{slice_get}
-use Rattle.std.proofs.lemmas.List.Elements.{All-from_recursion, recursion_from_All}
 use Rattle.history_lock.specs.Replay.{replay}
 use Rattle.http_session.specs.declared.session.SessionEnd.{SessionEnd}
 use Rattle.http_session.specs.Ends.{IsEnd}
 use Rattle.ipam_listen.specs.Connections.{Ends, ends_of}
 use Rattle.command_streams.specs.Streams.{EndsWith, Streams, Told}
 use Rattle.machine_session.specs.Owned.{Owned, answers_counted, counted, owned}
-use Rattle.machine_answers.specs.Answers.{AreNumbered, Caller, IsAnswered}
-use Rattle.machine_answers.proofs.Alone.{CallerAlone, caller_alone}
+use Rattle.machine_answers.specs.Answers.{AreCallers, Caller}
+use Rattle.machine_answers.specs.Laws.{HasCaller, HasCallers}
+use Rattle.machine_answers.proofs.Alone.{alone as listed_alone}
 use Rattle.machine_answers.proofs.Entries.{entries}
-use Rattle.machine_answers.proofs.Flat.{CallersOf, callers_of}
-use Rattle.machine_server.specs.History.{HasItsChanges, IsHistoryOf, IsShift}
+use Rattle.machine_answers.proofs.Flat.{served as listed_served}
 use Rattle.machine_command.specs.Session.{IsRefused, IsSession, Serves}
 use Rattle.machine_serving.specs.Serve.{IsServe, ServesStore}
 use Rattle.machine_serving.specs.Views.{ListenerView, NobodyCame}
@@ -75,37 +74,25 @@ numbers_apart never opening history is i j one other x y l p q c d of =
       )
     ])
 
-headline : NumbersNeverMeet → (opening : Seen) (history : List (ℕ × PoolCall)) (callers : List (Caller PoolCall PoolReply)) (first : ℕ)
-    → All (IsAnswered pool_protocol opening history) callers → AreNumbered first callers
-    → All (λ entry. Contains (map (λ caller. caller.number) callers) entry.0) history → Headline opening history callers
-headline never opening history callers first answered numbered nobody =
-    record {
-      answers = answered;
-      numbers = (first, numbered);
-      nobody_else = nobody;
-      entries = entries pool_protocol opening history callers answered nobody;
-      apart = numbers_apart never opening history;
-    }
+headline : NumbersNeverMeet → (opening : Seen) (history : List (ℕ × PoolCall)) (callers : List (Caller PoolCall PoolReply)) → AreCallers pool_protocol opening history callers
+    → Headline opening history callers
+headline never opening history callers are =
+    record { answers = are; entries = entries pool_protocol opening history callers are; apart = numbers_apart never opening history }
 
 -- ---- the commands
 
 served : NumbersNeverMeet → (s : Serving) (old new : PoolOutside) (before after : ListenerView) (entries : ℕ)
     → ServesStore pool_protocol pool_opener s.db (place_of s) old new before after entries → Served s.db old new before after entries
 served never s old new before after entries h =
-    let one : IsHistoryOf pool_protocol h.opening h.history h.served.shifts = h.served.one_history in
-    let of : CallersOf pool_protocol h.opening h.history one.numbers.0 h.served.back h.served.shifts =
-    callers_of pool_protocol h.opening h.history one.numbers.0 h.served.back h.served.shifts
-    (recursion_from_All (IsShift pool_protocol h.opening h.history) h.served.shifts one.answered)
-    (recursion_from_All (HasItsChanges h.history) h.served.shifts one.changes) one.numbers.1 h.served.lanes in
+    let of : HasCallers pool_protocol h.opening h.history h.served.back =
+    listed_served pool_protocol h.opening h.history h.served.back h.served.shifts h.served.one_history h.served.lanes in
     record {
       callers = of.callers;
       kept = record {
         opening = h.opening;
         stood = h.loaded;
         history = h.history;
-        headline = headline never h.opening h.history of.callers one.numbers.0
-            (All-from_recursion (IsAnswered pool_protocol h.opening h.history) of.callers of.answered) of.numbered
-            (subst (λ (numbers : List ℕ). All (λ (entry : ℕ × PoolCall). Contains numbers entry.0) h.history) (sym of.numbers_are) one.nobody_else);
+        headline = headline never h.opening h.history of.callers of.are;
         holds = h.holds;
       };
       counted = h.entries_are;
@@ -127,16 +114,14 @@ alone never db old new how h =
     let ends : IsEnd (answers_counted pool_protocol) (counted (owned opening [] 0) 0) (counted h.last h.told) before.written after.written h.bytes after.left how =
     subst (λ (f : Owned Seen PoolCall). IsEnd (answers_counted pool_protocol) (counted f 0) (counted h.last h.told) before.written after.written h.bytes after.left how)
     (opened h.first h.fresh) h.ends in
-    let of : CallerAlone pool_protocol opening history before after = caller_alone pool_protocol opening (counted h.last h.told) before after h.bytes how h.grown ends in
+    let of : HasCaller pool_protocol opening history before after = listed_alone pool_protocol opening (counted h.last h.told) before after h.bytes how h.grown ends in
     record {
       caller = of.caller;
       kept = record {
         opening = opening;
         stood = h.loaded;
         history = history;
-        headline = headline never opening history (of.caller ∷ []) 0
-            (All-from_recursion (IsAnswered pool_protocol opening history) (of.caller ∷ []) (of.answered, tt)) (of.number_is, tt)
-            (subst (λ (n : ℕ). All (λ (entry : ℕ × PoolCall). Contains (n ∷ []) entry.0) history) (sym of.number_is) of.nobody_else);
+        headline = headline never opening history (of.caller ∷ []) of.are;
         holds = h.holds;
       };
       streams = of.connections_are;

@@ -1,8 +1,8 @@
 -- What number pools promise to their callers: one history, out of which all are answered, and in it no two claims met.
-use Rattle.std.specs.Prelude.{◌≡◌, ◌≢◌, ◌⊎◌, ◌++◌, ℕ, ◌<◌, All, Contains, List, [], ◌∷◌, Option, Some, length, map, take, slice_get}
+use Rattle.std.specs.Prelude.{◌≡◌, ◌≢◌, ◌⊎◌, ◌++◌, ℕ, ◌<◌, List, [], ◌∷◌, Option, Some, length, map, take, slice_get}
 use Rattle.history_lock.specs.Replay.{replay}
 use Rattle.ipam_listen.specs.Connections.{Returned, ends_of, finished}
-use Rattle.machine_answers.specs.Answers.{AreLanesOf, AreNumbered, Caller, IsAnswered, IsChange}
+use Rattle.machine_answers.specs.Answers.{AreCallers, AreLanesOf, Caller, IsChange}
 use Rattle.machine_serving.specs.Views.{ListenerView, NobodyCame}
 use Rattle.number_pools.specs.declared.calls.PoolCall.{PoolCall}
 use Rattle.number_pools.specs.declared.calls.PoolReply.{PoolReply}
@@ -36,9 +36,7 @@ NumbersApart opening history = (i j : ℕ) (one other : ℕ × PoolCall) (x y : 
 -- pools that opened so had these callers; the history has each accepted change with the number of its caller
 pub record Headline (opening : Seen) (history : List (ℕ × PoolCall)) (callers : List (Caller PoolCall PoolReply)) : Type 0 where
   -- every answer is that of the plain pools after the first entries; there are no other entries; each was asked for, and accepted at its place
-  pub answers : All (IsAnswered pool_protocol opening history) callers
-  pub numbers : (first : ℕ) × AreNumbered first callers
-  pub nobody_else : All (λ entry. Contains (map (λ caller. caller.number) callers) entry.0) history
+  pub answers : AreCallers pool_protocol opening history callers
   pub entries : (n : ℕ) (who : ℕ) (call : PoolCall) → slice_get history n ≡ Some (who, call) → IsChange pool_protocol opening (take n history) call
   -- no two claims got one number, if the pools opened lawful
   pub apart : IsLawfulPools opening.pools → NumbersApart opening history
