@@ -8,7 +8,8 @@ What CI has proved on this machine is taken from there, if the kit keeps it, and
 little. bench/edits_reasons.txt gets the reason of each refusal, the prover's first line; bench/edits_tried.txt gets a line for each crate that was tried.
 
 usage: bench/edits.sh [CRATE..]              the edits of bench/edits; with no name, those of all crates
-       bench/edits.sh --controls [CRATE..]   the controls: harmless texts in the place of each mutation test of CI, which the prover must pass
+       bench/edits.sh --controls [CRATE..]   the controls: harmless texts in the place of each mutation test of CI, which the prover must pass. All of a
+                                             crate's are in at once; each is tried alone only where the crate is then refused
 environment: EDITS_IN=FOLDER                 where the copy is made and stays, with all that `rt ci` said in its file `log` (default: a new folder, removed at the end)
              RT_JOBS=N                       as for `rt ci`
 """
@@ -50,8 +51,8 @@ def with_all_below(asked, below):
     return found
 
 
-def copy_repository(to, asked, ending):
-    """Copies the sources of the crates that these need, and the edits of these with that ending."""
+def copy_crates(to, asked):
+    """Copies the sources of the crates that these need."""
     line_of, below = lines_of_crates()
     needed = with_all_below(asked, below)
     shutil.rmtree(f"{to}/crates", ignore_errors=True)
@@ -61,10 +62,34 @@ def copy_repository(to, asked, ending):
     for name in needed:
         at = f"{TOP}/crates/{name}"
         shutil.copytree(at, f"{to}/crates/{name}", ignore=lambda folder, parts, at=at: NOT_COPIED if folder == at else ())
-    for (crate, name), path in edit_files.outside(ending).items():
-        if crate in asked:
-            os.makedirs(f"{to}/crates/{crate}/must-fail", exist_ok=True)
-            shutil.copy(path, f"{to}/crates/{crate}/must-fail/{name}.edit")
+
+
+def of_crates(asked, ending):
+    """The files of bench/edits with this ending that are of these crates."""
+    return {it: path for it, path in edit_files.outside(ending).items() if it[0] in asked}
+
+
+def put_edits(to, asked, ending):
+    """Puts the edits with that ending of these crates where `rt ci` tries them, each alone."""
+    for (crate, name), path in of_crates(asked, ending).items():
+        os.makedirs(f"{to}/crates/{crate}/must-fail", exist_ok=True)
+        shutil.copy(path, f"{to}/crates/{crate}/must-fail/{name}.edit")
+
+
+def apply_controls(to, crate, controls):
+    """Applies these controls of a crate to its sources, one after another, and formats them. Returns those whose text an earlier one has changed."""
+    folder, left = f"{to}/crates/{crate}", []
+    for path in controls:
+        try:
+            texts = edit_files.edited(path, folder)
+        except edit_files.NotApplied:
+            left.append(path)
+            continue
+        for file, text in texts.items():
+            with open(f"{folder}/{file}", "w", encoding="utf-8") as changed:
+                changed.write(text)
+    subprocess.run(["rt", "fmt"], cwd=folder, check=True, stdout=subprocess.DEVNULL)
+    return left
 
 
 def try_all(copy):
@@ -104,34 +129,64 @@ def write_reasons(said):
         file.writelines(f"{name}: {reasons[name]}\n" for name in sorted(reasons) if name in there)
 
 
-def run(asked, ending):
-    """Tries the edits with that ending of these crates, and returns what was said of each, and the checksums of the crates that were tried."""
+def run(asked, change):
+    """Runs CI in a copy of these crates that was changed so, and returns what was said of each edit, and of which crates it said that they are proved."""
     folder = os.environ.get("EDITS_IN")
     copy = os.path.abspath(folder) if folder else tempfile.mkdtemp()
     os.makedirs(copy, exist_ok=True)
     try:
-        copy_repository(copy, asked, ending)
-        sums = {name: edits_tried.checksums(name) for name in asked}
-        return try_all(copy), sums
+        copy_crates(copy, asked)
+        change(copy)
+        said = try_all(copy)
+        with open(f"{copy}/log", encoding="utf-8") as log:
+            return said, set(re.findall(r"^rt: (\w+) (?:proved|is kept)", log.read(), re.MULTILINE))
     finally:
         if not folder:
             shutil.rmtree(copy)
 
 
+def are_proved(crate):
+    """Whether a crate is proved with its controls in: as many at once as change texts of their own."""
+    left = list(of_crates([crate], ".control").values())
+    while left:
+        some = left
+
+        def change(copy):
+            nonlocal left
+            left = apply_controls(copy, crate, some)
+
+        _, proved = run([crate], change)
+        if crate not in proved or left == some:
+            return False
+    return True
+
+
+def try_controls_of(crate):
+    """Tries the controls of a crate, together; where it is refused then, each alone. Returns those that the prover refused."""
+    if are_proved(crate):
+        return []
+    said, _ = run([crate], lambda copy: put_edits(copy, [crate], ".control"))
+    mine = {it: said.get(it, "not tried") for it in of_crates([crate], ".control")}
+    failed = [it for it, text in mine.items() if not text.startswith("NOT REFUSED")]
+    for it in failed:
+        print(f"control {'/'.join(it)}: {mine[it]}")
+    return failed
+
+
 def try_controls(asked):
     """Tries the controls: each must be proved."""
-    said, _ = run(asked, ".control")
-    wanted = [it for it in edit_files.outside(".control") if it[0] in asked]
-    failed = [it for it in wanted if not said.get(it, "").startswith("NOT REFUSED")]
-    for it in failed:
-        print(f"control {'/'.join(it)}: {said.get(it, 'not tried')}")
-    print(f"{len(wanted) - len(failed)} of {len(wanted)} controls proved")
+    failed = 0
+    for crate in asked:
+        refused, every = len(try_controls_of(crate)), len(of_crates([crate], ".control"))
+        print(f"{crate}: {every - refused} of {every} controls proved", flush=True)
+        failed += refused
     return not failed
 
 
 def try_edits(asked):
     """Tries the edits: each must be refused, and for what it says."""
-    said, sums = run(asked, ".edit")
+    sums = {name: edits_tried.checksums(name) for name in asked}
+    said, _ = run(asked, lambda copy: put_edits(copy, asked, ".edit"))
     write_reasons(said)
     counts = {}
     for name in asked:

@@ -1,7 +1,6 @@
 //! The command `import`.
 
-ghost use Rattle.std.specs.Prelude.{◌≡◌, ◌≤◌, ◌⊎◌, ◌+◌, ◌++◌, length, IfOk, IfErr};
-ghost use Rattle.arrayvec.specs.ArrayVec.{array_vec_len};
+ghost use Rattle.std.specs.Prelude.{◌≡◌, ◌≤◌, ◌⊎◌, IfOk, IfErr};
 ghost use Rattle.command_streams.specs.Streams.{Told, streams, told};
 ghost use Rattle.command_store.specs.Outside.{outside, stores};
 ghost use Rattle.command_files.specs.Files.{GivesRows};
@@ -12,7 +11,7 @@ use crate::calls::{Counts, MakeStop, import_rows};
 use crate::files::{read_file, say_file_stop, say_refusal};
 use arrayvec::ArrayVec;
 use command_store::{open_store, say_fault};
-use command_streams::{DONE, MEMORY, REFUSED, STORE, end_with};
+use command_streams::{DONE, LINE, MEMORY, REFUSED, STORE, end_with, push_bytes};
 use command_words::Store;
 use ipam_data::imports::ImportRows;
 use ipam_data::kinds::Kind;
@@ -21,20 +20,6 @@ use ipam_keeper::keeper::KeeperOpener;
 use itoa::Buffer;
 use std::alloc::Global;
 use stored_tables::opening::OpenFault;
-
-/// How many bytes the line of the counts has, at most.
-const LINE: usize = 64;
-
-/// Puts bytes behind the line, which has room for them.
-fn push_bytes(line: &mut ArrayVec<u8, LINE>, bytes: &[u8])
-    requires { array_vec_len line.old + length bytes.now ≤ 64 }
-    ensures { line.new.items ≡ line.old.items ++ bytes.now }
-{
-    match line.try_extend_from_slice(bytes) {
-        Ok(()) => {}
-        Err(_) => unreachable!(),
-    }
-}
 
 /// How many records were made and how many rows stand for others, in words. It takes no memory: the import is stored by then.
 fn counts_text(counts: Counts) -> ArrayVec<u8, LINE>

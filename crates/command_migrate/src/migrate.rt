@@ -1,14 +1,13 @@
 //! A file of version 1 becomes one of this program's version, in one transaction.
 
-ghost use Rattle.std.specs.Prelude.{◌≡◌, ◌≤◌, ◌+◌, ◌⊎◌, ◌++◌, length, IfOk, IfErr};
-ghost use Rattle.arrayvec.specs.ArrayVec.{array_vec_len};
+ghost use Rattle.std.specs.Prelude.{◌≡◌, ◌≤◌, ◌⊎◌, IfOk, IfErr};
 ghost use Rattle.command_streams.specs.Streams.{Told, streams, told, EndsWith};
 ghost use Rattle.command_store.specs.Outside.{outside, stores, AreSame};
 ghost use Rattle.command_migrate.specs.Migrate.{count_text as count_text_of, fault_of, tables_of_file, AreMigrated, IsMigrated, IsStop, IsStopSaid, IsFailure, IsMigrate};
 
 use arrayvec::ArrayVec;
 use command_store::{file_path, say_fault};
-use command_streams::{DONE, MEMORY, STORE, end_with};
+use command_streams::{DONE, LINE, MEMORY, STORE, end_with, push_bytes};
 use command_words::WordText;
 use ipam_edge::Sink;
 use ipam_keeper::keeper::{KeepFault, Keeper, KeeperOpener};
@@ -16,9 +15,6 @@ use itoa::Buffer;
 use std::alloc::Global;
 use stored_tables::migration::{MigrateFault, count_ranges, migrate};
 use stored_tables::opening::OpenFault;
-
-/// How many bytes the line of the count has, at most.
-const LINE: usize = 32;
 
 /// What is said where the file could not be written. It takes no memory, so that it is not lost.
 const UNWRITTEN: &[u8] = b"store: the store could not be written\n";
@@ -34,17 +30,6 @@ pub enum MigrateStop {
     Unwritten,
     /// Out of memory.
     Lacking,
-}
-
-/// Puts bytes behind the line, which has room for them.
-fn push_bytes(line: &mut ArrayVec<u8, LINE>, bytes: &[u8])
-    requires { array_vec_len line.old + length bytes.now ≤ 32 }
-    ensures { line.new.items ≡ line.old.items ++ bytes.now }
-{
-    match line.try_extend_from_slice(bytes) {
-        Ok(()) => {}
-        Err(_) => unreachable!(),
-    }
 }
 
 /// How many ranges were marked or not, in words. It takes no memory: the file is migrated by then.

@@ -64,24 +64,26 @@ module _ (to : Binding) (old mid after : ListenerView) (bound : mid.bound ≡ to
     faults = k.faults ∙ faults;
   }
 
-  pub no_lanes : HasNoLanes mid.bound mid after → HasNoLanes to old after
-  no_lanes k = record {
+  pub no_lanes : (wanted : ℕ) → HasNoLanes mid.bound wanted mid after → HasNoLanes to wanted old after
+  no_lanes wanted k = record {
     failed = subst (λ (n : ℕ). Rose n after.faults) faults k.failed;
     back = k.back;
     returned = k.returned ∙ ap (λ (l : List Returned). l ++ k.back) returned;
     unused = k.unused;
     lanes = k.lanes ∙ ap (λ (n : ℕ). n + length k.back) lanes;
+    fewer = k.fewer;
     bound = λ came. k.bound (subst (λ (n : ℕ). n < after.lanes) (sym lanes) came) ∙ bound;
   }
 
 -- it could not be bound
-pub not_bound : (to : Binding) (old after : ListenerView) → Rose old.faults after.faults → after.lanes ≡ old.lanes → after.returned ≡ old.returned → HasNoLanes to old after
-not_bound to old after failed lanes returned = record {
+pub not_bound : (to : Binding) (wanted : ℕ) (old after : ListenerView) → Rose old.faults after.faults → after.lanes ≡ old.lanes → after.returned ≡ old.returned → HasNoLanes to wanted old after
+not_bound to wanted old after failed lanes returned = record {
   failed = failed;
   back = [];
   returned = returned ∙ sym (right old.returned);
   unused = λ k d lt. absurd (omega arith);
   lanes = omega arith;
+  fewer = λ some. some;
   bound = λ came. absurd (omega arith);
 }
   where

@@ -116,14 +116,14 @@ module _ (asked : Mirroring) (old new : Outside) (before after : ListenerView) (
         plain = λ well. prints answers_plainly (opened s.state) (plain_of_owned plain_step s.last.now) _ _ _ _ n s.bytes s.grown (s.plain well);
       }
 
-  exhausts : (how : SessionEnd) (m : Mirrors asked old new before after how) → ((how ≡ Memory) × (length m.published < length m.serves.last.now.log)) ⊎ (m.sure ≡ false) → IsMirror asked old new before after 5
+  exhausts : (how : SessionEnd) (m : Mirrors asked old new before after how) → (how ≡ Memory) × (length m.published < length m.serves.last.now.log) → IsMirror asked old new before after 5
   exhausts how m cause = of_memory asked old new before after all m.serves.silent (inr (record { how = how; mirrors = m; cause = inr cause }))
 
   -- by how all ended
   by_end : (how : SessionEnd) (heard : Listening) (m : MirrorsAll asked old new before after how)
       → HasCause how old.streams.input.faults new.streams.input.faults old.streams.output.faults new.streams.output.faults
       → IsListening (NoneFailed before after) (ListeningFailed before after) heard
-      → IsMirror asked old new before after (ended_status how true true heard)
+      → IsMirror asked old new before after (ended_status how true heard)
   by_end (Closed n) Whole m cause listened = of_done asked old new before after all (finishes n m, listened)
   by_end (Closed n) Broken m cause listened =
       of_fault asked old new before after all (inl (record { how = Closed n; mirrored = m; cause = inr (inr (finishes n m, listened)) }))
@@ -143,14 +143,13 @@ module _ (asked : Mirroring) (old new : Outside) (before after : ListenerView) (
         );
       }))
 
-  pub by_ran : (how : SessionEnd) (whole within : Bool) (heard : Listening) (m : Mirrors asked old new before after how) → m.sure ≡ within
+  pub by_ran : (how : SessionEnd) (whole : Bool) (heard : Listening) (m : Mirrors asked old new before after how)
       → (whole ≡ true → length m.published ≡ length m.serves.last.now.log) → (whole ≡ false → length m.published < length m.serves.last.now.log)
       → (how ≡ Memory) ⊎ (whole ≡ true) → HasCause how old.streams.input.faults new.streams.input.faults old.streams.output.faults new.streams.output.faults
       → IsListening (NoneFailed before after) (ListeningFailed before after) heard
-      → IsMirror asked old new before after (ended_status how whole within heard)
-  by_ran how false within heard m sure every lacks memory cause listened = exhausts how m (inl (elim memory [ inl is ↦ is | inr whole ↦ absurd (cc whole) ], lacks refl))
-  by_ran how true false heard m sure every lacks memory cause listened = exhausts how m (inr sure)
-  by_ran how true true heard m sure every lacks memory cause listened = by_end how heard (record { mirrors = m; all = every refl; sure = sure }) cause listened
+      → IsMirror asked old new before after (ended_status how whole heard)
+  by_ran how false heard m every lacks memory cause listened = exhausts how m (elim memory [ inl is ↦ is | inr whole ↦ absurd (cc whole) ], lacks refl)
+  by_ran how true heard m every lacks memory cause listened = by_end how heard (record { mirrors = m; all = every refl }) cause listened
 
 -- ---- the keeper went back
 
@@ -213,9 +212,9 @@ module _ {R K : Type 0} (step : Step R) (told_by : K → Option Tables) (faults_
   opening = sym (b.begun ∙ ap (entries_replay first.opening) b.none)
 
   -- the register was served and the lanes read
-  mirrors : (how : SessionEnd) (whole within : Bool) (heard : Listening) → HasEnded step told_by faults_by asked first last from to old.streams.input new.streams.input old.streams.output new.streams.output before after how whole within heard
-      → (m : Mirrors asked old new before after how) × (m.sure ≡ within) × (whole ≡ true → length m.published ≡ length m.serves.last.now.log) × (whole ≡ false → length m.published < length m.serves.last.now.log)
-  mirrors how whole within heard h =
+  mirrors : (how : SessionEnd) (whole : Bool) (heard : Listening) → HasEnded step told_by faults_by asked first last from to old.streams.input new.streams.input old.streams.output new.streams.output before after how whole heard
+      → (m : Mirrors asked old new before after how) × (whole ≡ true → length m.published ≡ length m.serves.last.now.log) × (whole ≡ false → length m.published < length m.serves.last.now.log)
+  mirrors how whole heard h =
       let s = serves_with step from to asked.store old new how told_by faults_by first last b.kept b.mid b.lent b.mid_stored b.loaded b.none b.begun b.well h.mirrored.session b.starts b.replayed b.tells b.same b.later b.raised b.out b.stays b.returned b.silent in
       let state : last.opening ≡ s.0.state = ap (λ (x : Seen). x.state) h.mirrored.session.opening ∙ (opening ∙ sym s.1) in
       let log = sym s.2 in
@@ -224,15 +223,13 @@ module _ {R K : Type 0} (step : Step R) (told_by : K → Option Tables) (faults_
         serves = s.0;
         published = h.mirrored.published;
         follows = subst (λ (x : State × List (ℕ × Call)). IsFollowing x.0 x.1 h.mirrored.published) (λ i. (state i, log i)) h.mirrored.follows;
-        sure = within;
         back = h.back;
         returned = h.returned;
         many = h.many;
         lanes = h.lanes;
-        read = subst (λ (x : State). AreReadLanes (Some (lists_of x)) h.mirrored.published within h.back) state h.mirrored.read;
+        read = subst (λ (x : State). AreReadLanes (Some (lists_of x)) h.mirrored.published h.back) state h.mirrored.read;
       } in (
         m,
-        refl,
         λ yes. h.mirrored.all yes ∙ ap length log,
         λ no. subst (λ (l : List (ℕ × Call)). length h.mirrored.published < length l) log (h.mirrored.lacks no),
       )
@@ -246,8 +243,8 @@ module _ {R K : Type 0} (step : Step R) (told_by : K → Option Tables) (faults_
       let returned = ap length none.returned ∙ length-append before.returned none.back in
       of_fault asked old new before after (record { lanes_back = omega arith; bound = none.bound; later = none_falls h; listener_later = heard })
       (inr (inl (record { lanes = none; unused = unused h; silent = b.silent }))))
-  of_ran (Ended how whole within listening) status is heard h = subst (IsMirror asked old new before after) (sym is)
-      (let m = mirrors how whole within listening h in
+  of_ran (Ended how whole listening) status is heard h = subst (IsMirror asked old new before after) (sym is)
+      (let m = mirrors how whole listening h in
       let lanes = h.lanes in
       let many = h.many in
       let returned = ap length h.returned ∙ length-append before.returned h.back in
@@ -257,4 +254,4 @@ module _ {R K : Type 0} (step : Step R) (told_by : K → Option Tables) (faults_
         bound = λ came. h.bound;
         later = record { streams = record { input = cause.source_later; output = cause.sink_later; errors = errors_later }; stores = stores_later };
         listener_later = heard;
-      }) how whole within listening m.0 m.1 m.2 m.3 h.mirrored.memory cause h.listened)
+      }) how whole listening m.0 m.1 m.2 h.mirrored.memory cause h.listened)

@@ -1,5 +1,5 @@
 -- Readers before their work and behind it.
-use Rattle.std.proofs.Common.{◌≡◌, ◌<◌, ℕ, Bool, true, List, [], ◌∷◌, ◌++◌, All, length, get_or, map, Option, Some, None, IfSome, sym, ap, ◌∙◌, subst, refl}
+use Rattle.std.proofs.Common.{◌≡◌, ◌<◌, ℕ, List, [], ◌∷◌, ◌++◌, All, length, get_or, map, Option, Some, None, IfSome, sym, ap, ◌∙◌, subst, refl}
 use Rattle.std.specs.Prelude.{take}
 use Rattle.std.proofs.Math.Seq.{take-append_seam}
 use Rattle.std.specs.List.{AllByRecursion}
@@ -110,9 +110,9 @@ look_is_of told feed now h = let g = served_grows h.connections (look_of feed) n
 
 -- ---- lanes that come back
 
-lane_of : {L : Type 0} (told : L → Option (List Connection)) (accepts : L → ℕ) (feed : FeedView Lists Update) (lane : L) (now : Seen) (sure : Bool) → HasServed answers_read (look_of feed) now (told lane)
-    → accepts lane ≡ 0 → (sure ≡ true → IsPrefix now.seen feed.published) → IsReadLane feed.opening feed.published sure (returned_as told accepts lane)
-lane_of told accepts feed lane now sure h none begins =
+lane_of : {L : Type 0} (told : L → Option (List Connection)) (accepts : L → ℕ) (feed : FeedView Lists Update) (lane : L) (now : Seen) → HasServed answers_read (look_of feed) now (told lane)
+    → accepts lane ≡ 0 → IsPrefix now.seen feed.published → IsReadLane feed.opening feed.published (returned_as told accepts lane)
+lane_of told accepts feed lane now h none begins =
     record {
       first = look_of feed;
       last = now;
@@ -122,34 +122,15 @@ lane_of told accepts feed lane now sure h none begins =
       told_are = h.told_are;
       served = h.served;
       begins = begins;
-      each = λ yes. within_each feed.published h.connections (look_of feed) now h.served (begins yes);
+      each = within_each feed.published h.connections (look_of feed) now h.served begins;
       none_left = none;
     }
 
-less_sure : (opening : Option Lists) (published : List Update) (one other : Bool) (r : Returned) → (other ≡ true → one ≡ true) → IsReadLane opening published one r
-    → IsReadLane opening published other r
-less_sure opening published one other r less k =
-    record {
-      first = k.first;
-      last = k.last;
-      opening_is = k.opening_is;
-      none_seen = k.none_seen;
-      connections = k.connections;
-      told_are = k.told_are;
-      served = k.served;
-      begins = λ yes. k.begins (less yes);
-      each = λ yes. k.each (less yes);
-      none_left = k.none_left;
-    }
-
 -- one more lane
-pub one_back : {L : Type 0} (told : L → Option (List Connection)) (accepts : L → ℕ) (feed : FeedView Lists Update) (before after : List L) (lane : L) (now : Seen) (here was sure : Bool)
-    → (sure ≡ true → (here ≡ true) × (was ≡ true)) → after ≡ before ++ lane ∷ [] → HasServed answers_read (look_of feed) now (told lane) → accepts lane ≡ 0
-    → (here ≡ true → IsPrefix now.seen feed.published) → AreReadLanes feed.opening feed.published was (map (returned_as told accepts) before)
-    → AreReadLanes feed.opening feed.published sure (map (returned_as told accepts) after)
-one_back told accepts feed before after lane now here was sure both more h none begins k =
-    let P = IsReadLane feed.opening feed.published sure in
+pub one_back : {L : Type 0} (told : L → Option (List Connection)) (accepts : L → ℕ) (feed : FeedView Lists Update) (before after : List L) (lane : L) (now : Seen)
+    → after ≡ before ++ lane ∷ [] → HasServed answers_read (look_of feed) now (told lane) → accepts lane ≡ 0 → IsPrefix now.seen feed.published
+    → AreReadLanes feed.opening feed.published (map (returned_as told accepts) before) → AreReadLanes feed.opening feed.published (map (returned_as told accepts) after)
+one_back told accepts feed before after lane now more h none begins k =
+    let P = IsReadLane feed.opening feed.published in
     let back = returned_as told accepts in
-    pushed P (map back before) (map back after) (back lane) (ap (map back) more ∙ map-append back before (lane ∷ []))
-    (λ n d lt. less_sure feed.opening feed.published was sure (get_or (map back before) n d) (λ yes. (both yes).1) (k n d lt))
-    (lane_of told accepts feed lane now sure h none (λ yes. begins (both yes).0))
+    pushed P (map back before) (map back after) (back lane) (ap (map back) more ∙ map-append back before (lane ∷ [])) k (lane_of told accepts feed lane now h none begins)

@@ -12,11 +12,13 @@ pub record HaveCome {L : Type 0} (told : L → Option (List Connection)) (bindin
   pub returned : after.returned ≡ before.returned
   pub faults : after.faults ≡ before.faults
 
--- the listener could not be bound, or a lane did not come; those that came went back, and tell no connection
-pub record HasNoLanes (binding : Binding) (before after : ListenerView) : Type 0 where
+-- the listener could not be bound, or a lane did not come, so that fewer came than were wanted; those that came went back, and tell no
+-- connection
+pub record HasNoLanes (binding : Binding) (wanted : ℕ) (before after : ListenerView) : Type 0 where
   pub failed : ListeningFailed before after
   pub back : List Returned
   pub returned : after.returned ≡ before.returned ++ back
   pub unused : All (λ r. IfSome r.told (λ connections. connections ≡ [])) back
   pub lanes : after.lanes ≡ before.lanes + length back
+  pub fewer : 0 < wanted → length back < wanted
   pub bound : before.lanes < after.lanes → after.bound ≡ binding

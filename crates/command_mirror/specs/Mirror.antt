@@ -1,6 +1,6 @@
 -- What a run of the command `mirror` promises of each status: a register over the store that the words name, or else in memory, served to an
 -- operator over the input and the output, and to readers, who see its published changes.
-use Rattle.std.specs.Prelude.{◌≡◌, ◌+◌, ◌++◌, ◌<◌, ◌≤◌, ◌⊎◌, ℕ, Bool, true, false, List, Some, length}
+use Rattle.std.specs.Prelude.{◌≡◌, ◌+◌, ◌++◌, ◌<◌, ◌≤◌, ◌⊎◌, ℕ, List, Some, length}
 use Rattle.http_session.specs.declared.session.SessionEnd.{SessionEnd}
 use Rattle.http_session.specs.declared.session.SessionEnd.TheVariants.{Closed, SourceFault, SinkFault, Memory}
 use Rattle.ipam_data.specs.declared.update.Update.{Update}
@@ -30,18 +30,16 @@ pub record Mirrors (asked : Mirroring) (old new : Outside) (before after : Liste
   pub published : List Update
   pub follows : IsFollowing serves.state serves.last.now.log published
   -- all lanes that were wanted came and went back, without an accept left; the connections of each were answered from the published changes
-  pub sure : Bool
   pub back : List Returned
   pub returned : after.returned ≡ before.returned ++ back
   pub many : length back ≡ asked.readers
   pub lanes : after.lanes ≡ before.lanes + asked.readers
-  pub read : AreReadLanes (Some (lists_of serves.state)) published sure back
+  pub read : AreReadLanes (Some (lists_of serves.state)) published back
 
--- the same, where each accepted change was published, and all that readers saw
+-- the same, where each accepted change was published
 pub record MirrorsAll (asked : Mirroring) (old new : Outside) (before after : ListenerView) (how : SessionEnd) : Type 0 where
   pub mirrors : Mirrors asked old new before after how
   pub all : length mirrors.published ≡ length mirrors.serves.last.now.log
-  pub sure : mirrors.sure ≡ true
 
 -- the output has the answers to all requests of the input
 pub record Finishes (asked : Mirroring) (old new : Outside) (before after : ListenerView) : Type 0 where
@@ -58,16 +56,16 @@ pub record Falters (asked : Mirroring) (old new : Outside) (before after : Liste
       ⊎ (Finishes asked old new before after × ListeningFailed before after)
 
 -- memory ran out for the operator's session, and no count rose but the opener's where a call was answered by a failed keeper; or its session
--- ended so since it ran out to publish an accepted change; or it is not sure that all that readers saw was published
+-- ended so since it ran out to publish an accepted change
 pub record Exhausts (asked : Mirroring) (old new : Outside) (before after : ListenerView) : Type 0 where
   pub how : SessionEnd
   pub mirrors : Mirrors asked old new before after how
   pub cause : ((how ≡ Memory) × NeverRises old.streams new.streams × ((new.stores.faults ≡ old.stores.faults) ⊎ HasFailedCall asked.store old new Memory))
-      ⊎ ((how ≡ Memory) × (length mirrors.published < length mirrors.serves.last.now.log)) ⊎ (mirrors.sure ≡ false)
+      ⊎ ((how ≡ Memory) × (length mirrors.published < length mirrors.serves.last.now.log))
 
 -- the listener could not be bound, or a lane did not come: neither operator nor readers ran, and nothing is said
 pub record HasNoPlace (asked : Mirroring) (old new : Outside) (before after : ListenerView) : Type 0 where
-  pub lanes : HasNoLanes (binding asked.bind asked.connections) before after
+  pub lanes : HasNoLanes (binding asked.bind asked.connections) asked.readers before after
   pub unused : IsUnused old new
   pub silent : new.streams.errors ≡ old.streams.errors
 

@@ -28,7 +28,7 @@ use Rattle.command_mirror.specs.Together.{HasCause}
 
 -- the operator was served by a register that was `first` and is `last`, and the lanes are those of the readers beside it: they were answered
 -- from the published changes, which are the first accepted ones, and where it is whole all of them
-pub record HasMirrored {R K : Type 0} (step : Step R) (told_by : K → Option Tables) (faults_by : K → ℕ) (first last : Kept K) (how : SessionEnd) (whole within : Bool) (lanes : List Returned)
+pub record HasMirrored {R K : Type 0} (step : Step R) (told_by : K → Option Tables) (faults_by : K → ℕ) (first last : Kept K) (how : SessionEnd) (whole : Bool) (lanes : List Returned)
     (from to : R) (read_old read_new wrote_old wrote_new : Told) : Type 0 where
   pub session : IsOwnSession seen_protocol step (owned (seen first.opening (told_by first.keeper)) (map pair_of first.log) (faults_by first.keeper))
       (owned (seen last.opening (told_by last.keeper)) (map pair_of last.log) (faults_by last.keeper)) from to read_old.bytes read_new.bytes wrote_old.bytes wrote_new.bytes how
@@ -37,14 +37,14 @@ pub record HasMirrored {R K : Type 0} (step : Step R) (told_by : K → Option Ta
   pub all : whole ≡ true → length published ≡ length (map pair_of last.log)
   pub lacks : whole ≡ false → length published < length (map pair_of last.log)
   pub memory : (how ≡ Memory) ⊎ (whole ≡ true)
-  pub read : AreReadLanes (Some (lists_of last.opening)) published within lanes
+  pub read : AreReadLanes (Some (lists_of last.opening)) published lanes
   pub cause : HasCause how read_old.faults read_new.faults wrote_old.faults wrote_new.faults
 
 -- the same with the lanes of a listener, all of which came and went back
 pub record HasEnded {R K : Type 0} (step : Step R) (told_by : K → Option Tables) (faults_by : K → ℕ) (asked : Mirroring) (first last : Kept K) (from to : R) (read_old read_new wrote_old wrote_new : Told)
-    (before after : ListenerView) (how : SessionEnd) (whole within : Bool) (heard : Listening) : Type 0 where
+    (before after : ListenerView) (how : SessionEnd) (whole : Bool) (heard : Listening) : Type 0 where
   pub back : List Returned
-  pub mirrored : HasMirrored step told_by faults_by first last how whole within back from to read_old read_new wrote_old wrote_new
+  pub mirrored : HasMirrored step told_by faults_by first last how whole back from to read_old read_new wrote_old wrote_new
   pub returned : after.returned ≡ before.returned ++ back
   pub many : length back ≡ asked.readers
   pub lanes : after.lanes ≡ before.lanes + asked.readers
@@ -62,20 +62,19 @@ abbrev pub HasRun : {R K : Type 0} → Step R → (K → Option Tables) → (K �
 HasRun step told_by faults_by asked first last from to read_old read_new wrote_old wrote_new before after Starved =
     HasNotRun first last read_old read_new wrote_old wrote_new × (after ≡ before)
 HasRun step told_by faults_by asked first last from to read_old read_new wrote_old wrote_new before after Placeless =
-    HasNotRun first last read_old read_new wrote_old wrote_new × HasNoLanes (binding asked.bind asked.connections) before after
-HasRun step told_by faults_by asked first last from to read_old read_new wrote_old wrote_new before after (Ended how whole within heard) =
-    HasEnded step told_by faults_by asked first last from to read_old read_new wrote_old wrote_new before after how whole within heard
+    HasNotRun first last read_old read_new wrote_old wrote_new × HasNoLanes (binding asked.bind asked.connections) asked.readers before after
+HasRun step told_by faults_by asked first last from to read_old read_new wrote_old wrote_new before after (Ended how whole heard) =
+    HasEnded step told_by faults_by asked first last from to read_old read_new wrote_old wrote_new before after how whole heard
 
 -- the status of the command by how it ended: 5 where memory ran out, also to publish a change; 3 where an end or the listener failed
-abbrev pub ended_status : SessionEnd → Bool → Bool → Listening → ℕ
-ended_status how false within heard = 5
-ended_status how true false heard = 5
-ended_status (Closed n) true true heard = listening_status heard
-ended_status SourceFault true true heard = 3
-ended_status SinkFault true true heard = 3
-ended_status Memory true true heard = 5
+abbrev pub ended_status : SessionEnd → Bool → Listening → ℕ
+ended_status how false heard = 5
+ended_status (Closed n) true heard = listening_status heard
+ended_status SourceFault true heard = 3
+ended_status SinkFault true heard = 3
+ended_status Memory true heard = 5
 
 abbrev pub ran_status : Ran → ℕ
 ran_status Starved = 5
 ran_status Placeless = 3
-ran_status (Ended how whole within heard) = ended_status how whole within heard
+ran_status (Ended how whole heard) = ended_status how whole heard

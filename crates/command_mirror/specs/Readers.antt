@@ -1,5 +1,5 @@
 -- Readers before their work and after it, and what is said of the lanes that they leave.
-use Rattle.std.specs.Prelude.{◌≡◌, ◌<◌, ◌≤◌, ℕ, Bool, true, List, [], ◌∷◌, All, length, Option, Some, IfSome, slice_index_or}
+use Rattle.std.specs.Prelude.{◌≡◌, ◌<◌, ◌≤◌, ℕ, List, [], ◌∷◌, All, length, Option, Some, IfSome, slice_index_or}
 use mathlib.Core.List.{IsPrefix}
 use Rattle.ipam_data.specs.declared.update.Update.{Update}
 use Rattle.ipam_listen.specs.Connections.{Connection, Returned}
@@ -52,8 +52,8 @@ AreWithin published [] s t = t ≡ s
 AreWithin published (c ∷ cs) s t = (mid : Seen) × IsServedWhole answers_read c s mid × IsPrefix mid.seen published × AreWithin published cs mid t
 
 -- the connections of a lane that came back were answered, one after another, from one look: at the opening lists, as more and more changes
--- left them. Where it is sure, all that it had seen at the end of each connection begins the published changes
-pub record IsReadLane (opening : Option Lists) (published : List Update) (sure : Bool) (r : Returned) : Type 0 where
+-- left them. All that it had seen at the end of each connection begins the published changes
+pub record IsReadLane (opening : Option Lists) (published : List Update) (r : Returned) : Type 0 where
   pub first : Seen
   pub last : Seen
   pub opening_is : first.opening ≡ opening
@@ -61,9 +61,9 @@ pub record IsReadLane (opening : Option Lists) (published : List Update) (sure :
   pub connections : List Connection
   pub told_are : IfSome r.told (λ all. all ≡ connections)
   pub served : AreServed answers_read connections first last
-  pub begins : sure ≡ true → IsPrefix last.seen published
-  pub each : sure ≡ true → AreWithin published connections first last
+  pub begins : IsPrefix last.seen published
+  pub each : AreWithin published connections first last
   pub none_left : r.accepts ≡ 0
 
-abbrev pub AreReadLanes : Option Lists → List Update → Bool → List Returned → Type 0
-AreReadLanes opening published sure lanes = All (IsReadLane opening published sure) lanes
+abbrev pub AreReadLanes : Option Lists → List Update → List Returned → Type 0
+AreReadLanes opening published lanes = All (IsReadLane opening published) lanes

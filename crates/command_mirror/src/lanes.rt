@@ -15,7 +15,7 @@ fn take_all<L: Listener>(listener: &mut L, wanted: u32, lanes: Vec<L::Door>) -> 
     ensures came { IfSome result (λ came. HaveCome L.Door.told (L.bound listener.old) wanted
         (listener_view L.bound L.lanes L.returned L.faults listener.old) (listener_view L.bound L.lanes L.returned L.faults listener.new) came.items) }
     ensures room { IfSome result (λ came. vec_capacity came ≡ vec_capacity lanes) }
-    ensures none { IfNone result (HasNoLanes (L.bound listener.old)
+    ensures none { IfNone result (HasNoLanes (L.bound listener.old) wanted
         (listener_view L.bound L.lanes L.returned L.faults listener.old) (listener_view L.bound L.lanes L.returned L.faults listener.new)) }
     ensures later { L.faults listener.old ≤ L.faults listener.new }
 {
@@ -43,7 +43,7 @@ pub(crate) fn open_lanes<L: Listener>(
     ensures came { IfSome result (λ came. HaveCome L.Door.told (binding place.items connections) wanted
         (listener_view L.bound L.lanes L.returned L.faults listener.old) (listener_view L.bound L.lanes L.returned L.faults listener.new) came.items) }
     ensures room { IfSome result (λ came. vec_capacity came ≡ vec_capacity lanes) }
-    ensures none { IfNone result (HasNoLanes (binding place.items connections)
+    ensures none { IfNone result (HasNoLanes (binding place.items connections) wanted
         (listener_view L.bound L.lanes L.returned L.faults listener.old) (listener_view L.bound L.lanes L.returned L.faults listener.new)) }
     ensures later { L.faults listener.old ≤ L.faults listener.new }
 {

@@ -34,9 +34,8 @@ pub(crate) enum Ran {
     Starved,
     /// The listener could not be bound, or a lane did not come: neither operator nor readers ran.
     Placeless,
-    /// The operator's session ended so; whether all of its changes were published; whether the readers saw no others; and how the listening
-    /// went.
-    Ended(SessionEnd, bool, bool, Listening),
+    /// The operator's session ended so; whether all of its changes were published; and how the listening went.
+    Ended(SessionEnd, bool, Listening),
 }
 
 /// The register and the lanes behind a mirror, and how it went.
@@ -45,7 +44,6 @@ struct Mirrored<K: Keeper, A> {
     lanes: Vec<A>,
     end: SessionEnd,
     is_whole: bool,
-    is_within: bool,
 }
 
 /// The operator's session and the readers beside it, to their ends.
@@ -67,7 +65,7 @@ fn mirror_all<R: Threads + Wait + Sync, K: Keeper, A: Lane + Send, So: Source, S
     requires many { vec_len looks ≡ vec_len lanes }
     requires none_yet { readers.items ≡ [] }
     requires room { vec_len lanes ≤ vec_capacity readers }
-    ensures mirrored { HasMirrored So.reads K.told K.faults register result.register result.end result.is_whole result.is_within (map (returned_as A.told A.accepts) result.lanes.items)
+    ensures mirrored { HasMirrored So.reads K.told K.faults register result.register result.end result.is_whole (map (returned_as A.told A.accepts) result.lanes.items)
         input.old input.new (told So.left So.faults input.old) (told So.left So.faults input.new) (told Si.written Si.faults output.old) (told Si.written Si.faults output.new) }
     ensures many { vec_len result.lanes ≡ vec_len lanes }
 {
@@ -88,14 +86,13 @@ fn mirror_all<R: Threads + Wait + Sync, K: Keeper, A: Lane + Send, So: Source, S
         is_whole,
         end,
     } = operated;
-    let is_within = dismiss(&feed, readers, &mut lanes);
+    dismiss(rt, &feed, readers, &mut lanes);
     feed.close(rt);
     Mirrored {
         register,
         lanes,
         end,
         is_whole,
-        is_within,
     }
 }
 
@@ -139,12 +136,11 @@ fn mirror_prepared<R: Threads + Wait + Sync, K: Keeper, L: Listener, So: Source,
         lanes,
         end,
         is_whole,
-        is_within,
     } = mirror_all(
         rt, alloc, register, feed, looks, lanes, readers, input, output,
     );
     let heard = give_back_lanes(listener, lanes);
-    (register, Ran::Ended(end, is_whole, is_within, heard))
+    (register, Ran::Ended(end, is_whole, heard))
 }
 
 /// Mirrors a register that has accepted nothing: takes all memory, binds the listener and takes a lane for each reader, and then lets the

@@ -1,6 +1,6 @@
 //! Readers, each with a look and a lane of its own.
 
-ghost use Rattle.std.specs.Prelude.{◌≡◌, ◌≤◌, [], All, IfSome, Some, true, length, map, vec_capacity, vec_len};
+ghost use Rattle.std.specs.Prelude.{◌≡◌, ◌≤◌, [], All, IfSome, Some, length, map, vec_capacity, vec_len};
 ghost use Rattle.http_lanes.specs.Listened.{returned_as};
 ghost use Rattle.snapshot_reads.specs.Seen.{IsNewLook};
 ghost use Rattle.command_mirror.specs.Readers.{AllHaveRead, AreReadLanes, HasRead, IsFresh, IsRead, IsReady, look_of};
@@ -11,6 +11,7 @@ use snapshot_reads::{Feed, Look};
 use snapshot_session::ReaderHandler;
 use std::alloc::Global;
 use std::marker::{Send, Sync};
+use std::sync::Wait;
 use std::thread::{Threads, for_each_mut};
 
 /// A look at what is published, and the lane of the connections that are answered from it.
@@ -88,31 +89,27 @@ pub(crate) fn pair_up<A: Lane>(
     }
 }
 
-/// Whether both are so.
-fn both(one: bool, other: bool) -> bool
-    ensures { result ≡ true → (one ≡ true) × (other ≡ true) }
-{
-    one && other
-}
-
-/// Puts the lanes of readers together, the last reader's first, and tells whether the feed published all that each of their looks saw: it
-/// always did, but no clause of a look says so. There is room for the lanes: it takes no memory.
-pub(crate) fn dismiss<A: Lane>(feed: &Feed, readers: Vec<ReaderLane<A>>, lanes: &mut Vec<A>) -> bool
+/// Puts the lanes of readers together, the last reader's first. The feed published all that each of their looks saw. There is room for the
+/// lanes: it takes no memory.
+pub(crate) fn dismiss<R: Wait, A: Lane>(
+    rt: &R,
+    feed: &Feed,
+    readers: Vec<ReaderLane<A>>,
+    lanes: &mut Vec<A>,
+)
     requires read { All (λ r. IsRead A.told A.accepts (look_of feed.now) r.look r.lane) readers.items }
     requires none_yet { lanes.old.items ≡ [] }
     requires room { vec_len readers ≤ vec_capacity lanes.old }
-    ensures read { AreReadLanes feed.now.opening feed.now.published result (map (returned_as A.told A.accepts) lanes.new.items) }
+    ensures read { AreReadLanes feed.now.opening feed.now.published (map (returned_as A.told A.accepts) lanes.new.items) }
     ensures all { vec_len lanes.new ≡ vec_len readers }
 {
     let mut left = readers;
-    let mut within = true;
     while let Some(reader) = left.pop() {
         let ReaderLane { look, lane } = reader;
         let Some(look) = look else { unreachable!() };
-        within = both(look.is_within(feed), within);
+        look.follow(rt, feed);
         drop(look);
         lanes.push_reserved(lane);
     }
     left.destroy_empty();
-    within
 }

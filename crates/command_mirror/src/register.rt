@@ -41,8 +41,8 @@ fn status_of(ran: Ran) -> u8
     match ran {
         Ran::Starved => MEMORY,
         Ran::Placeless => FAULT,
-        Ran::Ended(end, is_whole, is_within, heard) => {
-            if !is_whole || !is_within {
+        Ran::Ended(end, is_whole, heard) => {
+            if !is_whole {
                 return MEMORY;
             }
             match end {

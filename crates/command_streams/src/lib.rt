@@ -5,9 +5,11 @@ ghost use Rattle.std.specs.Prelude.{◌≡◌, ◌≤◌};
 ghost use Rattle.command_streams.specs.Streams.{EndsWith, IsUsage, Told, streams, told};
 
 mod arguments;
+mod line;
 
 pub use arguments::{NoArguments, words_given, words_of};
 use ipam_edge::{Sink, write_all};
+pub use line::{LINE, push_bytes};
 
 /// Done.
 pub const DONE: u8 = 0;

@@ -1,10 +1,17 @@
 -- What the process ends with: the status of one run over standard streams, or that of arguments which are no text.
-use Rattle.std.proofs.Common.{◌≡◌, ℕ, List, None, inl, inr, refl, sym, subst}
+use Rattle.std.specs.Prelude.{map, string_bytes}
+use Rattle.std.proofs.Common.{◌≡◌, ℕ, List, None, Result, Ok, Err, inl, inr, refl, sym, subst}
+use Rattle.std.specs.declared.io.Error.{Error}
+use Rattle.std.specs.declared.string.String.{String}
+use Rattle.std.specs.declared.vec.IntoIter.{IntoIter}
+use Rattle.std.specs.declared.vec.Vec.{Vec}
+use Rattle.command_streams.specs.Arguments.{AreWords}
+use Rattle.command_streams.specs.declared.arguments.NoArguments.TheVariants.{NoText, Memory}
 use Rattle.command_streams.specs.Streams.{Streams, Told, streams, IsUsage}
 use Rattle.command_store.specs.Outside.{Stores, outside}
 use Rattle.machine_serving.specs.Views.{ListenerView}
 use Rattle.ipam_command.specs.Runs.{Runs, SaysUsage}
-use Rattle.ipam_command.specs.Program.{AreUntold, RunsOver, HasNoText}
+use Rattle.ipam_command.specs.Program.{AreUntold, IsEnding, RunsOver, SaysNoText}
 
 -- a stream that tells nothing and has not failed
 abbrev untold : Told
@@ -31,10 +38,29 @@ not_run words stores view status five = (
 
 -- the usage line was said to standard error
 pub says_usage : (old new : Told) (stores : Stores) (view : ListenerView) (status said : ℕ) → old.bytes ≡ None → old.faults ≡ 0 → status ≡ said
-    → ((input output : Told) → IsUsage (streams input output old) (streams input output new) said) → HasNoText stores stores view view status
+    → ((input output : Told) → IsUsage (streams input output old) (streams input output new) said) → SaysNoText stores stores view view status
 says_usage old new stores view status said bytes faults same usage = (
   streams untold untold old,
   streams untold untold new,
   record { input = record { bytes = refl; faults = refl }; output = record { bytes = refl; faults = refl }; errors = record { bytes = bytes; faults = faults } },
   subst (λ (n : ℕ). SaysUsage (outside (streams untold untold old) stores) (outside (streams untold untold new) stores) view view n) (sym same) (usage untold untold, refl, refl),
 )
+
+-- the words of the arguments were run
+pub ended : {Y Z W : Type 0} (given : Result (IntoIter (String Y) Z) Error) (words : Vec (String Y) W) (stores_before stores_after : Stores) (before after : ListenerView) (status : ℕ)
+    → AreWords given (Ok words) → RunsOver (map string_bytes words.items) stores_before stores_after before after status → IsEnding given stores_before stores_after before after status
+ended (Ok args) words stores_before stores_after before after status are runs =
+    subst (λ (w : List (List ℕ)). RunsOver w stores_before stores_after before after status) are runs
+ended (Err error) words stores_before stores_after before after status are runs = absurd are
+
+-- an argument is no text
+pub ended_without_text : {Y Z W : Type 0} (given : Result (IntoIter (String Y) Z) Error) (stores_before stores_after : Stores) (before after : ListenerView) (status : ℕ)
+    → AreWords {W = W} given (Err NoText) → SaysNoText stores_before stores_after before after status → IsEnding given stores_before stores_after before after status
+ended_without_text (Ok args) stores_before stores_after before after status are says = absurd are
+ended_without_text (Err error) stores_before stores_after before after status are says = inl (are, says)
+
+-- memory ran out for them
+pub ended_without_memory : {Y Z W : Type 0} (given : Result (IntoIter (String Y) Z) Error) (stores : Stores) (view : ListenerView) (status : ℕ) → AreWords {W = W} given (Err Memory) → status ≡ 5
+    → IsEnding given stores stores view view status
+ended_without_memory (Ok args) stores view status are five = not_run _ stores view status five
+ended_without_memory (Err error) stores view status are five = inr (are, five, refl, refl)

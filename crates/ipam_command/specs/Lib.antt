@@ -4,3 +4,4 @@ pub mod Limits
 pub mod Program
 pub mod Exact
 pub mod Opened
+pub mod Headlines

@@ -1,5 +1,9 @@
 -- What the process ends with: the status of one run over the standard streams.
-use Rattle.std.specs.Prelude.{◌≡◌, ℕ, ◌⊎◌, List, None}
+use Rattle.std.specs.Prelude.{◌≡◌, ℕ, ◌⊎◌, List, None, Result, Ok, Err}
+use Rattle.std.specs.declared.io.Error.{Error}
+use Rattle.std.specs.declared.string.String.{String}
+use Rattle.std.specs.declared.vec.IntoIter.{IntoIter}
+use Rattle.command_streams.specs.Arguments.{HasNoText, words_behind}
 use Rattle.command_streams.specs.Streams.{Streams, Told}
 use Rattle.command_store.specs.Outside.{Stores, outside}
 use Rattle.machine_serving.specs.Views.{ListenerView}
@@ -21,13 +25,19 @@ abbrev pub RunsOver : List (List ℕ) → Stores → Stores → ListenerView →
 RunsOver words stores_before stores_after before after status =
     (old : Streams) × (new : Streams) × AreUntold old × Runs words (outside old stores_before) (outside new stores_after) before after status
 
--- the arguments are no text: the usage line was said, and nothing else was used
-abbrev pub HasNoText : Stores → Stores → ListenerView → ListenerView → ℕ → Type 0
-HasNoText stores_before stores_after before after status =
+-- the usage line was said, and nothing else was used
+abbrev pub SaysNoText : Stores → Stores → ListenerView → ListenerView → ℕ → Type 0
+SaysNoText stores_before stores_after before after status =
     (old : Streams) × (new : Streams) × AreUntold old × SaysUsage (outside old stores_before) (outside new stores_after) before after status
 
--- the process ends with the status of a run of some words, its arguments, or with that of arguments that are no text
-abbrev pub IsEnding : Stores → Stores → ListenerView → ListenerView → ℕ → Type 0
-IsEnding stores_before stores_after before after status =
-    ((words : List (List ℕ)) × RunsOver words stores_before stores_after before after status)
-    ⊎ HasNoText stores_before stores_after before after status
+-- nothing was used, and the status is that of out of memory
+abbrev pub HasNotBegun : Stores → Stores → ListenerView → ListenerView → ℕ → Type 0
+HasNotBegun stores_before stores_after before after status = (status ≡ 5) × (stores_after ≡ stores_before) × (after ≡ before)
+
+-- what a process ends with that was given these arguments: the status of a run of their words, all but the program's name; or, where one of
+-- them is no text, that of the usage line; or that of out of memory, where the system had none to give them
+abbrev pub IsEnding : {Y Z : Type 0} → Result (IntoIter (String Y) Z) Error → Stores → Stores → ListenerView → ListenerView → ℕ → Type 0
+IsEnding (Ok given) stores_before stores_after before after status = RunsOver (words_behind given) stores_before stores_after before after status
+IsEnding (Err error) stores_before stores_after before after status =
+    (HasNoText error × SaysNoText stores_before stores_after before after status)
+    ⊎ ((¬ HasNoText error) × HasNotBegun stores_before stores_after before after status)

@@ -5,6 +5,7 @@ ghost use Rattle.std.specs.Prelude.{List, map, ℕ};
 ghost use Rattle.command_words.specs.Asked.{Asks};
 ghost use Rattle.command_streams.specs.Streams.{streams, told};
 ghost use Rattle.ipam_command.specs.Clauses.{RunsHaveClauses};
+ghost use Rattle.ipam_command.specs.Headlines.{HasHeadlines};
 ghost use Rattle.command_store.specs.Outside.{Stores, outside, stores};
 ghost use Rattle.machine_serving.specs.Views.{listener_view};
 ghost use Rattle.ipam_command.specs.Runs.{Answers, Runs};
@@ -27,6 +28,7 @@ use command_zones::{run_reverse, run_reverse_read};
 pub use entry::program;
 pub use exact::runs_are_exact;
 use ipam_edge::{Sink, Source};
+use ipam_headline::headlines_hold;
 use ipam_keeper::keeper::KeeperOpener;
 use ipam_listen::Listener;
 pub use limits::limits_are;
@@ -98,10 +100,8 @@ fn run_command<
     }
 }
 
-/// Runs the program: the words behind its name, the input, the output, where messages go, a listener, and what opens stores. It
-/// gives the status: 0 done, 1 the input or a store breaks a stated rule, 2 the words
-/// are no command, 3 the input, the output, the messages or the listener failed, 4 the store failed, 5 out of memory.
-pub fn run<R: Threads + Wait + Sync, So: Source, Si: Sink, Se: Sink, L: Listener, O: KeeperOpener>(
+/// Runs the command that the words ask for.
+fn run_read<R: Threads + Wait + Sync, So: Source, Si: Sink, Se: Sink, L: Listener, O: KeeperOpener>(
     rt: &R,
     alloc: Global,
     words: &[&str],
@@ -123,6 +123,33 @@ pub fn run<R: Threads + Wait + Sync, So: Source, Si: Sink, Se: Sink, L: Listener
         Ok(None) => say_usage(errors),
         Err(_) => MEMORY,
     }
+}
+
+/// Runs the program: the words behind its name, the input, the output, where messages go, a listener, and what opens stores. It
+/// gives the status: 0 done, 1 the input or a store breaks a stated rule, 2 the words
+/// are no command, 3 the input, the output, the messages or the listener failed, 4 the store failed, 5 out of memory. Callers that were
+/// served had one register, with one history.
+pub fn run<R: Threads + Wait + Sync, So: Source, Si: Sink, Se: Sink, L: Listener, O: KeeperOpener>(
+    rt: &R,
+    alloc: Global,
+    words: &[&str],
+    input: &mut So,
+    output: &mut Si,
+    errors: &mut Se,
+    listener: &mut L,
+    opener: &mut O,
+) -> u8
+    ensures runs { Runs (map (λ w. w.now) words.now)
+        (outside (streams (told So.left So.faults input.old) (told Si.written Si.faults output.old) (told Se.written Se.faults errors.old)) (stores O.stored O.faults opener.old))
+        (outside (streams (told So.left So.faults input.new) (told Si.written Si.faults output.new) (told Se.written Se.faults errors.new)) (stores O.stored O.faults opener.new))
+        (listener_view L.bound L.lanes L.returned L.faults listener.old) (listener_view L.bound L.lanes L.returned L.faults listener.new) result }
+    ensures headline { HasHeadlines (map (λ w. w.now) words.now)
+        (outside (streams (told So.left So.faults input.old) (told Si.written Si.faults output.old) (told Se.written Se.faults errors.old)) (stores O.stored O.faults opener.old))
+        (outside (streams (told So.left So.faults input.new) (told Si.written Si.faults output.new) (told Se.written Se.faults errors.new)) (stores O.stored O.faults opener.new))
+        (listener_view L.bound L.lanes L.returned L.faults listener.old) (listener_view L.bound L.lanes L.returned L.faults listener.new) result }
+{
+    headlines_hold();
+    run_read(rt, alloc, words, input, output, errors, listener, opener)
 }
 
 /// A law: the one relation of a run gives each promise of the program.

@@ -1,32 +1,45 @@
--- What is known of a served store gives the headline, by the laws of the register.
-use Rattle.std.proofs.Common.{◌≡◌, ◌⊎◌, inl, inr, ℕ, zero, suc, ◌==◌, Bool, true, false, cond, All, Contains, List, [], ◌∷◌, map, take, Some, Result, Ok, Err, refl, ap, sym, ◌∙◌, subst, arith}
+-- What the commands ensure of a store gives the headline, by the laws of the register.
+use Rattle.std.proofs.Common.{◌≡◌, ◌⊎◌, inl, inr, ℕ, zero, suc, List, [], ◌∷◌, map, take, Some, refl, ap, sym, ◌∙◌, subst}
 use Rattle.std.specs.List.{AllByRecursion, slice_get}
-use Rattle.std.proofs.lemmas.List.Elements.{All-from_recursion, recursion_from_All}
-use Rattle.history_lock.specs.Replay.{replay, own_entries}
-use Rattle.history_lock.specs.Replies.{ReplyKind, accepted, fault, memory, plain, grown}
-use Rattle.http_session.specs.Requests.{Framed}
-use Rattle.http_session.specs.Talk.{Answer, May}
-use Rattle.ipam_json.specs.declared.replies.Links.{Links}
-use Rattle.machine_session.specs.Told.{Standing, IsAnswerIn, answers_in, newcomer}
-use Rattle.machine_session.proofs.Carried.{IsCarried}
-use Rattle.machine_workers.proofs.CarriedOver.{served_ahead}
-use Rattle.machine_server.specs.History.{Shift, IsShift, HasItsChanges, IsHistoryOf}
+use Rattle.history_lock.specs.Replay.{replay}
+use Rattle.history_lock.specs.Replies.{accepted}
+use Rattle.ipam_listen.specs.Connections.{Ends, ends_of}
+use Rattle.machine_answers.specs.Answers.{AreCallers, Caller, IsChange}
+use Rattle.machine_answers.specs.Laws.{HasCaller, HasCallers}
+use Rattle.machine_answers.proofs.Flat.{served as listed_served}
+use Rattle.machine_answers.proofs.Entries.{entries}
+use Rattle.machine_answers.proofs.Alone.{alone as listed_alone}
+use Rattle.machine_serving.specs.Views.{ListenerView}
+use Rattle.http_session.specs.declared.session.SessionEnd.{SessionEnd}
 use Rattle.rest_ipam.specs.Protocol.{register_protocol}
-use Rattle.ipam_data.specs.declared.replies.Refusal.{Refusal}
-use Rattle.ipam_data.proofs.RowLists.{contains_cases, contains_head, contains_rest, eq_true}
+use Rattle.register_core.specs.Machines.{kind_of}
 use Rattle.ipam_data.specs.declared.calls.Call.{Call}
 use Rattle.ipam_data.specs.declared.calls.Call.TheVariants.{ClaimBlocks, ClaimPrefixAddrs, ClaimRangeAddrs}
+use Rattle.ipam_data.specs.declared.replies.Reply.{Reply}
+use Rattle.ipam_data.specs.declared.replies.Reply.TheVariants.{Made, MadeMany, Changed, Gone, Imported, One, Page, Blocks, Addrs, Percent, Rows, Lines, Refused}
+use Rattle.ipam_data.specs.declared.replies.Refusal.{Refusal}
+use Rattle.ipam_data.specs.declared.replies.Refusal.TheVariants.{BadHead, TooLarge, Coding, NoRoute, Method, BadJson, Field, NotFound, Rule as Breaks, InUse, NoSpace, Limit, Keeper, Memory, Row}
 use Rattle.ipam_data.specs.Addresses.{address_rules}
 use Rattle.ipam_data.specs.Prefixes.{prefix_rules}
 use Rattle.ipam_data.specs.State.{State}
-use Rattle.ipam_data.specs.Steps.{plain_step}
-use Rattle.ipam_data.specs.Replays.{Entry}
+use Rattle.ipam_data.specs.Steps.{plain_step, HasCallBounds}
+use Rattle.ipam_data.specs.Replays.{Entry, is_accepted}
 use Rattle.ipam_data.specs.Replays as calls
 use Rattle.ipam_data.specs.Lawful.{IsLawful, StepsKeepLawful}
 use Rattle.claim_laws.specs.Rows.{IsListed, IsMade, StepsKeepListed}
 use Rattle.claim_laws.specs.Claims.{ClaimsAreNew, RefusedOnlyIfNoneFits}
 use Rattle.claim_laws.specs.Histories.{AreBounded, ClaimsNeverMeet}
-use Rattle.ipam_headline.specs.Headline.{IsAskedFor, RequestsAreBounded, entry_of, state_after, GetsTheLeast, GetsFreeBlocks, AddressesApart, BlocksApart, HeadlineHolds}
+use Rattle.snapshot_operator.specs.Shown.{NumbersAreStates}
+use Rattle.command_words.specs.declared.asked.Mirroring.{Mirroring}
+use Rattle.command_words.specs.declared.asked.Serving.{Serving}
+use Rattle.command_words.specs.declared.asked.Store.{Store}
+use Rattle.command_store.specs.Outside.{Outside}
+use Rattle.command_serve.specs.Serve.{ServesStore}
+use Rattle.command_session.specs.Session.{Serves}
+use Rattle.command_mirror.specs.Mirror.{Mirrors}
+use Rattle.ipam_headline.specs.Claims.{entry_of, state_after, EachEntry, GetsTheLeast, GetsFreeBlocks, AddressesApart, BlocksApart}
+use Rattle.ipam_headline.specs.Headline.{Alone, Headline, Mirrored, Served}
+use Rattle.ipam_headline.specs.Laws.{HeadlinesHold}
 
 -- ---- the two ways to say a history
 
@@ -59,14 +72,14 @@ lawful_at law s history zero h b = h
 lawful_at law s [] (suc n) h b = h
 lawful_at law s (e ∷ es) (suc n) h b = lawful_at law (plain_step s e.1).0 es n (law s e.1 h b.0) b.1
 
-gets_least : ClaimsAreNew → (s : State) (call : Call) → IsListed s → GetsTheLeast s call
-gets_least new s (ClaimPrefixAddrs n form items) h = λ a. new.in_prefixes s n form items h a
-gets_least new s (ClaimRangeAddrs n form items) h = λ a. new.in_ranges s n form items h a
-gets_least new s call h = tt
+gets_least : ClaimsAreNew → (s : State) (call : Call) → IsListed s → is_accepted (plain_step s call).1 ≡ true → GetsTheLeast s call
+gets_least new s (ClaimPrefixAddrs n form items) h a = new.in_prefixes s n form items h a
+gets_least new s (ClaimRangeAddrs n form items) h a = new.in_ranges s n form items h a
+gets_least new s call h a = tt
 
-gets_blocks : ClaimsAreNew → (s : State) (call : Call) → IsLawful s → GetsFreeBlocks s call
-gets_blocks new s (ClaimBlocks n form items) h = λ a. new.of_blocks s n form items h a
-gets_blocks new s call h = tt
+gets_blocks : ClaimsAreNew → (s : State) (call : Call) → IsLawful s → is_accepted (plain_step s call).1 ≡ true → GetsFreeBlocks s call
+gets_blocks new s (ClaimBlocks n form items) h a = new.of_blocks s n form items h a
+gets_blocks new s call h a = tt
 
 module _ (never : ClaimsNeverMeet) (opening : State) (history : List (ℕ × Call)) where
   addresses_apart : IsListed opening → AddressesApart opening history
@@ -81,107 +94,140 @@ module _ (never : ClaimsNeverMeet) (opening : State) (history : List (ℕ × Cal
       (subst (λ (s : State). IsMade prefix_rules s one.1 x) (sym (same_state opening history i)) c)
       (subst (λ (s : State). IsMade prefix_rules s other.1 y) (sym (same_state opening history j)) d) v
 
--- ---- each entry was asked for
+-- ---- an accepted change, by its kind
 
-abbrev Asked : ℕ × Call → Type 0
-Asked entry = IsAskedFor entry.1
+refused_kind : (refusal : Refusal) → kind_of (Refused refusal) ≡ accepted → ⊥
+refused_kind BadHead e = cc
+refused_kind (TooLarge part) e = cc
+refused_kind Coding e = cc
+refused_kind NoRoute e = cc
+refused_kind Method e = cc
+refused_kind BadJson e = cc
+refused_kind (Field member) e = cc
+refused_kind (NotFound kind n) e = cc
+refused_kind (Breaks rule) e = cc
+refused_kind (InUse kind n) e = cc
+refused_kind (NoSpace n) e = cc
+refused_kind (Limit which n) e = cc
+refused_kind Keeper e = cc
+refused_kind Memory e = cc
+refused_kind (Row n why) e = cc
 
-grown_all : (kind : ReplyKind) (e : ℕ × Call) (xs : List (ℕ × Call)) → AllByRecursion Asked xs → Asked e → AllByRecursion Asked (grown kind e xs)
-grown_all accepted e [] h q = (q, tt)
-grown_all accepted e (x ∷ xs) h q = (h.0, grown_all accepted e xs h.1 q)
-grown_all fault e xs h q = h
-grown_all memory e xs h q = h
-grown_all plain e xs h q = h
+is_change : (reply : Reply) → kind_of reply ≡ accepted → is_accepted reply ≡ true
+is_change (Made view) e = refl
+is_change (MadeMany views) e = refl
+is_change (Changed view) e = refl
+is_change Gone e = refl
+is_change (Imported created present) e = refl
+is_change (One view) e = cc
+is_change (Page count views) e = cc
+is_change (Blocks vrf list) e = cc
+is_change (Addrs vrf len list) e = cc
+is_change (Percent figure) e = cc
+is_change (Rows rows) e = cc
+is_change (Lines lines) e = cc
+is_change (Refused refusal) e = absurd (refused_kind refusal e)
 
-contained : {T : Type 0} (Q : T → Type 0) (xs : List T) (x : T) → AllByRecursion Q xs → Contains xs x → Q x
-contained Q [] x h c = let l = c.1 in absurd (omega arith)
-contained Q (y ∷ ys) x h c = elim (contains_cases y x ys c) [ inl e ↦ subst Q e h.0 | inr d ↦ contained Q ys x h.1 d ]
+-- ---- a history, by its entries
 
-all_of : {T : Type 0} (Q : T → Type 0) (xs : List T) → ((x : T) → Contains xs x → Q x) → AllByRecursion Q xs
-all_of Q [] f = tt
-all_of Q (x ∷ xs) f = (f x (contains_head x xs), all_of Q xs (λ y c. f y (contains_rest x y xs c)))
+-- the laws of the register
+pub record Laws : Type 0 where
+  pub lawful : StepsKeepLawful
+  pub listed : StepsKeepListed
+  pub new : ClaimsAreNew
+  pub space : RefusedOnlyIfNoneFits
+  pub never : ClaimsNeverMeet
+  pub states : NumbersAreStates
 
-contains_own : (n : ℕ) (history : List (ℕ × Call)) (e : ℕ × Call) → Contains history e → (e.0 == n) ≡ true → Contains (own_entries n history) e
-contains_own n [] e c t = let l = c.1 in absurd (omega arith)
-contains_own n (f ∷ fs) e c t = go (f.0 == n) refl (contains_cases f e fs c) (λ d. contains_own n fs e d t)
-  where
-    go : (b : Bool) → (f.0 == n) ≡ b → (f ≡ e) ⊎ Contains fs e → (Contains fs e → Contains (own_entries n fs) e) → Contains (cond b (f ∷ own_entries n fs) (own_entries n fs)) e
-    go true b (inl q) ih = (0, omega arith, q)
-    go true b (inr d) ih = contains_rest f e (own_entries n fs) (ih d)
-    go false b (inl q) ih = (let w : false ≡ true = sym b ∙ ap (λ (x : ℕ × Call). x.0 == n) q ∙ t in cc)
-    go false b (inr d) ih = ih d
+all_from_get : {T : Type 0} (Q : T → Type 0) (xs : List T) → ((n : ℕ) (x : T) → slice_get xs n ≡ Some x → Q x) → AllByRecursion Q xs
+all_from_get Q [] f = tt
+all_from_get Q (x ∷ xs) f = (f 0 x refl, all_from_get Q xs (λ n y at. f (suc n) y at))
 
-module _ (opening : State) (history : List (ℕ × Call)) where
-  abbrev may : ℕ → May (Standing Call)
-  may number = answers_in register_protocol opening history number
+all_of_map : (xs : List (ℕ × Call)) → AllByRecursion (λ (e : ℕ × Call). HasCallBounds e.1) xs → AreBounded (map entry_of xs)
+all_of_map [] h = tt
+all_of_map (x ∷ xs) h = (h.0, all_of_map xs h.1)
 
-  abbrev Made : Standing Call → Type 0
-  Made s = AllByRecursion Asked s.made
+-- each entry is a change
+abbrev AreChanges : State → List (ℕ × Call) → Type 0
+AreChanges opening history =
+    (n : ℕ) (who : ℕ) (call : Call) → slice_get history n ≡ Some (who, call) → IsChange register_protocol opening (take n history) call
 
-  asked_ahead : (number : ℕ) (s : Standing Call) (r : Framed) (a : Answer) (t : Standing Call) → (may number).answers s r a t → Made s → Made t
-  asked_ahead number s r a t k x = go k.0 k.1 k.2
-    where
-      go : (asked : Result (Call × Links) Refusal) → register_protocol.asks r asked → IsAnswerIn register_protocol opening history number s r asked a t → Made t
-      go (Ok asked) q k = subst (AllByRecursion Asked) (sym k.2.made) (grown_all (register_protocol.kind k.0) (number, asked.0) s.made x (r, asked.1, q))
-      go (Err why) q k = subst Made (sym k.1) x
+accepted_at : (opening : State) (history : List (ℕ × Call)) → AreChanges opening history → (n : ℕ) (who : ℕ) (call : Call) → slice_get history n ≡ Some (who, call)
+    → is_accepted (plain_step (state_after opening history n) call).1 ≡ true
+accepted_at opening history change n who call at = let k = change n who call at in ap is_accepted (sym k.same) ∙ is_change k.reply k.kind
 
-  carried : (number : ℕ) → IsCarried (may number) (may number) (λ s. s) Made (λ s. Unit {0})
-  carried number = record { ahead = asked_ahead number; behind = λ s r a t k y. y; carry = λ s r a t k x y. k; refuse = λ why a k. k }
+bounded : (opening : State) (history : List (ℕ × Call)) → AreChanges opening history → AreBounded (map entry_of history)
+bounded opening history change =
+    all_of_map history (all_from_get (λ (e : ℕ × Call). HasCallBounds e.1) history (λ n e at. (change n e.0 e.1 at).asked.bounded))
 
-  shift_made : (shift : Shift Call) → IsShift register_protocol opening history shift → Made shift.reached
-  shift_made shift k = served_ahead (may shift.number) (may shift.number) (λ s. s) Made (λ s. Unit {0}) (carried shift.number) shift.connections newcomer shift.reached k tt
-
-  record IsOf (n : ℕ) : Type 0 where
-    shift : Shift Call
-    answered : IsShift register_protocol opening history shift
-    changes : HasItsChanges history shift
-    number : shift.number ≡ n
-
-  shift_of : (shifts : List (Shift Call)) (n : ℕ) → AllByRecursion (IsShift register_protocol opening history) shifts → AllByRecursion (HasItsChanges history) shifts
-      → Contains (map (λ shift. shift.number) shifts) n → IsOf n
-  shift_of [] n a b c = let l = c.1 in absurd (omega arith)
-  shift_of (s ∷ ss) n a b c = elim (contains_cases s.number n (map (λ shift. shift.number) ss) c) [
-    | inl e ↦ record { shift = s; answered = a.0; changes = b.0; number = e }
-    | inr d ↦ shift_of ss n a.1 b.1 d
-  ]
-
-  entries_asked : (shifts : List (Shift Call)) → IsHistoryOf register_protocol opening history shifts → All Asked history
-  entries_asked shifts h =
-      All-from_recursion Asked history (all_of Asked history (λ e c.
-      let who = contained (λ (x : ℕ × Call). Contains (map (λ shift. shift.number) shifts) x.0) history e (recursion_from_All (λ (x : ℕ × Call). Contains (map (λ shift. shift.number) shifts) x.0) history h.nobody_else) c in
-      let of = shift_of shifts e.0 (recursion_from_All (IsShift register_protocol opening history) shifts h.answered) (recursion_from_All (HasItsChanges history) shifts h.changes) who in
-      let own : Contains (own_entries of.shift.number history) e = contains_own of.shift.number history e c (eq_true e.0 of.shift.number (sym of.number)) in
-      contained Asked of.shift.reached.made e (shift_made of.shift of.answered) (subst (λ (xs : List (ℕ × Call)). Contains xs e) of.changes own)))
-
--- so each is within its bounds where requests are
-all_bounded : RequestsAreBounded → (history : List (ℕ × Call)) → AllByRecursion Asked history → AreBounded (map entry_of history)
-all_bounded law [] h = tt
-all_bounded law (e ∷ es) h = (law h.0.0.method h.0.0.target h.0.0.body e.1 h.0.1 h.0.2, all_bounded law es h.1)
-
-pub headline : StepsKeepLawful → StepsKeepListed → ClaimsAreNew → RefusedOnlyIfNoneFits → ClaimsNeverMeet → HeadlineHolds
-headline lawful listed new space never serving old new_ before after entries h =
-    let is : IsLawful h.state = h.loaded.2.lawful in
-    let in_order : IsListed h.state = listed.lawful h.state is in
-    let asked : All Asked h.history = entries_asked h.state h.history h.served.shifts h.served.one_history in
-    let bounded : RequestsAreBounded → AreBounded (map entry_of h.history) = λ law. all_bounded law h.history (recursion_from_All Asked h.history asked) in
+headline : Laws → (opening : State) (history : List (ℕ × Call)) → IsLawful opening → (callers : List (Caller Call Reply)) → AreCallers register_protocol opening history callers
+    → Headline opening history callers
+headline laws opening history is callers are =
+    let change : AreChanges opening history = entries register_protocol opening history callers are in
+    let in_order : IsListed opening = laws.listed.lawful opening is in
+    let all : AreBounded (map entry_of history) = bounded opening history change in
     record {
-      opening = h.state;
-      stood = h.loaded;
-      history = h.history;
+      answers = are;
+      entries = change;
+      least = λ n who call at. gets_least laws.new (state_after opening history n) call (listed_at laws.listed opening history n in_order) (accepted_at opening history change n who call at);
+      space = laws.space;
+      addresses = addresses_apart laws.never opening history in_order;
+      carved = λ n who call at. gets_blocks laws.new (state_after opening history n) call (lawful_at laws.lawful opening history n is all) (accepted_at opening history change n who call at);
+      blocks = blocks_apart laws.never opening history is all;
+    }
+
+-- ---- the commands
+
+served : Laws → (serving : Serving) (old new : Outside) (before after : ListenerView) (entries : ℕ) → ServesStore serving old new before after entries
+    → Served serving.store old new before after entries
+served laws serving old new before after entries h =
+    let of : HasCallers register_protocol h.state h.history h.served.back =
+    listed_served register_protocol h.state h.history h.served.back h.served.shifts h.served.one_history h.served.lanes in
+    record {
+      callers = of.callers;
+      kept = record {
+        opening = h.state;
+        stood = h.loaded;
+        history = h.history;
+        headline = headline laws h.state h.history h.loaded.2.lawful of.callers of.are;
+        holds = h.holds;
+      };
       counted = h.entries_are;
-      shifts = h.served.shifts;
       back = h.served.back;
       returned = h.served.returned;
-      lanes = h.served.lanes;
-      answers = h.served.one_history.answered;
-      changes = h.served.one_history.changes;
-      numbers = h.served.one_history.numbers;
-      nobody_else = h.served.one_history.nobody_else;
-      asked = asked;
-      least = λ n who call q. gets_least new (state_after h.state h.history n) call (listed_at listed h.state h.history n in_order);
-      space = space;
-      addresses = addresses_apart never h.state h.history in_order;
-      carved = λ b n who call q. gets_blocks new (state_after h.state h.history n) call (lawful_at lawful h.state h.history n is (bounded b));
-      blocks = λ b. blocks_apart never h.state h.history is (bounded b);
-      holds = h.holds;
+      lanes = of.lanes;
     }
+
+alone : Laws → (store : Store) (old new : Outside) (how : SessionEnd) → Serves store old new how → Alone store old new
+alone laws store old new how h =
+    let before : Ends = ends_of old.streams.input.bytes old.streams.output.bytes old.streams.input.faults old.streams.output.faults in
+    let after : Ends = ends_of new.streams.input.bytes new.streams.output.bytes new.streams.input.faults new.streams.output.faults in
+    let history = h.last.now.log in
+    let of : HasCaller register_protocol h.state history before after = listed_alone register_protocol h.state h.last before after h.bytes how h.grown h.ends in
+    record {
+      caller = of.caller;
+      kept = record {
+        opening = h.state;
+        stood = h.loaded;
+        history = history;
+        headline = headline laws h.state history h.loaded.2.lawful (of.caller ∷ []) of.are;
+        holds = h.holds;
+      };
+      streams = of.connections_are;
+    }
+
+mirrored : Laws → (asked : Mirroring) (old new : Outside) (before after : ListenerView) (how : SessionEnd) (m : Mirrors asked old new before after how)
+    → Mirrored asked.store old new before after m.sure
+mirrored laws asked old new before after how m =
+    record {
+      operator = alone laws asked.store old new how m.serves;
+      published = m.published;
+      back = m.back;
+      returned = m.returned;
+      read = m.read;
+      few = m.follows.few;
+      places = λ n call reply le said. laws.states m.serves.state m.serves.last.now.log m.published n call reply m.follows le said;
+    }
+
+pub headlines : Laws → HeadlinesHold
+headlines laws = record { serve = served laws; session = alone laws; mirror = mirrored laws }

@@ -1,1 +1,3 @@
+pub mod Claims
 pub mod Headline
+pub mod Laws

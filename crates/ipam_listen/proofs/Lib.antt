@@ -1,3 +1,4 @@
+pub mod Clocks
 pub mod Rises
 pub mod Told
 pub mod Waiting

@@ -1,5 +1,5 @@
 -- A count that rises exactly where something failed.
-use Rattle.std.proofs.Common.{◌≡◌, ◌≤◌, ◌<◌, ℕ, true, false, inl, inr, arith}
+use Rattle.std.proofs.Common.{◌≡◌, ℕ, inl, inr, arith}
 use Rattle.std.proofs.lemmas.Bool.Decides.{leb_tells}
 use Rattle.ipam_listen.specs.Connections.{RisesExactly}
 

@@ -1,14 +1,15 @@
 //! Connections over TCP. They tell nothing of content, and keep their counts.
-ghost use Rattle.std.specs.Prelude.{◌≡◌, ◌<◌, ◌≤◌, ◌+◌, ◌^◌, min, IfOk, IfSome, MatchResult, None, [], map, length, vec_len, vec_capacity};
+ghost use Rattle.std.specs.Prelude.{◌≡◌, ◌<◌, ◌≤◌, ◌+◌, ◌^◌, IfOk, IfSome, MatchResult, None, Some, [], map, length, vec_len, vec_capacity};
 ghost use Rattle.std.specs.Io.KnownBytes.{ReadConsumes};
+ghost use Rattle.std.specs.Duration.{as_nanos};
 ghost use Rattle.ipam_edge.specs.Faults.{HasCause};
 ghost use Rattle.ipam_edge.specs.Streams.{sink_stream_faults};
 ghost use Rattle.ipam_listen.specs.Connections.{binding};
-ghost use Rattle.ipam_listen.specs.Tcp.{returned_door};
+ghost use Rattle.ipam_listen.specs.Tcp.{Begins, CountsOn, IsLeft, RequestClock, WaitsInTime, begun, request_clock, returned_door};
 
 use crate::lane::Lane;
 use crate::listener::Listener;
-use crate::mark::AnswerMark;
+use crate::mark::{AnswerMark, Noted};
 use crate::patience::{patience_left, seconds_past};
 use ipam_edge::{Failed, Sink, Source, StdSink};
 use std::alloc::Global;
@@ -38,9 +39,7 @@ pub struct TcpIn<'a, R, S> {
     base: Duration,
     /// When this request began, from the beginning of the connection.
     since: Duration,
-    /// How many bytes came before it.
-    before: u64,
-    /// How many bytes came in all.
+    /// How many bytes of it came.
     bytes: u64,
     /// For how many seconds a read waits at most, once that is set.
     timeout: Option<u64>,
@@ -48,19 +47,27 @@ pub struct TcpIn<'a, R, S> {
 }
 
 impl<'a, R: Clock, S: Read + OpenStream> TcpIn<'a, R, S> {
-    /// Where the client was answered since the last read, its next request begins.
-    fn begin_request(&mut self)
-        ensures { self.new ≡ record self.old { since = self.new.since; before = self.new.before } }
+    /// Where the client was answered since the last read, its next request begins as it was.
+    fn begin_request(&mut self, answered: Option<Duration>)
+        ensures { self.new ≡ begun answered self.old }
     {
-        if let Some(answered) = self.answered.take() {
-            self.since = answered;
-            self.before = self.bytes;
+        if let Some(at) = answered {
+            self.since = at;
+            self.bytes = 0;
         }
+    }
+
+    /// How long the client has left for this request at a time since the connection began, if it has any time left.
+    fn left_at(&self, now: Duration) -> Option<Duration>
+        ensures { IsLeft (as_nanos self.now.base) (request_clock self.now) (as_nanos now) result }
+    {
+        patience_left(self.base, self.bytes, now.saturating_sub(self.since))
     }
 
     /// Sets how long reads wait at most, unless just that is set.
     fn set_timeout(&mut self, seconds: u64) -> io::Result<()>
-        ensures { self.new ≡ record self.old { timeout = self.new.timeout } }
+        ensures only { self.new ≡ record self.old { timeout = self.new.timeout } }
+        ensures is_set { IfOk result (λ _. self.new.timeout ≡ Some seconds) }
     {
         if let Some(set) = self.timeout {
             if set == seconds {
@@ -77,11 +84,11 @@ impl<'a, R: Clock, S: Read + OpenStream> TcpIn<'a, R, S> {
     fn read_in_time(&mut self, into: &mut [u8]) -> io::Result<usize>
         ensures most { IfOk result (λ n. n ≤ length into.new) }
         ensures took { ReadConsumes (S.remaining self.old.stream) (S.remaining self.new.stream) result into.new }
-        ensures kept { (self.new.bytes ≡ self.old.bytes) × (self.new.faults ≡ self.old.faults) }
+        ensures kept { (request_clock self.new ≡ request_clock self.old) × (self.new.bytes ≡ self.old.bytes) × (self.new.base ≡ self.old.base) × (self.new.faults ≡ self.old.faults) }
+        ensures in_time { IfOk result (λ _. WaitsInTime (as_nanos self.old.base) (request_clock self.old) self.new.timeout) }
     {
-        let taken = self.began.elapsed(self.clock)?.saturating_sub(self.since);
-        let bytes = self.bytes.saturating_sub(self.before);
-        let Some(left) = patience_left(self.base, bytes, taken) else {
+        let now = self.began.elapsed(self.clock)?;
+        let Some(left) = self.left_at(now) else {
             return Err(io::Error::from(io::ErrorKind::TimedOut));
         };
         self.set_timeout(seconds_past(left))?;
@@ -127,10 +134,14 @@ impl<'a, R: Clock, S: Read + OpenStream> Source for TcpIn<'a, R, S> {
         ensures step { Unit {0} }
         ensures cause { HasCause self.old.faults self.new.faults result }
 
-        // The count of bytes grows by as many as it gives.
-        ensures counted { MatchResult result (λ n. self.new.bytes ≡ min (self.old.bytes + n) u64.MAX) (λ _. self.new.bytes ≡ self.old.bytes) }
+        // The bytes of the request grow by as many as it gives; where the client was answered since the last read they are counted from 0.
+        ensures counted { MatchResult result (CountsOn (request_clock self.old) (request_clock self.new)) (λ _. Begins (request_clock self.old) (request_clock self.new)) }
+
+        // It waits for what this request has left, or for a second more at most.
+        ensures in_time { IfOk result (λ n. (from : RequestClock) × Begins (request_clock self.old) from × WaitsInTime (as_nanos self.old.base) from self.new.timeout) }
     {
-        self.begin_request();
+        let answered = self.answered.take();
+        self.begin_request(answered);
         match self.read_in_time(into) {
             Ok(n) => {
                 self.bytes = self.bytes.saturating_add(n as u64);
@@ -154,14 +165,23 @@ pub struct TcpOut<'a, R> {
 }
 
 impl<'a, R: Clock> TcpOut<'a, R> {
-    /// Notes when the client was answered. Where the clock fails nothing is noted: the next read meets the same clock.
-    fn note(&self) {
-        if self.answered.is_set() {
-            return;
+    /// Notes when the client was answered, unless that is noted since the last read. Where the clock fails nothing is noted: the next read
+    /// meets the same clock.
+    fn note(&self) -> io::Result<Noted> {
+        if let Some(noted) = self.answered.noted() {
+            return Ok(noted);
         }
-        if let Ok(at) = self.began.elapsed(self.clock) {
-            self.answered.set(at);
-        }
+        let at = self.began.elapsed(self.clock)?;
+        Ok(self.answered.set(at))
+    }
+
+    /// Writes to a client of whom it is noted that it is answered, or whose clock failed: by its type no write comes before that.
+    fn send(&mut self, _noted: io::Result<Noted>, from: &[u8]) -> Result<usize, Failed>
+        ensures most { IfOk result (λ n. n ≤ length from.now) }
+        ensures some { IfOk result (λ n. 0 < length from.now → 0 < n) }
+        ensures cause { HasCause (sink_stream_faults self.old.sink) (sink_stream_faults self.new.sink) result }
+    {
+        self.sink.write(from)
     }
 }
 
@@ -171,8 +191,8 @@ impl<'a, R: Clock> Sink for TcpOut<'a, R> {
     ghost faults = { λ s. sink_stream_faults s.sink };
 
     fn write(&mut self, from: &[u8]) -> Result<usize, Failed> {
-        self.note();
-        self.sink.write(from)
+        let noted = self.note();
+        self.send(noted, from)
     }
 }
 
@@ -208,7 +228,6 @@ impl<'a, R: Clock> TcpDoor<'a, R> {
             answered: self.answered.share()?,
             base: self.base,
             since: Duration::ZERO,
-            before: 0,
             bytes: 0,
             timeout: None,
             faults: 0,

@@ -13,6 +13,7 @@ use command_streams::{MEMORY, NoArguments, say_usage, words_given};
 use command_words::{Command, read_words};
 use ipam_edge::{Sink, Source, standard_error, standard_input, standard_output};
 use std::alloc::Global;
+use std::env;
 use std::process::ExitCode;
 
 /// Runs `free`; for another command it says the usage line. It gives the status: 0 done, 1 a line is refused, 2 the command is another one,
@@ -86,7 +87,7 @@ fn run_words(rt: &HostRuntime, given: &[String]) -> u8 {
 }
 
 fn main(rt: HostRuntime) -> ExitCode {
-    let status = match words_given(&rt) {
+    let status = match words_given(rt.alloc(), env::args(&rt)) {
         Ok(given) => run_words(&rt, &given),
         Err(NoArguments::NoText) => say_usage(&mut standard_error(&rt)),
         Err(NoArguments::Memory) => MEMORY,

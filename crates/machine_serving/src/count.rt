@@ -1,30 +1,15 @@
 //! How many changes were accepted, as a line.
 
-ghost use Rattle.std.specs.Prelude.{◌≡◌, ◌≤◌, ◌+◌, ◌++◌, length};
-ghost use Rattle.arrayvec.specs.ArrayVec.{array_vec_len};
+ghost use Rattle.std.specs.Prelude.{◌≡◌, ◌≤◌};
 ghost use Rattle.command_streams.specs.Streams.{EndsWith, told};
 ghost use Rattle.machine_serving.specs.Serve.{entries_line as line_of, listening_status};
 
 use crate::ending::Served;
 use arrayvec::ArrayVec;
-use command_streams::{DONE, FAULT, end_with};
+use command_streams::{DONE, FAULT, LINE, end_with, push_bytes};
 use http_lanes::Listening;
 use ipam_edge::Sink;
 use itoa::Buffer;
-
-/// How many bytes the line has, at most.
-const LINE: usize = 64;
-
-/// Puts bytes behind the line, which has room for them.
-fn push_bytes(line: &mut ArrayVec<u8, LINE>, bytes: &[u8])
-    requires { array_vec_len line.old + length bytes.now ≤ 64 }
-    ensures { line.new.items ≡ line.old.items ++ bytes.now }
-{
-    match line.try_extend_from_slice(bytes) {
-        Ok(()) => {}
-        Err(_) => unreachable!(),
-    }
-}
 
 /// The line. It takes no memory.
 fn entries_line(entries: u64) -> ArrayVec<u8, LINE>

@@ -10,4 +10,4 @@ mod session;
 pub use follower::{Follower, NoFollower};
 pub use own::{OwnMachine, OwnSeat, serve_own, serve_own_by};
 pub use service::{Service, Wanted};
-pub use session::{SharedMachine, Sitting, serve_session, serve_session_by};
+pub use session::{SharedMachine, Sitting, serve_session};

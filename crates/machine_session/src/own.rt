@@ -11,7 +11,7 @@ ghost use Rattle.machine_session.specs.Owned.{Owned, owned, tagged, IsActed, ans
 ghost use Rattle.machine_session.specs.Sessions.{IsOwnSession};
 
 use crate::follower::Follower;
-use crate::service::{Service, Wanted, read_by};
+use crate::service::{Service, Wanted};
 use history_lock::Machine;
 use http_session::{Desk, Fault, HttpRequest, Reply, SessionEnd, serve};
 use ipam_edge::{Sink, Source};
@@ -86,7 +86,7 @@ impl<'a, M: Machine, V: Service<M>, F: Follower<M>> Desk for OwnMachine<'a, M, V
             mut machine,
             follower,
         } = seat;
-        match read_by::<M, V>(alloc, Some(self.table), request) {
+        match V::read(alloc, self.table, request) {
             Ok(wanted) => match wanted {
                 Wanted::Call(call, along) => {
                     let (follower, answer) = act::<M, V, F>(

@@ -79,30 +79,32 @@ pub trait Service<M: Machine> {
     fn close(table: Self::Table);
 }
 
-/// Reads what a request asks for, by a table that is made for it. The one error means out of memory.
-fn read_alone<M: Machine, V: Service<M>>(
-    alloc: Global,
-    request: &HttpRequest,
-) -> Result<Wanted<M::Call, V::Along>, AllocError>
-    ensures { IfOk result (IsWanted M.takes M.said V.asks V.refuses V.shows (framed request.now)) }
-{
-    let table = V::table(alloc)?;
-    let wanted = V::read(alloc, &table, request);
-    V::close(table);
-    wanted
-}
-
-/// Reads what a request asks for, by the table that is lent, or where there is none by one that is made for it. The one error means out of
-/// memory.
+/// Reads what a request asks for by the table, or where there is none yet by one that is made and stays. The one error means out of memory.
 pub(crate) fn read_by<M: Machine, V: Service<M>>(
     alloc: Global,
-    table: Option<&V::Table>,
+    table: Option<V::Table>,
     request: &HttpRequest,
-) -> Result<Wanted<M::Call, V::Along>, AllocError>
-    ensures { IfOk result (IsWanted M.takes M.said V.asks V.refuses V.shows (framed request.now)) }
+) -> (
+    Option<V::Table>,
+    Result<Wanted<M::Call, V::Along>, AllocError>,
+)
+    ensures { IfOk result.1 (IsWanted M.takes M.said V.asks V.refuses V.shows (framed request.now)) }
 {
+    let table = match table {
+        Some(table) => table,
+        None => match V::table(alloc) {
+            Ok(table) => table,
+            Err(error) => return (None, Err(error)),
+        },
+    };
+    let wanted = V::read(alloc, &table, request);
+    (Some(table), wanted)
+}
+
+/// Lets a table go, where there is one.
+pub(crate) fn end_table<M: Machine, V: Service<M>>(table: Option<V::Table>) {
     match table {
-        Some(table) => V::read(alloc, table, request),
-        None => read_alone::<M, V>(alloc, request),
+        Some(table) => V::close(table),
+        None => {}
     }
 }

@@ -10,7 +10,7 @@ ghost use Rattle.machine_session.specs.Protocols.{protocol};
 ghost use Rattle.machine_session.specs.InTurn.{IsAsked, answers_in_turn};
 ghost use Rattle.machine_session.specs.Sessions.{IsSharedSession};
 
-use crate::service::{Service, Wanted, read_by};
+use crate::service::{Service, Wanted, end_table, read_by};
 use history_lock::{Machine, Seat, Shared};
 use http_session::{Desk, Fault, HttpRequest, Reply, SessionEnd, serve};
 use ipam_edge::{Sink, Source};
@@ -18,29 +18,25 @@ use std::alloc::{AllocError, Global};
 use std::marker::PhantomData;
 use std::sync::Wait;
 
-/// A seat, with the machine that it belongs to and what its requests are read by.
+/// A seat, with the machine that it belongs to and what its requests are read by: a table that is made for the first of them and stays. Where
+/// memory runs out for it, that request's session ends as `Memory`, and the next request tries again.
 pub struct Sitting<'a, R: Wait + 'a, M: Machine + 'a, V: Service<M>> {
     rt: &'a R,
-    table: Option<&'a V::Table>,
+    table: Option<V::Table>,
     shared: &'a Shared<M>,
     seat: Seat<M>,
     ghost fits: { seat.lock ≡ shared.now },
 }
 
 impl<'a, R: Wait + 'a, M: Machine + 'a, V: Service<M>> Sitting<'a, R, M, V> {
-    /// A seat that takes requests. Where no table is lent, each request is read by one of its own.
-    pub fn new(
-        rt: &'a R,
-        table: Option<&'a V::Table>,
-        shared: &'a Shared<M>,
-        seat: Seat<M>,
-    ) -> Sitting<'a, R, M, V>
+    /// A seat that takes requests.
+    pub fn new(rt: &'a R, shared: &'a Shared<M>, seat: Seat<M>) -> Sitting<'a, R, M, V>
         requires { seat.lock ≡ shared.now }
         ensures { result.seat ≡ seat }
     {
         Sitting {
             rt,
-            table,
+            table: None,
             shared,
             seat,
         }
@@ -52,10 +48,11 @@ impl<'a, R: Wait + 'a, M: Machine + 'a, V: Service<M>> Sitting<'a, R, M, V> {
     {
         let Sitting {
             rt: _,
-            table: _,
+            table,
             shared: _,
             seat,
         } = self;
+        end_table::<M, V>(table);
         seat
     }
 }
@@ -82,22 +79,18 @@ fn ask<R: Wait, M: Machine, V: Service<M>>(
 
 /// The request handler of a shared machine: each request is answered through the seat.
 pub struct SharedMachine<'a, R: Wait + 'a, M: Machine + 'a, V: Service<M>> {
-    table: Option<&'a V::Table>,
-    of: PhantomData<(R, M)>,
+    of: PhantomData<(&'a R, M, V)>,
 }
 
 impl<'a, R: Wait + 'a, M: Machine + 'a, V: Service<M>> SharedMachine<'a, R, M, V> {
-    /// The request handler of seats that this table is lent to.
-    pub fn new(table: Option<&'a V::Table>) -> SharedMachine<'a, R, M, V> {
-        SharedMachine {
-            table,
-            of: PhantomData,
-        }
+    /// The request handler of all seats.
+    pub fn new() -> SharedMachine<'a, R, M, V> {
+        SharedMachine { of: PhantomData }
     }
 
     /// Lets it go.
     pub fn close(self) {
-        let SharedMachine { table: _, of: _ } = self;
+        let SharedMachine { of: _ } = self;
     }
 }
 
@@ -128,7 +121,8 @@ impl<'a, R: Wait + 'a, M: Machine + 'a, V: Service<M>> Desk for SharedMachine<'a
             shared,
             seat,
         } = seat;
-        match read_by::<M, V>(alloc, table, request) {
+        let (table, read) = read_by::<M, V>(alloc, table, request);
+        match read {
             Ok(wanted) => match wanted {
                 Wanted::Call(call, along) => {
                     let (seat, answer) = ask::<R, M, V>(rt, alloc, shared, seat, call, along);
@@ -169,53 +163,11 @@ impl<'a, R: Wait + 'a, M: Machine + 'a, V: Service<M>> Desk for SharedMachine<'a
     }
 }
 
-/// Serves one connection over the shared machine, from its first byte to its end, and notes its changes under the seat's number. The table
-/// is lent; where there is none, each request is read by one of its own.
+/// Serves one connection over the shared machine, from its first byte to its end, and notes its changes under the seat's number.
 ///
 /// `Closed` comes with all requests answered; `SourceFault` where a read failed, with all requests that lay whole in the bytes read
 /// answered; `SinkFault` where a write failed, with a shorter front of the last answer written; `Memory` where memory ran out before
 /// a call reached the machine, or for the text of a reply.
-pub fn serve_session_by<'a, R: Wait, M: Machine, V: Service<M>, So: Source, Si: Sink>(
-    rt: &'a R,
-    alloc: Global,
-    table: Option<&'a V::Table>,
-    shared: &'a Shared<M>,
-    seat: Seat<M>,
-    source: &mut So,
-    sink: &mut Si,
-) -> (Seat<M>, SessionEnd)
-    requires { seat.lock ≡ shared.now }
-    ensures session { IsSharedSession (protocol M.step M.answer M.kind M.fallible V.asks V.tells V.refuses V.misread) So.reads seat result.0 source.old source.new (So.left source.old) (So.left source.new) (Si.written sink.old) (Si.written sink.new) result.1 }
-    ensures source_later { So.faults source.old ≤ So.faults source.new }
-    ensures source { result.1 ≡ SessionEnd.SourceFault → Rose (So.faults source.old) (So.faults source.new) }
-    ensures source_kept { (result.1 ≡ SessionEnd.SourceFault) ⊎ (So.faults source.new ≡ So.faults source.old) }
-    ensures sink_later { Si.faults sink.old ≤ Si.faults sink.new }
-    ensures sink { result.1 ≡ SessionEnd.SinkFault → Rose (Si.faults sink.old) (Si.faults sink.new) }
-    ensures sink_kept { (result.1 ≡ SessionEnd.SinkFault) ⊎ (Si.faults sink.new ≡ Si.faults sink.old) }
-{
-    let handler: SharedMachine<'_, R, M, V> = SharedMachine {
-        table,
-        of: PhantomData,
-    };
-    let sitting: Sitting<'_, R, M, V> = Sitting {
-        rt,
-        table,
-        shared,
-        seat,
-    };
-    let (sitting, end) = serve(alloc, &handler, sitting, source, sink);
-    let SharedMachine { table: _, of: _ } = handler;
-    let Sitting {
-        rt: _,
-        table: _,
-        shared: _,
-        seat,
-    } = sitting;
-    (seat, end)
-}
-
-/// The same with a table of its own, which is made before the first read: where memory runs out for it, the session ends
-/// as `Memory` with nothing read.
 pub fn serve_session<R: Wait, M: Machine, V: Service<M>, So: Source, Si: Sink>(
     rt: &R,
     alloc: Global,
@@ -233,20 +185,21 @@ pub fn serve_session<R: Wait, M: Machine, V: Service<M>, So: Source, Si: Sink>(
     ensures sink { result.1 ≡ SessionEnd.SinkFault → Rose (Si.faults sink.old) (Si.faults sink.new) }
     ensures sink_kept { (result.1 ≡ SessionEnd.SinkFault) ⊎ (Si.faults sink.new ≡ Si.faults sink.old) }
 {
-    match V::table(alloc) {
-        Ok(table) => {
-            let served = serve_session_by::<R, M, V, So, Si>(
-                rt,
-                alloc,
-                Some(&table),
-                shared,
-                seat,
-                source,
-                sink,
-            );
-            V::close(table);
-            served
-        }
-        Err(_) => (seat, SessionEnd::Memory),
-    }
+    let handler: SharedMachine<'_, R, M, V> = SharedMachine { of: PhantomData };
+    let sitting: Sitting<'_, R, M, V> = Sitting {
+        rt,
+        table: None,
+        shared,
+        seat,
+    };
+    let (sitting, end) = serve(alloc, &handler, sitting, source, sink);
+    let SharedMachine { of: _ } = handler;
+    let Sitting {
+        rt: _,
+        table,
+        shared: _,
+        seat,
+    } = sitting;
+    end_table::<M, V>(table);
+    (seat, end)
 }

@@ -17,12 +17,10 @@ pub struct Worker<M: Machine, A> {
     pub lane: A,
 }
 
-/// Serves the connections of a lane through a seat, one after another, until no accept is left. The table is lent; where there is none, each
-/// request is read by one of its own.
+/// Serves the connections of a lane through a seat, one after another, until no accept is left.
 fn serve_seat<R: Wait, M: Machine, V: Service<M>, A: Lane, G: Gate>(
     rt: &R,
     alloc: Global,
-    table: Option<&V::Table>,
     shared: &Shared<M>,
     seat: Seat<M>,
     lane: &mut A,
@@ -35,22 +33,15 @@ fn serve_seat<R: Wait, M: Machine, V: Service<M>, A: Lane, G: Gate>(
     ensures later { A.faults lane.old ≤ A.faults lane.new }
 {
     let who = seat.who();
-    let handler: SharedMachine<'_, R, M, V> = SharedMachine::new(table);
-    let sitting: Sitting<'_, R, M, V> = Sitting::new(rt, table, shared, seat);
+    let handler: SharedMachine<'_, R, M, V> = SharedMachine::new();
+    let sitting: Sitting<'_, R, M, V> = Sitting::new(rt, shared, seat);
     let sitting = serve_lane(alloc, &handler, sitting, lane, gate, who);
     handler.close();
     sitting.into_seat()
 }
 
-/// Lets a table go, where there is one.
-fn end_table<M: Machine, V: Service<M>>(table: Option<V::Table>) {
-    match table {
-        Some(table) => V::close(table),
-        None => {}
-    }
-}
-
-/// One worker's work, in a thread of its own: it makes its table, and serves the connections of its lane until no accept is left.
+/// One worker's work, in a thread of its own: it serves the connections of its lane until no accept is left, and reads their requests by one
+/// table of its own.
 ///
 /// A program starts its workers itself, by a closure over its own machine that calls this: the prover covers no closure over a machine that is
 /// a type parameter.
@@ -67,15 +58,12 @@ pub fn work<R: Wait, M: Machine, V: Service<M>, A: Lane, G: Gate>(
     let Some(seat) = worker.seat.take() else {
         unreachable!()
     };
-    let table = V::table(alloc).ok();
     worker.seat = Some(serve_seat::<R, M, V, A, G>(
         rt,
         alloc,
-        table.as_ref(),
         shared,
         seat,
         &mut worker.lane,
         gate,
     ));
-    end_table::<M, V>(table);
 }

@@ -3,6 +3,7 @@ pub mod Free
 pub mod Keys
 pub mod Lawful
 pub mod Laws
+pub mod Limits
 pub mod Machines
 pub mod Rows
 pub mod Steps

@@ -11,4 +11,4 @@ pub use calls::{
     Listed, MOST_CLAIMED, MOST_MEMBERS, MOST_RANGES, PoolCall, PoolRefusal, PoolReply, Quantity,
 };
 pub use claim::{Short, free_in, free_numbers, plan_claim, pool_of};
-pub use rows::{LAST_ASN, LAST_VLAN, Member, NumberRange, PoolKind};
+pub use rows::{LAST_ASN, LAST_VLAN, MOST_HELD, Member, NumberRange, PoolKind};

@@ -13,6 +13,9 @@ pub const LAST_ASN: u32 = 4_294_967_295;
 /// The greatest id of a VLAN that a network may use: 4095 is kept back (IEEE 802.1Q).
 pub const LAST_VLAN: u32 = 4094;
 
+/// How many ranges, and how many members, can be held in memory: a tree of the members' numbers names no more.
+pub const MOST_HELD: usize = 1_073_741_823;
+
 /// What a range gives out.
 #[derive(Clone, Copy, Debug, PartialEq, Eq)]
 pub enum PoolKind {

@@ -5,3 +5,4 @@ pub mod Outcomes
 pub mod Parts
 pub mod RunLaws
 pub mod Sent
+pub mod Headlines

@@ -16,6 +16,8 @@ use ipam_edge::{
 use ipam_listen::Listener;
 use pool_keeper::keeper::PoolOpener;
 use std::alloc::Global;
+use std::env::Args;
+use std::io;
 use std::io::{Printer, Stderr, StdinLock};
 use std::marker::Sync;
 use std::process::ExitCode;
@@ -74,19 +76,20 @@ fn run_args<R: Threads + Wait + Sync, L: Listener, O: PoolOpener>(
     )
 }
 
-/// Runs the program over its arguments, the standard streams, a listener and an opener of stores. The process is to end with the status of the
-/// run. Arguments that are no UTF-8 are no words of a command; where memory runs out to read them the status is that of out of memory.
-/// `threads` is what workers are started by: the runtime once more, which only `main` may hand out as such.
+/// Runs the program over its arguments, as `std::env::args` gives them, the standard streams, a listener and an opener of stores. The process is
+/// to end with the status of the run. Arguments that are no UTF-8 are no words of a command; where memory runs out to read them the status is
+/// that of out of memory. `threads` is what workers are started by: the runtime once more, which only `main` may hand out as such.
 pub fn program<R: Threads + Wait + Sync, L: Listener, O: PoolOpener>(
     rt: &HostRuntime,
     threads: &R,
+    given: io::Result<Args>,
     listener: &mut L,
     opener: &mut O,
 ) -> ExitCode
-    ensures { IsEnding (stores O.stored O.faults opener.old) (stores O.stored O.faults opener.new)
+    ensures { IsEnding given (stores O.stored O.faults opener.old) (stores O.stored O.faults opener.new)
         (listener_view L.bound L.lanes L.returned L.faults listener.old) (listener_view L.bound L.lanes L.returned L.faults listener.new) (exit_status result) }
 {
-    match words_given(rt) {
+    match words_given(rt.alloc(), given) {
         Ok(args) => run_args(rt, threads, &args, listener, opener),
         Err(NoArguments::NoText) => ExitCode::from(say_usage(&mut standard_error(rt))),
         Err(NoArguments::Memory) => ExitCode::from(MEMORY),

@@ -5,12 +5,14 @@ ghost use Rattle.command_streams.specs.Streams.{Told, streams, told};
 ghost use Rattle.machine_command.specs.Outside.{outside, stores};
 ghost use Rattle.machine_serving.specs.Views.{listener_view};
 ghost use Rattle.pool_words.specs.Asked.{Asks};
+ghost use Rattle.pool_command.specs.Headline.{HasHeadlines};
 ghost use Rattle.pool_command.specs.Runs.{Answers, IsUsage, Runs};
 
 use crate::session::{run_session, serve_words};
 use command_streams::{MEMORY, USAGE, end_with};
 use ipam_edge::{Sink, Source};
 use ipam_listen::Listener;
+use number_laws::numbers_never_meet;
 use pool_keeper::keeper::PoolOpener;
 use pool_words::{Command, read_words};
 use std::alloc::Global;
@@ -60,17 +62,8 @@ fn run_command<
     }
 }
 
-/// Runs the program: the words behind its name, the input, the output, where messages go, a listener, and what opens stores. It gives the
-/// status: 0 done, 1 a loaded table breaks a stated rule, 2 the words are no command, 3 the input, the output, the messages or the listener
-/// failed, 4 the store failed, 5 out of memory.
-pub fn run_pools<
-    R: Threads + Wait + Sync,
-    So: Source,
-    Si: Sink,
-    Se: Sink,
-    L: Listener,
-    O: PoolOpener,
->(
+/// Runs the command that the words ask for.
+fn run_read<R: Threads + Wait + Sync, So: Source, Si: Sink, Se: Sink, L: Listener, O: PoolOpener>(
     rt: &R,
     alloc: Global,
     words: &[&str],
@@ -92,4 +85,37 @@ pub fn run_pools<
         Ok(None) => say_usage(errors),
         Err(_) => MEMORY,
     }
+}
+
+/// Runs the program: the words behind its name, the input, the output, where messages go, a listener, and what opens stores. It gives the
+/// status: 0 done, 1 a loaded table breaks a stated rule, 2 the words are no command, 3 the input, the output, the messages or the listener
+/// failed, 4 the store failed, 5 out of memory. Callers that were served had one history.
+pub fn run_pools<
+    R: Threads + Wait + Sync,
+    So: Source,
+    Si: Sink,
+    Se: Sink,
+    L: Listener,
+    O: PoolOpener,
+>(
+    rt: &R,
+    alloc: Global,
+    words: &[&str],
+    input: &mut So,
+    output: &mut Si,
+    errors: &mut Se,
+    listener: &mut L,
+    opener: &mut O,
+) -> u8
+    ensures runs { Runs (map (λ w. w.now) words.now)
+        (outside (streams (told So.left So.faults input.old) (told Si.written Si.faults output.old) (told Se.written Se.faults errors.old)) (stores O.stored O.faults opener.old))
+        (outside (streams (told So.left So.faults input.new) (told Si.written Si.faults output.new) (told Se.written Se.faults errors.new)) (stores O.stored O.faults opener.new))
+        (listener_view L.bound L.lanes L.returned L.faults listener.old) (listener_view L.bound L.lanes L.returned L.faults listener.new) result }
+    ensures headline { HasHeadlines (map (λ w. w.now) words.now)
+        (outside (streams (told So.left So.faults input.old) (told Si.written Si.faults output.old) (told Se.written Se.faults errors.old)) (stores O.stored O.faults opener.old))
+        (outside (streams (told So.left So.faults input.new) (told Si.written Si.faults output.new) (told Se.written Se.faults errors.new)) (stores O.stored O.faults opener.new))
+        (listener_view L.bound L.lanes L.returned L.faults listener.old) (listener_view L.bound L.lanes L.returned L.faults listener.new) result }
+{
+    numbers_never_meet();
+    run_read(rt, alloc, words, input, output, errors, listener, opener)
 }

@@ -13,10 +13,10 @@ use Rattle.pool_json.specs.declared.bodies.RequestRefusal.{RequestRefusal}
 use Rattle.pool_json.specs.declared.bodies.RequestRefusal.TheVariants.{Common, Start, End}
 use Rattle.pool_json.specs.declared.replies.Shape.{Shape}
 use Rattle.pool_json.specs.Replies.{reply_text, request_refusal_text}
-use Rattle.http_session.specs.Answers.{NamedNumber}
 use Rattle.http_session.specs.Talk.{Answer}
 use Rattle.http_session.specs.declared.request.Fault.{Fault}
 use Rattle.http_session.specs.declared.request.Fault.TheVariants as fault
+use Rattle.rest_query.specs.Place.{place_field}
 use Rattle.rest_query.specs.Query.{path_in}
 use Rattle.pool_rest.specs.declared.route.Route.{Route}
 use Rattle.pool_rest.specs.Routes.{HasRoute, methods_text}
@@ -24,10 +24,6 @@ use Rattle.pool_rest.specs.Routes.{HasRoute, methods_text}
 -- the media type of each body (RFC 8259 11)
 abbrev pub json_type : List ℕ
 json_type = codes "application/json"
-
--- the field that tells the place of an answer
-abbrev pub place_field : ℕ → NamedNumber
-place_field place = record { name = codes "Ipam-Place"; number = place }
 
 -- the status of a refusal by the pools
 abbrev pub pool_refusal_status : PoolRefusal → ℕ

@@ -1,35 +1,25 @@
 //! The answer to a request, before its frame.
 
 ghost use Rattle.std.specs.Prelude.{◌≡◌, IfOk, true};
-ghost use Rattle.http_session.specs.Replies.{answer_of, field_of};
+ghost use Rattle.http_session.specs.Replies.{answer_of};
 ghost use Rattle.ipam_words.specs.Lines.{is_fixed};
-ghost use Rattle.pool_rest.specs.Answers.{IsFramingAnswer, IsRefusedAnswer, allow_of, common_allow, place_field, pool_refusal_status, reply_answer, request_status, route_methods, status_of};
+ghost use Rattle.pool_rest.specs.Answers.{IsFramingAnswer, IsRefusedAnswer, allow_of, common_allow, pool_refusal_status, reply_answer, request_status, route_methods, status_of};
 ghost use Rattle.pool_rest.specs.Answers as spec;
 
 use crate::route::Route;
 use crate::table::Routes;
 use http::StatusCode;
-use http_session::{Body, Fault, NumberField, Reply as Answer};
+use http_session::{Body, Fault, Reply as Answer};
 use ipam_data::replies::{Part, Refusal};
 use ipam_json::fixed_refusal_bytes;
 use ipam_words::status;
 use number_pools::{PoolRefusal, PoolReply};
 use pool_json::{RequestRefusal, Shape, reply_bytes, request_refusal_bytes};
-use rest_query::cut;
+use rest_query::{cut, place_at};
 use std::alloc::{AllocError, Global};
 
 /// The media type of each body (RFC 8259 11).
 const JSON: &[u8] = b"application/json";
-
-/// The field that tells the place of an answer.
-fn place_at(place: u64) -> NumberField
-    ensures { field_of result ≡ place_field place }
-{
-    NumberField {
-        name: b"Ipam-Place",
-        number: place,
-    }
-}
 
 /// The status of a refusal by the pools.
 fn pool_refusal_code(refusal: PoolRefusal) -> StatusCode

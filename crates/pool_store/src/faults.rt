@@ -1,29 +1,14 @@
 //! What is said where an opening is refused. The lines have fixed room, so that saying them takes no memory.
 
-ghost use Rattle.std.specs.Prelude.{◌≡◌, ◌≤◌, ◌+◌, ◌++◌, length};
-ghost use Rattle.arrayvec.specs.ArrayVec.{array_vec_len};
+ghost use Rattle.std.specs.Prelude.{◌≡◌, ◌≤◌, length};
 ghost use Rattle.command_streams.specs.Streams.{EndsWith, told};
 ghost use Rattle.pool_store.specs.FaultWords.{IsSaid, row_line as row_line_of};
 
 use arrayvec::ArrayVec;
-use command_streams::{MEMORY, REFUSED, STORE, end_with};
+use command_streams::{LINE, MEMORY, REFUSED, STORE, end_with, push_bytes};
 use ipam_edge::Sink;
 use itoa::Buffer;
 use pool_opening::PoolFault;
-
-/// How many bytes a line has, at most.
-const LINE: usize = 64;
-
-/// Puts bytes behind the line, which has room for them.
-fn push_bytes(line: &mut ArrayVec<u8, LINE>, bytes: &[u8])
-    requires { array_vec_len line.old + length bytes.now ≤ 64 }
-    ensures { line.new.items ≡ line.old.items ++ bytes.now }
-{
-    match line.try_extend_from_slice(bytes) {
-        Ok(()) => {}
-        Err(_) => unreachable!(),
-    }
-}
 
 /// The line that names a row by what it is and its id.
 fn row_line(name: &[u8], id: u32) -> ArrayVec<u8, LINE>

@@ -6,6 +6,7 @@ use pool_command::program;
 use pool_files::HostPoolFiles;
 use pool_keeper::keeper::PoolOpener;
 use sqlite_pools::SqlitePoolOpener;
+use std::env;
 use std::marker::Sync;
 use std::net::{Net, TcpListener, TcpStream};
 use std::process::ExitCode;
@@ -22,7 +23,7 @@ fn run_over<
     O: PoolOpener,
 >(rt: &HostRuntime, threads: &R, opener: &mut O) -> ExitCode {
     let mut listener = TcpDoors::new(threads, rt.alloc(), Duration::from_secs(PATIENCE));
-    program(rt, threads, &mut listener, opener)
+    program(rt, threads, env::args(rt), &mut listener, opener)
 }
 
 fn main(rt: HostRuntime) -> ExitCode {

@@ -3,11 +3,12 @@
 ghost use Rattle.std.specs.Prelude.{◌≡◌, ◌≢◌, IfOk, IsOk, MatchBool, option_map};
 ghost use Rattle.http_session.specs.Replies.{answer_of, field_of};
 ghost use Rattle.rest_routes.specs.Answers.{finished_links, reply_answer};
-ghost use Rattle.rest_routes.specs.Answers as spec;
+ghost use Rattle.rest_query.specs.Place as spec;
 
 use http_session::{NumberField, Reply as Answer};
 use ipam_data::replies::{Refusal, Reply};
 use ipam_json::Links;
+use rest_query::place_at;
 use rest_routes::{answer_of_reply, answer_of_want, finish_links};
 use std::alloc::{AllocError, Global};
 
@@ -16,16 +17,13 @@ pub fn place_field(place: Option<u64>) -> Option<NumberField>
     ensures { option_map field_of result ≡ option_map spec.place_field place }
 {
     match place {
-        Some(number) => Some(NumberField {
-            name: b"Ipam-Place",
-            number,
-        }),
+        Some(number) => Some(place_at(number)),
         None => None,
     }
 }
 
 /// Whether a refusal means out of memory.
-fn is_want(refusal: &Refusal) -> bool
+pub fn is_want(refusal: &Refusal) -> bool
     ensures { MatchBool result (refusal.now ≡ Refusal.Memory) (refusal.now ≢ Refusal.Memory) }
 {
     matches!(refusal, Refusal::Memory)

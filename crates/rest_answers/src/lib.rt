@@ -6,5 +6,5 @@ mod put;
 #[cfg(test)]
 mod tests;
 
-pub use answer::{answer_at, answer_to, place_field};
+pub use answer::{answer_at, answer_to, is_want, place_field};
 pub use put::{PutReply, put_reply};

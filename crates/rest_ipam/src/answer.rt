@@ -3,7 +3,7 @@
 ghost use Rattle.std.specs.Prelude.{◌≡◌, false, option_map};
 ghost use Rattle.ipam_edge.specs.Writing.{ByWrites};
 ghost use Rattle.http_session.specs.Answers.{HasPutCause, IsPutEnd, answer_text};
-ghost use Rattle.rest_routes.specs.Answers as spec;
+ghost use Rattle.rest_query.specs.Place as spec;
 ghost use Rattle.rest_routes.specs.Answers.{json_type};
 ghost use Rattle.rest_ipam.specs.Statuses.{IsStatus};
 

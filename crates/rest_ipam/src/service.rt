@@ -44,7 +44,7 @@ impl<K: Keeper> Service<Register<K>> for RegisterService {
     ghost use Rattle.std.specs.Prelude.{◌≡◌};
     ghost use Rattle.ipam_data.specs.declared.replies.Refusal.{Refusal as RefusalSeen};
     ghost use Rattle.ipam_json.specs.declared.replies.Links.{Links as LinksSeen};
-    ghost use Rattle.rest_routes.specs.Requests.{IsRequest};
+    ghost use Rattle.rest_ipam.specs.Protocol.{IsAskedInBounds};
     ghost use Rattle.rest_routes.specs.Answers.{IsFramingAnswer, IsRefusedAnswer, end_of};
     ghost use Rattle.rest_answers.specs.Told.{told_answer};
 
@@ -56,7 +56,7 @@ impl<K: Keeper> Service<Register<K>> for RegisterService {
 
     ghost Refused = { RefusalSeen };
 
-    ghost asks = { λ request asked. IsRequest request.method request.target request.body asked };
+    ghost asks = { IsAskedInBounds };
 
     ghost tells = { told_answer };
 
@@ -83,6 +83,7 @@ impl<K: Keeper> Service<Register<K>> for RegisterService {
             &request.body,
         ) {
             Ok((call, links)) => {
+                call.bounds();
                 let end = page_end(&call);
                 Ok(Wanted::Call(call, Page { links, end }))
             }

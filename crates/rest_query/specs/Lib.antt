@@ -9,3 +9,4 @@ pub mod Ranges
 pub mod Addresses
 pub mod Lists
 pub mod Laws
+pub mod Place

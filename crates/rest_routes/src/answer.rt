@@ -2,34 +2,24 @@
 
 ghost use Rattle.std.specs.Prelude.{◌≡◌, IfOk, true};
 ghost use Rattle.ipam_data.specs.Answers.{status_of};
-ghost use Rattle.http_session.specs.Replies.{answer_of, field_of};
+ghost use Rattle.http_session.specs.Replies.{answer_of};
 ghost use Rattle.ipam_words.specs.Lines.{is_fixed};
-ghost use Rattle.rest_routes.specs.Answers.{IsFramingAnswer, IsRefusedAnswer, allow_of, end_of, finished_links, json_type, place_field, reply_answer, route_methods};
+ghost use Rattle.rest_routes.specs.Answers.{IsFramingAnswer, IsRefusedAnswer, allow_of, end_of, finished_links, json_type, reply_answer, route_methods};
 ghost use Rattle.rest_routes.specs.Answers as spec;
 
 use crate::route::Route;
 use crate::table::Routes;
 use http::StatusCode;
-use http_session::{Body, Fault, NumberField, Reply as Answer};
+use http_session::{Body, Fault, Reply as Answer};
 use ipam_data::calls::Call;
 use ipam_data::replies::{Part, Refusal, Reply};
 use ipam_json::{Links, fixed_refusal_bytes, refusal_bytes, reply_bytes};
 use ipam_words::status;
-use rest_query::cut;
+use rest_query::{cut, place_at};
 use std::alloc::{AllocError, Global};
 
 /// The media type of each body (RFC 8259 11).
 const JSON: &[u8] = b"application/json";
-
-/// The field that tells the place of an answer.
-fn place_at(place: u64) -> NumberField
-    ensures { field_of result ≡ place_field place }
-{
-    NumberField {
-        name: b"Ipam-Place",
-        number: place,
-    }
-}
 
 /// The status of a reply.
 fn reply_status(reply: &Reply) -> StatusCode

@@ -8,7 +8,8 @@ use Rattle.ipam_data.specs.declared.replies.Refusal.TheVariants as common
 use Rattle.ipam_data.specs.Answers.{refusal_status_of}
 use Rattle.ipam_json.specs.Replies.{refusal_text}
 use Rattle.ipam_json.specs.Values.{members}
-use Rattle.rest_routes.specs.Answers.{json_type, place_field}
+use Rattle.rest_query.specs.Place.{place_field}
+use Rattle.rest_routes.specs.Answers.{json_type}
 use Rattle.snapshot_routes.specs.declared.question.Unread.{Unread}
 use Rattle.snapshot_routes.specs.declared.question.Unread.TheVariants.{NoRoute, Method, Least, Query}
 

@@ -1,6 +1,6 @@
 //! What a request asks of a snapshot.
 
-ghost use Rattle.std.specs.Prelude.{◌≡◌, ◌≢◌, IfOk, MatchBool, Some};
+ghost use Rattle.std.specs.Prelude.{◌≡◌, ◌≢◌, IfOk, Some};
 ghost use Rattle.http_session.specs.Steps.{framed};
 ghost use Rattle.snapshot_routes.specs.Questions.{IsAskedByGet, IsLeast, IsQuestion, IsWellAsked};
 ghost use Rattle.snapshot_routes.specs.Questions as spec;
@@ -11,6 +11,7 @@ use ipam_data::kinds::Kind;
 use ipam_data::replies::Refusal;
 use ipam_data::text::Text;
 use ipam_json::Links;
+use rest_answers::is_want;
 use rest_query::{cut, number_below, parameter_value};
 use rest_routes::{Method, Route, Routes, read_call_by};
 use std::alloc::{AllocError, Global};
@@ -74,13 +75,6 @@ fn least_of(text: &Option<Text>) -> Option<u64>
         return Some(0);
     };
     number_below(text.as_str(), LEAST_BOUND)
-}
-
-/// Whether a refusal means out of memory.
-fn is_want(refusal: &Refusal) -> bool
-    ensures { MatchBool result (refusal.now ≡ Refusal.Memory) (refusal.now ≢ Refusal.Memory) }
-{
-    matches!(refusal, Refusal::Memory)
 }
 
 /// A request with a refused query. `Err` means out of memory, as what was refused.

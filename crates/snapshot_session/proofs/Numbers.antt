@@ -4,7 +4,7 @@ use mathlib.Core.List.{IsPrefix}
 use Rattle.http_session.specs.Answers.{NamedNumber}
 use Rattle.http_session.specs.Requests.{Item, Asks, Refuses}
 use Rattle.http_session.specs.Talk.{Answer, Answered, Run}
-use Rattle.rest_routes.specs.Answers.{place_field}
+use Rattle.rest_query.specs.Place.{place_field}
 use Rattle.snapshot_reads.specs.Seen.{Grows, IsAnswered}
 use Rattle.snapshot_reads.specs.declared.look.Looked.{Looked}
 use Rattle.snapshot_reads.specs.declared.look.Looked.TheVariants.{Given, Behind, Memory}

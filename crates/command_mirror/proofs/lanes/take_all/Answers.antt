@@ -41,5 +41,6 @@ returns-in-Broken-clause-none g c =
       returned = c.give_back_lanes-heard.ensures.returned ∙ ap (λ (l : List Returned). l ++ map (returned_as told accepts) lanes) c.take_lanes.ensures.returned;
       unused = none_used told accepts lanes c.take_lanes.ensures.fresh;
       lanes = omega arith;
+      fewer = λ some. (let few = c.in-Broken.ensures.all.0 in omega arith);
       bound = λ came. c.give_back_lanes-heard.ensures.bound ∙ c.take_lanes.ensures.bound;
     }

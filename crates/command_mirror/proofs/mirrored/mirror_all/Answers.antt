@@ -18,8 +18,8 @@ pub unreachable-requires : goal.unreachable-requires
 unreachable-requires g c = absurd (cc (sym c.mirror.ensures.operated.has ∙ c.in_default.is))
 
 -- the readers behind their work, whose looks are of the feed as it is then
-pub dismiss-is_within-requires-clause-read : goal.dismiss-is_within-requires-clause-read
-dismiss-is_within-requires-clause-read g c κs within =
+pub dismiss-requires-clause-read : goal.dismiss-requires-clause-read
+dismiss-requires-clause-read g c κs within =
     let told = g.A.Lane.told in
     let accepts = g.A.Lane.accepts in
     let o = operated_as _ _ _ (λ o. o.register) (λ o. o.feed) (λ o. o.is_whole) (λ o. o.end) _ _ _ c.in-Some.operated _ _ _ _ _ _ _ _ _ _ refl c.in-Some.is c.mirror.ensures.operated in
@@ -39,6 +39,6 @@ returns-clause-mirrored g c =
       all = λ yes. (o.kept.shown yes).count;
       lacks = o.kept.lacks;
       memory = o.memory;
-      read = subst (λ opening. AreReadLanes opening feed.published c.dismiss-is_within.result (map (returned_as g.A.Lane.told g.A.Lane.accepts) c.dismiss-is_within.new.lanes.items)) o.kept.follows.opening c.dismiss-is_within.ensures.read;
+      read = subst (λ opening. AreReadLanes opening feed.published (map (returned_as g.A.Lane.told g.A.Lane.accepts) c.dismiss.new.lanes.items)) o.kept.follows.opening c.dismiss.ensures.read;
       cause = o.cause;
     }

@@ -24,7 +24,7 @@ pub returns-in_default-clause-ran : goal.returns-in_default-clause-ran
 returns-in_default-clause-ran g c =
     let view = listener_view g.L.Listener.bound g.L.Listener.lanes g.L.Listener.returned g.L.Listener.faults in (
       record { same = refl; unread = refl; unwritten = refl },
-      subst (λ (place : List ℕ). HasNoLanes (binding place c.args.asked.now.connections) (view c.args.listener.now) (view c.open_lanes.new.listener)) c.requires.place c.in_default.ensures.none,
+      subst (λ (place : List ℕ). HasNoLanes (binding place c.args.asked.now.connections) c.args.asked.now.readers (view c.args.listener.now) (view c.open_lanes.new.listener)) c.requires.place c.in_default.ensures.none,
     )
 
 pub returns-clause-ran : goal.returns-clause-ran

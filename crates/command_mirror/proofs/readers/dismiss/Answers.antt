@@ -1,4 +1,4 @@
-use Rattle.std.proofs.Common.{rules, ◌≡◌, ◌+◌, List, [], ◌∷◌, ◌++◌, length, length-append, map, true, refl, ap, sym, subst, ◌∙◌, arith}
+use Rattle.std.proofs.Common.{rules, ◌≡◌, ◌+◌, List, [], ◌∷◌, ◌++◌, length, length-append, map, refl, ap, sym, subst, ◌∙◌, arith}
 use Rattle.std.specs.Option.{option_to_list}
 use Rattle.http_lanes.specs.Listened.{returned_as}
 use Rattle.command_mirror.specs.Readers.{AreReadLanes, IsRead, look_of}
@@ -11,7 +11,7 @@ loop-reader-init g c =
     let none_long : length c.args.lanes.now.items ≡ 0 = ap length none in
     record {
       read = c.requires.read;
-      done = subst (λ lanes. AreReadLanes c.args.feed.now.opening c.args.feed.now.published true (map (returned_as g.A.Lane.told g.A.Lane.accepts) lanes)) (sym none) (λ k d lt. absurd (omega arith));
+      done = subst (λ lanes. AreReadLanes c.args.feed.now.opening c.args.feed.now.published (map (returned_as g.A.Lane.told g.A.Lane.accepts) lanes)) (sym none) (λ k d lt. absurd (omega arith));
       count = omega arith;
       room = search rules;
     }
@@ -21,8 +21,8 @@ unreachable-requires g c =
     let p = popped (λ r. IsRead g.A.Lane.told g.A.Lane.accepts (look_of c.args.feed.now) r.look r.lane) c.loop-reader.left.items c.pop.new.self.items c.pop.result c.in-Some.reader c.pop.ensures.items c.in-Some.is c.loop-reader.invariant.read in
     has_look g.A.Lane.told (look_of c.args.feed.now) g.A.Lane.accepts _ _ p.1 c.in_default-look.is
 
-pub is_within-requires : goal.is_within-requires
-is_within-requires g c =
+pub follow-requires : goal.follow-requires
+follow-requires g c =
     let p = popped (λ r. IsRead g.A.Lane.told g.A.Lane.accepts (look_of c.args.feed.now) r.look r.lane) c.loop-reader.left.items c.pop.new.self.items c.pop.result c.in-Some.reader c.pop.ensures.items c.in-Some.is c.loop-reader.invariant.read in
     record { own = look_is_of _ c.args.feed.now c.in-Some-look.look (last_look g.A.Lane.told (look_of c.args.feed.now) g.A.Lane.accepts _ _ _ p.1 c.in-Some-look.is) }
 
@@ -40,8 +40,8 @@ loop-reader-preserved g c =
     let capacity = c.push_reserved.ensures.capacity in
     record {
       read = p.0;
-      done = one_back told accepts c.args.feed.now c.loop-reader.lanes.items c.push_reserved.new.self.items c.in-Some.reader.lane c.in-Some-look.look c.is_within.result c.loop-reader.within c.both-within.result
-          c.both-within.ensures c.push_reserved.ensures.items served p.1.none_left c.is_within.ensures.within i.done;
+      done = one_back told accepts c.args.feed.now c.loop-reader.lanes.items c.push_reserved.new.self.items c.in-Some.reader.lane c.in-Some-look.look
+          c.push_reserved.ensures.items served p.1.none_left c.follow.ensures.within i.done;
       count = omega arith;
       room = omega arith;
     }

@@ -7,7 +7,7 @@ abbrev pub invariant-loop-reader : goal.invariant-loop-reader
 invariant-loop-reader g l =
     record {
       read : All (λ r. IsRead g.A.Lane.told g.A.Lane.accepts (look_of l.feed) r.look r.lane) l.left.items;
-      done : AreReadLanes l.feed.opening l.feed.published l.within (map (returned_as g.A.Lane.told g.A.Lane.accepts) l.lanes.items);
+      done : AreReadLanes l.feed.opening l.feed.published (map (returned_as g.A.Lane.told g.A.Lane.accepts) l.lanes.items);
       count : length l.lanes.items + length l.left.items ≡ length l.fn.readers.items;
       room : length l.fn.readers.items ≤ vec_capacity l.lanes;
     }

@@ -1,9 +1,5 @@
-use Rattle.std.proofs.Common.{refl}
-use Rattle.pool_command.proofs.Parts.{runs_asked, runs_none}
+use Rattle.pool_command.proofs.Headlines.{headline_of_run}
 use Rattle.pool_command.proofs.run.run_pools.Goals as goal
 
-pub returns-in-Ok-Some : goal.returns-in-Ok-Some
-returns-in-Ok-Some g c = runs_asked _ _ c.in-Ok-Some.command _ _ _ _ _ c.in-Ok-Some.field-0-is c.in-Ok-Some.ensures c.run_command.ensures
-
-pub returns-in-Ok-None : goal.returns-in-Ok-None
-returns-in-Ok-None g c = runs_none _ _ _ _ _ _ _ c.in-Ok-None.field-0-is c.in-Ok-None.ensures (c.say_usage.ensures _ _, refl, refl)
+pub returns-clause-headline : goal.returns-clause-headline
+returns-clause-headline g c = headline_of_run c.numbers_never_meet.ensures _ _ _ _ _ _ c.run_read.ensures

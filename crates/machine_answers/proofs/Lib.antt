@@ -1,0 +1,4 @@
+pub mod Flat
+pub mod Entries
+pub mod Alone
+pub mod Listed
