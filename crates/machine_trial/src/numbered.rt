@@ -1,4 +1,4 @@
-//! A service that numbers the requests that a table reads: a worker lends one table to all of them.
+//! A service that numbers the requests that a table reads: a worker reads all of its requests by one table.
 ghost use Rattle.std.specs.Prelude.{◌≡◌, [], IfOk};
 ghost use Rattle.ipam_listen.specs.ListLanes.{lane_told};
 
