@@ -1,11 +1,11 @@
 #!/usr/bin/env python3
 """Plants bugs where no contract speaks, and says of each whether the test sees it that must: at files, sockets, arguments and limits, where the proof ends.
 
-Each bench/planted/CRATE/NAME.edit is one bug of the crate CRATE. Its first line is `seen by: CRATE MODULE::TEST`, with the test that must fail, or
-`seen by: check`, where the prover must refuse the crate itself. Then comes an edit as in crates/*/must-fail: `file: src/lib.rt`, `old: TEXT`, which that file
-has once, and `new: TEXT`; further pairs apply to what the earlier ones made. Each bug is put into a copy of the crates that are needed, and `rt try --test`
-runs there in the test's crate, from which the other tests are taken (or `rt check`). It prints a line a bug and, at the end, a sum; its status is 1 where one
-is not seen. A bug takes one to three minutes.
+Each bench/planted/CRATE/NAME.edit is one bug of the crate CRATE. Its first line is `seen by: CRATE MODULE::TEST`, with the test that must fail;
+`seen by: check`, where the prover must refuse the crate itself; or `seen by: CRATE check`, where it must refuse one above it. Then comes an edit as in
+crates/*/must-fail: `file: src/lib.rt`, `old: TEXT`, which that file has once, and `new: TEXT`; further pairs apply to what the earlier ones made. Each bug is
+put into a copy of the crates that are needed, and `rt try --test` runs there in the test's crate, from which the other tests are taken (or `rt check`). It
+prints a line a bug and, at the end, a sum; its status is 1 where one is not seen. A test that does not end sees nothing. A bug takes one to five minutes.
 
 usage: bench/planted.py [CRATE | CRATE/NAME ..]     all bugs, where none is named
 environment: RT=COMMAND                             what runs as `rt`
@@ -59,6 +59,10 @@ class Bug:
         """The crate whose check or tests must see it."""
         return self.crate if self.seen_by == ["check"] else self.seen_by[0]
 
+    def by_check(self):
+        """Whether the prover must see it."""
+        return self.seen_by[-1] == "check"
+
     def plant(self, copy):
         for file, old, new in self.pairs:
             path = f"{copy}/crates/{self.crate}/{file}"
@@ -108,7 +112,7 @@ def run_in(folder, words):
 def outcome(bug, copy):
     """Whether the bug is seen, and what was said of it."""
     folder = f"{copy}/crates/{bug.tried_in()}"
-    if bug.seen_by == ["check"]:
+    if bug.by_check():
         status, said = run_in(folder, ["check"])
         if "no proof" in said:
             return True, "refused by the prover"
