@@ -16,8 +16,13 @@ PLACE = f"{TOP}/crates/poold_trial/src/conversation.rt"
 SEED, SPOKEN = 1, 120
 HEAD = """//! A conversation with the pools, and its answers by other pools, written from the rules alone: bench/pool_conversation.py makes it.
 
-/// What is asked, and behind it what is answered.
-pub(crate) const EXCHANGES: [&str; {}] = [
+/// What is asked: {} requests, each on a line.
+pub(crate) const ASKED: &str = "\\
+{}";
+
+/// The answers, likewise.
+pub(crate) const ANSWERED: &str = "\\
+{}";
 """
 
 
@@ -43,16 +48,16 @@ def exchanges():
 
 
 def literal(text):
-    """The text as a string of the source."""
+    """The text as a line of a string of the source, which goes on behind it."""
     out = ""
     for it in text.decode():
         out += {"\\": "\\\\", '"': '\\"', "\r": "\\r", "\n": "\\n", "\t": "\\t"}.get(it) or (it if " " <= it != "\x7f" else f"\\u{{{ord(it):x}}}")
-    return f'"{out}"'
+    return out + "\\\n"
 
 
 def written():
-    texts = [text for pair in exchanges() for text in pair]
-    return HEAD.format(len(texts)) + "".join(f"    {literal(text)},\n" for text in texts) + "];\n"
+    pairs = list(exchanges())
+    return HEAD.format(len(pairs), "".join(literal(asked) for asked, _ in pairs), "".join(literal(told) for _, told in pairs))
 
 
 def main():

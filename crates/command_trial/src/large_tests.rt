@@ -30,7 +30,8 @@ fn has_twin(number: u32) -> bool {
 /// What an import has: the hosts, the last one first, each with its twin behind it.
 fn imported(alloc: Global) -> Result<String, AllocError> {
     let mut text = String::from_str(alloc, "address,vrf,dns_name\n")?;
-    for number in (0..HOSTS).rev() {
+    for behind in 0..HOSTS {
+        let number = HOSTS.saturating_sub(1).saturating_sub(behind);
         let (vrf, other) = vrf_of(number);
         let (high, low) = (number / 250, number % 250);
         text.push_str(format!(in alloc;
@@ -72,7 +73,8 @@ fn ran<R: Threads + Wait + Sync>(
     input: &[u8],
     fails: &[u32],
 ) -> Result<Left, AllocError> {
-    run_over(rt, alloc, opener, words, input, 4_096, [&[], fails, &[]])
+    let none: &[u32] = &[];
+    run_over(rt, alloc, opener, words, input, 4_096, [none, fails, none])
 }
 
 #[test]

@@ -16,12 +16,18 @@ fn closed_files<D: Disk + Drop>(
     requires log { IsTrue (D.Disk.is_usable files.log) }
     requires db { IsTrue (D.Disk.is_usable files.db) }
 {
-    let opened = Connection::open_files(alloc, files, Options::new(1));
-    let mut conn = opened.map_err(|_| AllocError)?;
-    if !is_run(&mut conn, words) {
-        return Err(AllocError);
+    match Connection::open_files(alloc, files, Options::new(1)) {
+        Ok(mut conn) => {
+            if !is_run(&mut conn, words) {
+                return Err(AllocError);
+            }
+            match conn.close_files() {
+                Ok(files) => Ok(files),
+                Err(_) => Err(AllocError),
+            }
+        }
+        Err(_) => Err(AllocError),
     }
-    conn.close_files().map_err(|_| AllocError)
 }
 
 /// The bytes of the file of a database over which these statements ran.

@@ -14,7 +14,8 @@ use sqlite::{Alter, Connection};
 use sqlite_keeper::SqliteKeeper;
 use std::alloc::{AllocError, Global};
 use std::test::Fail;
-use stored_tables::migration::migrate;
+use stored_tables::migration::{FIRST_VERSION, migrate};
+use stored_tables::tables::Tables;
 
 /// Rows of every kind under great ids, of which some go again and some come anew.
 const SPARSE: &str = "\
@@ -95,7 +96,7 @@ fn a_change_behind_a_fault_is_kept(rt: HostRuntime) -> Result<(), Fail> {
     Ok(())
 }
 
-/// A keeper of the rows of a migration: none of them but a range is in the file.
+/// A keeper in memory of tables of version 1 with other rows.
 fn other_rows(alloc: Global) -> Result<MemoryKeeper, AllocError> {
     let mut memory = MemoryKeeper::new(empty_tables(alloc)?, Vec::new(alloc));
     let change = change_of(
@@ -105,19 +106,22 @@ fn other_rows(alloc: Global) -> Result<MemoryKeeper, AllocError> {
     if memory.apply(&change).is_err() {
         return Err(AllocError);
     }
-    Ok(memory)
+    let tables = memory.into_tables();
+    let tables = Tables {
+        version: FIRST_VERSION,
+        next: tables.next,
+        rows: tables.rows,
+    };
+    Ok(MemoryKeeper::new(tables, Vec::new(alloc)))
 }
 
 /// Whether a keeper's tables get what the other one's become where they are migrated.
 fn is_put<K: Keeper, M: Keeper>(keeper: &mut K, other: &mut M) -> bool {
     match other.load() {
-        Ok(mut tables) => {
-            tables.version = 1;
-            match migrate(&tables, true) {
-                Ok(anew) => keeper.upgrade(&anew).is_ok(),
-                Err(_) => false,
-            }
-        }
+        Ok(tables) => match migrate(&tables, true) {
+            Ok(anew) => keeper.upgrade(&anew).is_ok(),
+            Err(_) => false,
+        },
         Err(_) => false,
     }
 }

@@ -42,13 +42,13 @@ fn member_of(alloc: Global, words: &str) -> Result<Member, AllocError> {
 fn many_ranges(alloc: Global) -> Result<Listed<NumberRange>, AllocError> {
     let mut ranges = Vec::new(alloc);
     for number in 0..MANY {
-        let first = 4_294_867_296 + number * 100;
+        let first = 4_294_867_296u32.saturating_add(number.saturating_mul(100));
         ranges.push(NumberRange {
-            id: 70_000 + number * 4_000_000,
+            id: 70_000u32.saturating_add(number.saturating_mul(4_000_000)),
             kind: PoolKind::Asn,
             name: text_of(alloc, format!(in alloc; " range '{number}' ")?.as_str())?,
             first,
-            last: first + 99,
+            last: first.saturating_add(99),
         })?;
     }
     Ok(Listed::of(ranges))
@@ -85,9 +85,9 @@ fn claimed(alloc: Global) -> Result<Listed<Member>, AllocError> {
     let mut members = Vec::new(alloc);
     for number in 0..MANY {
         members.push(Member {
-            id: 4_294_966_295 + number,
+            id: 4_294_966_295u32.saturating_add(number),
             range: 3_996_070_000,
-            number: 4_294_966_296 + number,
+            number: 4_294_966_296u32.saturating_add(number),
             name: text_of(alloc, format!(in alloc; "Zürich\0 {number}  ")?.as_str())?,
         })?;
     }

@@ -22,7 +22,9 @@ fn schema_of<S: Alter + Drop>(
     mut conn: Connection<S>,
 ) -> Result<String, AllocError> {
     let mut told = String::new(alloc);
-    let mut found = conn.query(SELECT, &[]).map_err(|_| AllocError)?;
+    let Ok(mut found) = conn.query(SELECT, &[]) else {
+        return Err(AllocError);
+    };
     for _ in 0..MOST {
         let Some(row) = found.next().map_err(|_| AllocError)? else {
             return Ok(told);
