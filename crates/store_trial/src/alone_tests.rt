@@ -82,18 +82,21 @@ fn a_file_alone_has_what_was_put(rt: HostRuntime) -> Result<(), Fail> {
     Ok(())
 }
 
-/// What makes tables of version 1 with many ranges.
+/// What makes tables of version 1 with many ranges, a hundred by each statement.
 fn first_words(alloc: Global) -> Result<String, AllocError> {
     let mut words = String::from_str(alloc, FIRST)?;
-    words.push_str("; BEGIN; DELETE FROM ip_ranges; INSERT INTO ip_ranges VALUES ")?;
-    for id in 1..MANY_RANGES {
-        let row = format!(in alloc; "({id}, 'a', 'b', '', 'c', '', 'false', 'd{id}'), ")?;
+    words.push_str("; BEGIN; DELETE FROM ip_ranges")?;
+    for id in 1..MANY_RANGES + 1 {
+        let front = if id % 100 == 1 {
+            "; INSERT INTO ip_ranges VALUES "
+        } else {
+            ", "
+        };
+        words.push_str(front)?;
+        let row = format!(in alloc; "({id}, 'a', 'b', '', 'c', '', 'false', 'd{id}')")?;
         words.push_str(row.as_str())?;
     }
-    let row = format!(in alloc;
-        "({MANY_RANGES}, 'a', 'b', '', 'c', '', 'false', 'd{MANY_RANGES}'); COMMIT"
-    )?;
-    words.push_str(row.as_str())?;
+    words.push_str("; COMMIT")?;
     Ok(words)
 }
 
