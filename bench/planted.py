@@ -24,6 +24,7 @@ PLANTED = f"{TOP}/bench/planted"
 RT = os.environ.get("RT", "rt")
 # A test has 60 seconds; there are a dozen at most in a crate, and they are compiled first.
 SECONDS = 1800
+REFUSED = re.compile(r"^fn \S+: (?:no proof|not proved)", re.M)
 PART = re.compile(r"^(seen by|file|old|new): ?(.*)$")
 
 
@@ -96,7 +97,7 @@ def outcome(bug, copy):
     folder = f"{copy}/crates/{bug.tried_in()}"
     if bug.seen_by == ["check"]:
         status, said = run_in(folder, ["check"])
-        if "no proof" in said:
+        if REFUSED.search(said):
             return True, "refused by the prover"
         return False, "proved" if status == 0 else "no verdict: " + last_of(said)
     _, said = run_in(folder, ["try", "--test"])
