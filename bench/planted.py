@@ -24,6 +24,7 @@ PLANTED = f"{TOP}/bench/planted"
 RT = os.environ.get("RT", "rt")
 # A test is compiled first, and runs checked, which is slow; one that does not end sees nothing.
 SECONDS, TEST_SECONDS = 3600, 1200
+REFUSED = re.compile(r"^fn \S+: (?:no proof|not proved)", re.M)
 PART = re.compile(r"^(seen by|file|old|new): ?(.*)$")
 A_TEST = re.compile(r"(?:^///.*\n)*^#\[test\]\nfn (\w+)\((?:.*\n)*?\}\n", re.M)
 
@@ -114,7 +115,7 @@ def outcome(bug, copy):
     folder = f"{copy}/crates/{bug.tried_in()}"
     if bug.by_check():
         status, said = run_in(folder, ["check"])
-        if "no proof" in said:
+        if REFUSED.search(said):
             return True, "refused by the prover"
         return False, "proved" if status == 0 else "no verdict: " + last_of(said)
     test = bug.seen_by[1]

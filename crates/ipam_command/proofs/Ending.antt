@@ -1,17 +1,18 @@
 -- What the process ends with: the status of one run over standard streams, or that of arguments which are no text.
 use Rattle.std.specs.Prelude.{map, string_bytes}
-use Rattle.std.proofs.Common.{◌≡◌, ℕ, List, None, Result, Ok, Err, inl, inr, refl, sym, subst}
+use Rattle.std.proofs.Common.{◌≡◌, ℕ, List, None, Result, Ok, Err, inl, inr, refl, sym, ap, ◌∙◌, subst}
 use Rattle.std.specs.declared.io.Error.{Error}
 use Rattle.std.specs.declared.string.String.{String}
 use Rattle.std.specs.declared.vec.IntoIter.{IntoIter}
 use Rattle.std.specs.declared.vec.Vec.{Vec}
 use Rattle.command_streams.specs.Arguments.{AreWords}
+use Rattle.command_streams.specs.declared.arguments.NoArguments.{NoArguments}
 use Rattle.command_streams.specs.declared.arguments.NoArguments.TheVariants.{NoText, Memory}
 use Rattle.command_streams.specs.Streams.{Streams, Told, streams, IsUsage}
 use Rattle.command_store.specs.Outside.{Stores, outside}
 use Rattle.machine_serving.specs.Views.{ListenerView}
 use Rattle.ipam_command.specs.Runs.{Runs, SaysUsage}
-use Rattle.ipam_command.specs.Program.{AreUntold, IsEnding, RunsOver, SaysNoText}
+use Rattle.ipam_command.specs.Program.{AreUntold, EndsWithout, IsEnding, RunsOver, SaysNoText}
 
 -- a stream that tells nothing and has not failed
 abbrev untold : Told
@@ -47,20 +48,16 @@ says_usage old new stores view status said bytes faults same usage = (
 )
 
 -- the words of the arguments were run
-pub ended : {Y Z W : Type 0} (given : Result (IntoIter (String Y) Z) Error) (words : Vec (String Y) W) (stores_before stores_after : Stores) (before after : ListenerView) (status : ℕ)
-    → AreWords given (Ok words) → RunsOver (map string_bytes words.items) stores_before stores_after before after status → IsEnding given stores_before stores_after before after status
-ended (Ok args) words stores_before stores_after before after status are runs =
-    subst (λ (w : List (List ℕ)). RunsOver w stores_before stores_after before after status) are runs
-ended (Err error) words stores_before stores_after before after status are runs = absurd are
+pub ended : {Y Z W : Type 0} (given : Result (IntoIter (String Y) Z) Error) (words : Vec (String Y) W) (args : List (String Y)) (stores_before stores_after : Stores) (before after : ListenerView) (status : ℕ)
+    → AreWords given (Ok words) → args ≡ words.items → RunsOver (map string_bytes args) stores_before stores_after before after status → IsEnding given stores_before stores_after before after status
+ended (Ok given) words args stores_before stores_after before after status are same runs =
+    subst (λ (w : List (List ℕ)). RunsOver w stores_before stores_after before after status) (ap (map string_bytes) same ∙ are) runs
+ended (Err error) words args stores_before stores_after before after status are same runs = absurd are
 
--- an argument is no text
-pub ended_without_text : {Y Z W : Type 0} (given : Result (IntoIter (String Y) Z) Error) (stores_before stores_after : Stores) (before after : ListenerView) (status : ℕ)
-    → AreWords {W = W} given (Err NoText) → SaysNoText stores_before stores_after before after status → IsEnding given stores_before stores_after before after status
-ended_without_text (Ok args) stores_before stores_after before after status are says = absurd are
-ended_without_text (Err error) stores_before stores_after before after status are says = inl (are, says)
-
--- memory ran out for them
-pub ended_without_memory : {Y Z W : Type 0} (given : Result (IntoIter (String Y) Z) Error) (stores : Stores) (view : ListenerView) (status : ℕ) → AreWords {W = W} given (Err Memory) → status ≡ 5
-    → IsEnding given stores stores view view status
-ended_without_memory (Ok args) stores view status are five = not_run _ stores view status five
-ended_without_memory (Err error) stores view status are five = inr (are, five, refl, refl)
+-- there were no words
+pub ended_without : {Y Z : Type 0} (W : Type 0) (why : NoArguments) (given : Result (IntoIter (String Y) Z) Error) (stores : Stores) (view : ListenerView) (status : ℕ) → AreWords {W = W} given (Err why)
+    → EndsWithout why status → IsEnding given stores stores view view status
+ended_without W NoText (Ok given) stores view status are ends = absurd are
+ended_without W NoText (Err error) stores view status are ends = inl (are, ends stores view)
+ended_without W Memory (Ok given) stores view status are ends = not_run _ stores view status ends
+ended_without W Memory (Err error) stores view status are ends = inr (are, ends, refl, refl)

@@ -1,5 +1,5 @@
 -- What the commands ensure of a store gives the headline, by the laws of the register.
-use Rattle.std.proofs.Common.{◌≡◌, ◌⊎◌, inl, inr, ℕ, zero, suc, List, [], ◌∷◌, map, take, Some, refl, ap, sym, ◌∙◌, subst}
+use Rattle.std.proofs.Common.{◌≡◌, ℕ, zero, suc, true, List, [], ◌∷◌, map, take, Some, refl, ap, sym, ◌∙◌, subst}
 use Rattle.std.specs.List.{AllByRecursion, slice_get}
 use Rattle.history_lock.specs.Replay.{replay}
 use Rattle.history_lock.specs.Replies.{accepted}
@@ -203,7 +203,7 @@ alone laws store old new how h =
     let before : Ends = ends_of old.streams.input.bytes old.streams.output.bytes old.streams.input.faults old.streams.output.faults in
     let after : Ends = ends_of new.streams.input.bytes new.streams.output.bytes new.streams.input.faults new.streams.output.faults in
     let history = h.last.now.log in
-    let of : HasCaller register_protocol h.state history before after = listed_alone register_protocol h.state h.last before after h.bytes how h.grown h.ends in
+    let of : HasCaller register_protocol h.state history before after = (listed_alone register_protocol h.state h.last before after h.bytes how h.grown h.ends).1 in
     record {
       caller = of.caller;
       kept = record {
@@ -218,6 +218,7 @@ alone laws store old new how h =
 
 mirrored : Laws → (asked : Mirroring) (old new : Outside) (before after : ListenerView) (how : SessionEnd) (m : Mirrors asked old new before after how)
     → Mirrored asked.store old new before after m.sure
+unfolding alone
 mirrored laws asked old new before after how m =
     record {
       operator = alone laws asked.store old new how m.serves;

@@ -16,7 +16,7 @@ use Rattle.http_session.specs.declared.session.SessionEnd.{SessionEnd}
 use Rattle.machine_session.specs.Protocols.{Protocol}
 use Rattle.machine_session.specs.Told.{IsAnswerIn, IsTold, Standing, answers_in, newcomer}
 use Rattle.machine_session.specs.Owned.{Counted, IsCountedAnswer, IsOwnCall, answers_counted, counted, owned}
-use Rattle.machine_session.proofs.Carried.{IsCarried, end_carried}
+use Rattle.machine_session.proofs.Carried.{IsCarried, end_ahead, end_carried}
 use Rattle.machine_session.proofs.Talks.{prefix_refl, prefix_trans}
 use Rattle.machine_answers.specs.Answers.{Caller, IsAnswered, IsHeld, Talk, Told, changes_in, told_in, told_to, with_change}
 use Rattle.machine_answers.specs.Laws.{HasCaller}
@@ -128,12 +128,16 @@ module _ {S C A R W E : Type 0} (P : Protocol S C A R W E) where
       }
 
   pub alone : (opening : S) (last : Counted S C) (before after : Ends) (bytes : List ℕ) (how : SessionEnd) → Grown before.left after.left [] bytes
-      → IsEnd (answers_counted P) (counted (owned opening [] 0) 0) last before.written after.written bytes after.left how → HasCaller P opening last.now.log before after
+      → IsEnd (answers_counted P) (counted (owned opening [] 0) 0) last before.written after.written bytes after.left how
+      → (last.now.opening ≡ opening) × HasCaller P opening last.now.log before after
   alone opening last before after bytes how read ends =
       let history = last.now.log in
       let first : Counted S C = counted (owned opening [] 0) 0 in
       let told = end_carried (answers_counted P) (answers_in P opening history 0) standing (λ s. s.now.opening ≡ opening) (λ t. IsPrefix t.now.log history) (told_alone opening history)
       first last before.written after.written bytes after.left how ends refl (prefix_refl history) in
+      let stays : last.now.opening ≡ opening =
+      end_ahead (answers_counted P) (answers_in P opening history 0) standing (λ s. s.now.opening ≡ opening) (λ t. IsPrefix t.now.log history) (told_alone opening history)
+      first last before.written after.written bytes after.left how ends refl in
       let e : Held P opening history 0 newcomer (standing last) before.written after.written bytes after.left =
       end_flat P opening history 0 newcomer (standing last) before.written after.written bytes after.left how told in
       let from : Mark P opening history 0 = mark P opening history 0 newcomer in
@@ -147,13 +151,15 @@ module _ {S C A R W E : Type 0} (P : Protocol S C A R W E) where
         right = All-from_recursion (λ (t : Talk C R). All (Right P opening history 0) t.exchanges) (talk ∷ []) (All-from_recursion (Right P opening history 0) e.all e.right, tt);
         in_order = in_order P opening history 0 from (told_to (talk ∷ [])) to goes;
         changes = ap (own_entries 0) same ∙ own_changes P.kind 0 (told_to (talk ∷ []));
-      } in
-      record {
-        caller = caller;
-        are = record {
-          answered = All-from_recursion (IsAnswered P opening history) (caller ∷ []) (answered, tt);
-          numbered = (0, (refl, tt));
-          nobody_else = All-from_recursion (IsOf 0) history (subst (AllByRecursion (IsOf 0)) (sym same) (all_own P.kind 0 (told_to (talk ∷ []))));
-        };
-        connections_are = refl;
-      }
+      } in (
+        stays,
+        record {
+          caller = caller;
+          are = record {
+            answered = All-from_recursion (IsAnswered P opening history) (caller ∷ []) (answered, tt);
+            numbered = (0, (refl, tt));
+            nobody_else = All-from_recursion (IsOf 0) history (subst (AllByRecursion (IsOf 0)) (sym same) (all_own P.kind 0 (told_to (talk ∷ []))));
+          };
+          connections_are = refl;
+        },
+      )

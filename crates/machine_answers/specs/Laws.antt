@@ -26,7 +26,8 @@ pub record AnswersAreListed {S C A R W E : Type 0} (P : Protocol S C A R W E) : 
   pub served : (opening : S) (history : List (ℕ × C)) (back : List Returned) (shifts : List (Shift C)) → IsHistoryOf P opening history shifts → server.AreLanesOf back shifts
       → HasCallers P opening history back
   pub alone : (opening : S) (last : Counted S C) (before after : Ends) (bytes : List ℕ) (how : SessionEnd) → Grown before.left after.left [] bytes
-      → IsEnd (answers_counted P) (counted (owned opening [] 0) 0) last before.written after.written bytes after.left how → HasCaller P opening last.now.log before after
+      → IsEnd (answers_counted P) (counted (owned opening [] 0) 0) last before.written after.written bytes after.left how
+      → (last.now.opening ≡ opening) × HasCaller P opening last.now.log before after
   -- each entry is a change that was asked for, and that the machine accepts at its place
   pub entries : (opening : S) (history : List (ℕ × C)) (callers : List (Caller C R)) → AreCallers P opening history callers
       → (n : ℕ) (who : ℕ) (call : C) → slice_get history n ≡ Some (who, call) → IsChange P opening (take n history) call

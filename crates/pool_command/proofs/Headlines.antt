@@ -29,7 +29,7 @@ use Rattle.pool_register.specs.Kept.{Seen, seen_step}
 use Rattle.pool_service.specs.Protocol.{pool_protocol}
 use Rattle.pool_store.specs.FaultWords.{IsSaid}
 use Rattle.pool_store.specs.Meaning.{pool_opener}
-use Rattle.pool_store.specs.Opening.{AreSame, StoredPools}
+use Rattle.pool_store.specs.Opening.{AreSame, Holds, StoredPools}
 use Rattle.pool_words.specs.Asked.{Asks}
 use Rattle.pool_words.specs.declared.asked.Command.{Command}
 use Rattle.pool_words.specs.declared.asked.Command.TheVariants.{Session, Serve}
@@ -114,7 +114,9 @@ alone never db old new how h =
     let ends : IsEnd (answers_counted pool_protocol) (counted (owned opening [] 0) 0) (counted h.last h.told) before.written after.written h.bytes after.left how =
     subst (λ (f : Owned Seen PoolCall). IsEnd (answers_counted pool_protocol) (counted f 0) (counted h.last h.told) before.written after.written h.bytes after.left how)
     (opened h.first h.fresh) h.ends in
-    let of : HasCaller pool_protocol opening history before after = listed_alone pool_protocol opening (counted h.last h.told) before after h.bytes how h.grown ends in
+    let all : (h.last.opening ≡ opening) × HasCaller pool_protocol opening history before after =
+    listed_alone pool_protocol opening (counted h.last h.told) before after h.bytes how h.grown ends in
+    let of : HasCaller pool_protocol opening history before after = all.1 in
     record {
       caller = of.caller;
       kept = record {
@@ -122,7 +124,7 @@ alone never db old new how h =
         stood = h.loaded;
         history = history;
         headline = headline never opening history (of.caller ∷ []) of.are;
-        holds = h.holds;
+        holds = subst (λ (s : Seen). Holds db old.stores.stored new.stores.stored (replay seen_step s history)) all.0 h.holds;
       };
       streams = of.connections_are;
     }

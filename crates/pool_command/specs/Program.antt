@@ -4,6 +4,8 @@ use Rattle.std.specs.declared.io.Error.{Error}
 use Rattle.std.specs.declared.string.String.{String}
 use Rattle.std.specs.declared.vec.IntoIter.{IntoIter}
 use Rattle.command_streams.specs.Arguments.{HasNoText, words_behind}
+use Rattle.command_streams.specs.declared.arguments.NoArguments.{NoArguments}
+use Rattle.command_streams.specs.declared.arguments.NoArguments.TheVariants.{NoText, Memory}
 use Rattle.command_streams.specs.Streams.{Streams, Told}
 use Rattle.machine_command.specs.Outside.{Stores, outside}
 use Rattle.pool_keeper.specs.declared.tables.PoolTables.{PoolTables}
@@ -30,6 +32,11 @@ RunsOver words stores_before stores_after before after status =
 abbrev pub SaysNoText : Stores PoolTables → Stores PoolTables → ListenerView → ListenerView → ℕ → Type 0
 SaysNoText stores_before stores_after before after status =
     (old : Streams) × (new : Streams) × AreUntold old × SaysUsage (outside old stores_before) (outside new stores_after) before after status
+
+-- what it ends with where there are no words: whatever the opener and the listener tell, they were not used
+abbrev pub EndsWithout : NoArguments → ℕ → Type 0
+EndsWithout NoText status = (stores : Stores PoolTables) (view : ListenerView) → SaysNoText stores stores view view status
+EndsWithout Memory status = status ≡ 5
 
 -- nothing was used, and the status is that of out of memory
 abbrev pub HasNotBegun : Stores PoolTables → Stores PoolTables → ListenerView → ListenerView → ℕ → Type 0

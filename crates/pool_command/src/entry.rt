@@ -5,7 +5,7 @@ ghost use Rattle.std.specs.Process.{exit_status};
 ghost use Rattle.command_streams.specs.Streams.{streams, told};
 ghost use Rattle.machine_command.specs.Outside.{outside, stores};
 ghost use Rattle.machine_serving.specs.Views.{listener_view};
-ghost use Rattle.pool_command.specs.Program.{IsEnding, RunsOver};
+ghost use Rattle.pool_command.specs.Program.{EndsWithout, IsEnding, RunsOver};
 ghost use Rattle.pool_command.specs.Runs.{Runs};
 
 use crate::run::{run_pools, say_usage};
@@ -76,6 +76,16 @@ fn run_args<R: Threads + Wait + Sync, L: Listener, O: PoolOpener>(
     )
 }
 
+/// Ends where there are no arguments: with the usage line where one of them is no text.
+fn end_without(rt: &HostRuntime, why: NoArguments) -> ExitCode
+    ensures { EndsWithout why (exit_status result) }
+{
+    match why {
+        NoArguments::NoText => ExitCode::from(say_usage(&mut standard_error(rt))),
+        NoArguments::Memory => ExitCode::from(MEMORY),
+    }
+}
+
 /// Runs the program over its arguments, as `std::env::args` gives them, the standard streams, a listener and an opener of stores. The process is
 /// to end with the status of the run. Arguments that are no UTF-8 are no words of a command; where memory runs out to read them the status is
 /// that of out of memory. `threads` is what workers are started by: the runtime once more, which only `main` may hand out as such.
@@ -91,7 +101,6 @@ pub fn program<R: Threads + Wait + Sync, L: Listener, O: PoolOpener>(
 {
     match words_given(rt.alloc(), given) {
         Ok(args) => run_args(rt, threads, &args, listener, opener),
-        Err(NoArguments::NoText) => ExitCode::from(say_usage(&mut standard_error(rt))),
-        Err(NoArguments::Memory) => ExitCode::from(MEMORY),
+        Err(why) => end_without(rt, why),
     }
 }

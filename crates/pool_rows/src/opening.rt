@@ -2,25 +2,23 @@
 
 ghost use Rattle.std.specs.Prelude.{◌≡◌, ℕ, [], ◌≤◌, ◌<◌, ◌^◌, IfOk, OnOk, length};
 ghost use Rattle.ipam_data.specs.RowList.{AllBelow, Rises, with_row};
-ghost use Rattle.number_pools.specs.Rows.{member_id, range_id};
+ghost use Rattle.number_pools.specs.Rows.{range_id};
 
-use number_pools::{Member, NumberRange};
+use number_pools::{MOST_HELD, NumberRange};
 use placed_book::{Book, RowBook};
 use std::alloc::{AllocError, Global};
 
-/// How many rows a book has not.
-pub(crate) const TOO_MANY: usize = 1_073_741_824;
-
-/// The book of ranges whose ids rise. `Err` means out of memory, also for 2^30 rows and more.
+/// The book of ranges whose ids rise. `Err` means out of memory, or more rows than can be held.
 pub(crate) fn book_of(
     alloc: Global,
     rows: Vec<NumberRange>,
 ) -> Result<RowBook<NumberRange>, AllocError>
     requires { Rises range_id 0 rows.items }
-    ensures { IfOk result (λ b. b.rows ≡ rows.items) }
+    ensures rows { IfOk result (λ b. b.rows ≡ rows.items) }
+    ensures few { IfOk result (λ b. length rows.items ≤ MOST_HELD) }
 {
     let mut book = RowBook::new(alloc);
-    if rows.len() >= TOO_MANY {
+    if rows.len() > MOST_HELD {
         drop(rows);
         drop(book);
         return Err(AllocError);

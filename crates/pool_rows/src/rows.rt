@@ -11,13 +11,14 @@ ghost use Rattle.number_pools.specs.Free.{pool_at};
 ghost use Rattle.number_pools.specs.Keys.{AreKeys, key_block};
 ghost use Rattle.number_pools.specs.Lawful.{AreNumbered, IsLawfulPools};
 ghost use Rattle.number_pools.specs.Steps.{with_range, without_member, without_range};
+ghost use Rattle.number_pools.specs.Limits.{AreFew};
 ghost use Rattle.pool_rows.specs.Held.{with_member};
 
 use crate::keys::key_at;
-use crate::opening::{TOO_MANY, book_of};
+use crate::opening::book_of;
 use block_space::Space;
 use inet_num::Family;
-use number_pools::{Member, NumberRange, pool_of};
+use number_pools::{MOST_HELD, Member, NumberRange, pool_of};
 use placed_book::{Book, RowBook};
 use radix_tree::Tree;
 use std::alloc::{AllocError, Global};
@@ -65,8 +66,8 @@ impl PoolRows {
         }
     }
 
-    /// The rows of these ranges and members, whose ids rise, with these next ids, and no item of the log spent. `Err` means out of memory,
-    /// also where there are 2^30 ranges or members.
+    /// The rows of these ranges and members, whose ids rise, with these next ids, and no item of the log spent. `Err` means out of memory, or
+    /// more ranges or members than can be held.
     pub fn of(
         alloc: Global,
         ranges: Vec<NumberRange>,
@@ -76,7 +77,8 @@ impl PoolRows {
     ) -> Result<PoolRows, AllocError>
         requires ranges { Rises range_id 0 ranges.items }
         requires members { Rises member_id 0 members.items }
-        ensures { IfOk result (λ r. r.pools ≡ record { ranges = record { rows = ranges.items; next = next_range }; members = record { rows = members.items; next = next_member }; spent = 0 }) }
+        ensures pools { IfOk result (λ r. r.pools ≡ record { ranges = record { rows = ranges.items; next = next_range }; members = record { rows = members.items; next = next_member }; spent = 0 }) }
+        ensures few { IfOk result (λ r. AreFew r.pools) }
     {
         match book_of(alloc, ranges) {
             Ok(ranges) => {
@@ -278,14 +280,15 @@ impl PoolRows {
     }
 }
 
-/// The rows with these members, whose ids rise, where there are none. `Err` means out of memory, also for 2^30 members and more.
+/// The rows with these members, whose ids rise, where there are none. `Err` means out of memory, or more members than can be held.
 fn filled(rows: PoolRows, members: Vec<Member>) -> Result<PoolRows, AllocError>
     requires rises { Rises member_id 0 members.items }
     requires empty { rows.pools.members.rows ≡ [] }
-    ensures { IfOk result (λ r. r.pools ≡ record { ranges = rows.pools.ranges; members = record { rows = members.items; next = rows.pools.members.next }; spent = rows.pools.spent }) }
+    ensures pools { IfOk result (λ r. r.pools ≡ record { ranges = rows.pools.ranges; members = record { rows = members.items; next = rows.pools.members.next }; spent = rows.pools.spent }) }
+    ensures few { IfOk result (λ r. length members.items ≤ MOST_HELD) }
 {
     let mut rows = rows;
-    if members.len() >= TOO_MANY {
+    if members.len() > MOST_HELD {
         drop(members);
         drop(rows);
         return Err(AllocError);

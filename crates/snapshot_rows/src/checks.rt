@@ -91,15 +91,18 @@ fn id_is_kept(id: u32)
     ensures { id < 4294967296 }
 {}
 
-/// Whether a kind has so many rows that one more wants more memory than there is.
+/// How many rows a kind may have before one more is put, as `RowTables::reserve` asks.
+const MOST_ROWS: u32 = 500_000_000;
+
+/// Whether a kind has so many rows that no more are put.
 pub(crate) fn is_huge(tables: &RowTables) -> bool
-    ensures { result ≡ false → HasAtMost 500000000 tables.now }
+    ensures { result ≡ false → HasAtMost MOST_ROWS tables.now }
 {
-    tables.vrfs().len() > 500_000_000
-        || tables.rirs().len() > 500_000_000
-        || tables.roles().len() > 500_000_000
-        || tables.aggregates().len() > 500_000_000
-        || tables.prefixes().len() > 500_000_000
-        || tables.ranges().len() > 500_000_000
-        || tables.addresses().len() > 500_000_000
+    tables.vrfs().len() > MOST_ROWS
+        || tables.rirs().len() > MOST_ROWS
+        || tables.roles().len() > MOST_ROWS
+        || tables.aggregates().len() > MOST_ROWS
+        || tables.prefixes().len() > MOST_ROWS
+        || tables.ranges().len() > MOST_ROWS
+        || tables.addresses().len() > MOST_ROWS
 }

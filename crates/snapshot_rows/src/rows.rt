@@ -98,7 +98,7 @@ impl SnapshotRows {
     }
 
     /// Takes an update in: its rows and cuts of the two kinds. `Err` leaves the rows. It means out of memory, or an update that no
-    /// register makes: a row whose id is 0, or is not there and not above all ids so far.
+    /// register makes: a row whose id is 0, or is not there and not above all ids so far; or rows beside more than 500,000,000 of a kind.
     pub fn take_in(&mut self, change: &Update) -> Result<(), AllocError>
         ensures ok { OnOk result (self.new ≡ after_update self.old change.now) }
         ensures err { OnErr result (self.new ≡ self.old) }
