@@ -41,7 +41,7 @@ pub record Kept (store : Store) (old new : Outside) (callers : List (Caller Call
   pub stood : IsLoaded store old opening
   pub history : List (ℕ × Call)
   pub headline : Headline opening history callers
-  -- the store has the replay of the history, and tells it where its tables were told
+  -- the store holds the state after the history, if its tables are known
   pub holds : HoldsTold store old new (replay plain_step opening history)
 
 -- `serve`: all that connected, with so many changes
@@ -49,7 +49,7 @@ pub record Served (store : Store) (old new : Outside) (before after : ListenerVi
   pub callers : List (Caller Call Reply)
   pub kept : Kept store old new callers
   pub counted : entries ≡ length kept.history
-  -- the lanes that came back tell the connections of the callers
+  -- the listener got back lanes with the connections of the callers
   pub back : List Returned
   pub returned : after.returned ≡ before.returned ++ back
   pub lanes : AreLanesOf back callers
