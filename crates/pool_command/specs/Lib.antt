@@ -2,3 +2,4 @@ pub mod Runs
 pub mod Clauses
 pub mod Exact
 pub mod Program
+pub mod Limits
