@@ -1,3 +1,4 @@
+pub mod FewRecords
 pub mod Places
 pub mod Readings
 pub mod OneFile

@@ -1,6 +1,6 @@
 //! The rows that the bytes of a file stand for.
 
-ghost use Rattle.std.specs.Prelude.{◌≡◌, ◌⊎◌, ◌++◌, ◌∷◌, [], ◌+◌, List, Ok, Err, IfOk, IfErr, OnOk, map};
+ghost use Rattle.std.specs.Prelude.{◌≡◌, ◌⊎◌, ◌++◌, ◌∷◌, ◌<◌, ◌^◌, [], List, Ok, Err, IfOk, IfErr, OnOk, length, map};
 ghost use Rattle.csv.specs.Records.{fields_of};
 ghost use Rattle.ipam_data.specs.declared.replies.RowFault.{RowFault as Fault};
 ghost use Rattle.ipam_data.specs.declared.replies.Refusal.TheVariants.{Row, Memory};
@@ -58,17 +58,6 @@ fn add(rows: &mut Vec<ImportRow>, row: ImportRow) -> Result<(), Refusal>
     }
 }
 
-/// The number of the next row. There are never so many rows that it is none; no clause of the reader says so.
-fn next_number(n: u32) -> Result<u32, Refusal>
-    ensures ok { IfOk result (λ m. m ≡ n + 1) }
-    ensures err { IfErr result (λ e. e ≡ Memory) }
-{
-    match n.checked_add(1) {
-        Some(next) => Ok(next),
-        None => Err(Refusal::Memory),
-    }
-}
-
 /// The rows under a header, or the refusal of the first that is refused.
 fn read_lines(
     alloc: Global,
@@ -76,13 +65,14 @@ fn read_lines(
     header: &ByteRecord,
     lines: Vec<ByteRecord>,
 ) -> Result<Vec<ImportRow>, Refusal>
+    requires few { length lines.items < 2 ^ 32 }
     ensures ok { IfOk result (λ v. AreRowsOf kind (fields_of header.now) 1 (map fields_of lines.items) (Ok v.items)) }
     ensures err { IfErr result (λ e. (e ≡ Memory) ⊎ AreRowsOf kind (fields_of header.now) 1 (map fields_of lines.items) (Err e)) }
 {
     let mut rows = Vec::new(alloc);
     let mut n = 0;
     for line in lines {
-        n = next_number(n)?;
+        n += 1;
         let row = row_at(alloc, kind, header, n, line)?;
         add(&mut rows, row)?;
     }
@@ -95,6 +85,7 @@ fn read_table(
     kind: Kind,
     mut lines: Vec<ByteRecord>,
 ) -> Result<Vec<ImportRow>, Refusal>
+    requires few { length lines.items < 2 ^ 32 }
     ensures ok { IfOk result (λ v. IsTableOf kind (map fields_of lines.items) (Ok v.items)) }
     ensures err { IfErr result (λ e. (e ≡ Memory) ⊎ IsTableOf kind (map fields_of lines.items) (Err e)) }
 {

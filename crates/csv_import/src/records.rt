@@ -1,6 +1,6 @@
 //! The records of a file.
 
-ghost use Rattle.std.specs.Prelude.{◌≡◌, IfOk, map};
+ghost use Rattle.std.specs.Prelude.{◌≡◌, ◌+◌, ◌≤◌, IfOk, length, map};
 ghost use Rattle.csv.specs.Reading.{AreRecords, default_config, strip_bom};
 ghost use Rattle.csv.specs.Records.{fields_of};
 ghost use Rattle.csv.specs.declared.parser.State.TheVariants as st;
@@ -8,9 +8,10 @@ ghost use Rattle.csv.specs.declared.parser.State.TheVariants as st;
 use csv::{ByteRecord, ReaderBuilder};
 use std::alloc::{AllocError, Global};
 
-/// Every record of a file, the header first. The only error means out of memory.
+/// Every record of a file, the header first; there are no more of them than bytes, and one. The only error means out of memory.
 pub(crate) fn records(alloc: Global, text: &[u8]) -> Result<Vec<ByteRecord>, AllocError>
-    ensures { IfOk result (λ v. AreRecords default_config st.StartRecord (strip_bom text.now) (map fields_of v.items)) }
+    ensures records { IfOk result (λ v. AreRecords default_config st.StartRecord (strip_bom text.now) (map fields_of v.items)) }
+    ensures few { IfOk result (λ v. length v.items ≤ length text.now + 1) }
 {
     let rdr = ReaderBuilder::new()
         .has_headers(false)

@@ -1,8 +1,8 @@
 -- A run has the headline of its command.
-use Rattle.std.proofs.Common.{◌≡◌, ◌⊎◌, ℕ, Bool, true, List, Option, Some, None, refl, sym, ap, subst, inl, inr, arith}
+use Rattle.std.proofs.Common.{◌≡◌, ◌⊎◌, ℕ, List, Option, Some, None, refl, sym, ap, subst, inl, inr, arith}
 use Rattle.stored_tables.specs.declared.tables.Tables.{Tables}
 use Rattle.command_words.specs.declared.asked.Command.{Command}
-use Rattle.command_words.specs.declared.asked.Command.TheVariants.{Free, Session, Serve, Mirror, Import, Export, Report, PrefixList, PrefixCheck, Reverse, ReverseRead, Migrate, Load}
+use Rattle.command_words.specs.declared.asked.Command.TheVariants.{Session, Serve, Mirror}
 use Rattle.command_words.specs.declared.asked.Mirroring.{Mirroring}
 use Rattle.command_words.specs.declared.asked.Serving.{Serving}
 use Rattle.command_words.specs.declared.asked.Store.{Store}
@@ -87,19 +87,19 @@ of_serve hold serving old new before after status s = (
 of_mirror : HeadlinesHold → (mirroring : Mirroring) (old new : Outside) (before after : ListenerView) (status : ℕ) → IsMirror mirroring old new before after status
     → HasHeadline (Mirror mirroring) old new before after status
 of_mirror hold mirroring old new before after status s = (
-  λ z. (let all = (s.done z).0.mirrored in subst (Mirrored mirroring.store old new before after) all.sure (hold.mirror mirroring old new before after _ all.mirrors)),
+  λ z. hold.mirror mirroring old new before after _ (s.done z).0.mirrored.mirrors,
   elim s.statuses [
-    | inl z ↦ (let all = (s.done z).0.mirrored in inl (all.mirrors.sure, hold.mirror mirroring old new before after _ all.mirrors))
+    | inl z ↦ inl (hold.mirror mirroring old new before after _ (s.done z).0.mirrored.mirrors)
     | inr more ↦ elim more [
       | inl z ↦ inr (s.refused z).0.unused
       | inr rest ↦ elim rest [
         | inl z ↦ elim (s.fault z) [
-          | inl h ↦ (let all = h.mirrored in inl (all.mirrors.sure, hold.mirror mirroring old new before after _ all.mirrors))
+          | inl h ↦ inl (hold.mirror mirroring old new before after _ h.mirrored.mirrors)
           | inr faults ↦ elim faults [ inl h ↦ inr h.unused | inr h ↦ inr h.0.unused ]
         ]
         | inr last ↦ elim last [
           | inl z ↦ inr (s.store_fault z).0.unused
-          | inr z ↦ elim (s.memory z).1 [ inl h ↦ inr h.unused | inr h ↦ inl (h.mirrors.sure, hold.mirror mirroring old new before after _ h.mirrors) ]
+          | inr z ↦ elim (s.memory z).1 [ inl h ↦ inr h.unused | inr h ↦ inl (hold.mirror mirroring old new before after _ h.mirrors) ]
         ]
       ]
     ]

@@ -77,4 +77,5 @@ limits_hold = record {
     answers = λ n bytes r rest q late. q.close ∙ last_closes (asks_close q.head) n late;
     answers_open = λ n bytes r rest q early. q.close ∙ others_open (asks_close q.head) n early;
   };
+  serving = record { patience = refl };
 }

@@ -19,6 +19,7 @@ use Rattle.rest_query.specs.Readings.{most_listed}
 use Rattle.command_words.specs.Values.{most_workers, most_readers, most_connections, most_claims, most_id}
 use Rattle.command_free.specs.Free.{most_lines}
 use Rattle.command_files.specs.Report.{most_blocks}
+use Rattle.machine_serving.specs.Limits.{HasServingLimits}
 
 -- what a register holds at most: rows of each kind, addresses of a range, items of a claim, rows of an import, and items of its log; the
 -- greatest id of a row; and the version of the tables that it reads and writes, and that of those which are migrated
@@ -71,3 +72,4 @@ pub record HasLimits : Type 0 where
   pub register : HasRegisterLimits
   pub commands : HasCommandLimits
   pub session : HasSessionLimits
+  pub serving : HasServingLimits

@@ -32,6 +32,7 @@ use ipam_headline::headlines_hold;
 use ipam_keeper::keeper::KeeperOpener;
 use ipam_listen::Listener;
 pub use limits::limits_are;
+pub use machine_serving::PATIENCE;
 use std::alloc::Global;
 use std::marker::Sync;
 use std::sync::Wait;

@@ -216,8 +216,8 @@ alone laws store old new how h =
       streams = of.connections_are;
     }
 
-mirrored : Laws → (asked : Mirroring) (old new : Outside) (before after : ListenerView) (how : SessionEnd) (m : Mirrors asked old new before after how)
-    → Mirrored asked.store old new before after m.sure
+mirrored : Laws → (asked : Mirroring) (old new : Outside) (before after : ListenerView) (how : SessionEnd) → Mirrors asked old new before after how
+    → Mirrored asked.store old new before after
 unfolding alone
 mirrored laws asked old new before after how m =
     record {

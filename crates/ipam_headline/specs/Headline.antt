@@ -1,5 +1,5 @@
 -- What a register promises to its callers, in one record: one history, out of which all are answered, and what it means for claims.
-use Rattle.std.specs.Prelude.{◌≡◌, ℕ, ◌≤◌, ◌++◌, Bool, List, [], ◌∷◌, Some, length, map, take, slice_get}
+use Rattle.std.specs.Prelude.{◌≡◌, ℕ, ◌≤◌, ◌++◌, List, [], ◌∷◌, Some, length, map, take, slice_get}
 use Rattle.history_lock.specs.Replay.{replay}
 use Rattle.ipam_listen.specs.Connections.{Returned, ends_of, finished}
 use Rattle.machine_serving.specs.Views.{ListenerView}
@@ -41,7 +41,7 @@ pub record Kept (store : Store) (old new : Outside) (callers : List (Caller Call
   pub stood : IsLoaded store old opening
   pub history : List (ℕ × Call)
   pub headline : Headline opening history callers
-  -- the store has the replay of the history, and tells it where its tables were told
+  -- the store holds the state after the history, if its tables are known
   pub holds : HoldsTold store old new (replay plain_step opening history)
 
 -- `serve`: all that connected, with so many changes
@@ -49,7 +49,7 @@ pub record Served (store : Store) (old new : Outside) (before after : ListenerVi
   pub callers : List (Caller Call Reply)
   pub kept : Kept store old new callers
   pub counted : entries ≡ length kept.history
-  -- the lanes that came back tell the connections of the callers
+  -- the listener got back lanes with the connections of the callers
   pub back : List Returned
   pub returned : after.returned ≡ before.returned ++ back
   pub lanes : AreLanesOf back callers
@@ -62,14 +62,14 @@ pub record Alone (store : Store) (old new : Outside) : Type 0 where
       ≡ finished (ends_of old.streams.input.bytes old.streams.output.bytes old.streams.input.faults old.streams.output.faults)
       (ends_of new.streams.input.bytes new.streams.output.bytes new.streams.input.faults new.streams.output.faults) ∷ []
 
--- `mirror`: so is the operator, and readers saw the first changes of its history, if this is sure
-pub record Mirrored (store : Store) (old new : Outside) (before after : ListenerView) (sure : Bool) : Type 0 where
+-- `mirror`: so is the operator, and readers saw the first changes of its history
+pub record Mirrored (store : Store) (old new : Outside) (before after : ListenerView) : Type 0 where
   pub operator : Alone store old new
   -- the readers' lanes were answered out of published changes
   pub published : List Update
   pub back : List Returned
   pub returned : after.returned ≡ before.returned ++ back
-  pub read : AreReadLanes (Some (lists_of operator.kept.opening)) published sure back
+  pub read : AreReadLanes (Some (lists_of operator.kept.opening)) published back
   -- an answer after n of them is the plain register's after the first n entries
   pub few : length published ≤ length operator.kept.history
   pub places : (n : ℕ) (call : Call) (reply : Reply) → n ≤ length published → answers (published_lists_of (lists_of operator.kept.opening) (take n published)) call reply

@@ -18,5 +18,5 @@ pub record HeadlinesHold : Type 0 where
   -- a session over a store, however it ended
   pub session : (store : Store) (old new : Outside) (how : SessionEnd) → Serves store old new how → Alone store old new
   -- an operator beside readers
-  pub mirror : (asked : Mirroring) (old new : Outside) (before after : ListenerView) (how : SessionEnd) (m : Mirrors asked old new before after how)
-      → Mirrored asked.store old new before after m.sure
+  pub mirror : (asked : Mirroring) (old new : Outside) (before after : ListenerView) (how : SessionEnd) → Mirrors asked old new before after how
+      → Mirrored asked.store old new before after

@@ -1,4 +1,5 @@
 pub mod Begun
 pub mod Finished
+pub mod Limits
 pub mod Serve
 pub mod Views

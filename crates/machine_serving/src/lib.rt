@@ -6,10 +6,12 @@ mod begin;
 mod count;
 mod ending;
 mod finish;
+mod patience;
 mod unserved;
 
 pub use begin::{Begun, begin_serve};
 pub use count::say_entries;
 pub use ending::{Served, Unserved};
 pub use finish::finish_serve;
+pub use patience::{PATIENCE, limits_are};
 pub use unserved::say_unserved;

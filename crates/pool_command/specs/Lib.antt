@@ -3,3 +3,4 @@ pub mod Clauses
 pub mod Exact
 pub mod Program
 pub mod Headline
+pub mod Limits

@@ -2,6 +2,7 @@
 
 ghost use Rattle.pool_command.specs.Clauses.{RunsHaveClauses};
 ghost use Rattle.pool_command.specs.Exact.{RunsAreExact};
+ghost use Rattle.pool_command.specs.Limits.{HasLimits};
 
 /// The one relation of a run gives each promise of the program.
 pub fn runs_have_clauses()
@@ -11,4 +12,9 @@ pub fn runs_have_clauses()
 /// Status 1 comes exactly for its cause: where nothing fails, told tables that have a fault give it, memory apart.
 pub fn runs_are_exact()
     ensures { RunsAreExact }
+{}
+
+/// The limits that the definitions name are these numbers.
+pub fn limits_are()
+    ensures { HasLimits }
 {}

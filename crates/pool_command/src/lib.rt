@@ -10,6 +10,7 @@ mod session;
 mod workers;
 
 pub use entry::program;
-pub use laws::{runs_are_exact, runs_have_clauses};
+pub use laws::{limits_are, runs_are_exact, runs_have_clauses};
+pub use machine_serving::PATIENCE;
 pub use run::run_pools;
 pub use workers::serve_workers;

@@ -3,7 +3,9 @@
 ghost use Rattle.std.specs.Prelude.{◌≡◌, ◌≢◌, IfOk, IfErr};
 ghost use Rattle.ipam_data.specs.Checks.{first as first_of};
 ghost use Rattle.number_pools.specs.Lawful.{IsLawfulPools};
-ghost use Rattle.number_pools.specs.Rows.{member_id, range_id};
+ghost use Rattle.number_pools.specs.Limits.{AreFew};
+ghost use Rattle.number_pools.specs.Rows.{Pools, member_id, range_id};
+ghost use Rattle.pool_keeper.specs.Stored.{tables_of};
 ghost use Rattle.pool_opening.specs.declared.faults.PoolFault.TheVariants.{Keeper as KeeperFault};
 ghost use Rattle.pool_opening.specs.Faults.{IsRefused, fault_of, loaded};
 
@@ -23,7 +25,7 @@ pub enum PoolFault {
     BadMember(u32),
     /// A next id is 0, or not above all ids.
     BadNext,
-    /// Out of memory.
+    /// Out of memory, or more ranges or members than can be held (`MOST_HELD` of `number_pools`).
     Memory,
 }
 
@@ -47,11 +49,14 @@ fn fault_of(alloc: Global, tables: &PoolTables) -> Result<Option<PoolFault>, All
     Ok(None)
 }
 
-/// The rows of the pools for which tables stand, which are lawful; or what is wrong with the tables.
+/// The rows of the pools for which tables stand, which are lawful; or what is wrong with the tables. The tables of lawful pools are refused
+/// for lack of memory alone, or where they have more ranges or members than can be held: no others that do are opened.
 pub fn opened(alloc: Global, tables: PoolTables) -> Result<PoolRows, PoolFault>
     ensures faultless { IfOk result (λ r. fault_of tables ≡ None) }
     ensures pools { IfOk result (λ r. r.pools ≡ loaded tables) }
     ensures lawful { IfOk result (λ r. IsLawfulPools r.pools) }
+    ensures few { IfOk result (λ r. AreFew r.pools) }
+    ensures taken { (s : Pools) → IsLawfulPools s → tables ≡ tables_of s → IfErr result (λ e. e ≡ PoolFault.Memory) }
     ensures err { IfErr result (IsRefused tables) }
     ensures cause { IfErr result (λ e. e ≢ KeeperFault) }
 {
@@ -74,6 +79,7 @@ fn rows_of(alloc: Global, tables: PoolTables) -> Result<PoolRows, PoolFault>
     requires { fault_of tables ≡ None }
     ensures pools { IfOk result (λ r. r.pools ≡ loaded tables) }
     ensures lawful { IfOk result (λ r. IsLawfulPools r.pools) }
+    ensures few { IfOk result (λ r. AreFew r.pools) }
     ensures err { IfErr result (λ e. e ≡ PoolFault.Memory) }
 {
     match PoolRows::of(

@@ -9,13 +9,10 @@ ghost use Rattle.pool_opening.specs.Faults.{breaks_member, breaks_range, is_bad_
 use crate::rules::{breaks_by_tree, breaks_range, greater, key_of_member, lesser_if, number_fits};
 use block_space::Space;
 use inet_num::Family;
-use number_pools::{Member, NumberRange};
+use number_pools::{MOST_HELD, Member, NumberRange};
 use pool_keeper::tables::PoolTables;
 use radix_tree::Tree;
 use std::alloc::{AllocError, Global};
-
-/// How many members a tree has not.
-const TOO_MANY: usize = 1_073_741_824;
 
 /// The least id of a range that breaks a rule beside those before it.
 pub(crate) fn bad_range(ranges: &[NumberRange]) -> Option<u32>
@@ -56,7 +53,7 @@ fn pass_members(ranges: &[NumberRange], members: &[Member], taken: &mut Tree) ->
     found
 }
 
-/// The least id of a member that breaks a rule beside those before it. `Err` means out of memory, also for 2^30 members and more.
+/// The least id of a member that breaks a rule beside those before it. `Err` means out of memory, or more members than can be held.
 pub(crate) fn bad_member(
     alloc: Global,
     ranges: &[NumberRange],
@@ -64,7 +61,7 @@ pub(crate) fn bad_member(
 ) -> Result<Option<u32>, AllocError>
     ensures { IfOk result (λ found. found ≡ least_broken member_id (breaks_member ranges.now) [] None members.now) }
 {
-    if members.len() >= TOO_MANY {
+    if members.len() > MOST_HELD {
         return Err(AllocError);
     }
     let mut taken = Tree::new(alloc, Family::V6);

@@ -1,9 +1,11 @@
 //! Pools of stored tables.
 
-ghost use Rattle.std.specs.Prelude.{◌≡◌, ◌≤◌, ◌⊎◌, [], IfOk, IfErr};
+ghost use Rattle.std.specs.Prelude.{◌≡◌, ◌≤◌, ◌⊎◌, [], Some, IfOk, IfErr};
 ghost use Rattle.ipam_keeper.specs.Keeping.{Rose};
 ghost use Rattle.number_pools.specs.Lawful.{IsLawfulPools};
-ghost use Rattle.pool_keeper.specs.Stored.{Tells};
+ghost use Rattle.number_pools.specs.Limits.{AreFew};
+ghost use Rattle.number_pools.specs.Rows.{Pools as PlainPools};
+ghost use Rattle.pool_keeper.specs.Stored.{Tells, tables_of};
 ghost use Rattle.pool_register.specs.Opened.{IsOpened, IsUnopened};
 
 use crate::books::Books;
@@ -22,9 +24,11 @@ fn load_rows<K: PoolKeeper + Drop>(
 ) -> Result<(PoolRows, K), (K, PoolFault)>
     ensures state { IfOk result (λ r. IsOpened (K.told keeper) r.0.pools) }
     ensures lawful { IfOk result (λ r. IsLawfulPools r.0.pools) }
+    ensures few { IfOk result (λ r. AreFew r.0.pools) }
     ensures told { IfOk result (λ r. K.told r.1 ≡ K.told keeper) }
     ensures tells { IfOk result (λ r. Tells (K.told r.1) r.0.pools) }
     ensures still { IfOk result (λ r. K.faults r.1 ≡ K.faults keeper) }
+    ensures taken { (s : PlainPools) → IsLawfulPools s → K.told keeper ≡ Some (tables_of s) → IfErr result (λ e. (e.1 ≡ PoolFault.Keeper) ⊎ (e.1 ≡ PoolFault.Memory)) }
     ensures fault { IfErr result (λ e. IsUnopened (K.told keeper) e.1) }
     ensures cause { IfErr result (λ e. e.1 ≡ PoolFault.Keeper → Rose (K.faults keeper) (K.faults e.0)) }
     ensures err_told { IfErr result (λ e. K.told e.0 ≡ K.told keeper) }
@@ -48,12 +52,15 @@ fn load_rows<K: PoolKeeper + Drop>(
 ///
 /// `Err` is `BadRange` exactly where a range breaks a rule beside those before it, with the least id of such a range; else `BadMember` exactly
 /// where a member does, with the least id of such a member; else `BadNext` exactly where a next id is 0 or not above all ids; `Keeper` only
-/// where the keeper failed in this call, whose count rises in no other case; `Memory` for lack of memory, also where there are 2^30 rows.
+/// where the keeper failed in this call, whose count rises in no other case; `Memory` for lack of memory, or where there are more ranges or
+/// members than can be held, which are never opened. So the tables of lawful pools are refused for the last two causes alone.
 pub fn open<K: PoolKeeper + Drop>(alloc: Global, keeper: K) -> Result<Pools<K>, (K, PoolFault)>
     ensures state { IfOk result (λ p. IsOpened (K.told keeper) p.state) }
+    ensures few { IfOk result (λ p. AreFew p.state) }
     ensures fresh { IfOk result (λ p. p ≡ record { opening = p.state; state = p.state; log = []; keeper = p.keeper }) }
     ensures told { IfOk result (λ p. K.told p.keeper ≡ K.told keeper) }
     ensures still { IfOk result (λ p. K.faults p.keeper ≡ K.faults keeper) }
+    ensures taken { (s : PlainPools) → IsLawfulPools s → K.told keeper ≡ Some (tables_of s) → IfErr result (λ e. (e.1 ≡ PoolFault.Keeper) ⊎ (e.1 ≡ PoolFault.Memory)) }
     ensures fault { IfErr result (λ e. IsUnopened (K.told keeper) e.1) }
     ensures cause { IfErr result (λ e. e.1 ≡ PoolFault.Keeper → Rose (K.faults keeper) (K.faults e.0)) }
     ensures err_told { IfErr result (λ e. K.told e.0 ≡ K.told keeper) }

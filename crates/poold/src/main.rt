@@ -2,7 +2,7 @@
 #![tactic(auto)]
 
 use ipam_listen::TcpDoors;
-use pool_command::program;
+use pool_command::{PATIENCE, program};
 use pool_files::HostPoolFiles;
 use pool_keeper::keeper::PoolOpener;
 use sqlite_pools::SqlitePoolOpener;
@@ -13,9 +13,6 @@ use std::process::ExitCode;
 use std::sync::Wait;
 use std::thread::Threads;
 use std::time::{Clock, Duration};
-
-/// How many seconds a client may be silent at first, and how many a write waits for it.
-const PATIENCE: u64 = 30;
 
 /// Runs the program over a listener over TCP. `threads` is the runtime once more, as what it is asked for there.
 fn run_over<

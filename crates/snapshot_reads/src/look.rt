@@ -1,5 +1,5 @@
 //! The readers.
-ghost use Rattle.std.specs.Prelude.{◌≡◌, ◌<◌, ◌≤◌, length, Some, IfOk, OnOk, OnErr, fold};
+ghost use Rattle.std.specs.Prelude.{◌≡◌, ◌<◌, ◌≤◌, length, true, false, Some, IfOk, OnOk, OnErr, fold};
 ghost use mathlib.Core.List.{IsPrefix};
 ghost use Rattle.left_right.specs.Sides.{view};
 ghost use Rattle.snapshot_reads.specs.Published.{lists};
@@ -187,16 +187,29 @@ impl Look {
         Ok(())
     }
 
+    /// Whether the feed published all that this look saw: else it published fewer changes. A look never sees more, and no clause says so.
+    pub fn is_within(&self, feed: &Feed) -> bool
+        requires own { IsLookOf feed.now self.now }
+        ensures within { result ≡ true → IsPrefix self.now.seen feed.now.published }
+        ensures more { result ≡ false → length feed.now.published < length self.now.seen }
+    {
+        if feed.number() < self.seen_count {
+            return false;
+        }
+        begins(&self.seen, feed.history());
+        true
+    }
+
     /// Waits until the feed published all that this look saw. It did so before the look saw it, so that this returns at once.
     pub fn follow<R: Wait>(&self, rt: &R, feed: &Feed)
         requires own { IsLookOf feed.now self.now }
         ensures within { IsPrefix self.now.seen feed.now.published }
     {
         for _ in rt.forever() {
-            if self.seen_count <= feed.number() {
-                begins(&self.seen, feed.history());
+            if self.is_within(feed) {
                 return;
             }
         }
+        unreachable!()
     }
 }

@@ -15,5 +15,5 @@ of-requires-clause-members c = subst (Rises member_id 0) (sym c.into_vec-2.ensur
 pub returns-in-Ok-clause-lawful : goal.returns-in-Ok-clause-lawful
 returns-in-Ok-clause-lawful c =
     let same : c.in-Ok.rows.pools ≡ loaded c.args.tables =
-    c.in-Ok.ensures ∙ (λ i. let s : Pools = record { ranges = record { rows = c.into_vec.ensures i; next = c.args.tables.next_range }; members = record { rows = c.into_vec-2.ensures i; next = c.args.tables.next_member }; spent = 0 } in s) in
+    c.in-Ok.ensures.pools ∙ (λ i. let s : Pools = record { ranges = record { rows = c.into_vec.ensures i; next = c.args.tables.next_range }; members = record { rows = c.into_vec-2.ensures i; next = c.args.tables.next_member }; spent = 0 } in s) in
     subst IsLawfulPools (sym same) (faultless_is_lawful c.args.tables (omega arith) (omega arith) c.requires)
