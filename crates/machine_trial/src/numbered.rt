@@ -62,7 +62,8 @@ impl Service<Tally> for Numbered {
         table: &AtomicU32,
         request: &HttpRequest,
     ) -> Result<Wanted<Call, ()>, AllocError> {
-        let _ = (alloc, request);
+        let _ = alloc;
+        let _ = request;
         let number = table.fetch_add(1, Ordering::SeqCst);
         let mut room = Buffer::new();
         let text = room.format(number);
