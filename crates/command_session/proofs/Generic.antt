@@ -38,7 +38,7 @@ module _ (store : Store) (old new : Outside) where
       let begun : counted_part (counted s.first 0) ≡ fresh start = λ i. counted (owned start (s.fresh.0 i) (s.fresh.1 i)) 0 in
       let ends : IsEnd answers_kept (fresh start) last old.streams.output.bytes new.streams.output.bytes s.bytes new.streams.input.bytes how =
       subst (λ (v : Counted State Call). IsEnd answers_kept v last old.streams.output.bytes new.streams.output.bytes s.bytes new.streams.input.bytes how) begun
-          (end_plainly (counted s.first 0) (counted s.last s.told) old.streams.output.bytes new.streams.output.bytes s.bytes new.streams.input.bytes how s.ends) in
+      (end_plainly (counted s.first 0) (counted s.last s.told) old.streams.output.bytes new.streams.output.bytes s.bytes new.streams.input.bytes how s.ends) in
       record {
         state = start;
         loaded = s.loaded.opened;

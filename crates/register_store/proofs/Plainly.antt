@@ -29,8 +29,7 @@ pub holds_here : (store : Store) (old new : Outside) (first last : Seen) (log : 
     → Holds store old.stores.stored new.stores.stored (replay seen_step last log) → HoldsTold store old new (replay plain_step first.state log)
 holds_here store old new first last log on starts holds =
     let at : replay seen_step last log ≡ record { state = replay plain_step first.state log; tells = first.tells } =
-    ap (λ (s : Seen). replay seen_step s log) on ∙ seen_replay first.state first.tells log in
-    (
+    ap (λ (s : Seen). replay seen_step s log) on ∙ seen_replay first.state first.tells log in (
       holds.told,
       still_tells (found_tables store old) holds.told (holds.tells ∙ (ap (λ (s : Seen). s.tells) at ∙ starts)),
       subst (λ (s : Seen). Tells holds.told s.state) at holds.are,
