@@ -61,4 +61,4 @@ pub ended_without : {Y Z : Type 0} (W : Type 0) (why : NoArguments) (given : Res
 ended_without W NoText (Ok given) stores view status are ends = absurd are
 ended_without W NoText (Err error) stores view status are ends = inl (are, ends stores view)
 ended_without W Memory (Ok given) stores view status are ends = not_run _ stores view status ends
-ended_without W Memory (Err error) stores view status are ends = inr (are, ends, refl, refl)
+ended_without W Memory (Err error) stores view status are ends = inr (are, (ends, refl, refl))
