@@ -66,18 +66,6 @@ fn listener_of(alloc: Global, fails: &[u32]) -> Result<ListListener, AllocError>
     ListListener::new(alloc, lanes)
 }
 
-/// A listener with as many lanes as there may be workers, each with a client that makes one prefix.
-fn listener_of_all(alloc: Global) -> Result<ListListener, AllocError> {
-    let mut lanes = Vec::new(alloc);
-    for number in 10..42u32 {
-        let asked = format!(in alloc;
-            "POST /api/ipam/prefixes/ HTTP/1.1\r\nHost: ipam\r\nContent-Length: 25\r\n\r\n{{\"prefix\":\"10.{number}.0.0/16\"}}"
-        )?;
-        lanes.push(lane_of(alloc, asked.as_str(), &[])?)?;
-    }
-    ListListener::new(alloc, lanes)
-}
-
 /// Puts what was written to the connections of the lanes that came back at the end of a text.
 fn tell(listener: &ListListener, told: &mut String) -> Result<(), AllocError> {
     for lane in listener.returned() {
@@ -206,21 +194,6 @@ fn a_failed_accept_is_told(rt: HostRuntime) -> Result<(), Fail> {
     let mut told = String::new(alloc);
     tell(&listener, &mut told)?;
     assert!(rt; has_each_once(alloc, told.as_str(), 9)?, "{told}");
-    Ok(())
-}
-
-#[test]
-fn as_many_workers_as_there_may_be_serve_one_register(rt: HostRuntime) -> Result<(), Fail> {
-    let alloc = rt.alloc();
-    let words = ["serve", "--bind", "x", "--workers=32", "--connections=1"];
-    let mut opener = opener_of(alloc, 2)?;
-    let mut listener = listener_of_all(alloc)?;
-    let left = ran(&rt, alloc, &words, &mut listener, &mut opener)?;
-    assert!(rt; left.status == 0 && left.errors.is_empty());
-    assert!(rt; left.output.as_slice() == b"entries 32\n".as_slice());
-    let mut told = String::new(alloc);
-    tell(&listener, &mut told)?;
-    assert!(rt; has_each_once(alloc, told.as_str(), 32)?, "{told}");
     Ok(())
 }
 

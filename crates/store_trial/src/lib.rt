@@ -7,8 +7,6 @@ mod alone_tests;
 #[cfg(test)]
 mod changing;
 #[cfg(test)]
-mod closed;
-#[cfg(test)]
 mod database;
 #[cfg(test)]
 mod edge_tests;
