@@ -263,6 +263,8 @@ def is_old(stand, page):
     check(not page.run("return document.querySelector('#notice').getClientRects().length"), "a page that is hidden asks")
     page.run("delete document.visibilityState; document.dispatchEvent(new Event('visibilitychange'))")
     page.says("The register has changed since this was read", "#notice", 5)
+    page.click("Read again")
+    page.says("the gateway", "[role=table]")
 
 
 def tables(page, folder):
