@@ -1,10 +1,11 @@
 #!/usr/bin/env bash
 # The page for people, in chromium, with nginx as examples/nginx-ipamd.conf has it: the unit tests of its pure parts; an office's first day; hostile texts; the
-# register killed and started again, and answers that are lost; readers, and the pages of other sites; a narrow window, the keyboard alone, roles and names; a
-# full register; and the pictures of docs, for which examples/demo.sh is run. Firefox shows the tree, a map and a claim, and its picture is taken; the other
-# tests are not run there. By the built program (./ipamd builds it; IPAMD=PROGRAM takes another one). It needs nginx with njs, curl, openssl, node, chromium,
-# its driver, firefox, selenium and 20 minutes. The font of the pictures is that of fonts-inter. PAGE_PARTS=10 takes a tenth of a full register.
-#   bench/page.sh [--port PORT] [NAME...]     NAME: office, hostile, stops, reading, windows, large, pictures; all by default
+# register killed and started again, and answers that are lost; readers, and the pages of other sites; a narrow window, the keyboard alone, roles and names;
+# AS numbers and VLANs by poold; a full register; and the pictures of docs, for which examples/demo.sh is run. Firefox shows the tree, a map and a claim, and
+# its picture is taken; the other tests are not run there. By the built programs (./build, ./build poold; IPAMD=PROGRAM and POOLD=PROGRAM take other ones). It
+# needs nginx with njs, curl, openssl, node, chromium, its driver, firefox, selenium and 20 minutes. The font of the pictures is that of fonts-inter.
+# PAGE_PARTS=10 takes a tenth of a full register; PAGE_PATIENCE=10 waits ten times as long for what is to come, on a machine that does something else too.
+#   bench/page.sh [--port PORT] [NAME...]     NAME: office, hostile, stops, reading, windows, numbers, large, pictures; all by default
 set -euo pipefail
 top=$(cd "$(dirname "$0")/.." && pwd)
 . "$top/bench/need.sh"

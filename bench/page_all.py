@@ -5,7 +5,7 @@ import time
 
 from page_stand import Stand
 
-NAMES = ["office", "hostile", "stops", "reading", "windows", "large", "pictures"]
+NAMES = ["office", "hostile", "stops", "reading", "windows", "numbers", "large", "pictures"]
 
 
 def main():

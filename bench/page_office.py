@@ -2,7 +2,7 @@
 import os
 import time
 
-from page_stand import Browser, check, wait
+from page_stand import ActionChains, Browser, By, check, wait
 
 
 def create(page, button, **values):
@@ -29,6 +29,12 @@ def first_records(stand, page):
     page.go("ip-ranges")
 
 
+def copied(page):
+    """What is in the clipboard."""
+    page.devtools("Browser.grantPermissions", permissions=["clipboardReadWrite", "clipboardSanitizedWrite"])
+    return page.driver.execute_async_script("const end = arguments[0]; navigator.clipboard.readText().then(end, (fault) => end(String(fault)))")
+
+
 def claims(stand, page):
     page.go("prefixes/1")
     page.click("Next free block")
@@ -51,6 +57,7 @@ def claims(stand, page):
     page.send("Claim", **{"How many": "40", "Description": "desk"})
     page.says("40 are yours")
     page.click("Copy all")
+    check(copied(page).split("\n") == [f"10.1.0.{number}" for number in range(2, 42)], f"copied: {copied(page)}")
     page.click("Done")
     page.closed()
     page.says("41 in all")
@@ -134,6 +141,34 @@ def ranges(stand, page):
     check(names[1].startswith("10.1.0.1, gw.example.net") and "withheld" in names[120] and names[200] == "10.1.0.200, free",
         f"the map: {names[1]}, {names[120]}, {names[200]}")
     check(stand.ask("GET", "ip-ranges/1/")[1]["mark_populated"] is True, "the mark of the range")
+    ActionChains(page.driver).move_to_element(page.driver.find_elements(By.CSS_SELECTOR, ".map .stop")[1]).perform()
+    page.says("10.1.0.1, gw.example.net", ".map-said")
+    page.says("Who changed it is in the proxy", "main")
+
+
+def scales(page):
+    """The map of a large prefix: rows of blocks to scale, and what is free."""
+    page.go("prefixes/1")
+    spans = dict(page.run("""return [...document.querySelectorAll(".map .stop[aria-label]")]
+        .map((one) => [one.getAttribute("aria-label"), [one.style.left, one.style.width]])"""))
+    check(page.run("return document.querySelectorAll('.map-row').length") == 16, "the rows of a /16")
+    wanted = {"10.1.0.0/24, first floor, east": ["0%", "6.25%"], "10.1.1.0/24": ["6.25%", "6.25%"], "10.1.2.0/23, no prefix": ["12.5%", "12.5%"],
+        "10.1.128.0/17, no prefix": ["0%", "100%"]}
+    for name, place in wanted.items():
+        check(spans.get(name) == place, f"the map of 10.1.0.0/16 has '{name}' at {spans.get(name)}: {spans}")
+    check("range 10.1.0.100 – 10.1.0.149, filled by others" in spans, f"the range in the map: {list(spans)}")
+    page.go("prefixes/1?tab=blocks")
+    page.says("10.1.2.0/23", "[role=table]")
+
+
+def tables_of_plan(page):
+    """The switch of the table."""
+    page.go("plan")
+    page.driver.find_element(By.XPATH, '//select[@aria-label="Table"]/option[.="lab (65000:1)"]').click()
+    page.settle()
+    page.says("lab", "h1")
+    page.says("This table is empty.")
+    check(page.driver.current_url.endswith("#/plan/1"), f"the address of the table: {page.driver.current_url}")
 
 
 def searches(page):
@@ -221,6 +256,15 @@ def is_old(stand, page):
     page.says("The register has changed since this was read", "#notice", 15)
     page.click("Read again")
     page.says("42 in all")
+    # while nobody looks at it, nothing is asked
+    page.run("Object.defineProperty(document, 'visibilityState', { configurable: true, get: () => 'hidden' })")
+    stand.ask("PATCH", "ip-addresses/1/", {"description": "the gateway"})
+    time.sleep(12)
+    check(not page.run("return document.querySelector('#notice').getClientRects().length"), "a page that is hidden asks")
+    page.run("delete document.visibilityState; document.dispatchEvent(new Event('visibilitychange'))")
+    page.says("The register has changed since this was read", "#notice", 5)
+    page.click("Read again")
+    page.says("the gateway", "[role=table]")
 
 
 def tables(page, folder):
@@ -237,8 +281,20 @@ def tables(page, folder):
     path = os.path.join(folder, "ip-addresses.csv")
     wait(lambda: os.path.exists(path) and os.path.getsize(path) > 0, "the CSV")
     lines = open(path, newline="").read().split("\r\n")
-    check(lines[0] == "address,dns_name,vrf,status,role,description" and lines[1] == "10.1.0.1/24,gw.example.net,,active,vip,", f"the CSV: {lines[:2]}")
+    check(lines[:2] == ["address,dns_name,vrf,status,role,description", "10.1.0.1/24,gw.example.net,,active,vip,the gateway"], f"the CSV: {lines[:2]}")
     check(len(lines) == 44, f"the CSV has {len(lines)} lines")
+
+
+def claim_in_range(stand, page):
+    page.go("ip-ranges")
+    create(page, "New range", **{"First address": "10.1.0.160/24", "Last address": "10.1.0.169/24"})
+    page.go("ip-ranges/2")
+    page.click("Next free address")
+    page.send("Claim", Description="in the range")
+    page.says("10.1.0.160", "dialog .claimed")
+    page.click("Done")
+    page.closed()
+    check(stand.rows("ip-addresses/?parent=10.1.0.160/32")[0]["description"] == "in the range", "the claim in a range")
 
 
 def run(stand):
@@ -248,14 +304,16 @@ def run(stand):
     refusals(stand, page)
     edits(stand, page)
     ranges(stand, page)
+    scales(page)
+    tables_of_plan(page)
     searches(page)
     deletions(stand, page)
     addresses_of_views(stand, page)
     is_old(stand, page)
     tables(page, stand.folder)
+    claim_in_range(stand, page)
     faults = [line for line in page.faults() if "the server responded with a status of 4" not in line]
     check(not faults, f"the browser complained: {faults}")
     page.end()
-    print("an office's first day: created, claimed, edited (also beside another's change), refused next to the field, searched, deleted by name; "
-          "views by their addresses, "
-          "Back, an old list, a sorted table and its CSV")
+    print("an office's first day: created, claimed and copied, edited (also while another edits), refused next to the field, searched, deleted by name; "
+          "maps to scale, tables of VRFs, views by their addresses, Back, an old list, a sorted table and its CSV")

@@ -31,6 +31,19 @@ class Demo:
         check(self.process.wait(20) == 0, f"demo.sh ends with {self.process.returncode}")
 
 
+def unbuilt():
+    """Without a program examples/demo.sh says how long it takes to build one before it begins."""
+    with tempfile.TemporaryDirectory() as folder:
+        os.mkdir(os.path.join(folder, "examples"))
+        shutil.copy(os.path.join(TOP, "examples/demo.sh"), os.path.join(folder, "examples"))
+        with open(os.path.join(folder, "build"), "w") as file:
+            file.write("#!/bin/sh\nexit 70\n")
+        os.chmod(file.name, 0o755)
+        given = {name: value for name, value in os.environ.items() if name != "IPAMD"}
+        done = subprocess.run([os.path.join(folder, "examples/demo.sh")], env=given, capture_output=True, text=True)
+        check(done.returncode == 70 and "Building it takes about half an hour" in done.stderr, f"demo.sh without a program: {done}")
+
+
 def save(path):
     size = os.path.getsize(path)
     check(size < MOST_BYTES, f"{path} has {size} bytes")
@@ -141,6 +154,7 @@ def in_firefox(url, port):
 
 
 def run_alone(port):
+    unbuilt()
     demo = Demo(port + 10)
     try:
         pictures(demo.url)

@@ -24,7 +24,10 @@ from selenium.webdriver.common.keys import Keys
 
 TOP = os.path.dirname(os.path.dirname(os.path.abspath(__file__)))
 PROGRAM = os.environ.get("IPAMD") or os.path.join(TOP, "crates/ipamd/out/ipamd")
+POOLD = os.environ.get("POOLD") or os.path.join(TOP, "crates/poold/out/poold")
 BASE = "/register/api/ipam/"
+# PAGE_PATIENCE=10 waits ten times as long for what is to come, on a machine that does something else too.
+PATIENCE = float(os.environ.get("PAGE_PATIENCE", "1"))
 
 
 def fail(text):
@@ -38,13 +41,13 @@ def check(holds, text):
 
 def wait(ask, what, seconds=20):
     """What `ask` gives once it gives something."""
-    end = time.monotonic() + seconds
+    end = time.monotonic() + seconds * PATIENCE
     while time.monotonic() < end:
         found = ask()
         if found:
             return found
         time.sleep(0.05)
-    fail(f"{what}: it did not come in {seconds} seconds")
+    fail(f"{what}: it did not come in {seconds * PATIENCE:.0f} seconds")
 
 
 class Relay:
@@ -108,13 +111,13 @@ class Relay:
 
 
 class Stand:
-    """A register in a file, or a given file, nginx on PORT, the relay on PORT + 1, the register on PORT + 2."""
+    """A register in a file, or a given file, nginx on PORT, the relay on PORT + 1, the register on PORT + 2; pools, if they are asked for, on PORT + 3."""
 
-    def __init__(self, port, database=None):
-        self.port, self.folder = port, tempfile.mkdtemp(prefix="page-")
+    def __init__(self, port, database=None, has_pools=False):
+        self.port, self.folder, self.has_pools = port, tempfile.mkdtemp(prefix="page-"), has_pools
         self.database = database or os.path.join(self.folder, "office.db")
         self.relay = Relay(port + 1, port + 2)
-        self.server, self.proxy, self.errors = None, None, open(os.path.join(self.folder, "messages"), "w")
+        self.server, self.pools, self.proxy, self.errors = None, None, None, open(os.path.join(self.folder, "messages"), "w")
         try:
             self.begin(port)
         except BaseException:
@@ -123,9 +126,12 @@ class Stand:
 
     def begin(self, port):
         self.start()
+        if self.has_pools:
+            self.start_pools()
         front = [os.path.join(TOP, "bench/front.sh"), self.folder, str(port + 1), str(port)]
         self.write("register.readers", "clara yes;\n")
-        self.proxy = subprocess.Popen(front, stdout=self.errors, stderr=self.errors)
+        environment = {**os.environ, "POOLS": str(port + 3) if self.has_pools else ""}
+        self.proxy = subprocess.Popen(front, env=environment, stdout=self.errors, stderr=self.errors)
         wait(lambda: self.listens(port), "nginx")
         password = open(os.path.join(self.folder, "register.users")).read().split(":")[1]
         self.write("register.users", f"anna:{password}clara:{password}")
@@ -150,20 +156,25 @@ class Stand:
         wait(lambda: self.listens(self.port + 2) or self.server.poll() is not None, "the register", 120)
         check(self.server.poll() is None, f"the register ends: {open(self.errors.name).read()}")
 
+    def start_pools(self):
+        words = [POOLD, "serve", "--bind", f"127.0.0.1:{self.port + 3}", "--workers", "16", "--db", os.path.join(self.folder, "pools.db")]
+        self.pools = subprocess.Popen(words, stdout=subprocess.DEVNULL, stderr=self.errors, stdin=subprocess.DEVNULL)
+        wait(lambda: self.listens(self.port + 3), "the pools", 120)
+
     def kill(self):
         self.server.send_signal(signal.SIGKILL)
         self.server.wait()
 
     def end(self):
-        for process in filter(None, (self.server, self.proxy)):
+        for process in filter(None, (self.server, self.pools, self.proxy)):
             process.terminate()
             process.wait()
         self.errors.close()
 
-    def ask(self, method, path, body=None, user="anna", **headers):
+    def ask(self, method, path, body=None, user="anna", base=BASE, **headers):
         """The status and the value of an answer through nginx, without a browser."""
         data = None if body is None else json.dumps(body).encode()
-        request = urllib.request.Request(f"{self.url}{BASE}{path}", data, method=method)
+        request = urllib.request.Request(f"{self.url}{base}{path}", data, method=method)
         request.add_header("Authorization", "Basic " + base64.b64encode(f"{user}:secret".encode()).decode())
         for name, value in headers.items():
             request.add_header(name.replace("_", "-"), value)
@@ -193,7 +204,7 @@ class Browser:
             options.add_argument(word)
         options.set_capability("goog:loggingPrefs", {"browser": "ALL"})
         self.driver = self.started(options)
-        self.driver.set_script_timeout(60)
+        self.driver.set_script_timeout(60 * PATIENCE)
         self.size(*size, scale)
         if dark:
             self.devtools("Emulation.setEmulatedMedia", features=[{"name": "prefers-color-scheme", "value": "dark"}])

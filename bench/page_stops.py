@@ -1,7 +1,7 @@
 """What the page does while the register is killed and started again, and when an answer is lost: it says so, and never claims twice by itself."""
 import time
 
-from page_stand import Browser, check
+from page_stand import Browser, check, wait
 
 
 def killed(stand, page):
@@ -13,10 +13,7 @@ def killed(stand, page):
     page.says("did not answer", "dialog", 15)
     page.click("Cancel", "dialog button")
     stand.start()
-    wait_gone = time.monotonic()
-    while "does not answer" in page.text("#notice"):
-        check(time.monotonic() - wait_gone < 15, "the page does not see that the register is back")
-        time.sleep(0.2)
+    wait(lambda: "does not answer" not in page.text("#notice"), "the register is back, for the page,", 15)
     page.go("prefixes/1")
     check(stand.rows("ip-addresses/") == [], "a claim was made")
 

@@ -148,6 +148,9 @@ def names(stand):
         accessible(page, f"the dialog of '{words}'")
         page.click("Cancel")
         page.closed()
+    page.go("prefixes/3")
+    starts = page.run("return [...document.querySelectorAll('.map-start')].map((one) => one.innerText)")
+    check(starts == [f"2001:db8:1234:5678:9abc:def0:1234:{n << 12:x}" for n in range(16)], f"the rows of a map of IPv6: {starts}")
     page.go("plan/global")
     rows = page.run("""return [...document.querySelectorAll(".rows [role=row]")]
         .map((one) => [one.getAttribute("aria-level"), one.getAttribute("aria-expanded")])""")

@@ -1,5 +1,6 @@
 /**
- * Requests to the register. Its paths are below `register/api/ipam/`, beside the folder of the page, where nginx passes them on.
+ * Requests to the register, and to the pools of AS numbers and VLANs. Their paths are below `register/`, beside the folder of the page, where nginx passes
+ * them on.
  * @module
  */
 
@@ -21,25 +22,29 @@ function beside(path) {
   return Object.assign(url, { username: "", password: "", hash: "", search: "" });
 }
 
-const BASE = beside("../register/api/ipam/");
+export const REGISTER = beside("../register/api/ipam/");
+export const POOLS = beside("../register/pools/api/ipam/");
 const READ_SECONDS = 30;
 const CHANGE_SECONDS = 60;
 
-/** Tells of the answers: `place` with the place of each one, `silent` when none came. */
+/** Tells of the answers: `place` with the place of each one, `silent` when none came; both with the base of the request. */
 export const answers = new EventTarget();
 
-/** The place of the last answer. @type {?number} */
+/** The place of the last answer of the register. @type {?number} */
 let lastPlace = null;
 export const placeNow = () => lastPlace;
 
-/** @param {Response} response */
-function notePlace(response) {
+/** @param {Response} response @param {URL} base */
+function notePlace(response, base) {
   const text = response.headers.get("Ipam-Place");
   if (text === null) return null;
-  lastPlace = Number(text);
-  answers.dispatchEvent(new CustomEvent("place", { detail: lastPlace }));
-  return lastPlace;
+  if (base === REGISTER) lastPlace = Number(text);
+  answers.dispatchEvent(new CustomEvent("place", { detail: { place: Number(text), base } }));
+  return Number(text);
 }
+
+/** Says that no answer came. @param {URL} base */
+const noteSilence = (base) => answers.dispatchEvent(new CustomEvent("silent", { detail: { base } }));
 
 /** What an answer that is no success says. @param {Response} response @param {string} text */
 function faultOf(response, text) {
@@ -66,11 +71,11 @@ function until(signal, seconds) {
  * Sends a request and gives the answer with its place. Throws a Refusal or Unanswered, or an AbortError if the caller's signal ended.
  * @param {string} method
  * @param {string} path below /api/ipam/, as "prefixes/1/"
- * @param {{query?: object, body?: *, signal?: ?AbortSignal}} [given]
+ * @param {{query?: object, body?: *, signal?: ?AbortSignal, base?: URL}} [given]
  * @returns {Promise<{value: *, place: ?number}>}
  */
-export async function ask(method, path, { query, body, signal } = {}) {
-  const target = new URL(path, BASE);
+export async function ask(method, path, { query, body, signal, base = REGISTER } = {}) {
+  const target = new URL(path, base);
   for (const [name, value] of Object.entries(query ?? {})) {
     if (value !== undefined && value !== "") target.searchParams.set(name, value === null ? "null" : String(value));
   }
@@ -84,13 +89,13 @@ export async function ask(method, path, { query, body, signal } = {}) {
     text = await response.text();
   } catch (fault) {
     if (signal?.aborted) throw fault;
-    answers.dispatchEvent(new Event("silent"));
+    noteSilence(base);
     throw new Unanswered("The register did not answer.");
   }
-  const place = notePlace(response);
+  const place = notePlace(response, base);
   if (response.ok) return { value: text === "" ? null : JSON.parse(text), place };
   const fault = faultOf(response, text);
-  if (fault instanceof Unanswered) answers.dispatchEvent(new Event("silent"));
+  if (fault instanceof Unanswered) noteSilence(base);
   throw fault;
 }
 
@@ -156,13 +161,13 @@ export const asides = new Queue(6);
 /** Whether the error says only that the view was left. @param {Error} fault */
 export const isLeft = (fault) => fault?.name === "AbortError";
 
-/** Who is asking, and whether that user may change; where the proxy does not say, changes are offered. */
+/** Who is asking, whether that user may change, and whether there are pools; where the proxy does not say, changes are offered. */
 export async function whoAsks() {
   try {
     const response = await fetch(beside("../register/user"), { cache: "no-store", credentials: "same-origin" });
     const value = response.ok ? await response.json() : {};
-    return { user: typeof value.user === "string" ? value.user : "", mayChange: value.may_change !== false };
+    return { user: typeof value.user === "string" ? value.user : "", mayChange: value.may_change !== false, hasPools: value.has_pools === true };
   } catch {
-    return { user: "", mayChange: true };
+    return { user: "", mayChange: true, hasPools: false };
   }
 }

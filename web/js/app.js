@@ -3,12 +3,14 @@
  * @module
  */
 import { createRecord, listActions, planActions, recordActions } from "./actions.js";
-import { answers, ask, isLeft, Unanswered, whoAsks } from "./api.js";
+import { answers, ask, isLeft, POOLS, REGISTER, Unanswered, whoAsks } from "./api.js";
 import { el, fill } from "./dom.js";
 import { KINDS } from "./kinds.js";
 import { showList } from "./list_view.js";
 import { Names } from "./names.js";
+import { showNumbers, showPool } from "./numbers_view.js";
 import { showPlan } from "./plan_view.js";
+import { POOL_KINDS } from "./pools.js";
 import { showPrefix } from "./prefix_view.js";
 import { showRecord } from "./record_view.js";
 import { hrefOf, readHash } from "./router.js";
@@ -19,7 +21,8 @@ const PAGES = [["plan", "Plan"], ...["prefixes", "ip-addresses", "ip-ranges", "a
 
 const main = document.getElementById("view");
 const notice = document.getElementById("notice");
-const state = { names: new Names(), user: { user: "", mayChange: true }, leaving: [], abort: null, viewPlace: null, isOld: false, isSilent: false };
+const state = { names: new Names(), user: { user: "", mayChange: true, hasPools: false }, leaving: [], abort: null, base: REGISTER, viewPlace: null,
+  isOld: false, isSilent: false };
 
 /** Shows that the register changed since the view was read, or that it does not answer. */
 function showNotice() {
@@ -30,14 +33,16 @@ function showNotice() {
   else if (state.isOld) fill(notice, el("span", {}, "The register has changed since this was read."), again());
 }
 
-answers.addEventListener("place", ({ detail: place }) => {
+answers.addEventListener("place", ({ detail: { place, base } }) => {
+  if (base !== state.base) return;
   state.viewPlace ??= place;
   const isOld = place !== state.viewPlace;
   if (isOld === state.isOld && !state.isSilent) return;
   Object.assign(state, { isOld: state.isOld || isOld, isSilent: false });
   showNotice();
 });
-answers.addEventListener("silent", () => {
+answers.addEventListener("silent", ({ detail: { base } }) => {
+  if (base !== state.base) return;
   state.isSilent = true;
   showNotice();
 });
@@ -45,7 +50,8 @@ answers.addEventListener("silent", () => {
 /** Asks for the place while the page is looked at. */
 async function poll() {
   if (document.visibilityState !== "visible") return;
-  await ask("GET", "vrfs/", { query: { limit: 1 } }).catch(() => null);
+  const { base } = state;
+  await (base === POOLS ? ask("GET", "vlan-groups/", { base }) : ask("GET", "vrfs/", { query: { limit: 1 } })).catch(() => null);
 }
 
 /** Shows a fault where the view would be, or above it. @param {Error} fault */
@@ -81,21 +87,28 @@ function contextOf(route, signal) {
   });
 }
 
+/** @param {string|undefined} text */
+const isId = (text) => text !== undefined && /^[1-9][0-9]{0,9}$/.test(text);
+
 /** The view of an address. @param {string[]} path */
 function viewOf([first, second, ...more]) {
   if (more.length > 0) return null;
   if (first === "plan") return showPlan;
   if (first === "search") return showSearch;
+  if (first === "numbers") return second === undefined ? showNumbers : null;
+  if (Object.hasOwn(POOL_KINDS, first)) return isId(second) ? showPool : null;
   if (!(first in KINDS)) return null;
   if (second === undefined) return showList;
-  if (!/^[1-9][0-9]{0,9}$/.test(second)) return null;
+  if (!isId(second)) return null;
   return first === "prefixes" ? showPrefix : showRecord;
 }
 
 /** Marks the page in the navigation, and has the search say what was asked. */
 function showPlace(route) {
   const pages = document.getElementById("pages");
-  fill(pages, PAGES.map(([path, text]) => el("a", { href: hrefOf([path]), "aria-current": route.path[0] === path ? "page" : null }, text)));
+  const all = state.user.hasPools ? [...PAGES, ["numbers", "Numbers"]] : PAGES;
+  const here = Object.hasOwn(POOL_KINDS, route.path[0]) ? "numbers" : route.path[0];
+  fill(pages, all.map(([path, text]) => el("a", { href: hrefOf([path]), "aria-current": here === path ? "page" : null }, text)));
   pages.querySelector("[aria-current]")?.scrollIntoView({ block: "nearest", inline: "nearest" });
   const asked = document.getElementById("search-text");
   if (document.activeElement !== asked) asked.value = route.path[0] === "search" ? route.query.get("q") ?? "" : "";
@@ -110,7 +123,8 @@ export async function show() {
     window.location.replace(hrefOf(["plan"]));
     return;
   }
-  Object.assign(state, { viewPlace: null, isOld: false });
+  const base = route.path[0] === "numbers" || Object.hasOwn(POOL_KINDS, route.path[0]) ? POOLS : REGISTER;
+  Object.assign(state, { base, viewPlace: null, isOld: false, isSilent: state.isSilent && base === state.base });
   showNotice();
   const view = viewOf(route.path);
   showPlace(route);

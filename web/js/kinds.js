@@ -132,7 +132,8 @@ export function fieldOfRefusal(code, detail, fields) {
     host_bits: place, zero_mask: place, duplicate: place, populated: place, aggregate_overlap: place, name_taken: ["name"], slug_taken: ["slug"],
       rd_taken: ["rd"],
     coincide: ["enforce_unique"], range_family: ["end_address"], range_mask: ["end_address"], range_order: ["end_address"], range_size: ["end_address"],
-    range_overlap: ["start_address"], wanted_length: ["prefix_length"], no_space: ["prefix_length", "number"], slaac_family: ["status"], dns_name: ["dns_name"],
+    range_overlap: ["start_address"], wanted_length: ["prefix_length"], no_space: ["prefix_length", "number", "count"], bounds: ["start"],
+    slaac_family: ["status"], dns_name: ["dns_name"],
   };
   return first(...(known[code] ?? []));
 }
