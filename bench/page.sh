@@ -44,4 +44,4 @@ fi
 IPAMD=$program "$python" -B "$top/bench/page_all.py" "$port" "$@"
 [ $# = 0 ] || exit 0
 browsers="$(chromium --version 2> /dev/null | cut -d' ' -f1-2), $(firefox-esr --version 2> /dev/null | tail -n 1)"
-echo "page: all as it should be; $browsers, nginx $(nginx -v 2>&1 | sed 's|.*/||')"
+echo "page: all as it should be; $browsers, nginx $(nginx -v 2>&1 | sed 's|.*/||')${PAGE_PATIENCE:+, PAGE_PATIENCE=$PAGE_PATIENCE}"

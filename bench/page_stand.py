@@ -60,7 +60,10 @@ class Relay:
 
     def accept(self):
         while True:
-            client, _ = self.listener.accept()
+            try:
+                client, _ = self.listener.accept()
+            except OSError:
+                return
             try:
                 server = socket.create_connection(("127.0.0.1", self.inner))
             except OSError:
@@ -90,6 +93,11 @@ class Relay:
                 data = b""
             if not self.put(client, data):
                 return
+
+    def end(self):
+        """Takes no more connections; the next stand listens on the same port."""
+        self.listener.shutdown(socket.SHUT_RDWR)
+        self.listener.close()
 
     @staticmethod
     def some(end):
@@ -169,6 +177,7 @@ class Stand:
         for process in filter(None, (self.server, self.pools, self.proxy)):
             process.terminate()
             process.wait()
+        self.relay.end()
         self.errors.close()
 
     def ask(self, method, path, body=None, user="anna", base=BASE, **headers):
