@@ -26,7 +26,7 @@ TOP = os.path.dirname(os.path.dirname(os.path.abspath(__file__)))
 PROGRAM = os.environ.get("IPAMD") or os.path.join(TOP, "crates/ipamd/out/ipamd")
 POOLD = os.environ.get("POOLD") or os.path.join(TOP, "crates/poold/out/poold")
 BASE = "/register/api/ipam/"
-# PAGE_PATIENCE=10 waits ten times as long for what is to come, on a machine that does something else too.
+# PAGE_PATIENCE=10 lets everything take ten times as long, on a machine that does something else too.
 PATIENCE = float(os.environ.get("PAGE_PATIENCE", "1"))
 
 
