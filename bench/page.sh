@@ -4,7 +4,7 @@
 # AS numbers and VLANs by poold; a full register; and the pictures of docs, for which examples/demo.sh is run. Firefox shows the tree, a map and a claim, and
 # its picture is taken; the other tests are not run there. By the built programs (./build, ./build poold; IPAMD=PROGRAM and POOLD=PROGRAM take other ones). It
 # needs nginx with njs, curl, openssl, node, chromium, its driver, firefox, selenium and 20 minutes. The font of the pictures is that of fonts-inter.
-# PAGE_PARTS=10 takes a tenth of a full register; PAGE_PATIENCE=10 waits ten times as long for what is to come, on a machine that does something else too.
+# PAGE_PARTS=10 takes a tenth of a full register; PAGE_PATIENCE=10 lets everything take ten times as long, on a machine that does something else too.
 #   bench/page.sh [--port PORT] [NAME...]     NAME: office, hostile, stops, reading, windows, numbers, large, pictures; all by default
 set -euo pipefail
 top=$(cd "$(dirname "$0")/.." && pwd)
@@ -44,4 +44,4 @@ fi
 IPAMD=$program "$python" -B "$top/bench/page_all.py" "$port" "$@"
 [ $# = 0 ] || exit 0
 browsers="$(chromium --version 2> /dev/null | cut -d' ' -f1-2), $(firefox-esr --version 2> /dev/null | tail -n 1)"
-echo "page: all as it should be; $browsers, nginx $(nginx -v 2>&1 | sed 's|.*/||')"
+echo "page: all as it should be; $browsers, nginx $(nginx -v 2>&1 | sed 's|.*/||')${PAGE_PATIENCE:+, PAGE_PATIENCE=$PAGE_PATIENCE}"

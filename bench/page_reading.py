@@ -77,6 +77,7 @@ def other_site(stand, port):
     refused = [line for line in log.splitlines() if '"POST /register/api/ipam/prefixes/1/available-ips/ ' in line and '" 403 ' in line]
     check(len(refused) >= 5, f"the log has {len(refused)} refused claims")
     server.shutdown()
+    server.server_close()
 
 
 def heads(stand):

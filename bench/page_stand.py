@@ -26,7 +26,7 @@ TOP = os.path.dirname(os.path.dirname(os.path.abspath(__file__)))
 PROGRAM = os.environ.get("IPAMD") or os.path.join(TOP, "crates/ipamd/out/ipamd")
 POOLD = os.environ.get("POOLD") or os.path.join(TOP, "crates/poold/out/poold")
 BASE = "/register/api/ipam/"
-# PAGE_PATIENCE=10 waits ten times as long for what is to come, on a machine that does something else too.
+# PAGE_PATIENCE=10 lets everything take ten times as long, on a machine that does something else too.
 PATIENCE = float(os.environ.get("PAGE_PATIENCE", "1"))
 
 
@@ -60,7 +60,10 @@ class Relay:
 
     def accept(self):
         while True:
-            client, _ = self.listener.accept()
+            try:
+                client, _ = self.listener.accept()
+            except OSError:
+                return
             try:
                 server = socket.create_connection(("127.0.0.1", self.inner))
             except OSError:
@@ -90,6 +93,11 @@ class Relay:
                 data = b""
             if not self.put(client, data):
                 return
+
+    def end(self):
+        """Takes no more connections; the next stand listens on the same port."""
+        self.listener.shutdown(socket.SHUT_RDWR)
+        self.listener.close()
 
     @staticmethod
     def some(end):
@@ -169,6 +177,7 @@ class Stand:
         for process in filter(None, (self.server, self.pools, self.proxy)):
             process.terminate()
             process.wait()
+        self.relay.end()
         self.errors.close()
 
     def ask(self, method, path, body=None, user="anna", base=BASE, **headers):
