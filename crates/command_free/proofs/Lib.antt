@@ -1,5 +1,4 @@
 pub mod Readings
 pub mod OneAnswer
 pub mod Leaving
-pub mod Passing
 pub mod Runs

@@ -1,4 +1,3 @@
 pub mod Free
 pub mod Reading
-pub mod Writing
 pub mod Run

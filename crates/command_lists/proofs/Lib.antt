@@ -2,7 +2,6 @@ pub mod Listed
 pub mod Vrfs
 pub mod Presence
 pub mod ReadBack
-pub mod Passing
 pub mod Lines
 pub mod Stops
 pub mod Lists

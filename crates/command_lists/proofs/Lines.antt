@@ -11,8 +11,8 @@ use Rattle.prefix_list.specs.declared.styles.Style.TheVariants.{Plain}
 use Rattle.prefix_list.specs.Lists.{AreOf}
 use Rattle.prefix_list.specs.Styles.{front_of, number_of, lines_from}
 use Rattle.command_lists.specs.Texts.{numbered_line, numbered_lines, marked_line}
-use Rattle.command_lists.specs.Pieces.{Passes, Puts}
-use Rattle.command_lists.proofs.Passing.{passes_both, front_both, front_first}
+use Rattle.text_pieces.specs.Pieces.{Passes, Puts}
+use Rattle.text_pieces.proofs.Passing.{passes_both, front_both, front_first}
 
 module _ (style : Style) (front : List ℕ) where
   lines_append : (n : ℕ) (bs cs : List Cidr) → numbered_lines style front n (bs ++ cs) ≡ numbered_lines style front n bs ++ numbered_lines style front (n + 5 * length bs) cs

@@ -1,6 +1,5 @@
 pub mod Tables
 pub mod Texts
-pub mod Pieces
 pub mod Inputs
 pub mod Reading
 pub mod Said

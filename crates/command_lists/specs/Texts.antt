@@ -8,7 +8,7 @@ use Rattle.ipam_data.specs.State.{State}
 use Rattle.prefix_list.specs.declared.styles.Style.{Style}
 use Rattle.prefix_list.specs.declared.styles.Style.TheVariants as style
 use Rattle.prefix_list.specs.Lists.{addresses_of_list, addresses_beyond, HasJust, NoneIsShorter}
-use Rattle.prefix_list.specs.Styles.{number_of, list_text_of}
+use Rattle.prefix_list.specs.Styles.{end_of, list_text_of}
 use Rattle.command_words.specs.declared.asked.ListAsked.{ListAsked}
 use Rattle.command_words.specs.declared.asked.StyleName.{StyleName}
 use Rattle.command_words.specs.declared.asked.StyleName.TheVariants.{Plain, Ios, Junos}
@@ -55,9 +55,9 @@ IsDifferenceText table list text =
 
 -- ---- lines as they are written
 
--- a block behind a front and a number of the style
+-- a front, and what a line of the style has after it
 abbrev pub numbered_line : Style → List ℕ → ℕ → Cidr → List ℕ
-numbered_line style front n b = front ++ (number_of style n ++ (block_text_of b ++ 10 ∷ []))
+numbered_line style front n b = front ++ end_of style n b
 
 -- such a line for each block, the first with this number
 abbrev pub numbered_lines : Style → List ℕ → ℕ → List Cidr → List ℕ

@@ -26,6 +26,10 @@ number_of Plain n = []
 number_of Ios n = decimal n ++ codes " permit "
 number_of Junos n = []
 
+-- what follows the front: the number, the block and a line feed
+abbrev pub end_of : Style → ℕ → Cidr → List ℕ
+end_of style n b = number_of style n ++ (block_text_of b ++ 10 ∷ [])
+
 -- the line of a block, with this number
 abbrev pub line_of : Style → List ℕ → ℕ → Cidr → List ℕ
 line_of style name n b = front_of style name b.family ++ (number_of style n ++ block_text_of b)

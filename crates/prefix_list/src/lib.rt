@@ -9,4 +9,4 @@ mod writing;
 pub use reading::{ListFault, read_list, reading_is_one, written_is_read};
 pub use sets::{fewest, uncovered};
 pub use styles::Style;
-pub use writing::{push_front, write_lines, write_list};
+pub use writing::{LINE_END, STEP, line_end, push_front, write_lines, write_list};

@@ -1,18 +1,23 @@
 //! A prefix list as text.
 
-ghost use Rattle.std.specs.Prelude.{◌≡◌, ◌+◌, ◌*◌, ◌^◌, ◌<◌, ◌∷◌, [], ◌++◌, length, IfOk, OnOk, OnErr};
+ghost use Rattle.std.specs.Prelude.{◌≡◌, ◌+◌, ◌*◌, ◌^◌, ◌<◌, ◌≤◌, ◌∷◌, [], ◌++◌, length, IfOk, OnOk, OnErr};
 ghost use Rattle.inet_num.specs.declared.Family.{Family as AnyFamily};
 ghost use Rattle.prefix_list.specs.declared.styles.Style.TheVariants.{Ios, Junos};
-ghost use Rattle.prefix_list.specs.Styles.{protocol_of, front_of, number_of, line_of, lines_from, list_text_of};
+ghost use Rattle.arrayvec.specs.ArrayVec.{array_vec_len};
+ghost use Rattle.prefix_list.specs.Styles.{protocol_of, front_of, number_of, end_of, line_of, lines_from, list_text_of};
 
 use crate::styles::Style;
-use inet_num::{Block, Family, write_block};
+use arrayvec::ArrayVec;
+use inet_num::{Block, Family, block_text};
 use ipam_data::text::Text;
 use itoa::Buffer;
 use std::alloc::{AllocError, Global};
 
 /// The number of the first line in the style of IOS, and how much higher that of each next line is.
-const STEP: u64 = 5;
+pub const STEP: u64 = 5;
+
+/// How many bytes a line has after its front, at most.
+pub const LINE_END: usize = 96;
 
 /// The protocol as IOS names it.
 fn protocol(family: Family) -> &'static [u8]
@@ -61,19 +66,45 @@ pub fn push_front(
     }
 }
 
+/// Appends bytes for which there is room.
+fn push_all(end: &mut ArrayVec<u8, LINE_END>, more: &[u8])
+    requires { array_vec_len end.old + length more.now ≤ 96 }
+    ensures items { end.new.items ≡ end.old.items ++ more.now }
+    ensures len { array_vec_len end.new ≡ array_vec_len end.old + length more.now }
+{
+    match end.try_extend_from_slice(more) {
+        Ok(()) => {}
+        Err(_) => unreachable!(),
+    }
+}
+
 /// Appends a line's own number.
-fn push_number(style: Style, number: u64, out: &mut Vec<u8>) -> Result<(), AllocError>
-    ensures { OnOk result (out.new.items ≡ out.old.items ++ number_of style number) }
+fn push_number(style: Style, number: u64, end: &mut ArrayVec<u8, LINE_END>)
+    requires { array_vec_len end.old ≡ 0 }
+    ensures items { end.new.items ≡ end.old.items ++ number_of style number }
+    ensures len { array_vec_len end.new ≤ 28 }
 {
     match style {
-        Style::Plain => Ok(()),
+        Style::Plain => {}
         Style::Ios => {
             let mut digits = Buffer::new();
-            out.extend_from_slice(digits.format(number).as_bytes())?;
-            out.extend_from_slice(b" permit ")
+            push_all(end, digits.format(number).as_bytes());
+            push_all(end, b" permit ");
         }
-        Style::Junos => Ok(()),
+        Style::Junos => {}
     }
+}
+
+/// What the line of a block has after its front: the style's number, the block and a line feed. It takes no memory.
+pub fn line_end(style: Style, number: u64, block: Block) -> ArrayVec<u8, LINE_END>
+    ensures { result.items ≡ end_of style number block }
+{
+    let mut end = ArrayVec::new();
+    push_number(style, number, &mut end);
+    let text = block_text(block);
+    push_all(&mut end, text.as_str().as_bytes());
+    push_all(&mut end, b"\n");
+    end
 }
 
 /// Appends the line of a block.
@@ -87,10 +118,8 @@ fn push_line(
     ensures { OnOk result (out.new.items ≡ out.old.items ++ line_of style name.now number block ++ 10 ∷ []) }
 {
     push_front(style, name, block.family(), out)?;
-    push_number(style, number, out)?;
-    write_block(block, out)?;
-    out.push(b'\n')?;
-    Ok(())
+    let end = line_end(style, number, block);
+    out.extend_from_slice(end.as_slice())
 }
 
 /// The lines of blocks, the first one with this number.

@@ -12,7 +12,7 @@ mod tests;
 mod words;
 
 pub use input::{PtrFault, read_ptrs};
-pub use line::write_ptr;
+pub use line::{ptr_line, write_ptr};
 pub use name::{fits, ptr_name};
-pub use owner::LINE_ROOM;
+pub use owner::{LINE_ROOM, Line};
 pub use record::Pair;

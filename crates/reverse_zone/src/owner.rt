@@ -15,8 +15,8 @@ use itoa::Buffer;
 /// Room for a line: 32 labels, counted with four bytes each, the longest zone, the class and type, a name of 253 bytes and its end.
 pub const LINE_ROOM: usize = 404;
 
-/// A line that is being written.
-pub(crate) type Line = ArrayVec<u8, LINE_ROOM>;
+/// The line of a record.
+pub type Line = ArrayVec<u8, LINE_ROOM>;
 
 /// How many values an octet (IPv4) or a nibble (IPv6) has.
 fn base(family: Family) -> u128

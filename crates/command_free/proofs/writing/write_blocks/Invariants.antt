@@ -1,6 +1,6 @@
 use Rattle.std.proofs.Common.{[], ◌≡◌, take}
+use Rattle.text_pieces.specs.Pieces.{Passes}
 use Rattle.command_free.specs.Free.{lines_text_of}
-use Rattle.command_free.specs.Writing.{Passes}
 use Rattle.command_free.proofs.writing.write_blocks.Given as goal
 
 abbrev pub invariant-loop-block : goal.invariant-loop-block

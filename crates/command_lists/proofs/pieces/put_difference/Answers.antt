@@ -1,5 +1,5 @@
 use Rattle.std.proofs.Common.{rules, codes}
-use Rattle.command_lists.proofs.Passing.{puts_both, puts_front}
+use Rattle.text_pieces.proofs.Passing.{puts_both, puts_front}
 use Rattle.command_lists.proofs.Lines.{puts_marked, passes_marked, front_marked}
 use Rattle.command_lists.proofs.pieces.put_difference.Goals as goal
 

@@ -1,5 +1,5 @@
 use Rattle.std.proofs.Common.{rules, arith, refl, ◌∙◌}
-use Rattle.command_lists.proofs.Passing.{puts_at_err}
+use Rattle.text_pieces.proofs.Passing.{puts_at_err}
 use Rattle.command_lists.proofs.Lines.{passes_line, front_line}
 use Rattle.command_lists.proofs.pieces.put_lines.Goals as goal
 

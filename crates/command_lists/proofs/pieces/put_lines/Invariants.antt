@@ -1,6 +1,6 @@
 use Rattle.std.proofs.Common.{◌≡◌, ◌+◌, ◌*◌, take}
 use Rattle.command_lists.specs.Texts.{numbered_lines}
-use Rattle.command_lists.specs.Pieces.{Passes}
+use Rattle.text_pieces.specs.Pieces.{Passes}
 use Rattle.command_lists.proofs.pieces.put_lines.Given as goal
 
 abbrev pub invariant-each : goal.invariant-each

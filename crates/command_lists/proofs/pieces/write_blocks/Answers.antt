@@ -1,6 +1,6 @@
 use Rattle.std.proofs.Common.{List, ℕ, subst}
 use Rattle.ipam_edge.specs.Writing.{WritesAll}
-use Rattle.command_lists.proofs.Passing.{whole_behind}
+use Rattle.text_pieces.proofs.Passing.{whole_behind}
 use Rattle.command_lists.proofs.pieces.write_blocks.Goals as goal
 
 pub returns-clause-told : goal.returns-clause-told

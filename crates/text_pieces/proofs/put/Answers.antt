@@ -1,7 +1,7 @@
 use Rattle.std.proofs.Common.{List, ℕ, ap, subst}
-use Rattle.command_lists.specs.Pieces.{Puts}
-use Rattle.command_lists.proofs.Passing.{passes_kept}
-use Rattle.command_lists.proofs.pieces.put.Goals as goal
+use Rattle.text_pieces.specs.Pieces.{Puts}
+use Rattle.text_pieces.proofs.Passing.{passes_kept}
+use Rattle.text_pieces.proofs.put.Goals as goal
 
 pub returns-in-Ok-clause-told : goal.returns-in-Ok-clause-told
 returns-in-Ok-clause-told g c = passes_kept _ _ _ _ c.in-Ok.ensures.ok

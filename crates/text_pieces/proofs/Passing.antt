@@ -3,7 +3,7 @@ use Rattle.std.proofs.Common.{◌≡◌, ℕ, refl, sym, ◌∙◌, ap, subst, L
 use Rattle.std.specs.Io.KnownBytes.{Appends}
 use Rattle.std.proofs.KnownBytes.{Appends-trans, Appends-nil}
 use Rattle.ipam_edge.specs.Writing.{AppendsFront, WritesAll}
-use Rattle.command_lists.specs.Pieces.{Passes, Puts}
+use Rattle.text_pieces.specs.Pieces.{Passes, Puts}
 
 -- nothing was written, and the text is in the buffer
 pub passes_kept : (a : Option (List ℕ)) (piece after text : List ℕ) → after ≡ piece ++ text → Passes a a piece after text

@@ -1,6 +1,6 @@
 use Rattle.std.proofs.Common.{arith}
 use Rattle.reverse_zone.proofs.HostBytes.{fit_short}
-use Rattle.reverse_zone.proofs.line.line_text.Goals as goal
+use Rattle.reverse_zone.proofs.line.ptr_line.Goals as goal
 
 pub push_all-requires-2 : goal.push_all-requires-2
 push_all-requires-2 c =

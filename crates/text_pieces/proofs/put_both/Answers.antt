@@ -1,6 +1,6 @@
 use Rattle.std.proofs.Common.{rules}
-use Rattle.command_lists.proofs.Passing.{puts_both, puts_front}
-use Rattle.command_lists.proofs.pieces.put_both.Goals as goal
+use Rattle.text_pieces.proofs.Passing.{puts_both, puts_front}
+use Rattle.text_pieces.proofs.put_both.Goals as goal
 
 pub returns-in_err-put-clause-told : goal.returns-in_err-put-clause-told
 returns-in_err-put-clause-told g c = puts_front _ _ _ _ _ _ c.from_residual.result (search rules) c.in_err-put.ensures.told

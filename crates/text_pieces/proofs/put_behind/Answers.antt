@@ -1,7 +1,7 @@
 use Rattle.std.proofs.Common.{List, ℕ, [], ◌++◌, rules, ap, ◌∙◌}
 use Rattle.ipam_edge.proofs.WritingLemmas.{appends_front_longer}
-use Rattle.command_lists.proofs.Passing.{passes_kept, passes_both, puts_both, puts_at_err, puts_through}
-use Rattle.command_lists.proofs.pieces.put_behind.Goals as goal
+use Rattle.text_pieces.proofs.Passing.{passes_kept, passes_both, puts_both, puts_at_err, puts_through}
+use Rattle.text_pieces.proofs.put_behind.Goals as goal
 
 pub returns-in_err-pass-clause-told : goal.returns-in_err-pass-clause-told
 returns-in_err-pass-clause-told g c = puts_at_err _ _ _ _ _ c.from_residual.result (search rules) (appends_front_longer _ _ _ c.args.text.now c.in_err-pass.ensures.front)

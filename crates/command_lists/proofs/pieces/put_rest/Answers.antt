@@ -1,9 +1,0 @@
-use Rattle.std.proofs.Common.{rules}
-use Rattle.command_lists.proofs.Passing.{puts_both, puts_front}
-use Rattle.command_lists.proofs.pieces.put_rest.Goals as goal
-
-pub returns-in_err-put_number-clause-told : goal.returns-in_err-put_number-clause-told
-returns-in_err-put_number-clause-told g c = puts_front _ _ _ _ _ _ c.from_residual.result (search rules) c.in_err-put_number.ensures.told
-
-pub returns-clause-told : goal.returns-clause-told
-returns-clause-told g c = puts_both _ _ _ _ _ _ _ _ _ c.in_ok-put_number.ensures.told c.put_block.ensures.told
