@@ -1,8 +1,7 @@
 -- A run has the headline of its command.
-use Rattle.std.proofs.Common.{◌≡◌, ◌⊎◌, ◌++◌, ℕ, List, [], length, Option, Some, None, refl, sym, ap, ◌∙◌, subst, inl, inr, arith}
+use Rattle.std.proofs.Common.{◌≡◌, ◌⊎◌, ℕ, List, [], length, Option, Some, None, IfSome, refl, sym, ap, ◌∙◌, subst, inl, inr, arith}
 use Rattle.std.proofs.lemmas.List.{append-nil}
 use Rattle.std.proofs.lemmas.List.Elements.{All-nil}
-use Rattle.std.specs.List.{IfSome}
 use Rattle.ipam_listen.specs.Connections.{Connection, Returned}
 use Rattle.stored_tables.specs.declared.tables.Tables.{Tables}
 use Rattle.command_words.specs.declared.asked.Command.{Command}
