@@ -1,5 +1,5 @@
 -- What the commands ensure of a store gives the headline, by the laws of the register.
-use Rattle.std.proofs.Common.{◌≡◌, ℕ, zero, suc, true, List, [], ◌∷◌, map, take, Some, refl, ap, sym, ◌∙◌, subst}
+use Rattle.std.proofs.Common.{◌≡◌, ℕ, zero, suc, true, List, [], ◌∷◌, length, map, take, Some, refl, ap, sym, ◌∙◌, subst}
 use Rattle.std.specs.List.{AllByRecursion, slice_get}
 use Rattle.history_lock.specs.Replay.{replay}
 use Rattle.history_lock.specs.Replies.{accepted}
@@ -169,6 +169,7 @@ headline laws opening history is callers are =
     record {
       answers = are;
       entries = change;
+      lawful = λ n. lawful_at laws.lawful opening history n is all;
       least = λ n who call at. gets_least laws.new (state_after opening history n) call (listed_at laws.listed opening history n in_order) (accepted_at opening history change n who call at);
       space = laws.space;
       addresses = addresses_apart laws.never opening history in_order;
@@ -179,24 +180,25 @@ headline laws opening history is callers are =
 -- ---- the commands
 
 served : Laws → (serving : Serving) (old new : Outside) (before after : ListenerView) (entries : ℕ) → ServesStore serving old new before after entries
-    → Served serving.store old new before after entries
+    → (of : Served serving.store old new before after) × (entries ≡ length of.kept.history)
 served laws serving old new before after entries h =
     let of : HasCallers register_protocol h.state h.history h.served.back =
-    listed_served register_protocol h.state h.history h.served.back h.served.shifts h.served.one_history h.served.lanes in
-    record {
-      callers = of.callers;
-      kept = record {
-        opening = h.state;
-        stood = h.loaded;
-        history = h.history;
-        headline = headline laws h.state h.history h.loaded.2.lawful of.callers of.are;
-        holds = h.holds;
-      };
-      counted = h.entries_are;
-      back = h.served.back;
-      returned = h.served.returned;
-      lanes = of.lanes;
-    }
+    listed_served register_protocol h.state h.history h.served.back h.served.shifts h.served.one_history h.served.lanes in (
+      record {
+        callers = of.callers;
+        kept = record {
+          opening = h.state;
+          stood = h.loaded;
+          history = h.history;
+          headline = headline laws h.state h.history h.loaded.2.lawful of.callers of.are;
+          holds = h.holds;
+        };
+        back = h.served.back;
+        returned = h.served.returned;
+        lanes = of.lanes;
+      },
+      h.entries_are,
+    )
 
 alone : Laws → (store : Store) (old new : Outside) (how : SessionEnd) → Serves store old new how → Alone store old new
 alone laws store old new how h =

@@ -7,6 +7,7 @@ use Rattle.machine_answers.specs.Answers.{AreCallers, AreLanesOf, Caller, IsChan
 use Rattle.ipam_data.specs.declared.calls.Call.{Call}
 use Rattle.ipam_data.specs.declared.replies.Reply.{Reply}
 use Rattle.ipam_data.specs.declared.update.Update.{Update}
+use Rattle.ipam_data.specs.Lawful.{IsLawful}
 use Rattle.ipam_data.specs.State.{State}
 use Rattle.ipam_data.specs.Steps.{plain_step}
 use Rattle.claim_laws.specs.Claims.{RefusedOnlyIfNoneFits}
@@ -21,16 +22,20 @@ use Rattle.ipam_headline.specs.Claims.{AddressesApart, BlocksApart, EachEntry, G
 
 -- a register that opened in this state had these callers; the history has each accepted change with the number of its caller
 pub record Headline (opening : State) (history : List (ℕ × Call)) (callers : List (Caller Call Reply)) : Type 0 where
-  -- every answer of every connection is the plain register's after the first entries of the history: no fewer than those of the caller's
-  -- answer before, and all of its own changes; an accepted change is the next entry, and there are no other entries
+  -- every answer of every connection is the plain register's after the first n entries; for one caller n never falls, and counts all of its own
+  -- changes; an accepted change is entry n, and there are no other entries. Exceptions: 503 (the store failed) in place of the answer to a change,
+  -- and 500 (out of memory) in place of any: neither has an entry. What the bytes of a request decide is answered without the register, at no n
   pub answers : AreCallers register_protocol opening history callers
-  -- each entry was asked for by a request, and accepted at its place
+  -- the register accepts each entry at its place, and its texts are within their bounds; `answers` says who asked for it
   pub entries : (n : ℕ) (who : ℕ) (call : Call) → slice_get history n ≡ Some (who, call) → IsChange register_protocol opening (take n history) call
-  -- a claim got the least that nothing had; it was refused for space only where there was none; no two claims met
+  -- the records obey the rules after each entry
+  pub lawful : (n : ℕ) → IsLawful (state_after opening history n)
+  -- a claim of addresses got the least that were free; it is refused for space only if it asks for more than are free; no later claim got an
+  -- address that an entry gave the same table, unless that record was released in between
   pub least : EachEntry opening history GetsTheLeast
   pub space : RefusedOnlyIfNoneFits
   pub addresses : AddressesApart opening history
-  -- the same of blocks
+  -- the same of blocks; but a later block may be strictly inside an earlier one
   pub carved : EachEntry opening history GetsFreeBlocks
   pub blocks : BlocksApart opening history
 
@@ -44,12 +49,11 @@ pub record Kept (store : Store) (old new : Outside) (callers : List (Caller Call
   -- the store holds the state after the history, if its tables are known
   pub holds : HoldsTold store old new (replay plain_step opening history)
 
--- `serve`: all that connected, with so many changes
-pub record Served (store : Store) (old new : Outside) (before after : ListenerView) (entries : ℕ) : Type 0 where
+-- `serve`: all that connected
+pub record Served (store : Store) (old new : Outside) (before after : ListenerView) : Type 0 where
   pub callers : List (Caller Call Reply)
   pub kept : Kept store old new callers
-  pub counted : entries ≡ length kept.history
-  -- the listener got back lanes with the connections of the callers
+  -- the listener got back lanes with the connections of the callers. A lane over TCP does not report its bytes: then nothing is said of them
   pub back : List Returned
   pub returned : after.returned ≡ before.returned ++ back
   pub lanes : AreLanesOf back callers

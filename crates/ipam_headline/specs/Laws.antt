@@ -1,5 +1,5 @@
 -- What the commands ensure of a store gives the headline.
-use Rattle.std.specs.Prelude.{ℕ}
+use Rattle.std.specs.Prelude.{◌≡◌, ℕ, length}
 use Rattle.http_session.specs.declared.session.SessionEnd.{SessionEnd}
 use Rattle.machine_serving.specs.Views.{ListenerView}
 use Rattle.command_words.specs.declared.asked.Mirroring.{Mirroring}
@@ -12,9 +12,9 @@ use Rattle.command_mirror.specs.Mirror.{Mirrors}
 use Rattle.ipam_headline.specs.Headline.{Alone, Mirrored, Served}
 
 pub record HeadlinesHold : Type 0 where
-  -- a store that was served
+  -- a store that was served, with the number of its changes
   pub serve : (serving : Serving) (old new : Outside) (before after : ListenerView) (entries : ℕ) → ServesStore serving old new before after entries
-      → Served serving.store old new before after entries
+      → (served : Served serving.store old new before after) × (entries ≡ length served.kept.history)
   -- a session over a store, however it ended
   pub session : (store : Store) (old new : Outside) (how : SessionEnd) → Serves store old new how → Alone store old new
   -- an operator beside readers
