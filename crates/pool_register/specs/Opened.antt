@@ -7,7 +7,7 @@ use Rattle.pool_keeper.specs.Keeping.{IsTold}
 use Rattle.pool_opening.specs.declared.faults.PoolFault.{PoolFault}
 use Rattle.pool_opening.specs.Faults.{IsRefused, fault_of, loaded}
 
--- the pools of some tables without a fault, which are those that a keeper tells, if it tells any; the pools are lawful in any case
+-- these are the pools of tables that the keeper had, without a fault: of the known ones, if they are known. They are lawful in any case
 pub record IsOpened (told : Option PoolTables) (s : Pools) : Type 0 where
   pub tables : PoolTables
   pub held : IsTold told tables
@@ -15,7 +15,7 @@ pub record IsOpened (told : Option PoolTables) (s : Pools) : Type 0 where
   pub are : s ≡ loaded tables
   pub lawful : IsLawfulPools s
 
--- the fault is that of the tables, where it is of tables at all; nothing is said where a keeper tells none
+-- the fault is that of the known tables, if it is one of tables at all; of unknown ones nothing is said
 abbrev pub IsUnopened : Option PoolTables → PoolFault → Type 0
 IsUnopened None fault = Unit {0}
 IsUnopened (Some tables) fault = IsRefused tables fault
