@@ -81,7 +81,7 @@ none_given s id (Some m) y c = go (first_of (cut_member_checks s)) c
     go None c = contains_without member_id s.members.rows id y c
 
 -- two members of one range, or of two ranges of ASNs, hold their numbers of one pool
-asn_pool : (s : Pools) (m : Member) → IsOfAsns s m.range → pool_at s.ranges.rows m ≡ 0
+pub asn_pool : (s : Pools) (m : Member) → IsOfAsns s m.range → pool_at s.ranges.rows m ≡ 0
 asn_pool s m h = ap (λ (o : Option NumberRange). pool_found o m.range) h.1 ∙ ap (λ (k : PoolKind). pool_by k h.0.id) h.2
 
 pub never_meet : NumbersNeverMeet

@@ -1,5 +1,6 @@
 -- What was loaded is what the keeper tells.
 use Rattle.std.proofs.Common.{◌≡◌, Option, Some, None, Result, Ok, Err, ap, sym, ◌∙◌, subst}
+use Rattle.number_pools.specs.Lawful.{IsLawfulPools}
 use Rattle.number_pools.specs.Rows.{Pools}
 use Rattle.pool_keeper.specs.declared.tables.PoolTables.{PoolTables}
 use Rattle.pool_keeper.specs.Keeping.{IsTold}
@@ -8,9 +9,8 @@ use Rattle.pool_opening.specs.declared.faults.PoolFault.{PoolFault}
 use Rattle.pool_opening.specs.Faults.{IsRefused, fault_of, loaded}
 use Rattle.pool_register.specs.Opened.{IsOpened, IsUnopened}
 
-pub opened_is : (told : Option PoolTables) (tables : PoolTables) (s : Pools) → IsTold told tables → fault_of tables ≡ None → s ≡ loaded tables → IsOpened told s
-opened_is None tables s t f e = tt
-opened_is (Some known) tables s t f e = (ap fault_of t ∙ f, e ∙ ap loaded (sym t))
+pub opened_is : (told : Option PoolTables) (tables : PoolTables) (s : Pools) → IsTold told tables → fault_of tables ≡ None → s ≡ loaded tables → IsLawfulPools s → IsOpened told s
+opened_is told tables s t f e l = record { tables = tables; held = t; faultless = f; are = e; lawful = l }
 
 pub tells_loaded : (told new : Option PoolTables) (tables : PoolTables) (s : Pools) → IsTold told tables → new ≡ told → s ≡ loaded tables → Tells new s
 tells_loaded told new tables s t n e = subst (λ (o : Option PoolTables). Tells o s) (sym n) (go told t)

@@ -1,14 +1,16 @@
 -- What a store holds behind a keeper that went back.
-use Rattle.std.proofs.Common.{◌≡◌, ℕ, ◌≤◌, ◌⊎◌, List, inl, inr, Option, Some, None, Bool, true, false, bytes_eq, refl, subst, sym, ◌∙◌, arith}
+use Rattle.std.proofs.Common.{◌≡◌, ℕ, ◌≤◌, ◌⊎◌, List, inl, inr, Option, Some, None, is_some, Bool, true, false, bytes_eq, refl, ap, subst, sym, ◌∙◌, arith}
 use Rattle.std.proofs.lemmas.Slice.Eq.{bytes_eq-Decides}
 use Rattle.ipam_keeper.specs.Keeping.{Rose, IsRaised}
 use Rattle.machine_command.specs.Outside.{Stores}
 use Rattle.pool_keeper.specs.declared.tables.PoolTables.{PoolTables}
 use Rattle.pool_keeper.specs.Keeping.{AreGiven, IsReturned, started, tables_at}
+use Rattle.pool_keeper.specs.Stored.{Tells, tables_of}
 use Rattle.pool_opening.specs.declared.faults.PoolFault.{PoolFault}
 use Rattle.pool_opening.specs.declared.faults.PoolFault.TheVariants.{Keeper, Memory}
+use Rattle.pool_register.specs.Kept.{Seen}
 use Rattle.pool_register.specs.Opened.{IsUnopened}
-use Rattle.pool_store.specs.Opening.{AreSame, IsRefusedOpening, StoredPools}
+use Rattle.pool_store.specs.Opening.{AreSame, Holds, IsLoaded, IsRefusedOpening, StoredPools}
 
 not_used : (stored : StoredPools) → AreSame stored stored
 not_used None = tt
@@ -33,6 +35,18 @@ back_again (Some path) told (Some entries) None is returned = absurd returned.1
 back_again (Some path) told (Some entries) (Some new) is returned = λ other.
     beside path other entries new (bytes_eq other path) refl
     (subst (λ (t : Option PoolTables). AreGiven path t (Some new)) is returned.0) returned.1
+
+-- pools that were loaded and went back as they were leave all as it was
+pub left_same : (path : Option (List ℕ)) (old new : StoredPools) (s : Seen) → IsLoaded path old s → Holds path old new s → AreSame old new
+left_same None old new s loaded holds = unchanged old new holds.returned
+left_same (Some path) None new s loaded holds = tt
+left_same (Some path) (Some entries) new s loaded holds =
+    let are : tables_of s.pools ≡ loaded.pools.tables = ap tables_of loaded.pools.are in
+    back_again (Some path) holds.told (Some entries) new (go holds.told (holds.tells ∙ loaded.tells) holds.are (are ∙ sym loaded.pools.held)) holds.returned
+  where
+    go : (told : Option PoolTables) → is_some told ≡ true → Tells told s.pools → tables_of s.pools ≡ tables_at entries path → told ≡ Some (tables_at entries path)
+    go None yes_ are same = cc
+    go (Some tables) yes_ are same = ap (λ (t : PoolTables). Some t) (are ∙ same)
 
 -- the same, with what is known of the opener and of the keeper by then
 back_after : (path : Option (List ℕ)) (lent : Option (Option (List ℕ))) (told last : Option PoolTables) (old mid new : StoredPools)
