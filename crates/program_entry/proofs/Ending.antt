@@ -9,7 +9,7 @@ use Rattle.command_streams.specs.Arguments.{AreWords}
 use Rattle.command_streams.specs.declared.arguments.NoArguments.{NoArguments}
 use Rattle.command_streams.specs.declared.arguments.NoArguments.TheVariants.{NoText, Memory}
 use Rattle.command_streams.specs.Streams.{Streams, Told, streams}
-use Rattle.program_entry.specs.Ending.{EndsWithout, IsEnding, RunsOf, RunsOver, SaysNoText, UsageOf}
+use Rattle.program_entry.specs.Ending.{AreUntold, EndsWithout, IsEnding, RunsOf, RunsOver, SaysNoText, UsageOf}
 
 -- a stream that tells nothing and has not failed
 abbrev untold : Told
@@ -41,6 +41,12 @@ pub ended : {U Y Z W : Type 0} (runs : RunsOf U) (says : UsageOf) (given : Resul
 ended runs says (Ok given) args words before after status are same run =
     subst (λ (w : List (List ℕ)). RunsOver runs w before after status) (ap (map string_bytes) same ∙ are) run
 ended runs says (Err error) args words before after status are same run = absurd are
+
+-- a run of them over the standard streams
+pub run_ended : {U Y Z W : Type 0} (runs : RunsOf U) (says : UsageOf) (given : Result (IntoIter (String Y) Z) Error) (args : Vec (String Y) W) (words : List (String Y)) (asked : List (List ℕ)) (old new : Streams) (before after : U) (status : ℕ)
+    → AreWords given (Ok args) → words ≡ args.items → asked ≡ map string_bytes words → AreUntold old → runs asked old new before after status → IsEnding runs says given before after status
+run_ended runs says given args words asked old new before after status are same these untold run =
+    ended runs says given args words before after status are same (old, new, untold, subst (λ (w : List (List ℕ)). runs w old new before after status) these run)
 
 -- there were no words
 pub ended_without : {U Y Z : Type 0} (W : Type 0) (runs : RunsOf U) (says : UsageOf) (why : NoArguments) (given : Result (IntoIter (String Y) Z) Error) (kept : U) (status : ℕ)
