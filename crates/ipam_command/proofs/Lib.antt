@@ -8,5 +8,4 @@ pub mod Parts
 pub mod LimitLaws
 pub mod OpenedLaws
 pub mod ExactLaws
-pub mod Ending
 pub mod HeadlineRuns

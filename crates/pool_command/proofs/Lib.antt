@@ -1,4 +1,3 @@
-pub mod Ending
 pub mod ExactLaws
 pub mod NotBegun
 pub mod Outcomes

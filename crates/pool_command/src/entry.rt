@@ -1,89 +1,73 @@
 //! The program: its real objects, and the words behind its name.
 
-ghost use Rattle.std.specs.Prelude.{map, string_bytes};
+ghost use Rattle.std.specs.Prelude.{map};
 ghost use Rattle.std.specs.Process.{exit_status};
-ghost use Rattle.command_streams.specs.Streams.{streams, told};
 ghost use Rattle.machine_command.specs.Outside.{outside, stores};
 ghost use Rattle.machine_serving.specs.Views.{listener_view};
-ghost use Rattle.pool_command.specs.Program.{EndsWithout, IsEnding, RunsOver};
+ghost use Rattle.pool_command.specs.Program.{IsEnding};
 ghost use Rattle.pool_command.specs.Runs.{Runs};
 
 use crate::run::{run_pools, say_usage};
-use command_streams::{MEMORY, NoArguments, words_given, words_of};
-use ipam_edge::{
-    Sink, Source, StdSink, StdSource, standard_error, standard_input, standard_output,
-};
+use ipam_edge::Sink;
 use ipam_listen::Listener;
 use pool_keeper::keeper::PoolOpener;
+use program_entry::{Program, Standard, arguments, standard, words};
 use std::alloc::Global;
 use std::env::Args;
 use std::io;
-use std::io::{Printer, Stderr, StdinLock};
 use std::marker::Sync;
 use std::process::ExitCode;
 use std::sync::Wait;
 use std::thread::Threads;
 
-/// Runs words over the standard streams. The types say which is which: what `run_pools` writes as messages goes to standard error. The process is to
-/// end with the status of the run.
+/// The program `poold`.
+struct Poold;
+
+impl Program for Poold {
+    ghost use Rattle.std.proofs.Common.{inr, refl};
+    ghost use Rattle.machine_command.specs.Outside.{Stores};
+    ghost use Rattle.machine_serving.specs.Views.{ListenerView};
+    ghost use Rattle.pool_keeper.specs.declared.tables.PoolTables.{PoolTables};
+    ghost use Rattle.pool_command.specs.Program.{RunsUsing};
+    ghost use Rattle.pool_command.specs.Runs.{IsUsage};
+
+    ghost Used = { Stores PoolTables × ListenerView };
+
+    ghost runs = { RunsUsing };
+
+    ghost says_usage = { IsUsage };
+
+    fn say_usage<Se: Sink>(errors: &mut Se) -> u8 {
+        say_usage(errors)
+    }
+
+    ghost not_begun = { λ words seen kept. inr (inr (refl, refl, refl)) };
+}
+
+/// Runs words over the standard streams. Their types say which is which: what `run_pools` writes as messages goes to standard error. The process
+/// is to end with the status of the run.
 fn run_words<R: Threads + Wait + Sync, L: Listener, O: PoolOpener>(
     threads: &R,
     alloc: Global,
     words: &[&str],
-    input: &mut StdSource<StdinLock<'static>>,
-    output: &mut StdSink<Printer<'_, HostRuntime>>,
-    errors: &mut StdSink<Stderr>,
+    streams: &mut Standard<'_>,
     listener: &mut L,
     opener: &mut O,
 ) -> ExitCode
-    ensures { Runs (map (λ w. w.now) words.now)
-        (outside (streams (told ⟦<StdSource<StdinLock<'static>> as Source>⟧.left ⟦<StdSource<StdinLock<'static>> as Source>⟧.faults input.old) (told ⟦<StdSink<Printer<'static, HostRuntime>> as Sink>⟧.written ⟦<StdSink<Printer<'static, HostRuntime>> as Sink>⟧.faults output.old) (told ⟦<StdSink<Stderr> as Sink>⟧.written ⟦<StdSink<Stderr> as Sink>⟧.faults errors.old)) (stores O.stored O.faults opener.old))
-        (outside (streams (told ⟦<StdSource<StdinLock<'static>> as Source>⟧.left ⟦<StdSource<StdinLock<'static>> as Source>⟧.faults input.new) (told ⟦<StdSink<Printer<'static, HostRuntime>> as Sink>⟧.written ⟦<StdSink<Printer<'static, HostRuntime>> as Sink>⟧.faults output.new) (told ⟦<StdSink<Stderr> as Sink>⟧.written ⟦<StdSink<Stderr> as Sink>⟧.faults errors.new)) (stores O.stored O.faults opener.new))
+    ensures { Runs (map (λ w. w.now) words.now) (outside streams.old (stores O.stored O.faults opener.old)) (outside streams.new (stores O.stored O.faults opener.new))
         (listener_view L.bound L.lanes L.returned L.faults listener.old) (listener_view L.bound L.lanes L.returned L.faults listener.new) (exit_status result) }
 {
     let status = run_pools(
-        threads, alloc, words, input, output, errors, listener, opener,
-    );
-    ExitCode::from(status)
-}
-
-/// Runs the arguments behind the program's name over the standard streams.
-fn run_args<R: Threads + Wait + Sync, L: Listener, O: PoolOpener>(
-    rt: &HostRuntime,
-    threads: &R,
-    args: &[String],
-    listener: &mut L,
-    opener: &mut O,
-) -> ExitCode
-    ensures { RunsOver (map string_bytes args.now) (stores O.stored O.faults opener.old) (stores O.stored O.faults opener.new)
-        (listener_view L.bound L.lanes L.returned L.faults listener.old) (listener_view L.bound L.lanes L.returned L.faults listener.new) (exit_status result) }
-{
-    let Ok(words) = words_of(rt.alloc(), args) else {
-        return ExitCode::from(MEMORY);
-    };
-    let mut input = standard_input(rt);
-    let mut output = standard_output(rt);
-    let mut errors = standard_error(rt);
-    run_words(
         threads,
-        rt.alloc(),
-        &words,
-        &mut input,
-        &mut output,
-        &mut errors,
+        alloc,
+        words,
+        &mut streams.input,
+        &mut streams.output,
+        &mut streams.errors,
         listener,
         opener,
-    )
-}
-
-/// Ends where there are no arguments: with the usage line where one of them is no text.
-fn end_without(rt: &HostRuntime, why: NoArguments) -> ExitCode
-    ensures { EndsWithout why (exit_status result) }
-{
-    match why {
-        NoArguments::NoText => ExitCode::from(say_usage(&mut standard_error(rt))),
-        NoArguments::Memory => ExitCode::from(MEMORY),
-    }
+    );
+    ExitCode::from(status)
 }
 
 /// Runs the program over its arguments, as `std::env::args` gives them, the standard streams, a listener and an opener of stores. The process is
@@ -99,8 +83,19 @@ pub fn program<R: Threads + Wait + Sync, L: Listener, O: PoolOpener>(
     ensures { IsEnding given (stores O.stored O.faults opener.old) (stores O.stored O.faults opener.new)
         (listener_view L.bound L.lanes L.returned L.faults listener.old) (listener_view L.bound L.lanes L.returned L.faults listener.new) (exit_status result) }
 {
-    match words_given(rt.alloc(), given) {
-        Ok(args) => run_args(rt, threads, &args, listener, opener),
-        Err(why) => end_without(rt, why),
+    let args = match arguments::<Poold>(rt, given) {
+        Ok(args) => args,
+        Err(ended) => return ended,
+    };
+    match words::<Poold>(rt.alloc(), &args) {
+        Ok(words) => run_words(
+            threads,
+            rt.alloc(),
+            &words,
+            &mut standard(rt),
+            listener,
+            opener,
+        ),
+        Err(ended) => ended,
     }
 }

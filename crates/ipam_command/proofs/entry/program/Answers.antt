@@ -1,8 +1,13 @@
-use Rattle.ipam_command.proofs.Ending.{ended, ended_without}
+use Rattle.command_streams.specs.Streams.{IsUsage}
+use Rattle.program_entry.proofs.Ending.{ended, run_ended}
+use Rattle.ipam_command.specs.Program.{RunsUsing}
 use Rattle.ipam_command.proofs.entry.program.Goals as goal
 
-pub returns-in-Ok : goal.returns-in-Ok
-returns-in-Ok g c = ended c.args.given c.in-Ok.args c.deref.result.now _ _ _ _ _ c.in-Ok.ensures c.deref.ensures.value c.run_args.ensures
+pub returns-in-Ok-words : goal.returns-in-Ok-words
+returns-in-Ok-words g c =
+    let items = c.deref-in-Ok-words.ensures.value in
+    let words = c.in-Ok-words.ensures.words in
+    run_ended RunsUsing IsUsage c.args.given c.in-Ok.args c.deref.result.now _ c.standard.result _ _ _ _ c.in-Ok.ensures.words c.deref.ensures.value (cc) c.standard.ensures c.run_words.ensures
 
-pub returns-in-Err : goal.returns-in-Err
-returns-in-Err g c = ended_without _ c.in-Err.why c.args.given _ _ _ c.in-Err.ensures c.end_without.ensures
+pub returns : goal.returns
+returns g c = ended RunsUsing IsUsage c.args.given c.in-Ok.args c.deref.result.now _ _ _ c.in-Ok.ensures.words c.deref.ensures.value (c.in-Err-words.ensures.ended _)

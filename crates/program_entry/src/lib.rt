@@ -1,0 +1,10 @@
+//! What the programs share of their entry: a process has the arguments that the system gave, the words among them, and the standard streams.
+#![tactic(auto)]
+
+mod begin;
+mod promise;
+mod streams;
+
+pub use begin::{arguments, words};
+pub use promise::Program;
+pub use streams::{Standard, Three, standard};
