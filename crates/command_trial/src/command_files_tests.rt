@@ -204,9 +204,10 @@ fn is_as_said<R: Threads + Wait + Sync>(
     line: &str,
 ) -> Result<bool, AllocError> {
     let input = bytes_of(alloc, part(line, 2)?)?;
-    let fails = [failing(line)?];
+    let sink = [failing(line)?];
+    let fails: [&[u32]; 3] = [&[], &sink, &[]];
     let words = part(line, 1)?;
-    let left = run_over(rt, alloc, opener, words, &input, 4_096, [&[], &fails, &[]])?;
+    let left = run_over(rt, alloc, opener, words, &input, 4_096, fails)?;
     let status = number(part(line, 0)?)?;
     let output = bytes_of(alloc, part(line, 3)?)?;
     let errors = bytes_of(alloc, part(line, 4)?)?;
