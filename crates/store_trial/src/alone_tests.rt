@@ -74,12 +74,17 @@ fn is_held_alone<O: KeeperOpener>(rt: &HostRuntime, opener: &mut O) -> Result<bo
     Ok(are_put(told.as_str(), had) && held.as_str() == had && is_other_empty)
 }
 
+/// The same by the opener of `ipamd`.
+fn is_put_alone(rt: &HostRuntime) -> Result<bool, AllocError> {
+    let mut opener = SqliteOpener::new(rt.alloc(), HostFiles::of(rt));
+    is_held_alone(rt, &mut opener)
+}
+
 #[test]
 fn a_file_alone_has_what_was_put(rt: HostRuntime) -> Result<(), Fail> {
     let _ = fs::remove_dir_all(&rt, "ipamd_alone_test");
     fs::create_dir(&rt, "ipamd_alone_test")?;
-    let mut opener = SqliteOpener::new(rt.alloc(), HostFiles::of(&rt));
-    let is_held = is_held_alone(&rt, &mut opener);
+    let is_held = is_put_alone(&rt);
     fs::remove_dir_all(&rt, "ipamd_alone_test")?;
     assert!(rt; is_held?);
     Ok(())
@@ -181,13 +186,18 @@ fn is_migrated_alone<O: KeeperOpener>(
     Ok(done && held.as_str() == wanted.as_str())
 }
 
+/// The same by the opener of `ipamd`.
+fn is_migrated_with(rt: &HostRuntime, populated: bool) -> Result<bool, AllocError> {
+    let mut opener = SqliteOpener::new(rt.alloc(), HostFiles::of(rt));
+    is_migrated_alone(rt, &mut opener, populated)
+}
+
 #[test]
 fn a_file_alone_has_what_was_migrated(rt: HostRuntime) -> Result<(), Fail> {
     let _ = fs::remove_dir_all(&rt, "ipamd_first_test");
     fs::create_dir(&rt, "ipamd_first_test")?;
-    let mut opener = SqliteOpener::new(rt.alloc(), HostFiles::of(&rt));
-    let marked = is_migrated_alone(&rt, &mut opener, true);
-    let unmarked = is_migrated_alone(&rt, &mut opener, false);
+    let marked = is_migrated_with(&rt, true);
+    let unmarked = is_migrated_with(&rt, false);
     fs::remove_dir_all(&rt, "ipamd_first_test")?;
     assert!(rt; marked?, "with the mark");
     assert!(rt; unmarked?, "without the mark");

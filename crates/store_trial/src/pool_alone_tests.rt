@@ -62,12 +62,17 @@ fn is_held_alone<O: PoolOpener>(rt: &HostRuntime, opener: &mut O) -> Result<bool
     Ok(are_put(told.as_str(), had) && held.as_str() == had && other.as_str() == "1,1:")
 }
 
+/// The same by the opener of `poold`.
+fn is_put_alone(rt: &HostRuntime) -> Result<bool, AllocError> {
+    let mut opener = SqlitePoolOpener::new(rt.alloc(), HostPoolFiles::of(rt));
+    is_held_alone(rt, &mut opener)
+}
+
 #[test]
 fn a_file_of_pools_alone_has_what_was_put(rt: HostRuntime) -> Result<(), Fail> {
     let _ = fs::remove_dir_all(&rt, "poold_alone_test");
     fs::create_dir(&rt, "poold_alone_test")?;
-    let mut opener = SqlitePoolOpener::new(rt.alloc(), HostPoolFiles::of(&rt));
-    let is_held = is_held_alone(&rt, &mut opener);
+    let is_held = is_put_alone(&rt);
     fs::remove_dir_all(&rt, "poold_alone_test")?;
     assert!(rt; is_held?);
     Ok(())
