@@ -34,8 +34,9 @@ fn answers_at<O: KeeperOpener>(
     lines: &str,
 ) -> Result<String, AllocError> {
     let path = text_of(alloc, path)?;
-    let started = opener.start(Some(&path));
-    let mut keeper = started.map_err(|_| AllocError)?;
+    let Ok(mut keeper) = opener.start(Some(&path)) else {
+        return Err(AllocError);
+    };
     let told = answers(alloc, &mut keeper, lines);
     opener.done(keeper);
     told
@@ -48,8 +49,9 @@ fn held_at<O: KeeperOpener>(
     path: &str,
 ) -> Result<String, AllocError> {
     let path = text_of(alloc, path)?;
-    let started = opener.start(Some(&path));
-    let mut keeper = started.map_err(|_| AllocError)?;
+    let Ok(mut keeper) = opener.start(Some(&path)) else {
+        return Err(AllocError);
+    };
     let told = loaded(alloc, &mut keeper);
     opener.done(keeper);
     told
@@ -65,8 +67,9 @@ fn are_put(told: &str, had: &str) -> bool {
 fn is_held_alone<O: KeeperOpener>(rt: &HostRuntime, opener: &mut O) -> Result<bool, AllocError> {
     let alloc = rt.alloc();
     let told = answers_at(alloc, opener, "ipamd_alone_test/a.db", LINES)?;
-    let copied = fs::copy(rt, "ipamd_alone_test/a.db", "ipamd_alone_test/b.db");
-    copied.map_err(|_| AllocError)?;
+    if fs::copy(rt, "ipamd_alone_test/a.db", "ipamd_alone_test/b.db").is_err() {
+        return Err(AllocError);
+    }
     let held = held_at(alloc, opener, "ipamd_alone_test/b.db")?;
     let other = held_at(alloc, opener, "ipamd_alone_test/c.db")?;
     let had = told.as_str().lines().last().unwrap_or("");
@@ -128,8 +131,9 @@ fn is_migrated_at<O: KeeperOpener>(
     populated: bool,
 ) -> Result<bool, AllocError> {
     let path = text_of(alloc, path)?;
-    let started = opener.start(Some(&path));
-    let mut keeper = started.map_err(|_| AllocError)?;
+    let Ok(mut keeper) = opener.start(Some(&path)) else {
+        return Err(AllocError);
+    };
     let done = is_migrated(&mut keeper, populated);
     opener.done(keeper);
     Ok(done)
@@ -160,14 +164,20 @@ impl Stores for ManyFirst {
     }
 }
 
+/// Writes a file of these bytes.
+fn write_file(rt: &HostRuntime, path: &str, bytes: &[u8]) -> Result<(), AllocError> {
+    match fs::write(rt, path, bytes) {
+        Ok(()) => Ok(()),
+        Err(_) => Err(AllocError),
+    }
+}
+
 /// Writes a database of them: its file, and its log, which has what is not yet in the file.
 fn write_first(rt: &HostRuntime) -> Result<(), AllocError> {
     let alloc = rt.alloc();
     let files = whole_files::<ManyFirst>(alloc, stopping_files(alloc, NEVER))?;
-    let log = fs::write(rt, "ipamd_first_test/a.db-wal", files.log.bytes());
-    let db = fs::write(rt, "ipamd_first_test/a.db", files.db.bytes());
-    log.map_err(|_| AllocError)?;
-    db.map_err(|_| AllocError)
+    write_file(rt, "ipamd_first_test/a.db-wal", files.log.bytes())?;
+    write_file(rt, "ipamd_first_test/a.db", files.db.bytes())
 }
 
 /// Whether a file of version 1 has after a migration, without its log, what it should.
@@ -179,8 +189,9 @@ fn is_migrated_alone<O: KeeperOpener>(
     let alloc = rt.alloc();
     write_first(rt)?;
     let done = is_migrated_at(alloc, opener, "ipamd_first_test/a.db", populated)?;
-    let copied = fs::copy(rt, "ipamd_first_test/a.db", "ipamd_first_test/b.db");
-    copied.map_err(|_| AllocError)?;
+    if fs::copy(rt, "ipamd_first_test/a.db", "ipamd_first_test/b.db").is_err() {
+        return Err(AllocError);
+    }
     let held = held_at(alloc, opener, "ipamd_first_test/b.db")?;
     let wanted = migrated_text(alloc, if populated { "true" } else { "false" })?;
     Ok(done && held.as_str() == wanted.as_str())

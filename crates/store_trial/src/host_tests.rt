@@ -84,6 +84,14 @@ fn what_is_no_store_is_a_fault(rt: HostRuntime) -> Result<(), Fail> {
     Ok(())
 }
 
+/// Whether this text was told.
+fn is_told(told: &Result<String, KeepFault>, text: &str) -> bool {
+    match told {
+        Ok(told) => told.as_str() == text,
+        Err(_) => false,
+    }
+}
+
 /// What the file of a path holds when an opener of its own opens it, behind which a change is made.
 fn held_now(rt: &HostRuntime, path: &Text, change: &Change) -> Result<String, KeepFault> {
     let mut opener = SqliteOpener::new(rt.alloc(), HostFiles::of(rt));
@@ -107,10 +115,8 @@ fn a_file_on_disk_keeps_what_was_put(rt: HostRuntime) -> Result<(), Fail> {
     let second = held_now(&rt, &path, &change);
     let refused = is_refused_now(&rt, &path);
     fs::remove_dir_all(&rt, FOLDER)?;
-    assert!(rt; first.is_ok_and(|told| told.as_str() == "2:1,1,1,1,1,1,1,:"));
-    assert!(rt;
-        second.is_ok_and(|told| told.as_str() == "2:1,1,8,1,1,1,1,:Roles 7 LAN lan 10 cables;")
-    );
-    assert!(rt; refused.is_ok_and(|refused| refused));
+    assert!(rt; is_told(&first, "2:1,1,1,1,1,1,1,:"));
+    assert!(rt; is_told(&second, "2:1,1,8,1,1,1,1,:Roles 7 LAN lan 10 cables;"));
+    assert!(rt; matches!(refused, Ok(true)));
     Ok(())
 }

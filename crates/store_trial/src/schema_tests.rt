@@ -17,7 +17,9 @@ const SELECT: &str = "SELECT name, sql FROM sqlite_schema WHERE type = 'table' O
 /// Puts the text of a table and the end of its line.
 fn put_text(row: &Row, told: &mut String) -> Result<(), AllocError> {
     let text: Result<String, Error> = row.get(1);
-    let text = text.map_err(|_| AllocError)?;
+    let Ok(text) = text else {
+        return Err(AllocError);
+    };
     told.push_str(text.as_str())?;
     told.push('\n')
 }
