@@ -17,6 +17,7 @@ MADE = (
     ["docs/proof_page.py", "--check"],
     ["bench/worked_rows.py"],
     ["bench/edit_files.py"],
+    ["bench/planted.py", "--texts"],
     ["bench/pool_conversation.py"],
 )
 SHELLS = {"sh": "sh", "bash": "bash"}

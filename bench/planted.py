@@ -4,10 +4,12 @@
 Each bench/planted/CRATE/NAME.edit is one bug of the crate CRATE. Its first line is `seen by: CRATE MODULE::TEST`, with the test that must fail;
 `seen by: check`, where the prover must refuse the crate itself; or `seen by: CRATE check`, where it must refuse one above it. Then comes an edit as in
 crates/*/must-fail: `file: src/lib.rt`, `old: TEXT`, which that file has once, and `new: TEXT`; further pairs apply to what the earlier ones made. Each bug is
-put into a copy of the crates that are needed, and `rt try --test` runs there in the test's crate, from which the other tests are taken (or `rt check`). It
-prints a line a bug and, at the end, a sum; its status is 1 where one is not seen. A test that does not end sees nothing. A bug takes one to five minutes.
+put into a copy of the crates that are needed, and `rt try --test` runs there in the test's crate, from which the other tests are taken (or `rt check`, over
+the libraries that this checkout has proved). It prints a line a bug and, at the end, a sum; its status is 1 where one is not seen. A test that does not end
+sees nothing. A bug takes one to five minutes.
 
 usage: bench/planted.py [CRATE | CRATE/NAME ..]     all bugs, where none is named
+       bench/planted.py --texts                     the bugs that can't be planted, or whose test is not there; it builds nothing, and CI runs it
 environment: RT=COMMAND                             what runs as `rt`
 """
 import os
@@ -64,25 +66,56 @@ class Bug:
         """Whether the prover must see it."""
         return self.seen_by[-1] == "check"
 
-    def plant(self, copy):
-        for file, old, new in self.pairs:
-            path = f"{copy}/crates/{self.crate}/{file}"
-            with open(path, encoding="utf-8") as it:
-                text = it.read()
-            if text.count(old) != 1:
-                raise Wrong(f"{file} has this {text.count(old)} times: {old.strip()}")
+    def plant(self, crates):
+        """Puts it into the crates of this folder."""
+        for path, text in self.texts(crates).items():
             with open(path, "w", encoding="utf-8") as it:
-                it.write(text.replace(old, new))
+                it.write(text)
+
+    def texts(self, crates):
+        """What it makes of the files of the crates of this folder."""
+        made = {}
+        for file, old, new in self.pairs:
+            path = f"{crates}/{self.crate}/{file}"
+            if path not in made:
+                with open(path, encoding="utf-8") as it:
+                    made[path] = it.read()
+            if made[path].count(old) != 1:
+                raise Wrong(f"{file} has this {made[path].count(old)} times: {old.strip()}")
+            made[path] = made[path].replace(old, new)
+        return made
+
+    def has_test(self, crates):
+        """Whether the test that must see it is in the crates of this folder."""
+        if self.by_check():
+            return os.path.isdir(f"{crates}/{self.tried_in()}")
+        module, test = self.seen_by[1].rsplit("::", 1)
+        path = f"{crates}/{self.tried_in()}/src/{module.replace('::', '/')}.rt"
+        if not os.path.isfile(path):
+            return False
+        with open(path, encoding="utf-8") as it:
+            return test in A_TEST.findall(it.read())
 
 
-def copy_crates(copy, name, line_of, below):
-    """The crates that one needs, and their lines."""
+def linked(source, target):
+    """A file at two places, or a copy of it, where they are on two disks."""
+    try:
+        os.link(source, target)
+    except OSError:
+        shutil.copy2(source, target)
+
+
+def copy_crates(copy, name, line_of, below, is_proved):
+    """The crates that one needs, and their lines; where it is to be proved, with the libraries that were proved."""
     needed = with_all_below([name], below)
     shutil.copy(f"{TOP}/HANDLES", copy)
     with open(f"{copy}/crates.txt", "w", encoding="utf-8") as file:
         file.writelines(f"{line}\n" for it, line in line_of.items() if it in needed)
     for it in needed:
         shutil.copytree(f"{TOP}/crates/{it}", f"{copy}/crates/{it}", ignore=shutil.ignore_patterns("out", "must-fail"))
+        library = f"{TOP}/crates/{it}/out/rlib"
+        if is_proved and os.path.isdir(library):
+            shutil.copytree(library, f"{copy}/crates/{it}/out/rlib", copy_function=linked)
 
 
 def leave_test(folder, test):
@@ -140,10 +173,10 @@ def tried(crate, name, line_of, below):
             bug = Bug(crate, name)
             if bug.tried_in() not in line_of:
                 raise Wrong(f"there is no crate {bug.tried_in()}")
-            copy_crates(copy, bug.tried_in(), line_of, below)
+            copy_crates(copy, bug.tried_in(), line_of, below, bug.by_check())
             if not os.path.isdir(f"{copy}/crates/{crate}"):
                 raise Wrong(f"{bug.tried_in()} does not need {crate}")
-            bug.plant(copy)
+            bug.plant(f"{copy}/crates")
             return outcome(bug, copy)
         except Wrong as why:
             return False, f"bad edit: {why}"
@@ -159,7 +192,28 @@ def bugs_asked(asked):
     return chosen
 
 
+def unplantable(crate, name):
+    """Why a bug can't be planted, if it can't."""
+    try:
+        bug = Bug(crate, name)
+        bug.texts(f"{TOP}/crates")
+        return None if bug.has_test(f"{TOP}/crates") else f"there is no {' '.join(bug.seen_by)}"
+    except (Wrong, OSError) as why:
+        return str(why)
+
+
+def look():
+    """Says which bugs can't be planted."""
+    found = [(crate, name, unplantable(crate, name)) for crate, name in bugs_asked([])]
+    for crate, name, why in found:
+        if why:
+            print(f"bench/planted/{crate}/{name}.edit: {why}")
+    sys.exit(any(why for _, _, why in found))
+
+
 def main():
+    if sys.argv[1:] == ["--texts"]:
+        look()
     chosen = bugs_asked(sys.argv[1:])
     line_of, below = lines_of_crates()
     seen = 0

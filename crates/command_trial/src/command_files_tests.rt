@@ -12,8 +12,8 @@ use std::test::Fail;
 use std::thread::Threads;
 
 /// A store a case. Its first line is as that of a case of `store_tests`. Each line after it is a run over the store: its status, its words,
-/// its input, its output and what it says, each as `bytes_of` reads it.
-const CASES: [&str; 17] = [
+/// its input, its output and what it says, each as `bytes_of` reads it, and the number of the output's call that fails, if one is to fail.
+const CASES: [&str; 18] = [
     r#"2
 0|import prefixes --db a|prefix,vrf,status;10.0.0.0/24,,active;10.0.1.0/24,,active;10.0.2.0/24,,container;|created 3 present 0;|
 0|import prefixes --db a|prefix,vrf,status;10.0.0.0/24,,active;10.0.1.0/24,,active;10.0.2.0/24,,container;|created 0 present 3;|
@@ -130,7 +130,8 @@ const CASES: [&str; 17] = [
 1|reverse-read|<4194305:;>||too_large: the body exceeds 4194304 bytes;"#,
     r#"2
 0|import prefixes --db a|prefix;<1000:2001:db8:@::/64;>|created 1000 present 0;|
-0|prefix-list --table global --family 6 --style plain --name X --db a||<1000:2001:db8:@::/64;>|"#,
+0|prefix-list --table global --family 6 --style plain --name X --db a||<1000:2001:db8:@::/64;>|
+0|prefix-list --table global --family 6 --style junos --name X --db a||<1000:set policy-options prefix-list X 2001:db8:@::/64;>||20"#,
     r#"2
 0|import prefixes --db a|prefix;2001:db8::/64;|created 1 present 0;|
 0|import ip-addresses --db a|address,dns_name;<9:2001:db8::@/64,h@.example;>|created 9 present 0;|
@@ -139,6 +140,11 @@ const CASES: [&str; 17] = [
 0|import prefixes --db a|prefix;192.0.2.0/24;|created 1 present 0;|
 0|import ip-addresses --db a|address,dns_name;192.0.2.9/24,www.example.com;192.0.2.7/24,<64:a>.example;192.0.2.1/24,<64:b>.example;|created 3 present 0;|
 1|reverse --prefix 1 --db a|||address 2: the name does not fit the DNS;"#,
+    r#"2
+0|import vrfs --db a|name;red;blue;|created 2 present 0;|
+0|import prefixes --db a|prefix,status;10.0.0.0/16,container;|created 1 present 0;|
+0|import ip-addresses --db a|address,vrf,dns_name;<250:10.0.3.@/16,,h@.example;>10.0.3.250/16,red,t250.example;<250:10.0.2.@/16,blue,h@.example;>10.0.2.250/16,,t250.example;<250:10.0.1.@/16,red,h@.example;>10.0.1.250/16,blue,t250.example;<250:10.0.0.@/16,,h@.example;>10.0.0.250/16,red,t250.example;|created 1004 present 0;|
+0|reverse --prefix 1 --db a||<250:@.0.0.10.in-addr.arpa. IN PTR h@.example.;>250.0.0.10.in-addr.arpa. IN PTR t250.example.;<250:@.1.0.10.in-addr.arpa. IN PTR h@.example.;>250.1.0.10.in-addr.arpa. IN PTR t250.example.;<250:@.2.0.10.in-addr.arpa. IN PTR h@.example.;>250.2.0.10.in-addr.arpa. IN PTR t250.example.;<250:@.3.0.10.in-addr.arpa. IN PTR h@.example.;>250.3.0.10.in-addr.arpa. IN PTR t250.example.;|"#,
 ];
 
 /// Puts a text: a semicolon is the end of a line, a caret a carriage return, and `@` this number.
@@ -182,6 +188,14 @@ pub fn bytes_of(alloc: Global, part: &str) -> Result<Vec<u8>, AllocError> {
     Ok(bytes)
 }
 
+/// The number of the output's call that fails in a line, or one that is never made.
+fn failing(line: &str) -> Result<u32, AllocError> {
+    match line.split('|').nth(5) {
+        Some(word) => number(word),
+        None => Ok(u32::MAX),
+    }
+}
+
 /// Whether a line leaves what it says.
 fn is_as_said<R: Threads + Wait + Sync>(
     rt: &R,
@@ -190,9 +204,10 @@ fn is_as_said<R: Threads + Wait + Sync>(
     line: &str,
 ) -> Result<bool, AllocError> {
     let input = bytes_of(alloc, part(line, 2)?)?;
-    let none: [&[u32]; 3] = [&[], &[], &[]];
+    let sink = [failing(line)?];
+    let fails: [&[u32]; 3] = [&[], &sink, &[]];
     let words = part(line, 1)?;
-    let left = run_over(rt, alloc, opener, words, &input, 4_096, none)?;
+    let left = run_over(rt, alloc, opener, words, &input, 4_096, fails)?;
     let status = number(part(line, 0)?)?;
     let output = bytes_of(alloc, part(line, 3)?)?;
     let errors = bytes_of(alloc, part(line, 4)?)?;

@@ -6,8 +6,6 @@ mod claims_tests;
 #[cfg(test)]
 mod command_files_tests;
 #[cfg(test)]
-mod large_tests;
-#[cfg(test)]
 mod line_tests;
 #[cfg(test)]
 mod migrate_tests;

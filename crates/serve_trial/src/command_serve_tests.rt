@@ -1,5 +1,5 @@
 //! `serve` over connections and a store in memory, over a listener without lanes, and over tables that are refused.
-ghost use Rattle.std.specs.Prelude.{◌≡◌, [], IfOk};
+ghost use Rattle.std.specs.Prelude.{◌≡◌, [], All, IfOk};
 ghost use Rattle.ipam_listen.specs.ListLanes.{lane_told};
 
 use command_serve::run_serve;
@@ -64,6 +64,33 @@ fn listener_of(alloc: Global, fails: &[u32]) -> Result<ListListener, AllocError>
     lanes.push(lane_of(alloc, CLIENTS[1], fails)?)?;
     lanes.push(lane_of(alloc, CLIENTS[2], fails)?)?;
     ListListener::new(alloc, lanes)
+}
+
+/// A lane whose client makes one prefix, that of this number.
+fn lane_numbered(alloc: Global, number: u32) -> Result<ListLane, AllocError>
+    ensures { IfOk result (λ l. lane_told l ≡ []) }
+{
+    let asked = format!(in alloc;
+        "POST /api/ipam/prefixes/ HTTP/1.1\r\nHost: ipam\r\nContent-Length: 25\r\n\r\n{{\"prefix\":\"10.{number}.0.0/16\"}}"
+    )?;
+    lane_of(alloc, asked.as_str(), &[])
+}
+
+/// Such lanes, as many as there may be workers.
+fn all_lanes(alloc: Global) -> Result<Vec<ListLane>, AllocError>
+    ensures { IfOk result (λ lanes. All (λ l. lane_told l ≡ []) lanes.items) }
+{
+    let mut lanes = Vec::new(alloc);
+    'numbers: for number in 10..42u32 {
+        let lane = lane_numbered(alloc, number)?;
+        lanes.push(lane)?;
+    }
+    Ok(lanes)
+}
+
+/// A listener with these lanes.
+fn listener_of_all(alloc: Global) -> Result<ListListener, AllocError> {
+    ListListener::new(alloc, all_lanes(alloc)?)
 }
 
 /// Puts what was written to the connections of the lanes that came back at the end of a text.
@@ -194,6 +221,21 @@ fn a_failed_accept_is_told(rt: HostRuntime) -> Result<(), Fail> {
     let mut told = String::new(alloc);
     tell(&listener, &mut told)?;
     assert!(rt; has_each_once(alloc, told.as_str(), 9)?, "{told}");
+    Ok(())
+}
+
+#[test]
+fn as_many_workers_as_there_may_be_serve_one_register(rt: HostRuntime) -> Result<(), Fail> {
+    let alloc = rt.alloc();
+    let words = ["serve", "--bind", "x", "--workers=32", "--connections=1"];
+    let mut opener = opener_of(alloc, 2)?;
+    let mut listener = listener_of_all(alloc)?;
+    let left = ran(&rt, alloc, &words, &mut listener, &mut opener)?;
+    assert!(rt; left.status == 0 && left.errors.is_empty());
+    assert!(rt; left.output.as_slice() == b"entries 32\n".as_slice());
+    let mut told = String::new(alloc);
+    tell(&listener, &mut told)?;
+    assert!(rt; has_each_once(alloc, told.as_str(), 32)?, "{told}");
     Ok(())
 }
 

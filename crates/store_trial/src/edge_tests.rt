@@ -126,7 +126,19 @@ fn is_put<K: Keeper, M: Keeper>(keeper: &mut K, other: &mut M) -> bool {
     }
 }
 
-/// An upgrade to the tables of other rows, and what is loaded before and behind it.
+/// What a keeper loads before and after an upgrade to the tables of other rows.
+fn upgraded<K: Keeper>(alloc: Global, keeper: &mut K) -> Result<String, AllocError> {
+    let mut told = loaded(alloc, keeper)?;
+    told.push('\n')?;
+    let mut other = other_rows(alloc)?;
+    if !is_put(keeper, &mut other) {
+        return Err(AllocError);
+    }
+    told.push_str(loaded(alloc, keeper)?.as_str())?;
+    Ok(told)
+}
+
+/// Such an upgrade.
 struct Upgrading;
 
 impl Trial for Upgrading {
@@ -137,14 +149,7 @@ impl Trial for Upgrading {
     ) -> Result<String, AllocError> {
         let _ = words;
         let mut keeper = SqliteKeeper::adopt(alloc, conn);
-        let mut told = loaded(alloc, &mut keeper)?;
-        told.push_str("\n")?;
-        let mut other = other_rows(alloc)?;
-        if !is_put(&mut keeper, &mut other) {
-            return Err(AllocError);
-        }
-        told.push_str(loaded(alloc, &mut keeper)?.as_str())?;
-        Ok(told)
+        upgraded(alloc, &mut keeper)
     }
 }
 

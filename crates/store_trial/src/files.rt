@@ -27,7 +27,7 @@ pub(crate) enum Found {
 }
 
 /// A stop: this file fails at the call behind so many, and at each one after it.
-#[derive(Clone, Copy, Debug)]
+#[derive(Clone, Copy)]
 pub(crate) struct Stop {
     pub(crate) side: Side,
     pub(crate) calls: u64,

@@ -48,7 +48,7 @@ fn is_refused<O: KeeperOpener, P: KeeperOpener>(
     Ok(is_refused)
 }
 
-/// Whether a change over what is at a path is answered that the store failed, and whether the opener counts that.
+/// Whether a change over what is at a path is answered that the store failed.
 fn is_a_fault<O: KeeperOpener>(
     alloc: Global,
     opener: &mut O,
@@ -60,18 +60,22 @@ fn is_a_fault<O: KeeperOpener>(
     Ok(matches!(held, Err(KeepFault::Failed)))
 }
 
+/// The same by the opener of `ipamd`.
+fn is_no_store(rt: &HostRuntime, path: &str) -> Result<bool, AllocError> {
+    let mut opener = SqliteOpener::new(rt.alloc(), HostFiles::of(rt));
+    is_a_fault(rt.alloc(), &mut opener, path)
+}
+
 /// What can't be a store at some paths: a folder that is not there, a folder, and a file of text, which stays as it is.
 #[test]
 fn what_is_no_store_is_a_fault(rt: HostRuntime) -> Result<(), Fail> {
-    let alloc = rt.alloc();
     let _ = fs::remove_dir_all(&rt, NO_STORES);
     fs::create_dir(&rt, NO_STORES)?;
     fs::write(&rt, "ipamd_no_stores_test/text", TEXT)?;
-    let mut opener = SqliteOpener::new(alloc, HostFiles::of(&rt));
-    let nowhere = is_a_fault(alloc, &mut opener, "ipamd_no_stores_test/none/a.db");
-    let folder = is_a_fault(alloc, &mut opener, NO_STORES);
-    let text = is_a_fault(alloc, &mut opener, "ipamd_no_stores_test/text");
-    let other = is_a_fault(alloc, &mut opener, "ipamd_no_stores_test/a.db");
+    let nowhere = is_no_store(&rt, "ipamd_no_stores_test/none/a.db");
+    let folder = is_no_store(&rt, NO_STORES);
+    let text = is_no_store(&rt, "ipamd_no_stores_test/text");
+    let other = is_no_store(&rt, "ipamd_no_stores_test/a.db");
     let left = fs::read(&rt, "ipamd_no_stores_test/text");
     fs::remove_dir_all(&rt, NO_STORES)?;
     assert_eq!(rt; (nowhere?, folder?, text?), (true, true, true));
@@ -80,23 +84,39 @@ fn what_is_no_store_is_a_fault(rt: HostRuntime) -> Result<(), Fail> {
     Ok(())
 }
 
+/// Whether this text was told.
+fn is_told(told: &Result<String, KeepFault>, text: &str) -> bool {
+    match told {
+        Ok(told) => told.as_str() == text,
+        Err(_) => false,
+    }
+}
+
+/// What the file of a path holds when an opener of its own opens it, behind which a change is made.
+fn held_now(rt: &HostRuntime, path: &Text, change: &Change) -> Result<String, KeepFault> {
+    let mut opener = SqliteOpener::new(rt.alloc(), HostFiles::of(rt));
+    held_before(rt.alloc(), &mut opener, path, change)
+}
+
+/// Whether a second opener is refused the file of a path while a first one has it.
+fn is_refused_now(rt: &HostRuntime, path: &Text) -> Result<bool, KeepFault> {
+    let mut first = SqliteOpener::new(rt.alloc(), HostFiles::of(rt));
+    let mut second = SqliteOpener::new(rt.alloc(), HostFiles::of(rt));
+    is_refused(&mut first, &mut second, path)
+}
+
 #[test]
 fn a_file_on_disk_keeps_what_was_put(rt: HostRuntime) -> Result<(), Fail> {
-    let alloc = rt.alloc();
     let _ = fs::remove_dir_all(&rt, FOLDER);
     fs::create_dir(&rt, FOLDER)?;
-    let path = text_of(alloc, "ipamd_files_test/a.db")?;
-    let change = change_of(alloc, ONE_ROLE)?;
-    let mut opener = SqliteOpener::new(alloc, HostFiles::of(&rt));
-    let first = held_before(alloc, &mut opener, &path, &change);
-    let mut other = SqliteOpener::new(alloc, HostFiles::of(&rt));
-    let second = held_before(alloc, &mut other, &path, &change);
-    let refused = is_refused(&mut opener, &mut other, &path);
+    let path = text_of(rt.alloc(), "ipamd_files_test/a.db")?;
+    let change = change_of(rt.alloc(), ONE_ROLE)?;
+    let first = held_now(&rt, &path, &change);
+    let second = held_now(&rt, &path, &change);
+    let refused = is_refused_now(&rt, &path);
     fs::remove_dir_all(&rt, FOLDER)?;
-    assert!(rt; first.is_ok_and(|told| told.as_str() == "2:1,1,1,1,1,1,1,:"));
-    assert!(rt;
-        second.is_ok_and(|told| told.as_str() == "2:1,1,8,1,1,1,1,:Roles 7 LAN lan 10 cables;")
-    );
-    assert!(rt; refused.is_ok_and(|refused| refused));
+    assert!(rt; is_told(&first, "2:1,1,1,1,1,1,1,:"));
+    assert!(rt; is_told(&second, "2:1,1,8,1,1,1,1,:Roles 7 LAN lan 10 cables;"));
+    assert!(rt; matches!(refused, Ok(true)));
     Ok(())
 }

@@ -47,21 +47,37 @@ fn rows_of(alloc: Global, text: &str) -> Result<Rows, AllocError> {
     Ok(Rows::of(rows))
 }
 
+/// Puts the row of these words, if there are any.
+fn put_row(alloc: Global, rows: &mut Vec<Row>, words: &str) -> Result<(), AllocError> {
+    if words.is_empty() {
+        return Ok(());
+    }
+    rows.push(row_of(alloc, words)?)
+}
+
 /// The rows that are written out, each behind a semicolon but the first.
 fn written_rows(alloc: Global, text: &str) -> Result<Vec<Row>, AllocError> {
     let mut rows = Vec::new(alloc);
-    for words in text.split(';').filter(|words| !words.is_empty()) {
-        rows.push(row_of(alloc, words)?)?;
+    for words in text.split(';') {
+        put_row(alloc, &mut rows, words)?;
     }
     Ok(rows)
+}
+
+/// Puts the number of these words with its kind, if there are any.
+fn put_id(ids: &mut Vec<(Kind, u32)>, words: &str) -> Result<(), AllocError> {
+    if words.is_empty() {
+        return Ok(());
+    }
+    let kind = kind_of(words.split(',').next())?;
+    ids.push((kind, number_of(words.split(',').nth(1))?))
 }
 
 /// The numbers of these texts, each with its kind.
 fn ids_of(alloc: Global, text: &str) -> Result<Ids, AllocError> {
     let mut ids = Vec::new(alloc);
-    for words in text.split(';').filter(|words| !words.is_empty()) {
-        let kind = kind_of(words.split(',').next())?;
-        ids.push((kind, number_of(words.split(',').nth(1))?))?;
+    for words in text.split(';') {
+        put_id(&mut ids, words)?;
     }
     Ok(Ids::of(ids))
 }

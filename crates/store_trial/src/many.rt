@@ -87,13 +87,19 @@ fn odd_row(alloc: Global, kind: Kind, id: u32) -> Result<Row, AllocError> {
     })
 }
 
-/// Rows of each kind: each column has each of the odd texts in one of them.
+/// Puts rows of a kind: each column has each of the odd texts in one of them.
+fn put_odd(alloc: Global, rows: &mut Vec<Row>, kind: Kind) -> Result<(), AllocError> {
+    for id in 1..8u32 {
+        rows.push(odd_row(alloc, kind, id)?)?;
+    }
+    Ok(())
+}
+
+/// Such rows of each kind.
 pub(crate) fn odd_rows(alloc: Global) -> Result<Vec<Row>, AllocError> {
     let mut rows = Vec::new(alloc);
     for kind in KINDS {
-        for id in 1..8u32 {
-            rows.push(odd_row(alloc, kind, id)?)?;
-        }
+        put_odd(alloc, &mut rows, kind)?;
     }
     Ok(rows)
 }
@@ -111,13 +117,19 @@ fn own_row(alloc: Global, kind: Kind, id: u32) -> Result<Row, AllocError> {
     })
 }
 
-/// Rows of each kind under ids far from one another.
+/// Puts rows of a kind under ids far from one another.
+fn put_sparse(alloc: Global, rows: &mut Vec<Row>, kind: Kind) -> Result<(), AllocError> {
+    for id in SPARSE {
+        rows.push(own_row(alloc, kind, id)?)?;
+    }
+    Ok(())
+}
+
+/// Such rows of each kind.
 pub(crate) fn sparse_rows(alloc: Global) -> Result<Vec<Row>, AllocError> {
     let mut rows = Vec::new(alloc);
     for kind in KINDS {
-        for id in SPARSE {
-            rows.push(own_row(alloc, kind, id)?)?;
-        }
+        put_sparse(alloc, &mut rows, kind)?;
     }
     Ok(rows)
 }

@@ -36,7 +36,7 @@ INSERT INTO ip_ranges (id, start_address, end_address, vrf, status, role, mark_u
 COMMIT";
 
 /// A stop that does not come.
-const NEVER: Stop = Stop {
+pub(crate) const NEVER: Stop = Stop {
     side: Side::Log,
     calls: u64::MAX,
     found: Found::Written,
@@ -62,7 +62,7 @@ impl Stores for First {
 }
 
 /// The files that something stores into where nothing stops. `Err` means out of memory.
-fn whole_files<K: Stores>(
+pub(crate) fn whole_files<K: Stores>(
     alloc: Global,
     files: Files<Fuse<Memory>>,
 ) -> Result<Files<Memory>, AllocError>

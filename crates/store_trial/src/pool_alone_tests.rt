@@ -27,8 +27,9 @@ fn answers_at<O: PoolOpener>(
     lines: &str,
 ) -> Result<String, AllocError> {
     let path = text_of(alloc, path)?;
-    let started = opener.start(Some(&path));
-    let mut keeper = started.map_err(|_| AllocError)?;
+    let Ok(mut keeper) = opener.start(Some(&path)) else {
+        return Err(AllocError);
+    };
     let told = pool_answers(alloc, &mut keeper, lines);
     opener.done(keeper);
     told
@@ -37,8 +38,9 @@ fn answers_at<O: PoolOpener>(
 /// What the file of a path has.
 fn held_at<O: PoolOpener>(alloc: Global, opener: &mut O, path: &str) -> Result<String, AllocError> {
     let path = text_of(alloc, path)?;
-    let started = opener.start(Some(&path));
-    let mut keeper = started.map_err(|_| AllocError)?;
+    let Ok(mut keeper) = opener.start(Some(&path)) else {
+        return Err(AllocError);
+    };
     let told = pools_loaded(alloc, &mut keeper);
     opener.done(keeper);
     told
@@ -54,20 +56,26 @@ fn are_put(told: &str, had: &str) -> bool {
 fn is_held_alone<O: PoolOpener>(rt: &HostRuntime, opener: &mut O) -> Result<bool, AllocError> {
     let alloc = rt.alloc();
     let told = answers_at(alloc, opener, "poold_alone_test/a.db", LINES)?;
-    let copied = fs::copy(rt, "poold_alone_test/a.db", "poold_alone_test/b.db");
-    copied.map_err(|_| AllocError)?;
+    if fs::copy(rt, "poold_alone_test/a.db", "poold_alone_test/b.db").is_err() {
+        return Err(AllocError);
+    }
     let held = held_at(alloc, opener, "poold_alone_test/b.db")?;
     let other = held_at(alloc, opener, "poold_alone_test/c.db")?;
     let had = told.as_str().lines().last().unwrap_or("");
     Ok(are_put(told.as_str(), had) && held.as_str() == had && other.as_str() == "1,1:")
 }
 
+/// The same by the opener of `poold`.
+fn is_put_alone(rt: &HostRuntime) -> Result<bool, AllocError> {
+    let mut opener = SqlitePoolOpener::new(rt.alloc(), HostPoolFiles::of(rt));
+    is_held_alone(rt, &mut opener)
+}
+
 #[test]
 fn a_file_of_pools_alone_has_what_was_put(rt: HostRuntime) -> Result<(), Fail> {
     let _ = fs::remove_dir_all(&rt, "poold_alone_test");
     fs::create_dir(&rt, "poold_alone_test")?;
-    let mut opener = SqlitePoolOpener::new(rt.alloc(), HostPoolFiles::of(&rt));
-    let is_held = is_held_alone(&rt, &mut opener);
+    let is_held = is_put_alone(&rt);
     fs::remove_dir_all(&rt, "poold_alone_test")?;
     assert!(rt; is_held?);
     Ok(())

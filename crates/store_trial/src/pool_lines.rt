@@ -54,14 +54,22 @@ fn many_ranges(alloc: Global) -> Result<Listed<NumberRange>, AllocError> {
     Ok(Listed::of(ranges))
 }
 
+/// Puts the range of these words, if there are any.
+fn put_range(alloc: Global, ranges: &mut Vec<NumberRange>, words: &str) -> Result<(), AllocError> {
+    if words.is_empty() {
+        return Ok(());
+    }
+    ranges.push(range_of(alloc, words)?)
+}
+
 /// The ranges of these texts, or many.
 fn ranges_of(alloc: Global, text: &str) -> Result<Listed<NumberRange>, AllocError> {
     if text == "many" {
         return many_ranges(alloc);
     }
     let mut ranges = Vec::new(alloc);
-    for words in text.split(';').filter(|words| !words.is_empty()) {
-        ranges.push(range_of(alloc, words)?)?;
+    for words in text.split(';') {
+        put_range(alloc, &mut ranges, words)?;
     }
     Ok(Listed::of(ranges))
 }
@@ -94,6 +102,14 @@ fn claimed(alloc: Global) -> Result<Listed<Member>, AllocError> {
     Ok(Listed::of(members))
 }
 
+/// Puts the member of these words, if there are any.
+fn put_member(alloc: Global, members: &mut Vec<Member>, words: &str) -> Result<(), AllocError> {
+    if words.is_empty() {
+        return Ok(());
+    }
+    members.push(member_of(alloc, words)?)
+}
+
 /// The members of these texts, or many, or those of a claim.
 fn members_of(alloc: Global, text: &str) -> Result<Listed<Member>, AllocError> {
     if text == "many" {
@@ -103,8 +119,8 @@ fn members_of(alloc: Global, text: &str) -> Result<Listed<Member>, AllocError> {
         return claimed(alloc);
     }
     let mut members = Vec::new(alloc);
-    for words in text.split(';').filter(|words| !words.is_empty()) {
-        members.push(member_of(alloc, words)?)?;
+    for words in text.split(';') {
+        put_member(alloc, &mut members, words)?;
     }
     Ok(Listed::of(members))
 }

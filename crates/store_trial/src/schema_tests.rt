@@ -2,9 +2,10 @@
 //! databases.
 
 use crate::database::{Trial, over_file};
-use crate::told::{loaded, pools_loaded};
 use crate::{pool_file, register_file};
-use sqlite::{Alter, Connection};
+use ipam_keeper::keeper::Keeper;
+use pool_keeper::keeper::PoolKeeper;
+use sqlite::{Alter, Connection, Error, Row};
 use sqlite_keeper::SqliteKeeper;
 use sqlite_pools::SqlitePools;
 use std::alloc::{AllocError, Global};
@@ -13,27 +14,31 @@ use std::test::Fail;
 /// Reads the text of each table, by its name.
 const SELECT: &str = "SELECT name, sql FROM sqlite_schema WHERE type = 'table' ORDER BY name";
 
-/// More tables than there are.
-const MOST: u32 = 100;
-
-/// What a database says of its tables.
-fn schema_of<S: Alter + Drop>(
-    alloc: Global,
-    mut conn: Connection<S>,
-) -> Result<String, AllocError> {
-    let mut told = String::new(alloc);
-    let Ok(mut found) = conn.query(SELECT, &[]) else {
+/// Puts the text of a table and the end of its line.
+fn put_text(row: &Row, told: &mut String) -> Result<(), AllocError> {
+    let text: Result<String, Error> = row.get(1);
+    let Ok(text) = text else {
         return Err(AllocError);
     };
-    for _ in 0..MOST {
-        let Some(row) = found.next().map_err(|_| AllocError)? else {
-            return Ok(told);
-        };
-        let text: String = row.get(1).map_err(|_| AllocError)?;
-        told.push_str(text.as_str())?;
-        told.push('\n')?;
+    told.push_str(text.as_str())?;
+    told.push('\n')
+}
+
+/// The texts in these rows, a line each.
+fn texts_of(alloc: Global, rows: &[Row]) -> Result<String, AllocError> {
+    let mut told = String::new(alloc);
+    for row in rows {
+        put_text(row, &mut told)?;
     }
     Ok(told)
+}
+
+/// What a database says of its tables.
+fn schema_of<S: Alter>(alloc: Global, conn: &mut Connection<S>) -> Result<String, AllocError> {
+    match conn.query_all(SELECT, &[]) {
+        Ok(rows) => texts_of(alloc, rows.as_slice()),
+        Err(_) => Err(AllocError),
+    }
 }
 
 /// The text of the tables of a register, which a keeper makes where the database has none.
@@ -47,8 +52,13 @@ impl Trial for OfRegister {
     ) -> Result<String, AllocError> {
         let _ = words;
         let mut keeper = SqliteKeeper::adopt(alloc, conn);
-        let _ = loaded(alloc, &mut keeper)?;
-        schema_of(alloc, keeper.into_connection())
+        let is_loaded = keeper.load().is_ok();
+        let mut conn = keeper.into_connection();
+        if is_loaded {
+            schema_of(alloc, &mut conn)
+        } else {
+            Err(AllocError)
+        }
     }
 }
 
@@ -63,8 +73,13 @@ impl Trial for OfPools {
     ) -> Result<String, AllocError> {
         let _ = words;
         let mut keeper = SqlitePools::adopt(alloc, conn);
-        let _ = pools_loaded(alloc, &mut keeper)?;
-        schema_of(alloc, keeper.into_connection())
+        let is_loaded = keeper.load().is_ok();
+        let mut conn = keeper.into_connection();
+        if is_loaded {
+            schema_of(alloc, &mut conn)
+        } else {
+            Err(AllocError)
+        }
     }
 }
 

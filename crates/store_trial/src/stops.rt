@@ -10,7 +10,7 @@ use sqlite_disk::{Disk, Fuse, Memory};
 use std::alloc::{AllocError, Global};
 
 /// What came of a stop.
-#[derive(Clone, Copy, Debug, PartialEq, Eq)]
+#[derive(Clone, Copy)]
 pub(crate) enum Ending {
     /// The tables are those before the change that was being made, or after it.
     Whole,

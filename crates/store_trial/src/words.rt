@@ -10,7 +10,10 @@ pub(crate) fn text_of(alloc: Global, text: &str) -> Result<Text, AllocError> {
 
 /// The number of a word. Where it is none, the line is wrong, and the test fails as for lack of memory.
 pub(crate) fn number_of(word: Option<&str>) -> Result<u32, AllocError> {
-    word.unwrap_or("").parse::<u32>().map_err(|_| AllocError)
+    match word.unwrap_or("").parse::<u32>() {
+        Ok(number) => Ok(number),
+        Err(_) => Err(AllocError),
+    }
 }
 
 /// A part of a line, likewise.
