@@ -4,7 +4,6 @@ use Rattle.std.specs.Str.{str_to_ascii_lowercase}
 use Rattle.inet_num.specs.declared.Family.{Family}
 use Rattle.inet_num.specs.declared.Family.TheVariants.{V6}
 use Rattle.inet_num.specs.Net.{Address, Cidr, width_of}
-use Rattle.ipam_data.specs.declared.calls.TheConstants.{MOST_ITEMS}
 use Rattle.ipam_data.specs.declared.calls.Answered.{Answered}
 use Rattle.ipam_data.specs.declared.calls.AddrItem.{AddrItem}
 use Rattle.ipam_data.specs.declared.calls.BlockItem.{BlockItem}
@@ -111,7 +110,7 @@ pub record ClaimsAreNew : Type 0 where
 
 -- no other check refuses the items: there are not too many, SLAAC is for IPv6, and a name is the name of a host
 pub record MayClaimAddresses (family : Family) (items : List AddrItem) : Type 0 where
-  pub few : length items ≤ MOST_ITEMS
+  pub few : length items ≤ 1000
   pub slaac : (item : AddrItem) → Contains items item → item.status ≡ Slaac → family ≡ V6
   pub names : (item : AddrItem) → Contains items item → is_dns_name (str_to_ascii_lowercase item.dns_name) ≡ true
 
@@ -125,7 +124,7 @@ pub record AreTooFew (IsFree : Address → Type 0) (items count : ℕ) : Type 0 
 
 -- no other check refuses the items: there are not too many, each length is longer than the prefix's and one of its family, and roles are there
 pub record MayClaimBlocks (s : State) (p : Prefix) (items : List BlockItem) : Type 0 where
-  pub few : length items ≤ MOST_ITEMS
+  pub few : length items ≤ 1000
   pub longer : (item : BlockItem) → Contains items item → p.block.len < item.len
   pub short : (item : BlockItem) → Contains items item → item.len ≤ width_of p.block.family
   pub roles : (item : BlockItem) (role : ℕ) → Contains items item → item.role ≡ Some role → IsSome (row_at role_id s.roles.rows role)
