@@ -1,13 +1,13 @@
 #!/usr/bin/env python3
-"""Tries mutation tests of definitions: deliberate mistakes in the definitions of ipam_data, each of which a law of claim_laws must refuse.
+"""Tries mutation tests of definitions: deliberate mistakes in a crate's definitions, each of which a law of a crate above must refuse.
 
-An edit of bench/definitions/ names the law that is to refuse it (`law:`), a file below crates/ (`file:`), and pairs of lines `old:` and `new:`, where
-the old text stands once in the file. CI can't try these: its mutation tests change a file of the crate that refuses them. So the crates are copied, and
-the law is checked over ipam_data taken as source: only the lemmas that the law rests on are checked. It takes about 25 processor seconds an edit, and a
-gigabyte. A file that ends in .control is a harmless change, and its law is to be proved.
+An edit of bench/definitions/ names the law that is to refuse it (`law: CRATE::LAW`), a file below crates/ (`file:`), and pairs of lines `old:` and
+`new:`, where the old text is once in the file. CI can't try these: its mutation tests change a file of the crate that refuses them. So the crates are
+copied, and the law is checked over all crates below it, taken as sources: only the lemmas that the law rests on are checked. It takes about 25
+processor seconds an edit, and a gigabyte. A file that ends in .control is a harmless change, and its law is to be proved.
 
-It prints one line for each: the law, the first declaration of claim_laws that was refused, and the first one of a crate below, if any. Its status is 1
-if an edit was proved, or a control refused.
+It prints one line for each: the law, the first declaration of the law's crate that was refused, and the first one of a crate below, if any. Its status
+is 1 if an edit was proved, or a control refused.
 
 usage: bench/definitions.py [NAME..]
 """
@@ -20,8 +20,6 @@ import tempfile
 
 TOP = os.path.abspath(os.path.join(os.path.dirname(os.path.abspath(__file__)), ".."))
 FOLDER = os.path.join(TOP, "bench", "definitions")
-BELOW = ("inet_num", "block_space", "ipam_data")
-LAWS = "claim_laws"
 
 
 def lines_of_crates():
@@ -31,8 +29,18 @@ def lines_of_crates():
     return {line.split()[0].rstrip(":"): line.split(":", 1)[1].split() for line in lines}
 
 
+def crates_below(crate, lines):
+    """The crates of the repository that the crate rests on, lowest first."""
+    found, rest = set(), [crate]
+    while rest:
+        new = [name for name in lines[rest.pop()] if name in lines and name not in found]
+        found.update(new)
+        rest += new
+    return [name for name in lines if name in found]
+
+
 def read_edit(path):
-    """The law, the file, and the pairs of texts."""
+    """The law's crate, the law, the file, and the pairs of texts."""
     law, file, pairs = None, None, []
     with open(path, encoding="utf-8") as text:
         for line in text.read().splitlines():
@@ -45,36 +53,37 @@ def read_edit(path):
                 pairs.append([rest, None])
             elif word == "new":
                 pairs[-1][1] = rest
-    return law, file, pairs
+    return law.split("::") + [file, pairs]
 
 
-def command(copy, law):
+def command(copy, crate, law):
     """The check of one law, with the crates below taken as sources."""
     lines = lines_of_crates()
+    below = crates_below(crate, lines)
     home = os.path.dirname(subprocess.run(["rt", "doc"], capture_output=True, text=True, check=True).stdout.split()[-1])
-    outside = sorted({name for crate in BELOW + (LAWS,) for name in lines[crate] if name not in lines} | {"core"})
-    said = [f"{home}/bin/rattle", "check", "--crate-name", LAWS, "src/lib.rt"]
+    outside = sorted({name for used in below + [crate] for name in lines[used] if name not in lines} | {"core"})
+    said = [f"{home}/bin/rattle", "check", "--crate-name", crate, "src/lib.rt"]
     said += ["--extern", f"std={home}/rlibs/std.rlib", "-L", f"dependency={home}/rlibs"]
     for name in outside:
         said += ["--extern", f"{name}={home}/rlibs/{name}.rlib"]
-    for name in BELOW:
+    for name in below:
         said += ["--lib", f"{name}:{','.join(['core', 'std'] + lines[name])}={copy}/crates/{name}/src/lib.rt"]
     return said + ["--antt-project", f"{home}/rattle/logic/antt-project.json", "--logic-built", f"{home}/logic_built",
-                   "--links", f"{LAWS}=", "--jobs", "1", "--only", f"{LAWS}::{law}"]
+                   "--links", f"{crate}=", "--jobs", "1", "--only", f"{crate}::{law}"]
 
 
-def refused_for(told):
-    """The first declaration of the laws' crate that was refused, and the first one below it, if any."""
+def refused_for(crate, told):
+    """The first declaration of the law's crate that was refused, and the first one below it, if any."""
     own = re.search(r"^\./(\S+)\.antt:\d+:\d+: error: .*?`([^`]+)`", told, re.M)
     below = re.search(r"^/\S*/crates/(\S+)\.antt:\d+:\d+: error: .*?`([^`]+)`", told, re.M)
-    named = [f"{LAWS}/{own.group(1)} {own.group(2)}"] if own else []
+    named = [f"{crate}/{own.group(1)} {own.group(2)}"] if own else []
     named += [f"{below.group(1)} {below.group(2)}"] if below else []
     return ", and ".join(named) or "nothing that is named"
 
 
 def try_edit(copy, path):
     """One line on the edit, and whether it went as it is to."""
-    law, file, pairs = read_edit(path)
+    crate, law, file, pairs = read_edit(path)
     at = f"{copy}/crates/{file}"
     with open(at, encoding="utf-8") as text:
         before = after = text.read()
@@ -84,21 +93,23 @@ def try_edit(copy, path):
         after = after.replace(old, new)
     with open(at, "w", encoding="utf-8") as text:
         text.write(after)
-    ran = subprocess.run(command(copy, law), cwd=f"{copy}/crates/{LAWS}", capture_output=True, text=True, errors="replace")
+    ran = subprocess.run(command(copy, crate, law), cwd=f"{copy}/crates/{crate}", capture_output=True, text=True, errors="replace")
     with open(at, "w", encoding="utf-8") as text:
         text.write(before)
     told = ran.stdout + ran.stderr
-    proved = re.search(rf"^fn {LAWS}::{law}: proved", told, re.M) is not None
+    proved = re.search(rf"^fn {crate}::{law}: proved", told, re.M) is not None
     if path.endswith(".control"):
-        return f"{law} {'proved' if proved else 'refused at ' + refused_for(told)}", proved
-    return f"{law} {'PROVED' if proved else 'refused at ' + refused_for(told)}", not proved and "error" in told
+        return f"{crate}::{law} {'proved' if proved else 'refused at ' + refused_for(crate, told)}", proved
+    return f"{crate}::{law} {'PROVED' if proved else 'refused at ' + refused_for(crate, told)}", not proved and "error" in told
 
 
 def main():
     names = sorted(name for name in os.listdir(FOLDER) if not sys.argv[1:] or name.rsplit(".", 1)[0] in sys.argv[1:])
     well = True
+    lines = lines_of_crates()
+    laws = {read_edit(f"{FOLDER}/{name}")[0] for name in names}
     with tempfile.TemporaryDirectory() as copy:
-        for crate in BELOW + (LAWS,):
+        for crate in laws.union(*(crates_below(law, lines) for law in laws)):
             for part in ("src", "specs", "proofs"):
                 shutil.copytree(f"{TOP}/crates/{crate}/{part}", f"{copy}/crates/{crate}/{part}")
         for name in names:

@@ -21,7 +21,7 @@ use Rattle.pool_command.proofs.RunLaws.{runs_have_clauses}
 not_loaded : (path : Option (List ℕ)) (old : PoolOutside) (s : Seen) → HasBadTables path old → IsLoaded path old.stores.stored s → ⊥
 not_loaded path old s bad loaded =
     let opened : IsOpened (Some bad.tables) s.pools = subst (λ (t : Option PoolTables). IsOpened t s.pools) bad.told loaded.pools in
-    let none : fault_of bad.tables ≡ None = opened.0 in
+    let none : fault_of bad.tables ≡ None = ap fault_of opened.held ∙ opened.faultless in
     let some = bad.bad in
     cc (sym none ∙ some)
 

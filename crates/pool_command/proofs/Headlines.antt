@@ -2,24 +2,31 @@
 use Rattle.std.proofs.Common.{◌≡◌, ◌⊎◌, ◌<◌, ℕ, zero, suc, List, [], ◌∷◌, map, take, Option, Some, None, refl, sym, ap, ◌∙◌, subst, inl, inr, arith}
 use Rattle.std.specs.List.{slice_get}
 use Rattle.history_lock.specs.Replay.{replay}
+use Rattle.history_lock.specs.Replies.{accepted}
 use Rattle.http_session.specs.declared.session.SessionEnd.{SessionEnd}
 use Rattle.http_session.specs.Ends.{IsEnd}
 use Rattle.ipam_listen.specs.Connections.{Ends, ends_of}
 use Rattle.command_streams.specs.Streams.{EndsWith, Streams, Told}
 use Rattle.machine_session.specs.Owned.{Owned, answers_counted, counted, owned}
-use Rattle.machine_answers.specs.Answers.{AreCallers, Caller}
+use Rattle.machine_answers.specs.Answers.{AreCallers, Caller, IsChange}
 use Rattle.machine_answers.specs.Laws.{HasCaller, HasCallers}
 use Rattle.machine_answers.proofs.Alone.{alone as listed_alone}
 use Rattle.machine_answers.proofs.Entries.{entries}
 use Rattle.machine_answers.proofs.Flat.{served as listed_served}
 use Rattle.machine_command.specs.Session.{IsRefused, IsSession, Serves}
-use Rattle.machine_serving.specs.Serve.{IsServe, ServesStore}
+use Rattle.machine_serving.specs.Serve.{IsLeft, IsServe, ServesStore}
 use Rattle.machine_serving.specs.Views.{ListenerView, NobodyCame}
 use Rattle.number_pools.specs.declared.calls.PoolCall.{PoolCall}
+use Rattle.number_pools.specs.declared.calls.PoolCall.TheVariants.{Claim}
+use Rattle.number_pools.specs.declared.calls.PoolRefusal.{PoolRefusal}
+use Rattle.number_pools.specs.declared.calls.PoolRefusal.TheVariants.{Absent, NameTaken, Bounds, InUse, NoSpace, Limit, Keeper as KeeperRefusal, Memory as MemoryRefusal}
 use Rattle.number_pools.specs.declared.calls.PoolReply.{PoolReply}
 use Rattle.number_pools.specs.Lawful.{IsLawfulPools}
+use Rattle.number_pools.specs.Laws.{StepsKeepLawful}
+use Rattle.number_pools.specs.Machines.{kind_of, refusal_kind}
 use Rattle.number_pools.specs.Rows.{Pools}
 use Rattle.number_pools.specs.Steps.{plain_pool_step}
+use Rattle.number_laws.specs.Claims.{ClaimsAreNew}
 use Rattle.number_laws.specs.Histories.{IsGiven, IsOfAsns, NumbersNeverMeet}
 use Rattle.number_laws.specs.Histories as laws
 use Rattle.pool_keeper.specs.declared.tables.PoolTables.{PoolTables}
@@ -30,13 +37,14 @@ use Rattle.pool_service.specs.Protocol.{pool_protocol}
 use Rattle.pool_store.specs.FaultWords.{IsSaid}
 use Rattle.pool_store.specs.Meaning.{pool_opener}
 use Rattle.pool_store.specs.Opening.{AreSame, Holds, StoredPools}
+use Rattle.pool_store.proofs.Refused.{left_same}
 use Rattle.pool_words.specs.Asked.{Asks}
 use Rattle.pool_words.specs.declared.asked.Command.{Command}
 use Rattle.pool_words.specs.declared.asked.Command.TheVariants.{Session, Serve}
 use Rattle.pool_words.specs.declared.asked.Serving.{Serving}
 use Rattle.pool_words.proofs.Unique.{words_ask_for_one}
 use Rattle.pool_command.specs.Clauses.{IsUnused, place_of}
-use Rattle.pool_command.specs.Headline.{Alone, HasHeadline, HasHeadlines, Headline, NumbersApart, Served, pools_after}
+use Rattle.pool_command.specs.Headline.{Alone, GetsTheLeast, HasHeadline, HasHeadlines, Headline, NumbersApart, Served, pools_after}
 use Rattle.pool_command.specs.Runs.{Answers, PoolOutside, Runs}
 
 -- ---- the two ways to say a history
@@ -61,6 +69,38 @@ call_there [] n e q = cc
 call_there (f ∷ fs) zero e q = (let same : f ≡ e = cc in ap (λ (g : ℕ × PoolCall). Some g.1) same)
 call_there (f ∷ fs) (suc n) e q = call_there fs n e q
 
+-- ---- what holds of each place
+
+-- the laws of numbers
+pub record Laws : Type 0 where
+  never : NumbersNeverMeet
+  new : ClaimsAreNew
+  steps : StepsKeepLawful
+
+lawful_at : StepsKeepLawful → (s : Seen) (history : List (ℕ × PoolCall)) (n : ℕ) → IsLawfulPools s.pools → IsLawfulPools (pools_after s history n)
+lawful_at law s history zero h = h
+lawful_at law s [] (suc n) h = h
+lawful_at law s (e ∷ es) (suc n) h = lawful_at law (seen_step s e.1).0 es n (law s.pools e.1 h)
+
+-- an accepted change is no refusal
+no_refusal : (why : PoolRefusal) → refusal_kind why ≡ accepted → ⊥
+no_refusal (Absent id) e = cc
+no_refusal (NameTaken id) e = cc
+no_refusal Bounds e = cc
+no_refusal (InUse id) e = cc
+no_refusal (NoSpace n) e = cc
+no_refusal (Limit which n) e = cc
+no_refusal KeeperRefusal e = cc
+no_refusal MemoryRefusal e = cc
+
+gets_least : ClaimsAreNew → (s : Pools) (call : PoolCall) → IsLawfulPools s → kind_of (plain_pool_step s call).1 ≡ accepted → GetsTheLeast s call
+gets_least new s (Claim kind id list names) h a = new s kind id list names h (λ why e. no_refusal why (sym (ap kind_of e) ∙ a))
+gets_least new s call h a = tt
+
+least_at : ClaimsAreNew → (opening : Seen) (history : List (ℕ × PoolCall)) (n : ℕ) (call : PoolCall) → IsLawfulPools (pools_after opening history n)
+    → IsChange pool_protocol opening (take n history) call → GetsTheLeast (pools_after opening history n) call
+least_at new opening history n call h change = gets_least new (pools_after opening history n) call h (sym (ap kind_of change.same) ∙ change.kind)
+
 numbers_apart : NumbersNeverMeet → (opening : Seen) (history : List (ℕ × PoolCall)) → IsLawfulPools opening.pools → NumbersApart opening history
 numbers_apart never opening history is i j one other x y l p q c d of =
     never opening.pools (calls_of history) i j one.1 other.1 x y is l (call_there history i one p) (call_there history j other q)
@@ -74,16 +114,23 @@ numbers_apart never opening history is i j one other x y l p q c d of =
       )
     ])
 
-headline : NumbersNeverMeet → (opening : Seen) (history : List (ℕ × PoolCall)) (callers : List (Caller PoolCall PoolReply)) → AreCallers pool_protocol opening history callers
-    → Headline opening history callers
-headline never opening history callers are =
-    record { answers = are; entries = entries pool_protocol opening history callers are; apart = numbers_apart never opening history }
+headline : Laws → (opening : Seen) (history : List (ℕ × PoolCall)) (callers : List (Caller PoolCall PoolReply)) → IsLawfulPools opening.pools
+    → AreCallers pool_protocol opening history callers → Headline opening history callers
+headline laws_hold opening history callers h are =
+    let changes = entries pool_protocol opening history callers are in
+    record {
+      answers = are;
+      entries = changes;
+      lawful = λ n. lawful_at laws_hold.steps opening history n h;
+      least = λ n who call at. least_at laws_hold.new opening history n call (lawful_at laws_hold.steps opening history n h) (changes n who call at);
+      apart = numbers_apart laws_hold.never opening history h;
+    }
 
 -- ---- the commands
 
-served : NumbersNeverMeet → (s : Serving) (old new : PoolOutside) (before after : ListenerView) (entries : ℕ)
+served : Laws → (s : Serving) (old new : PoolOutside) (before after : ListenerView) (entries : ℕ)
     → ServesStore pool_protocol pool_opener s.db (place_of s) old new before after entries → Served s.db old new before after entries
-served never s old new before after entries h =
+served laws_hold s old new before after entries h =
     let of : HasCallers pool_protocol h.opening h.history h.served.back =
     listed_served pool_protocol h.opening h.history h.served.back h.served.shifts h.served.one_history h.served.lanes in
     record {
@@ -92,7 +139,7 @@ served never s old new before after entries h =
         opening = h.opening;
         stood = h.loaded;
         history = h.history;
-        headline = headline never h.opening h.history of.callers of.are;
+        headline = headline laws_hold h.opening h.history of.callers h.loaded.pools.lawful of.are;
         holds = h.holds;
       };
       counted = h.entries_are;
@@ -105,8 +152,8 @@ served never s old new before after entries h =
 opened : (first : Owned Seen PoolCall) → (first.log ≡ []) × (first.faults ≡ 0) → first ≡ owned first.opening [] 0
 opened first fresh = λ i. owned first.opening (fresh.0 i) (fresh.1 i)
 
-alone : NumbersNeverMeet → (db : Option (List ℕ)) (old new : PoolOutside) (how : SessionEnd) → Serves pool_protocol pool_opener db old new how → Alone db old new
-alone never db old new how h =
+alone : Laws → (db : Option (List ℕ)) (old new : PoolOutside) (how : SessionEnd) → Serves pool_protocol pool_opener db old new how → Alone db old new
+alone laws_hold db old new how h =
     let before : Ends = ends_of old.streams.input.bytes old.streams.output.bytes old.streams.input.faults old.streams.output.faults in
     let after : Ends = ends_of new.streams.input.bytes new.streams.output.bytes new.streams.input.faults new.streams.output.faults in
     let history = h.last.log in
@@ -123,7 +170,7 @@ alone never db old new how h =
         opening = opening;
         stood = h.loaded;
         history = history;
-        headline = headline never opening history (of.caller ∷ []) of.are;
+        headline = headline laws_hold opening history (of.caller ∷ []) h.loaded.pools.lawful of.are;
         holds = subst (λ (s : Seen). Holds db old.stores.stored new.stores.stored (replay seen_step s history)) all.0 h.holds;
       };
       streams = of.connections_are;
@@ -150,42 +197,49 @@ same_stored : (told : StoredPools) → AreSame told told
 same_stored None = tt
 same_stored (Some tables) = λ path. refl
 
-of_session : NumbersNeverMeet → (db : Option (List ℕ)) (old new : PoolOutside) (before after : ListenerView) (status : ℕ) → IsSession pool_protocol pool_opener db old new status
+-- a store that was left has known tables as they were
+left : (db : Option (List ℕ)) (old new : StoredPools) → IsLeft pool_opener db old new → AreSame old new
+left db old new (inl same) = subst (AreSame old) (sym same) (same_stored old)
+left db old new (inr (s, loaded, holds)) = left_same db old new s loaded holds
+
+of_session : Laws → (db : Option (List ℕ)) (old new : PoolOutside) (before after : ListenerView) (status : ℕ) → IsSession pool_protocol pool_opener db old new status
     → HasHeadline (Session db) old new before after status
-of_session never db old new before after status s = elim s.run [
-  | inl r ↦ (let all = alone never db old new r.0 r.1 in ((λ z. all), inl all))
+of_session laws_hold db old new before after status s = elim s.run [
+  | inl r ↦ (let all = alone laws_hold db old new r.0 r.1 in ((λ z. all), inl all))
   | inr r ↦ ((λ z. absurd (never_done r.fault _ _ status r.said z)), inr (record { input = r.input; output = r.output; stored = r.refused.same }))
 ]
 
-of_serve : NumbersNeverMeet → (s : Serving) (old new : PoolOutside) (before after : ListenerView) (status : ℕ)
+of_serve : Laws → (s : Serving) (old new : PoolOutside) (before after : ListenerView) (status : ℕ)
     → IsServe pool_protocol pool_opener s.db (place_of s) old new before after status → HasHeadline (Serve s) old new before after status
-of_serve never s old new before after status v = elim v.run [
-  | inl r ↦ (let all = served never s old new before after r.entries r.serves in ((λ z. (r.entries, all)), inl (r.entries, all)))
+of_serve laws_hold s old new before after status v = elim v.run [
+  | inl r ↦ (let all = served laws_hold s old new before after r.entries r.serves in ((λ z. (r.entries, all)), inl (r.entries, all)))
   | inr more ↦ elim more [
-    | inl r ↦ ((λ z. absurd (never_done r.0.fault _ _ status r.0.said z)), inr (r.0.output, nobody_came before after r.1))
+    | inl r ↦ ((λ z. absurd (never_done r.0.fault _ _ status r.0.said z)), inr (r.0.output, nobody_came before after r.1, r.0.refused.same))
     | inr rest ↦ elim rest [
-      | inl r ↦ (let five = r.is in ((λ z. absurd (omega arith)), inr (ap (λ (t : Streams). t.output) r.streams, nobody_came before after r.idle)))
-      | inr r ↦ (let three = r.is in ((λ z. absurd (omega arith)), inr (ap (λ (t : Streams). t.output) r.streams, r.nobody)))
+      | inl r ↦ (let five = r.is in ((λ z. absurd (omega arith)), inr (ap (λ (t : Streams). t.output) r.streams, nobody_came before after r.idle, left s.db old.stores.stored new.stores.stored r.left)))
+      | inr r ↦ (let three = r.is in ((λ z. absurd (omega arith)), inr (ap (λ (t : Streams). t.output) r.streams, r.nobody, left s.db old.stores.stored new.stores.stored r.left)))
     ]
   ]
 ]
 
-of_command : NumbersNeverMeet → (command : Command) (old new : PoolOutside) (before after : ListenerView) (status : ℕ) → Answers command old new before after status
+of_command : Laws → (command : Command) (old new : PoolOutside) (before after : ListenerView) (status : ℕ) → Answers command old new before after status
     → HasHeadline command old new before after status
-of_command never (Session db) old new before after status k = of_session never db old new before after status k.0
-of_command never (Serve s) old new before after status k = of_serve never s old new before after status k
+of_command laws_hold (Session db) old new before after status k = of_session laws_hold db old new before after status k.0
+of_command laws_hold (Serve s) old new before after status k = of_serve laws_hold s old new before after status k
 
 -- memory ran out to read the words
 of_none : (command : Command) (old new : PoolOutside) (before after : ListenerView) (status : ℕ) → status ≡ 5 → new ≡ old → after ≡ before
     → HasHeadline command old new before after status
 of_none (Session db) old new before after status five same idle =
     ((λ z. absurd (omega arith)), inr (subst (λ (t : PoolOutside). IsUnused old t) (sym same) (record { input = refl; output = refl; stored = same_stored old.stores.stored })))
-of_none (Serve s) old new before after status five same idle =
-    ((λ z. absurd (omega arith)), inr (ap (λ (t : PoolOutside). t.streams.output) same, nobody_came before after idle))
+of_none (Serve s) old new before after status five same idle = (
+  (λ z. absurd (omega arith)),
+  inr (ap (λ (t : PoolOutside). t.streams.output) same, nobody_came before after idle, subst (λ (t : PoolOutside). AreSame old.stores.stored t.stores.stored) (sym same) (same_stored old.stores.stored)),
+)
 
-pub headline_of_run : NumbersNeverMeet → (words : List (List ℕ)) (old new : PoolOutside) (before after : ListenerView) (status : ℕ) → Runs words old new before after status
+pub headline_of_run : Laws → (words : List (List ℕ)) (old new : PoolOutside) (before after : ListenerView) (status : ℕ) → Runs words old new before after status
     → HasHeadlines words old new before after status
-headline_of_run never words old new before after status (inl (command, asks, answers)) other a =
-    of_command never other old new before after status (subst (λ (c : Command). Answers c old new before after status) (words_ask_for_one words command other asks a) answers)
-headline_of_run never words old new before after status (inr (inl (none, usage))) other a = absurd (none other a)
-headline_of_run never words old new before after status (inr (inr (five, same, idle))) other a = of_none other old new before after status five same idle
+headline_of_run laws_hold words old new before after status (inl (command, asks, answers)) other a =
+    of_command laws_hold other old new before after status (subst (λ (c : Command). Answers c old new before after status) (words_ask_for_one words command other asks a) answers)
+headline_of_run laws_hold words old new before after status (inr (inl (none, usage))) other a = absurd (none other a)
+headline_of_run laws_hold words old new before after status (inr (inr (five, same, idle))) other a = of_none other old new before after status five same idle

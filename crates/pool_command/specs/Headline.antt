@@ -1,19 +1,22 @@
--- What number pools promise to their callers: one history, out of which all are answered, and in it no two claims met.
+-- What number pools promise to their callers: one history, out of which all are answered, and in it each claim got the least numbers that no
+-- member of its pool held.
 use Rattle.std.specs.Prelude.{◌≡◌, ◌≢◌, ◌⊎◌, ◌++◌, ℕ, ◌<◌, List, [], ◌∷◌, Option, Some, length, map, take, slice_get}
 use Rattle.history_lock.specs.Replay.{replay}
 use Rattle.ipam_listen.specs.Connections.{Returned, ends_of, finished}
 use Rattle.machine_answers.specs.Answers.{AreCallers, AreLanesOf, Caller, IsChange}
 use Rattle.machine_serving.specs.Views.{ListenerView, NobodyCame}
 use Rattle.number_pools.specs.declared.calls.PoolCall.{PoolCall}
+use Rattle.number_pools.specs.declared.calls.PoolCall.TheVariants.{Claim}
 use Rattle.number_pools.specs.declared.calls.PoolReply.{PoolReply}
 use Rattle.number_pools.specs.declared.rows.Member.{Member}
 use Rattle.number_pools.specs.Lawful.{IsLawfulPools}
 use Rattle.number_pools.specs.Rows.{Pools}
 use Rattle.number_pools.specs.Steps.{plain_pool_step}
+use Rattle.number_laws.specs.Claims.{GotNumbers}
 use Rattle.number_laws.specs.Histories.{IsGiven, IsGivenBack, IsOfAsns}
 use Rattle.pool_register.specs.Kept.{Seen, seen_step}
 use Rattle.pool_service.specs.Protocol.{pool_protocol}
-use Rattle.pool_store.specs.Opening.{Holds, IsLoaded}
+use Rattle.pool_store.specs.Opening.{AreSame, Holds, IsLoaded}
 use Rattle.pool_words.specs.Asked.{Asks}
 use Rattle.pool_words.specs.declared.asked.Command.{Command}
 use Rattle.pool_words.specs.declared.asked.Command.TheVariants.{Session, Serve}
@@ -23,6 +26,11 @@ use Rattle.pool_command.specs.Runs.{PoolOutside}
 -- the pools after the first n changes
 abbrev pub pools_after : Seen → List (ℕ × PoolCall) → ℕ → Pools
 pools_after opening history n = (replay seen_step opening (take n history)).pools
+
+-- a claim got the least numbers of its range that no member of its pool held
+abbrev pub GetsTheLeast : Pools → PoolCall → Type 0
+GetsTheLeast s (Claim kind id list names) = GotNumbers s kind id names (plain_pool_step s (Claim kind id list names))
+GetsTheLeast s call = Unit {0}
 
 -- the numbers that two entries gave out differ, if both are of one range (as a group of VLANs is), or of any two ranges of ASNs, unless an
 -- entry between the two gave the first one back
@@ -38,8 +46,11 @@ pub record Headline (opening : Seen) (history : List (ℕ × PoolCall)) (callers
   -- every answer is that of the plain pools after the first entries; there are no other entries; each was asked for, and accepted at its place
   pub answers : AreCallers pool_protocol opening history callers
   pub entries : (n : ℕ) (who : ℕ) (call : PoolCall) → slice_get history n ≡ Some (who, call) → IsChange pool_protocol opening (take n history) call
-  -- no two claims got one number, if the pools opened lawful
-  pub apart : IsLawfulPools opening.pools → NumbersApart opening history
+  -- after each entry no two members of a pool hold one number, those of the opening too, and each holds one of its range
+  pub lawful : (n : ℕ) → IsLawfulPools (pools_after opening history n)
+  -- a claim got the least that no member of its pool held; no two claims got one number, unless it was given back between
+  pub least : (n : ℕ) (who : ℕ) (call : PoolCall) → slice_get history n ≡ Some (who, call) → GetsTheLeast (pools_after opening history n) call
+  pub apart : NumbersApart opening history
 
 -- the pools of a store had these callers
 pub record Kept (path : Option (List ℕ)) (old new : PoolOutside) (callers : List (Caller PoolCall PoolReply)) : Type 0 where
@@ -66,11 +77,11 @@ pub record Alone (path : Option (List ℕ)) (old new : PoolOutside) : Type 0 whe
       ≡ finished (ends_of old.streams.input.bytes old.streams.output.bytes old.streams.input.faults old.streams.output.faults)
       (ends_of new.streams.input.bytes new.streams.output.bytes new.streams.input.faults new.streams.output.faults) ∷ []
 
--- with status 0 it holds, and with every other status it does or nobody was served
+-- with status 0 it holds, and with every other status it does or nobody was served and known tables are as they were
 abbrev pub HasHeadline : Command → PoolOutside → PoolOutside → ListenerView → ListenerView → ℕ → Type 0
 HasHeadline (Session db) old new before after status = (status ≡ 0 → Alone db old new) × (Alone db old new ⊎ IsUnused old new)
 HasHeadline (Serve s) old new before after status = (status ≡ 0 → (entries : ℕ) × Served s.db old new before after entries)
-    × (((entries : ℕ) × Served s.db old new before after entries) ⊎ ((new.streams.output ≡ old.streams.output) × NobodyCame before after))
+    × (((entries : ℕ) × Served s.db old new before after entries) ⊎ ((new.streams.output ≡ old.streams.output) × NobodyCame before after × AreSame old.stores.stored new.stores.stored))
 
 -- of the command that the words ask for
 abbrev pub HasHeadlines : List (List ℕ) → PoolOutside → PoolOutside → ListenerView → ListenerView → ℕ → Type 0

@@ -12,7 +12,8 @@ use crate::session::{run_session, serve_words};
 use command_streams::{MEMORY, USAGE, end_with};
 use ipam_edge::{Sink, Source};
 use ipam_listen::Listener;
-use number_laws::numbers_never_meet;
+use number_laws::{claims_are_new, numbers_never_meet};
+use number_pools::laws::steps_keep_lawful;
 use pool_keeper::keeper::PoolOpener;
 use pool_words::{Command, read_words};
 use std::alloc::Global;
@@ -117,5 +118,7 @@ pub fn run_pools<
         (listener_view L.bound L.lanes L.returned L.faults listener.old) (listener_view L.bound L.lanes L.returned L.faults listener.new) result }
 {
     numbers_never_meet();
+    claims_are_new();
+    steps_keep_lawful();
     run_read(rt, alloc, words, input, output, errors, listener, opener)
 }
