@@ -10,23 +10,28 @@ use Rattle.command_zones.specs.Zone.{line_at, lines_at}
 use Rattle.command_zones.proofs.printing.write_lines.Goals as goal
 
 -- the element past the end, which no loop looks at
-none_of : Place
+abbrev none_of : Place
 none_of = record { address = 0; id = 0; index = 0 }
 
 pub returns-in_err-put_line-clause-told : goal.returns-in_err-put_line-clause-told
 returns-in_err-put_line-clause-told g c =
     let rows = c.args.addresses.now.rows in
     let places = c.args.places.now in
+    let i = c.loop-place.place-index in
     writes_at_err _ _ c.from_residual.result (lines_at rows places) (search rules)
-    (front_more (λ (s : Place). line_at rows s.index) places c.loop-place.place-index (get_or c.args.places.now c.loop-place.place-index none_of) none_of c.loop-place-test.true refl
+    (front_more (λ (s : Place). line_at rows s.index) places i (get_or places i none_of) none_of c.loop-place-test.true refl
     _ _ _ _ _ c.loop-place.invariant.passed c.in_err-put_line.ensures.told)
 
 pub loop-place-preserved : goal.loop-place-preserved
-loop-place-preserved g c = record {
-  passed = passes_more (λ (s : Place). line_at c.args.addresses.now.rows s.index) c.args.places.now c.loop-place.place-index (get_or c.args.places.now c.loop-place.place-index none_of) none_of c.loop-place-test.true refl
-      _ _ _ _ _ _ c.loop-place.invariant.passed c.in_ok-put_line.ensures.told;
-  same = c.in_ok-put_line.ensures.cause.kept refl ∙ c.loop-place.invariant.same;
-}
+loop-place-preserved g c =
+    let rows = c.args.addresses.now.rows in
+    let places = c.args.places.now in
+    let i = c.loop-place.place-index in
+    record {
+      passed = passes_more (λ (s : Place). line_at rows s.index) places i (get_or places i none_of) none_of c.loop-place-test.true refl
+          _ _ _ _ _ _ c.loop-place.invariant.passed c.in_ok-put_line.ensures.told;
+      same = c.in_ok-put_line.ensures.cause.kept refl ∙ c.loop-place.invariant.same;
+    }
 
 pub returns-clause-told : goal.returns-clause-told
 returns-clause-told g c =
