@@ -21,6 +21,6 @@ returns-in_err-places-clause-end g c =
 
 pub returns-in-Ok-clause-end : goal.returns-in-Ok-clause-end
 returns-in-Ok-clause-end g c =
-    printed c.args.register.now.state c.args.id c.addresses.result.now.rows c.in_ok-places.places.items c.as_slice.result.now c.addresses.ensures.rows c.as_slice.ensures.value
-    c.in_ok-places.ensures.zone (told g.Si.Sink.written g.Si.Sink.faults c.args.output.now)
+    printed c.args.register.now.state c.args.id c.addresses.result.now.rows c.in_ok-places.places.items c.as_slice.result.now
+    c.addresses.ensures.rows c.as_slice.ensures.value c.in_ok-places.ensures.zone (told g.Si.Sink.written g.Si.Sink.faults c.args.output.now)
     (told g.Si.Sink.written g.Si.Sink.faults c.write_lines.new.output) c.in-Ok.ensures.told
