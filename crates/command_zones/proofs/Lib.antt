@@ -2,7 +2,6 @@ pub mod Ids
 pub mod Order
 pub mod Zones
 pub mod Rows
-pub mod Passing
 pub mod Ends
 pub mod Reverses
 pub mod PairRuns

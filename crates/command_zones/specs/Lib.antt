@@ -1,5 +1,4 @@
 pub mod Zone
-pub mod Printing
 pub mod Reverse
 pub mod Pairs
 pub mod Laws

@@ -1,85 +1,69 @@
 //! The lines of a zone on the output, by pieces of one buffer.
 
-ghost use Rattle.std.specs.Prelude.{◌≡◌, ◌+◌, ◌≤◌, ◌++◌, [], IfErr, IsTrue, All, MatchResult, OnOk, OnErr, vec_len, vec_capacity};
+ghost use Rattle.std.specs.Prelude.{◌≡◌, ◌≤◌, IsTrue, All};
 ghost use Rattle.ipam_edge.specs.Faults.{HasCause};
-ghost use Rattle.ipam_edge.specs.Writing.{AppendsFront, WritesAll};
+ghost use Rattle.ipam_edge.specs.Writing.{WritesAll};
 ghost use Rattle.reverse_zone.specs.Names.{fits_dns};
 ghost use Rattle.reverse_zone.specs.Zones.{row_line_of};
 ghost use Rattle.command_streams.specs.Streams.{told};
 ghost use Rattle.command_zones.specs.Zone.{name_of, line_at, lines_at, IsPlaceIn, IsZoneEnd};
-ghost use Rattle.command_zones.specs.Printing.{Passes};
+ghost use Rattle.text_pieces.specs.Pieces.{Puts};
 
 use crate::zone::{Place, ZoneStop, name_of, zone_of};
+use arrayvec::ArrayVec;
 use ipam_data::address::IpAddress;
 use ipam_edge::{Failed, Sink, write_all};
 use ipam_keeper::keeper::Keeper;
 use register_core::Register;
 use register_tables::Addresses;
-use reverse_zone::{LINE_ROOM, write_ptr};
+use reverse_zone::ptr_line;
 use std::alloc::Global;
+use text_pieces::{ROOM, put};
 
-/// How many bytes are written at once, at most.
-const ROOM: usize = 32_768;
-
-/// Writes the piece where a line might not fit behind it.
-fn make_room<Si: Sink>(output: &mut Si, piece: &mut Vec<u8>) -> Result<(), Failed>
-    ensures passed { OnOk result (Passes (Si.written output.old) (Si.written output.new) piece.old.items piece.new.items []) }
-    ensures room { OnOk result (vec_len piece.new + 404 ≤ 32768) }
-    ensures capacity { vec_capacity piece.new ≡ vec_capacity piece.old }
-    ensures front { OnErr result (AppendsFront (Si.written output.old) (Si.written output.new) piece.old.items) }
+/// Puts the line of a row whose name fits after what the piece has.
+fn put_row<Si: Sink>(
+    output: &mut Si,
+    piece: &mut ArrayVec<u8, ROOM>,
+    row: &IpAddress,
+) -> Result<(), Failed>
+    requires fits { IsTrue (fits_dns (name_of row.now)) }
+    ensures told { Puts (Si.written output.old) (Si.written output.new) piece.old.items piece.new.items (row_line_of row.now) result }
     ensures cause { HasCause (Si.faults output.old) (Si.faults output.new) result }
 {
-    if piece.len() <= ROOM - LINE_ROOM {
-        return Ok(());
-    }
-    write_all(output, piece.as_slice())?;
-    piece.clear();
-    Ok(())
+    let line = ptr_line(row.host.addr(), name_of(row));
+    put(output, piece, line.as_slice())
 }
 
-/// Puts the line of a row whose name fits behind the piece, which has room for it.
-fn push_row(piece: &mut Vec<u8>, row: &IpAddress)
-    requires fits { IsTrue (fits_dns (name_of row.now)) }
-    requires room { vec_len piece.old + 404 ≤ vec_capacity piece.old }
-    ensures items { piece.new.items ≡ piece.old.items ++ row_line_of row.now }
-    ensures capacity { vec_capacity piece.old ≤ vec_capacity piece.new }
-{
-    match write_ptr(row.host.addr(), name_of(row), piece) {
-        Ok(()) => {}
-        Err(_) => unreachable!(),
-    }
-}
-
-/// Puts the line of the row at a place behind the piece, which has room for it.
-fn push_line(piece: &mut Vec<u8>, addresses: &Addresses, place: Place)
+/// Puts the line of the row at a place after what the piece has.
+fn put_line<Si: Sink>(
+    output: &mut Si,
+    piece: &mut ArrayVec<u8, ROOM>,
+    addresses: &Addresses,
+    place: Place,
+) -> Result<(), Failed>
     requires there { IsPlaceIn addresses.now.rows place }
-    requires room { vec_len piece.old + 404 ≤ vec_capacity piece.old }
-    ensures items { piece.new.items ≡ piece.old.items ++ line_at addresses.now.rows place.index }
-    ensures capacity { vec_capacity piece.old ≤ vec_capacity piece.new }
+    ensures told { Puts (Si.written output.old) (Si.written output.new) piece.old.items piece.new.items (line_at addresses.now.rows place.index) result }
+    ensures cause { HasCause (Si.faults output.old) (Si.faults output.new) result }
 {
     match addresses.at(place.index) {
-        Some(row) => push_row(piece, row),
+        Some(row) => put_row(output, piece, row),
         None => unreachable!(),
     }
 }
 
-/// Writes the lines of the rows at these places, in pieces of a buffer that is there. It takes no memory.
+/// Writes the lines of the rows at these places. It takes no memory but a buffer of its own.
 fn write_lines<Si: Sink>(
     output: &mut Si,
     addresses: &Addresses,
     places: &[Place],
-    buffer: Vec<u8>,
 ) -> Result<(), Failed>
     requires there { All (IsPlaceIn addresses.now.rows) places.now }
-    requires room { 32768 ≤ vec_capacity buffer }
-    requires empty { buffer.items ≡ [] }
     ensures told { WritesAll (Si.written output.old) (Si.written output.new) result (lines_at addresses.now.rows places.now) }
     ensures cause { HasCause (Si.faults output.old) (Si.faults output.new) result }
 {
-    let mut piece = buffer;
+    let mut piece = ArrayVec::<u8, ROOM>::new();
     for place in places {
-        make_room(output, &mut piece)?;
-        push_line(&mut piece, addresses, *place);
+        put_line(output, &mut piece, addresses, *place)?;
     }
     write_all(output, piece.as_slice())
 }
@@ -96,8 +80,7 @@ pub(crate) fn print_zone<K: Keeper, Si: Sink>(
     ensures later { Si.faults output.old ≤ Si.faults output.new }
 {
     let places = zone_of(alloc, register, id)?;
-    let buffer = Vec::with_capacity(alloc, ROOM)?;
-    match write_lines(output, register.addresses(), places.as_slice(), buffer) {
+    match write_lines(output, register.addresses(), places.as_slice()) {
         Ok(()) => Ok(()),
         Err(_) => Err(ZoneStop::Unwritten),
     }

@@ -5,10 +5,11 @@ use Rattle.command_zones.specs.Zone.{IsZoneEnd}
 use Rattle.command_zones.proofs.Ends.{passed_on, stopped, handed_on, printed}
 use Rattle.command_zones.proofs.printing.print_zone.Goals as goal
 
-pub write_lines-requires-clause-there : goal.write_lines-requires-clause-there
-write_lines-requires-clause-there g c =
-    handed_on c.args.register.now.state c.args.id c.addresses.result.now.rows c.in_ok-places.places.items c.as_slice.result.now c.addresses.ensures.rows c.as_slice.ensures.value
-    c.in_ok-places.ensures.zone
+pub write_lines-requires : goal.write_lines-requires
+write_lines-requires g c = record {
+  there = handed_on c.args.register.now.state c.args.id c.addresses.result.now.rows c.in_ok-places.places.items c.as_slice.result.now
+      c.addresses.ensures.rows c.as_slice.ensures.value c.in_ok-places.ensures.zone;
+}
 
 pub returns-in_err-places-clause-end : goal.returns-in_err-places-clause-end
 returns-in_err-places-clause-end g c =
@@ -20,6 +21,6 @@ returns-in_err-places-clause-end g c =
 
 pub returns-in-Ok-clause-end : goal.returns-in-Ok-clause-end
 returns-in-Ok-clause-end g c =
-    printed c.args.register.now.state c.args.id c.addresses.result.now.rows c.in_ok-places.places.items c.as_slice.result.now c.addresses.ensures.rows c.as_slice.ensures.value
-    c.in_ok-places.ensures.zone (told g.Si.Sink.written g.Si.Sink.faults c.args.output.now)
+    printed c.args.register.now.state c.args.id c.addresses.result.now.rows c.in_ok-places.places.items c.as_slice.result.now
+    c.addresses.ensures.rows c.as_slice.ensures.value c.in_ok-places.ensures.zone (told g.Si.Sink.written g.Si.Sink.faults c.args.output.now)
     (told g.Si.Sink.written g.Si.Sink.faults c.write_lines.new.output) c.in-Ok.ensures.told
