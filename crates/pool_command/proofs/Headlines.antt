@@ -73,9 +73,9 @@ call_there (f ∷ fs) (suc n) e q = call_there fs n e q
 
 -- the laws of numbers
 pub record Laws : Type 0 where
-  never : NumbersNeverMeet
-  new : ClaimsAreNew
-  steps : StepsKeepLawful
+  pub never : NumbersNeverMeet
+  pub new : ClaimsAreNew
+  pub steps : StepsKeepLawful
 
 lawful_at : StepsKeepLawful → (s : Seen) (history : List (ℕ × PoolCall)) (n : ℕ) → IsLawfulPools s.pools → IsLawfulPools (pools_after s history n)
 lawful_at law s history zero h = h

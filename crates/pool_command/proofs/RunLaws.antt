@@ -14,6 +14,7 @@ use Rattle.number_pools.specs.Rows.{Pools, empty_pools}
 use Rattle.pool_keeper.specs.declared.tables.PoolTables.{PoolTables}
 use Rattle.pool_opening.specs.declared.faults.PoolFault.{PoolFault}
 use Rattle.pool_opening.specs.declared.faults.PoolFault.TheVariants.{BadRange, BadMember, BadNext, Keeper, Memory}
+use Rattle.pool_opening.specs.Faults.{loaded}
 use Rattle.pool_register.specs.Kept.{Seen, seen_step}
 use Rattle.pool_service.specs.Protocol.{pool_protocol}
 use Rattle.pool_store.specs.FaultWords.{IsSaid, fault_line}
@@ -145,7 +146,8 @@ one_seen s p e f = ap (λ (q : Pools). record { pools = q; tells = s.tells }) e 
 empty_of : (old new : PoolOutside) → IsAnswered None old new → (¬ StoreFailed old new)
     → Prints (answers_certainly pool_protocol) (plain_at seen_step (record { pools = empty_pools; tells = true }) []) old.streams new.streams
 empty_of old new a well =
-    let first = one_seen a.first.opening empty_pools a.loaded.pools.1 a.loaded.tells in
+    let opened = a.loaded.pools in
+    let first = one_seen a.first.opening empty_pools (opened.are ∙ ap loaded (sym opened.held)) a.loaded.tells in
     let log = a.fresh.0 in
     subst (λ (x : Seen × List (ℕ × PoolCall)). Prints (answers_certainly pool_protocol) (plain_at seen_step x.0 x.1) old.streams new.streams) (λ i. (first i, log i)) (a.certain well)
 
