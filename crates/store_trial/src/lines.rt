@@ -52,7 +52,8 @@ fn put_row(alloc: Global, rows: &mut Vec<Row>, words: &str) -> Result<(), AllocE
     if words.is_empty() {
         return Ok(());
     }
-    rows.push(row_of(alloc, words)?)
+    rows.push(row_of(alloc, words)?)?;
+    Ok(())
 }
 
 /// The rows that are written out, each behind a semicolon but the first.
@@ -70,7 +71,8 @@ fn put_id(ids: &mut Vec<(Kind, u32)>, words: &str) -> Result<(), AllocError> {
         return Ok(());
     }
     let kind = kind_of(words.split(',').next())?;
-    ids.push((kind, number_of(words.split(',').nth(1))?))
+    ids.push((kind, number_of(words.split(',').nth(1))?))?;
+    Ok(())
 }
 
 /// The numbers of these texts, each with its kind.

@@ -59,7 +59,8 @@ fn put_range(alloc: Global, ranges: &mut Vec<NumberRange>, words: &str) -> Resul
     if words.is_empty() {
         return Ok(());
     }
-    ranges.push(range_of(alloc, words)?)
+    ranges.push(range_of(alloc, words)?)?;
+    Ok(())
 }
 
 /// The ranges of these texts, or many.
@@ -107,7 +108,8 @@ fn put_member(alloc: Global, members: &mut Vec<Member>, words: &str) -> Result<(
     if words.is_empty() {
         return Ok(());
     }
-    members.push(member_of(alloc, words)?)
+    members.push(member_of(alloc, words)?)?;
+    Ok(())
 }
 
 /// The members of these texts, or many, or those of a claim.
