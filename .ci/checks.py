@@ -15,10 +15,10 @@ MADE = (
     ["docs/crate_pages.py", "--check"],
     ["docs/figures.py", "--check"],
     ["docs/proof_page.py", "--check"],
-    ["bench/worked_rows.py"],
-    ["bench/edit_files.py"],
-    ["bench/planted.py", "--texts"],
-    ["bench/pool_conversation.py"],
+    ["model/worked_rows.py"],
+    ["mutations/edit_files.py"],
+    ["mutations/planted.py", "--texts"],
+    ["model/pool_conversation.py"],
 )
 SHELLS = {"sh": "sh", "bash": "bash"}
 
@@ -34,8 +34,8 @@ def documents():
     import openapi_document
     import openapi_pools_document
     made = {
-        "docs/openapi.json": (openapi_document.written(), "bench/openapi.py --write"),
-        "docs/openapi-pools.json": (openapi_document.written(openapi_pools_document.document()), "bench/openapi_pools.py --write"),
+        "docs/openapi.json": (openapi_document.written(), "conformance/openapi.py --write"),
+        "docs/openapi-pools.json": (openapi_document.written(openapi_pools_document.document()), "conformance/openapi_pools.py --write"),
     }
     for path, (text, how) in made.items():
         with open(f"{TOP}/{path}", encoding="utf-8") as file:
@@ -82,7 +82,7 @@ def main():
             wrong.append(said or f"{words[0]} ends with status {status}")
     wrong += documents()
     wrong += unreadable()
-    _, left = run(sys.executable, "bench/edits_tried.py", "left")
+    _, left = run(sys.executable, "mutations/edits_tried.py", "left")
     if left:
         print(f"note: the mutation tests outside CI of {len(left.split())} crates were not tried over the text that they have now: {' '.join(left.split())}")
     if wrong:

@@ -13,7 +13,7 @@ export IPAMD=${IPAMD:-$top/crates/ipamd/out/ipamd} PYTHONDONTWRITEBYTECODE=1
 [ -x "$IPAMD" ] || { echo "build the program first: ./ipamd free 10.0.0.0/8 </dev/null" >&2; exit 1; }
 [ "${1:-}" = --first-table ] || exec python3 "$top/bench/all.py" "$@"
 shift
-. "$top/bench/need.sh"
+. "$top/tools/need.sh"
 need wrk wrk
 need nginx nginx-light
 need iprange iprange

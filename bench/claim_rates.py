@@ -14,9 +14,9 @@ import time
 from dataclasses import dataclass
 from typing import Callable
 
-import machine
-from loads import serve
-from wire import request
+from bench import machine
+from bench.loads import serve
+from tools.wire import request
 
 # the most items of a claim
 PART = 1_000

@@ -1,8 +1,10 @@
 """Claims of addresses a second by `ipamd serve` over a file, beside two ways over PostgreSQL; bench/claims.sh says how."""
+import os
 import sys
 import time
 
-from claim_rates import LOCK, PART, Claims, Session, best_claim, heading, line
+sys.path.insert(0, os.path.dirname(os.path.dirname(os.path.abspath(__file__))))
+from bench.claim_rates import LOCK, PART, Claims, Session, best_claim, heading, line
 
 PREFIX, FIRST, LENGTH = "10.0.0.0/14", 0x0A000000, 14
 # how many addresses the prefix has, and by how many clients they are claimed

@@ -12,7 +12,7 @@ set -euo pipefail
 top=$(cd "$(dirname "$0")/.." && pwd)
 program=${IPAMD:-$top/crates/ipamd/out/ipamd}
 [ -x "$program" ] || { echo "build the program first: ./ipamd free 10.0.0.0/8 </dev/null" >&2; exit 1; }
-. "$top/bench/need.sh"
+. "$top/tools/need.sh"
 need_module psycopg2 python3-psycopg2
 need_module netaddr python3-netaddr
 echo "load: $(uptime | sed 's/.*average: //')"

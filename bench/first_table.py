@@ -14,22 +14,15 @@ import tempfile
 import time
 from dataclasses import asdict, dataclass, field
 
-import machine
+sys.path.insert(0, os.path.dirname(os.path.dirname(os.path.abspath(__file__))))
+from bench import machine
 
 TOP = os.path.abspath(os.path.join(os.path.dirname(os.path.abspath(__file__)), ".."))
 os.environ.setdefault("IPAMD", os.path.join(TOP, "crates/ipamd/out/ipamd"))
 os.environ.setdefault("POOLD", os.path.join(TOP, "crates/poold/out/poold"))
 PROGRAM, POOLD = os.environ["IPAMD"], os.environ["POOLD"]
 
-import claim_rates
-import claims
-import free
-import lists
-import loads
-import pools
-import register
-import serve
-import stores
+from bench import claim_rates, claims, free, lists, loads, pools, register, serve, stores
 
 
 @dataclass

@@ -8,8 +8,9 @@ import sys
 import tempfile
 import time
 
-import machine
-import wire
+sys.path.insert(0, os.path.dirname(os.path.dirname(os.path.abspath(__file__))))
+from bench import machine
+from tools import wire
 
 BASE = "/api/ipam/"
 PREFIXES, ADDRESSES, RANGES = 200_000, 500_000, 10_000

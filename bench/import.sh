@@ -6,7 +6,7 @@ set -euo pipefail
 top=$(cd "$(dirname "$0")/.." && pwd)
 program=${IPAMD:-$top/crates/ipamd/out/ipamd}
 [ -x "$program" ] || { echo "build the program first: ./ipamd free 10.0.0.0/8 </dev/null" >&2; exit 1; }
-. "$top/bench/need.sh"
+. "$top/tools/need.sh"
 need sqlite3 sqlite3
 most_prefixes=${1:-190000}
 most_addresses=${2:-490000}

@@ -5,7 +5,8 @@ import subprocess
 import sys
 import tempfile
 
-from register import HERE, PATH, post
+sys.path.insert(0, os.path.dirname(os.path.dirname(os.path.abspath(__file__))))
+from bench.register import HERE, PATH, post
 
 PROGRAM = os.environ.get("IPAMD", os.path.join(HERE, "..", "crates", "ipamd", "out", "ipamd"))
 # A move or a clearing of memory counts as its loads and stores, and not as one instruction a byte, as `rep movsb` would.

@@ -5,6 +5,6 @@
 #     bench/instructions.sh --profile KIND    the functions that take most of them
 set -euo pipefail
 top=$(cd "$(dirname "$0")/.." && pwd)
-. "$top/bench/need.sh"
+. "$top/tools/need.sh"
 need valgrind valgrind
 exec python3 "$top/bench/instructions.py" "$@"

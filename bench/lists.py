@@ -10,7 +10,8 @@ import sys
 import tempfile
 import time
 
-from timed_runs import Run, runs
+sys.path.insert(0, os.path.dirname(os.path.dirname(os.path.abspath(__file__))))
+from bench.timed_runs import Run, runs
 
 PROGRAM = os.environ["IPAMD"]
 MOST = 4_194_304

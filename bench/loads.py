@@ -6,8 +6,8 @@ import sys
 import time
 from dataclasses import dataclass
 
-from full import Connection, request
-from wire import listens
+from bench.full import Connection, request
+from tools.wire import listens
 
 PROCESSORS = os.cpu_count() or 1
 PATH = "/api/ipam/"

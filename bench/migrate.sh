@@ -7,9 +7,9 @@ set -euo pipefail
 top=$(cd "$(dirname "$0")/.." && pwd)
 program=${IPAMD:-$top/crates/ipamd/out/ipamd}
 [ -x "$program" ] || { echo "build the program first: ./ipamd free 10.0.0.0/8 </dev/null" >&2; exit 1; }
-PYTHONPATH=$top/bench exec python3 -B - "$program" "${1:-200000}" "${2:-500000}" "${3:-10000}" <<'PYTHON'
+PYTHONPATH=$top exec python3 -B - "$program" "${1:-200000}" "${2:-500000}" "${3:-10000}" <<'PYTHON'
 import bisect, ipaddress, os, random, resource, shutil, sqlite3, subprocess, sys, tempfile, time
-from wire import answers, request
+from tools.wire import answers, request
 
 program, prefixes, addresses, ranges = sys.argv[1], *map(int, sys.argv[2:5])
 pick = random.Random(16)

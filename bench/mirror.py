@@ -8,8 +8,9 @@ import tempfile
 import threading
 import time
 
-import loads
-from full import EACH, Connection, Server, make, request, text_of
+sys.path.insert(0, os.path.dirname(os.path.dirname(os.path.abspath(__file__))))
+from bench import loads
+from bench.full import EACH, Connection, Server, make, request, text_of
 
 READERS = [1, 4, 16]
 SOME, FULL, ROWS = 10_000, 200_000, 10_000

@@ -1,8 +1,10 @@
 """Claims of AS numbers a second by `poold serve` over a file, beside two ways over PostgreSQL; bench/pools.sh says how."""
+import os
 import sys
 import time
 
-from claim_rates import LOCK, Claims, Session, best_claim, heading, line
+sys.path.insert(0, os.path.dirname(os.path.dirname(os.path.abspath(__file__))))
+from bench.claim_rates import LOCK, Claims, Session, best_claim, heading, line
 
 FIRST, LAST = 4_200_000_000, 4_200_099_999
 TAKEN = {100: [1, 4, 16], 10_000: [1, 4, 16], 90_000: [1]}

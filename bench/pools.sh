@@ -9,7 +9,7 @@ set -euo pipefail
 top=$(cd "$(dirname "$0")/.." && pwd)
 program=${POOLD:-$top/crates/poold/out/poold}
 [ -x "$program" ] || { echo "build the program first: ./build poold" >&2; exit 1; }
-. "$top/bench/need.sh"
+. "$top/tools/need.sh"
 need_module psycopg2 python3-psycopg2
 echo "load: $(uptime | sed 's/.*average: //')"
 exec /usr/bin/python3 -B "$top/bench/pools.py" "$program" "${1:-18341}"

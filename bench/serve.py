@@ -4,8 +4,9 @@ import statistics
 import sys
 import tempfile
 
-from loads import PATH, fill, load, nginx, serve
-from machine import sync_ms
+sys.path.insert(0, os.path.dirname(os.path.dirname(os.path.abspath(__file__))))
+from bench.loads import PATH, fill, load, nginx, serve
+from bench.machine import sync_ms
 
 COUNTS = [1, 4, 16, 32]
 # what is asked: its name, target, method and body

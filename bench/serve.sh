@@ -9,7 +9,7 @@ set -euo pipefail
 top=$(cd "$(dirname "$0")/.." && pwd)
 program=${IPAMD:-$top/crates/ipamd/out/ipamd}
 [ -x "$program" ] || { echo "build the program first: ./ipamd free 10.0.0.0/8 </dev/null" >&2; exit 1; }
-. "$top/bench/need.sh"
+. "$top/tools/need.sh"
 need wrk wrk
 need nginx nginx-light
 exec python3 -B "$top/bench/serve.py" "$program" "${1:-3}" "${2:-18070}" "${RUNS:-1}"

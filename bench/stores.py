@@ -9,9 +9,10 @@ import sys
 import tempfile
 import time
 
-import machine
-from register import timed_once
-from wire import request
+sys.path.insert(0, os.path.dirname(os.path.dirname(os.path.abspath(__file__))))
+from bench import machine
+from bench.register import timed_once
+from tools.wire import request
 
 FULL_PREFIXES, FULL_ADDRESSES, ROWS = 200_000, 500_000, 10_000
 COLUMNS = "prefix vrf status role is_pool mark_utilized description".split()

@@ -6,7 +6,7 @@ import subprocess
 import sys
 import tempfile
 
-from timed_runs import runs
+from bench.timed_runs import runs
 
 PROGRAM = os.environ["IPAMD"]
 MOST = 4_194_304

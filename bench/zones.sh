@@ -7,6 +7,6 @@ set -euo pipefail
 top=$(cd "$(dirname "$0")/.." && pwd)
 export IPAMD=${IPAMD:-$top/crates/ipamd/out/ipamd}
 [ -x "$IPAMD" ] || { echo "build the program first: ./build" >&2; exit 1; }
-. "$top/bench/need.sh"
+. "$top/tools/need.sh"
 need /usr/bin/time time
 exec python3 "$top/bench/zones.py"

@@ -1,6 +1,6 @@
 #!/usr/bin/env python3
 """Writes what pages take from elsewhere. In the crates' pages (docs/crates/): the crates that a crate depends on, in the first paragraph, from crates.txt; and the table
-below `## Mutation tests`, from crates/CRATE/must-fail, which CI tries, and bench/edits/CRATE; what a page says below that table stays. In docs/ARCHITECTURE.md:
+below `## Mutation tests`, from crates/CRATE/must-fail, which CI tries, and mutations/edits/CRATE; what a page says below that table stays. In docs/ARCHITECTURE.md:
 the column `Depends on`.
 
     python3 docs/crate_pages.py            writes them
@@ -26,7 +26,7 @@ def names(folder):
 
 
 def table(crate):
-    rows = [(f"CI (`crates/{crate}/must-fail`)", names(f"crates/{crate}/must-fail")), (f"`bench/edits/{crate}`", names(f"bench/edits/{crate}"))]
+    rows = [(f"CI (`crates/{crate}/must-fail`)", names(f"crates/{crate}/must-fail")), (f"`mutations/edits/{crate}`", names(f"mutations/edits/{crate}"))]
     lines = [f"| {where} | " + ", ".join(f"`{name}`" for name in found) + " |\n" for where, found in rows if found]
     return HEAD + "".join(lines) if lines else "None.\n"
 

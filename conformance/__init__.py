@@ -1,0 +1,1 @@
+"""Tests of the built programs: answers, files, crashes, limits and the commands of the pages."""

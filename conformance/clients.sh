@@ -1,0 +1,81 @@
+#!/usr/bin/env bash
+# The scripts of examples/ and the pictures of docs/, by the built programs (./build, ./build poold; IPAMD=PROGRAM and POOLD=PROGRAM take other ones): curl's
+# day; pynetbox over poold; the moves from NetBox, phpIPAM and a spreadsheet, with what they print and the CSV files that they write; and that docs/layers.svg
+# and docs/tree.svg are still what their scripts draw. Each has a register of its own. What runs behind nginx (pynetbox, Ansible) is in conformance/netbox.sh. It
+# needs Debian's packages curl and python3-pynetbox.   conformance/clients.sh [PORT]
+set -euo pipefail
+top=$(cd "$(dirname "$0")/.." && pwd)
+program=${IPAMD:-$top/crates/ipamd/out/ipamd}
+pools=${POOLD:-$top/crates/poold/out/poold}
+[ -x "$program" ] && [ -x "$pools" ] || { echo "build the programs first: ./build; ./build poold" >&2; exit 1; }
+. "$top/tools/need.sh"
+need curl curl
+/usr/bin/python3 -c 'import pynetbox' 2> /dev/null || { echo "clients: /usr/bin/python3 has no pynetbox: apt-get install python3-pynetbox" >&2; exit 1; }
+export PYTHONDONTWRITEBYTECODE=1
+port=${1:-18490}
+url=http://127.0.0.1:$port
+folder=$(mktemp -d)
+server=
+trap 'for one in $server; do kill "$one" 2>/dev/null || true; done; rm -rf "$folder"' EXIT
+
+fail() {
+    echo "clients: $1" >&2
+    exit 1
+}
+
+listens() {
+    grep -qi ":$(printf %04x "${1:-$port}") 00000000:0000 0A" /proc/net/tcp
+}
+
+# serves a register, in memory or over the file that is told
+start() {
+    "$program" serve --bind "127.0.0.1:$port" --workers 16 "$@" > /dev/null 2> "$folder/errors" < /dev/null &
+    server=$!
+    for _ in $(seq 600); do
+        listens && return
+        kill -0 "$server" 2>/dev/null || fail "it ended: $(cat "$folder/errors")"
+        sleep 0.1
+    done
+    fail "the port $port does not listen"
+}
+
+stop() {
+    kill "$server"
+    wait "$server" 2>/dev/null || true
+    server=
+    while listens; do sleep 0.1; done
+}
+
+# a move twice: its status, what the first says last, and what the second does; and its CSV files
+move() {
+    local source=$1 path=$2 csv=$3 wanted=$4 made=$5 again=$6 status=0
+    python3 "$top/examples/move.py" "$source" "$top/$path" --to "$url" > "$folder/out" 2> "$folder/err" || status=$?
+    [ "$status" = "$wanted" ] && [ "$(tail -n 1 "$folder/out")" = "$made" ] || fail "the move from $source, status $status: $(cat "$folder/out" "$folder/err")"
+    status=0
+    python3 "$top/examples/move.py" "$source" "$top/$path" --csv "$folder/$source" --to "$url" > "$folder/out" 2> "$folder/err" || status=$?
+    [ "$status" = "$wanted" ] && [ "$(tail -n 1 "$folder/out")" = "$again" ] || fail "the second move from $source, status $status: $(cat "$folder/out" "$folder/err")"
+    diff -r "$folder/$source" "$top/$csv" > "$folder/diff" || fail "the CSV files of $source: $(head -n 5 "$folder/diff")"
+}
+
+# a client by pynetbox: its words; its last line is said
+client() {
+    /usr/bin/python3 "$top/examples/$1" "${@:2}" > "$folder/out" 2>&1 || fail "$1: $(cat "$folder/out")"
+    tail -n 1 "$folder/out"
+}
+
+start
+"$top/examples/client_curl.sh" "$url"
+stop
+program=$pools start
+client client_pools.py "$url"
+stop
+start --db "$folder/moved.db"
+move netbox examples/netbox examples/netbox/csv 0 "made 24, present 0, refused 0" "made 0, present 24, refused 0"
+move phpipam examples/phpipam examples/phpipam/csv 1 "made 18, present 0, refused 1" "made 0, present 18, refused 1"
+stop
+"$program" report tree --db "$folder/moved.db" | python3 "$top/docs/tree.py" | cmp - "$top/docs/tree.svg" || fail "docs/tree.svg is not what docs/tree.py draws"
+start
+move spreadsheet examples/spreadsheet.csv examples/spreadsheet-csv 1 "made 23, present 1, refused 1" "made 0, present 24, refused 1"
+stop
+python3 "$top/docs/layers.py" --check
+echo "clients: three moves, twice each, and both pictures as they should be"

@@ -1,0 +1,439 @@
+#!/usr/bin/env python3
+"""The commands of README.md, docs/USING.md, docs/USING-POOLS.md, docs/CLIENTS.md and docs/OPERATING.md, run as they are written in a fresh clone, each with what it has to print. A
+command has to stand in its page, and each indented line of a page has to be a command that was run, a line that the run printed, or one that is
+named at the end with the reason why not. What wants systemd is in conformance/systemd.sh. The clone takes the built program of this folder (IPAMD=PROGRAM
+takes another one); with --build it is built there, the small program first, by the kit's `rt`. It needs curl, socat, dpkg-dev and python3-pynetbox, and
+the ports 8080 and 8081. What asks poold, and the package, is run where that program is built (POOLD=PROGRAM takes another one).
+
+    conformance/pages.py [--build] [--quiet]
+"""
+import glob
+import os
+import re
+import shutil
+import signal
+import sqlite3
+import subprocess
+import sys
+import tempfile
+import time
+from dataclasses import dataclass
+
+TOP = os.path.abspath(os.path.join(os.path.dirname(os.path.abspath(__file__)), ".."))
+BASE, POOLS_BASE = "http://127.0.0.1:8080/api/ipam", "http://127.0.0.1:8081/api/ipam"
+POOLD = os.environ.get("POOLD", os.path.join(TOP, "crates/poold/out/poold"))
+# what the commands of the pages need, with Debian's packages
+NEEDS = {"curl": "curl", "socat": "socat", "dpkg-shlibdeps": "dpkg-dev", "strip": "binutils"}
+# the text that stands behind a command in a page and is none of it
+REMARK = re.compile(r" {2,}# .*$")
+PREFIXES = "prefix,vrf,status\n10.0.0.0/16,,container\n10.0.0.0/24,,active\n10.0.1.0/24,,active\n"
+NETBOX = "ID,Prefix,VRF,Status,Role,Description\n1,10.9.0.0/24,,Active,,first floor\n2,10.9.1.0/24,,Reserved,,\n"
+
+
+@dataclass
+class Step:
+    page: str
+    command: str
+    wanted: str
+    status: int = 0
+    stays: bool = False
+
+
+def readme(command, wanted, **more):
+    return Step("README.md", command, wanted, **more)
+
+
+def using(command, wanted, **more):
+    return Step("docs/USING.md", command, wanted, **more)
+
+
+def operating(command, wanted, **more):
+    return Step("docs/OPERATING.md", command, wanted, **more)
+
+
+def clients(command, wanted, **more):
+    return Step("docs/CLIENTS.md", command, wanted, **more)
+
+
+def pools(command, wanted, **more):
+    return Step("docs/USING-POOLS.md", command, wanted, **more)
+
+
+def file(name, text):
+    return lambda folder: open(os.path.join(folder, name), "w", newline="").write(text)
+
+
+def forget_office(folder):
+    """Removes the register of the last step and its log."""
+    for path in glob.glob(os.path.join(folder, "office.db*")):
+        os.remove(path)
+
+
+def office(rows):
+    """A new register with these rows of some kinds."""
+    def make(folder):
+        forget_office(folder)
+        for kind, text in rows.items():
+            subprocess.run(["./ipamd", "import", kind, "--db", "office.db"], cwd=folder, input=text.encode(), check=True, stdout=subprocess.DEVNULL)
+    return make
+
+
+def first_office(folder):
+    """A register that an older program made, of version 1."""
+    forget_office(folder)
+    with open(os.path.join(TOP, "model/tables_first.sql"), encoding="utf-8") as text, sqlite3.connect(os.path.join(folder, "office.db")) as made:
+        made.executescript(text.read())
+    made.close()
+
+
+def serving(folder):
+    """A register in memory that all following commands ask, until the next one takes its place."""
+    return ["./ipamd", "serve", "--bind", "127.0.0.1:8080", "--workers", "8"]
+
+
+POST = r"""printf 'POST /api/ipam/prefixes/ HTTP/1.1\r\nHost: x\r\nContent-Length: 24\r\n\r\n{"prefix":"10.0.0.0/24"}' | ./ipamd session"""
+MIRROR = "\n".join((
+    r"""{ printf 'POST /api/ipam/prefixes/ HTTP/1.1\r\nHost: x\r\nContent-Length: 24\r\n\r\n{"prefix":"10.0.0.0/24"}'; sleep 2; } |""",
+    "  ./ipamd mirror --bind 127.0.0.1:8080 --readers 2 --connections 1 > operator.out &",
+    "sleep 1",
+    "curl -s 'http://127.0.0.1:8080/api/ipam/prefixes/?least=1'",
+    "curl -s http://127.0.0.1:8080/api/ipam/prefixes/1/"))
+SOCAT = "socat TCP-LISTEN:8080,bind=127.0.0.1,reuseaddr,fork EXEC:'./ipamd session' &"
+TWO = """curl -s -d '{"name":"red"}' http://127.0.0.1:8080/api/ipam/vrfs/ --next -s http://127.0.0.1:8080/api/ipam/vrfs/1/"""
+RED = r'\{"description":"","enforce_unique":true,"id":1,"name":"red","rd":null\}'
+TALK = "\n".join((
+    """curl -s -d '{"name":"red","enforce_unique":false}' $U/vrfs/ \\""",
+    """  --next -s -d '{"prefix":"10.0.0.0/24","vrf":1}' $U/prefixes/ \\""",
+    """  --next -s -d '{"prefix":"10.0.0.0/24","vrf":1}' $U/prefixes/ \\""",
+    """  --next -s -X PATCH -d '{"enforce_unique":true}' $U/vrfs/1/ \\""",
+    """  --next -s -X DELETE $U/prefixes/2/ \\""",
+    """  --next -s -X PATCH -d '{"enforce_unique":true}' $U/vrfs/1/ \\""",
+    """  --next -s -X DELETE $U/vrfs/1/"""))
+AWK = "\n".join((
+    """awk -F, -v OFS=, 'NR == 1 { for (i = 1; i <= NF; i++) at[$i] = i; print "prefix,vrf,status,role,description"; next }""",
+    """    { print $at["Prefix"], $at["VRF"], tolower($at["Status"]), $at["Role"], $at["Description"] }' netbox.csv > prefixes.csv"""))
+PYTHON = "\n".join((
+    """python3 -c 'import csv, sys""",
+    """rows = csv.DictReader(sys.stdin); out = csv.writer(sys.stdout, lineterminator="\\n"); out.writerow(["prefix", "vrf", "status", "description"])""",
+    """out.writerows([r["Prefix"], r["VRF"], r["Status"].lower(), r["Description"]] for r in rows)' < netbox.csv > prefixes.csv"""))
+KINDS = "vrfs rirs roles aggregates prefixes ip-ranges ip-addresses"
+
+# steps in their order; a function makes a file, or gives the words of a register that serves from there on; None ends what runs
+STEPS = [
+    readme(r"printf '10.0.0.0/24\n10.0.4.0/22\n' | ./ipamd free 10.0.0.0/16", r"\A10\.0\.1\.0/24\n(.*\n){5}10\.0\.128\.0/17\n\Z"),
+    readme("./build", r"\A\Z"),
+    readme("./ipamd serve --bind 127.0.0.1:8080 --workers 4 --db office.db &", "", stays=True),
+    readme("""curl -s -d '{"prefix":"10.0.0.0/24"}' http://127.0.0.1:8080/api/ipam/prefixes/""", r'"id":1,.*"prefix":"10\.0\.0\.0/24"'),
+    readme("""curl -s -d '{}' http://127.0.0.1:8080/api/ipam/prefixes/1/available-ips/ | grep -o '"address":"[^"]*"'""", r'\A"address":"10\.0\.0\.1/24"\n\Z'),
+    None,
+    forget_office,
+    file("assigned.txt", "2001:db8:8000::/33\n"),
+    using("./ipamd free 2001:db8::/32 < assigned.txt", r"\A2001:db8::/33\n\Z"),
+    file("prefixes.csv", "id,prefix,vrf\n1,10.0.0.0/9,\n2,10.128.0.0/10,\n"),
+    using("tail -n +2 prefixes.csv | cut -d, -f2 | ./ipamd free 10.0.0.0/8", r"\A10\.192\.0\.0/10\n\Z"),
+    using("""python3 -c 'import csv, sys; [print(row["prefix"]) for row in csv.DictReader(sys.stdin)]' < prefixes.csv | ./ipamd free 10.0.0.0/8""", r"\A10\.192\.0\.0/10\n\Z"),
+    using(POST, r'\AHTTP/1.1 201 Created\r\n.*"prefix":"10\.0\.0\.0/24"'),
+    using(MIRROR, r'\A\{"count":1,.*"prefix":"10\.0\.0\.0/24".*\}\{"children":0,.*"prefix":"10\.0\.0\.0/24"'),
+    using(SOCAT, "", stays=True),
+    using(TWO, rf"\A{RED}{RED}\Z"),
+    using("U=" + BASE, r"\A\Z"),
+    using(TALK, r'"id":2,.*coincides? with|"code":"coincide","detail":"prefixes 1 and 2 coincide".*"enforce_unique":true.*\{"code":"in_use","detail":"named by prefixes 1"\}\Z'),
+    None,
+    serving,
+    using("""curl -s -d '{"name":"red","rd":"65000:1"}' $U/vrfs/""", r'"id":1,"name":"red","rd":"65000:1"'),
+    using("""curl -s -d '{"prefix":"10.0.0.0/24","vrf":1,"status":"reserved"}' $U/prefixes/""", r'"id":1,.*"prefix":"10\.0\.0\.0/24",.*"value":"reserved"\},"vrf":1\}\Z'),
+    using("""curl -s -d '{"name":"ARIN","slug":"arin"}' $U/rirs/""", r'"id":1,"is_private":false,"name":"ARIN","slug":"arin"'),
+    using("""curl -s -d '{"prefix":"10.0.0.0/8","rir":1}' $U/aggregates/""", r'"family":4,"id":1,"prefix":"10\.0\.0\.0/8","rir":1'),
+    using("""curl -s -d '{"name":"LAN","slug":"lan","weight":500}' $U/roles/""", r'"id":1,"name":"LAN","slug":"lan","weight":500'),
+    using("""curl -s -d '{"start_address":"10.0.0.10/24","end_address":"10.0.0.19/24","role":1}' $U/ip-ranges/""", r'"end_address":"10\.0\.0\.19/24",.*"id":1,.*"role":1,.*"start_address":"10\.0\.0\.10/24"'),
+    using("""curl -s -d '{"address":"10.0.0.1/24","role":"vip","dns_name":"gw.example"}' $U/ip-addresses/""", r'"address":"10\.0\.0\.1/24",.*"dns_name":"gw\.example",.*"id":1,'),
+    using("curl -s $U/vrfs/", r'\A\{"count":1,"next":null,"previous":null,"results":\[\{.*"name":"red"'),
+    using('curl -s "$U/vrfs/?name=red"', r'\A\{"count":1,'),
+    using("curl -s $U/prefixes/1/", r'"prefix":"10\.0\.0\.0/24"'),
+    using('curl -s "$U/rirs/?slug=arin"', r'\A\{"count":1,'),
+    using('curl -s "$U/roles/?name=LAN"', r'\A\{"count":1,'),
+    using('curl -s "$U/aggregates/?family=4&rir_id=1"', r'\A\{"count":1,'),
+    using('curl -s "$U/ip-ranges/?contains=10.0.0.12&status=active"', r'\A\{"count":1,'),
+    using('curl -s "$U/prefixes/?within=10.0.0.0/8&vrf_id=null&limit=100"', r'\A\{"count":0,'),
+    using('curl -s "$U/ip-addresses/?parent=10.0.0.0/24&role=vip"', r'\A\{"count":1,'),
+    using('curl -s "$U/prefixes/?limit=2" --next -s "$U/prefixes/?limit=2&offset=2"', r'\A\{"count":1,"next":null,"previous":null,.*\{"count":1,"next":null,"previous":"/api/ipam/prefixes/\?limit=2&offset=0","results":\[\]\}\Z'),
+    using("""curl -s -X PATCH -d '{"status":"deprecated","vrf":null}' $U/prefixes/1/""", r'"value":"deprecated"\},"vrf":null\}\Z'),
+    using("""curl -s -X PATCH -d '{"rd":"65000:2"}' $U/vrfs/1/""", r'"rd":"65000:2"'),
+    using("""curl -s -X PATCH -d '{"is_private":true}' $U/rirs/1/""", r'"is_private":true'),
+    using("""curl -s -X PATCH -d '{"weight":10}' $U/roles/1/""", r'"weight":10\}'),
+    using("""curl -s -X PATCH -d '{"description":"all that we have"}' $U/aggregates/1/""", r'"description":"all that we have"'),
+    using("""curl -s -X PATCH -d '{"end_address":"10.0.0.29/24"}' $U/ip-ranges/1/""", r'"end_address":"10\.0\.0\.29/24"'),
+    using("""curl -s -X PATCH -d '{"dns_name":"gw2.example"}' $U/ip-addresses/1/""", r'"dns_name":"gw2\.example"'),
+    using('curl -s "$U/prefixes/1/available-prefixes/?limit=10"', r'\A\[\{"family":4,"prefix":"10\.0\.0\.0/24","vrf":null\}\]\Z'),
+    using("curl -s $U/prefixes/1/available-ips/", r'\A\[\{"address":"10\.0\.0\.2/24","family":4,"vrf":null\},'),
+    using("curl -s $U/ip-ranges/1/available-ips/", r'\A\[\{"address":"10\.0\.0\.10/24",'),
+    using("""curl -s -d '{"prefix_length":26}' $U/prefixes/1/available-prefixes/""", r'"prefix":"10\.0\.0\.0/26"'),
+    using("curl -s -d '{}' $U/prefixes/1/available-ips/", r'"address":"10\.0\.0\.2/24"'),
+    using("""curl -s -d '[{"dns_name":"a.example"},{"status":"reserved"}]' $U/ip-ranges/1/available-ips/""", r'\A\[\{"address":"10\.0\.0\.10/24",.*"dns_name":"a\.example".*"address":"10\.0\.0\.11/24",.*"value":"reserved"'),
+    using("""curl -s -d '[{"prefix_length":25},{"prefix_length":25}]' $U/prefixes/1/available-prefixes/""", r'\A\{"code":"no_space","detail":"[^"]*\b1\b[^"]*"\}\Z'),
+    using("curl -s $U/prefixes/1/utilization/", r'\A\{"utilization":\d+\}\Z'),
+    using("curl -s $U/ip-ranges/1/utilization/", r'\A\{"utilization":10\}\Z'),
+    using("""curl -s -X PATCH -d '{"mark_populated":true}' $U/ip-ranges/1/""", r'"mark_populated":true'),
+    using("curl -s $U/aggregates/1/utilization/", r'\A\{"utilization":0\}\Z'),
+    using("curl -s -X DELETE $U/prefixes/1/", r"\A\Z"),
+    using("curl -s -X DELETE $U/rirs/1/", r'\A\{"code":"in_use","detail":"named by aggregates 1"\}\Z'),
+    using("curl -sI $U/vrfs/", r"\AHTTP/1\.1 405 Method Not Allowed\r\n(.*\r\n)*Allow: GET, POST\r\n"),
+    None,
+    using(POST + " --db office.db", r"\AHTTP/1\.1 201 Created\r\n"),
+    using(r"printf 'GET /api/ipam/prefixes/1/ HTTP/1.1\r\nHost: x\r\n\r\n' | ./ipamd session --db office.db", r'\AHTTP/1\.1 200 OK\r\n.*"prefix":"10\.0\.0\.0/24"'),
+    using("./ipamd session --db office.db </dev/null && cp office.db copy.db", r"\A\Z"),
+    using("./ipamd serve --bind 127.0.0.1:8080 --workers 4 --db office.db &", "", stays=True),
+    using("""curl -s -d '{"name":"red"}' http://127.0.0.1:8080/api/ipam/vrfs/""", rf"\A{RED}\Z"),
+    using("curl -s http://127.0.0.1:8080/api/ipam/vrfs/1/", rf"\A{RED}\Z"),
+    None,
+    lambda folder: os.remove(os.path.join(folder, "office.db")),
+    file("prefixes.csv", PREFIXES),
+    using("./ipamd import prefixes --db office.db < prefixes.csv", r"\Acreated 3 present 0\n\Z"),
+    using("./ipamd export prefixes --db office.db > prefixes.csv", r"\A\Z"),
+    using(f"for k in {KINDS}; do ./ipamd export $k --db office.db > $k.csv; done", r"\A\Z"),
+    using(f"for k in {KINDS}; do ./ipamd import $k --db new.db < $k.csv; done", r"\A(created 0 present 0\n){4}created 3 present 0\n(created 0 present 0\n){2}\Z"),
+    using("./ipamd report tree --db office.db", r"\Aglobal\n  10\.0\.0\.0/16 container\n    10\.0\.0\.0/24 active\n    10\.0\.1\.0/24 active\n\Z"),
+    using("./ipamd report utilization --db office.db", r"\A10\.0\.0\.0/16 +global +container +0\n10\.0\.0\.0/24 +global +active +0\n"),
+    using("./ipamd report free --db office.db --prefix 1", r"\A10\.0\.2\.0/23 +512\n"),
+    office({"prefixes": "prefix\n10.0.0.0/24\n10.0.1.0/24\n10.0.1.128/25\n10.0.2.0/24\n"}),
+    using("./ipamd prefix-list --table global --family 4 --style ios --name OFFICE --db office.db",
+          r"\Aip prefix-list OFFICE seq 5 permit 10\.0\.0\.0/23\nip prefix-list OFFICE seq 10 permit 10\.0\.2\.0/24\n\Z"),
+    file("list.txt", "10.0.0.0/24\n10.0.2.0/23\n"),
+    using("./ipamd prefix-check --table global --family 4 --style plain --name OFFICE --db office.db < list.txt", r"\Amissing 10\.0\.1\.0/24\nbeyond 10\.0\.3\.0/24\n\Z"),
+    using("tr -d '\\r' < examples/prefix-lists/ios.txt | grep '^ip prefix-list OFFICE ' | ./ipamd prefix-check --table global --family 4 --style ios --name OFFICE --db office.db", r"\A\Z"),
+    office({"prefixes": "prefix\n192.0.2.0/24\n", "ip-addresses": "address,dns_name\n192.0.2.1/24,www.example.com\n192.0.2.10/24,\n192.0.2.11/24,*.example.com\n"}),
+    using("./ipamd reverse --prefix 1 --db office.db", r"\A1\.2\.0\.192\.in-addr\.arpa\. IN PTR www\.example\.com\.\n\Z"),
+    using("./ipamd reverse --prefix 1 --db office.db | grep '[.]2[.]0[.]192[.]in-addr[.]arpa[.] ' > 2.0.192.names", r"\A\Z"),
+    using("./ipamd reverse-read < 2.0.192.names", r"\Aaddress,dns_name\n192\.0\.2\.1,www\.example\.com\n\Z"),
+    file("netbox.csv", NETBOX),
+    using(AWK, r"\A\Z"),
+    lambda folder: expect(folder, "prefixes.csv", "prefix,vrf,status,role,description\n10.9.0.0/24,,active,,first floor\n10.9.1.0/24,,reserved,,\n"),
+    using(PYTHON, r"\A\Z"),
+    lambda folder: expect(folder, "prefixes.csv", "prefix,vrf,status,description\n10.9.0.0/24,,active,first floor\n10.9.1.0/24,,reserved,\n"),
+    first_office,
+    using("./ipamd migrate --db office.db --populated yes", r"\Amigrated 3\n\Z"),
+    lambda folder: serving(folder) + ["--db", "office.db"],
+    using("""curl -s -X PATCH -d '{"mark_populated":false}' $U/ip-ranges/7/""", r'"id":7,"mark_populated":false'),
+    None,
+    using("./ipamd load 1000 --workers 4", r"\Aclaimed 1000\nfirst 10\.0\.0\.1\nlast 10\.0\.3\.232\npercent 24\nentries 1001\n\Z"),
+    clients("./ipamd serve --bind 127.0.0.1:8080 --workers 4 &", "", stays=True),
+    clients("examples/client_curl.sh http://127.0.0.1:8080", r"client_curl: 23 answers, all as they should be\n\Z"),
+    None,
+    lambda folder: os.remove(os.path.join(folder, "office.db")),
+    operating("./install.sh /usr/local", r"\Ainstalled ipamd [\d.]+: "),
+    operating(r"printf '10.0.0.0/24\n' | ipamd free 10.0.0.0/22", r"\A10\.0\.1\.0/24\n10\.0\.2\.0/23\n\Z"),
+    operating("ipamd serve --bind 127.0.0.1:8080 --workers 16 --db office.db &", "", stays=True),
+    operating("curl -s http://127.0.0.1:8080/api/ipam/prefixes/", r'\A\{"count":0,"next":null,"previous":null,"results":\[\]\}\Z'),
+    None,
+    serving,
+    operating("python3 examples/move.py netbox examples/netbox --to http://127.0.0.1:8080", r"\n?made 24, present 0, refused 0\n\Z"),
+    operating("install -m 755 examples/copy_register.py /usr/local/bin/", r"\A\Z"),
+    operating("copy_register.py http://127.0.0.1:8080 register-$(date +%F).db", r"\Avrfs 1, rirs 0, roles 3, aggregates 0, prefixes 13, ip-ranges 0, ip-addresses 7; place 24\n\Z"),
+    None,
+    serving,
+    operating("python3 examples/move.py phpipam examples/phpipam --to http://127.0.0.1:8080", r"made 18, present 0, refused 1\n", status=1),
+    None,
+    serving,
+    operating("python3 examples/move.py spreadsheet examples/spreadsheet.csv --to http://127.0.0.1:8080", r"made 23, present 1, refused 1\n", status=1),
+    None,
+]
+# the steps that want poold
+POOL_STEPS = [
+    operating("packaging/build-deb.sh", r"\Abuilt \S*/packaging/out/ipamd_[\d.]+_amd64\.deb\n\Z"),
+    pools("./poold serve --bind 127.0.0.1:8081 --workers 4 --db pools.db &", "", stays=True),
+    pools("U=" + POOLS_BASE, r"\A\Z"),
+    pools("""curl -s -d '{"name":"private","start":64512,"end":65534}' $U/asn-ranges/""", r'\A\{"end":65534,"id":1,"name":"private","start":64512\}\Z'),
+    pools("curl -s -d '{}' $U/asn-ranges/1/available-asns/", r'\A\{"asn":64512,"id":1,"range":1\}\Z'),
+    pools("""curl -s -d '{"name":"floor 1","start":100,"end":199}' $U/vlan-groups/""", r'\A\{"end":199,"id":2,"name":"floor 1","start":100\}\Z'),
+    pools("curl -s $U/vlan-groups/", r'\A\[\{"end":199,"id":2,"name":"floor 1","start":100\}\]\Z'),
+    pools("curl -s $U/asn-ranges/", r'\A\[\{"end":65534,"id":1,"name":"private","start":64512\}\]\Z'),
+    pools("curl -s -X DELETE $U/vlan-groups/2/", r"\A\Z"),
+    pools('curl -s "$U/asn-ranges/1/available-asns/?limit=3"', r"\A\[64513,64514,64515\]\Z"),
+    pools("curl -s -d '{}' $U/asn-ranges/1/available-asns/", r'\A\{"asn":64513,"id":2,"range":1\}\Z'),
+    pools("curl -s -d '[{},{}]' $U/asn-ranges/1/available-asns/", r'\A\[\{"asn":64514,"id":3,"range":1\},\{"asn":64515,"id":4,"range":1\}\]\Z'),
+    pools("curl -s $U/asn-ranges/1/asns/", r'\A\[\{"asn":64512,"id":1,"range":1\},.*,\{"asn":64515,"id":4,"range":1\}\]\Z'),
+    pools("curl -s -X DELETE $U/asns/1/", r"\A\Z"),
+    pools("""curl -s -d '{"name":"floor 1","start":100,"end":199}' $U/vlan-groups/""", r'\A\{"end":199,"id":3,"name":"floor 1","start":100\}\Z'),
+    pools("""curl -s -d '{"name":"voice"}' $U/vlan-groups/3/available-vlans/""", r'\A\{"group":3,"id":5,"name":"voice","vid":100\}\Z'),
+    pools("curl -s $U/vlan-groups/3/vlans/", r'\A\[\{"group":3,"id":5,"name":"voice","vid":100\}\]\Z'),
+    pools("curl -s -X DELETE $U/vlans/5/", r"\A\Z"),
+    None,
+    clients("./poold serve --bind 127.0.0.1:8081 --workers 4 &", "", stays=True),
+    clients("/usr/bin/python3 examples/client_pools.py http://127.0.0.1:8081", r"client_pools: all as it should be\n\Z"),
+    None,
+]
+STEPS += POOL_STEPS if os.access(POOLD, os.X_OK) else []
+# lines of a page that are neither run here nor printed by a run, by how they begin, and why
+ELSE = [
+    ("README.md", "rt ci", "the gate"),
+    ("README.md", "./build", "the program is built already, or by --build"),
+    ("docs/USING.md", "row ", "forms of a line"),
+    ("docs/USING.md", "$TTL", "a zone file; conformance/reverse.sh has BIND load such"),
+    ("docs/USING.md", "@ IN", "a zone file; conformance/reverse.sh has BIND load such"),
+    ("docs/USING.md", "$INCLUDE", "a zone file; conformance/reverse.sh has BIND load such"),
+    ("docs/CLIENTS.md", "REQUESTS_CA_BUNDLE", "conformance/netbox.sh runs it, on another port"),
+    ("docs/CLIENTS.md", "apt-get install", "the machine's packages"),
+    ("docs/CLIENTS.md", "ansible-playbook", "conformance/netbox.sh runs it, on another port"),
+    ("docs/OPERATING.md", "curl -s -H", "no NetBox is at hand"),
+    ("docs/OPERATING.md", "apt install", "conformance/systemd.sh runs it"),
+    ("docs/OPERATING.md", "proxy:", "conformance/proxy.sh prints it"),
+    ("docs/OPERATING.md", "systemd:", "conformance/systemd.sh prints it"),
+    ("docs/OPERATING.md", "copies:", "conformance/copies.sh prints it"),
+    ("docs/OPERATING.md", "PATH=", "a line of cron, which conformance/copies.sh runs"),
+    ("docs/OPERATING.md", "30 2 ", "a line of cron, which conformance/copies.sh runs"),
+    ("docs/OPERATING.md", "45 2 ", "a line of cron, which conformance/copies.sh runs"),
+    ("docs/OPERATING.md", "5 * ", "a line of cron, which conformance/copies.sh runs"),
+    ("docs/OPERATING.md", "10 * ", "a line of cron, which conformance/copies.sh runs"),
+    ("docs/OPERATING.md", "15 * ", "a line of cron, which conformance/copies.sh runs"),
+    ("docs/OPERATING.md", "500,001 items", "conformance/full_log.sh prints it"),
+    ("docs/OPERATING.md", "1,000,000 items", "conformance/full_log.sh prints it"),
+    ("docs/OPERATING.md", "the next change", "conformance/full_log.sh prints it"),
+    ("docs/OPERATING.md", "a list: 200", "conformance/full_log.sh prints it"),
+    ("docs/OPERATING.md", "behind a restart", "conformance/full_log.sh prints it"),
+    ("docs/OPERATING.md", "full_log:", "conformance/full_log.sh prints it"),
+    ("docs/OPERATING.md", "HTTP/1.1 507", "conformance/full_log.sh sees it"),
+    ("docs/OPERATING.md", '{"code":"limit"', "conformance/full_log.sh sees it"),
+] + ([] if os.access(POOLD, os.X_OK) else [
+    ("docs/USING-POOLS.md", "", "poold is not built"),
+    ("docs/OPERATING.md", "packaging/build-deb.sh", "poold is not built"),
+    ("docs/CLIENTS.md", "./poold", "poold is not built"),
+    ("docs/CLIENTS.md", "/usr/bin/python3 examples/client_pools.py", "poold is not built"),
+])
+
+
+def expect(folder, name, text):
+    with open(os.path.join(folder, name)) as found:
+        if (told := found.read()) != text:
+            sys.exit(f"pages: {name} is {told!r}")
+
+
+def lines_of(page):
+    """The indented lines of a page that stand behind an empty line or one another, without the remarks behind them."""
+    found, open_to = [], True
+    with open(os.path.join(TOP, page), encoding="utf-8") as text:
+        for line in text:
+            open_to = not line.strip() or open_to and line.startswith("    ")
+            if open_to and line.strip():
+                found.append(REMARK.sub("", line.rstrip("\n"))[4:])
+    return found
+
+
+def listens():
+    with open("/proc/net/tcp") as table:
+        return any(re.search(" 0100007F:1F9[01] 00000000:0000 0A", line) for line in table)
+
+
+class Folder:
+    """A fresh clone, and what runs in it."""
+
+    def __init__(self, path, build):
+        self.path, self.running = path, []
+        subprocess.run(["git", "clone", "-q", TOP, path], check=True)
+        self.env = {**os.environ, "U": BASE, "PATH": f"{path}/here/bin:" + os.environ["PATH"], "PYTHONDONTWRITEBYTECODE": "1"}
+        self.program = f"{path}/crates/ipamd/out/ipamd"
+        if not build:
+            os.makedirs(os.path.dirname(self.program))
+            shutil.copy(os.environ.get("IPAMD", os.path.join(TOP, "crates/ipamd/out/ipamd")), self.program)
+            os.chmod(self.program, 0o755)
+        if os.access(POOLD, os.X_OK):
+            os.makedirs(f"{path}/crates/poold/out")
+            shutil.copy(POOLD, f"{path}/crates/poold/out/poold")
+            os.chmod(f"{path}/crates/poold/out/poold", 0o755)
+
+    def start(self, words):
+        self.running.append(subprocess.Popen(words, cwd=self.path, env=self.env, stdin=subprocess.DEVNULL, stdout=subprocess.DEVNULL, start_new_session=True))
+        for _ in range(100):
+            if listens():
+                return
+            time.sleep(0.1)
+        sys.exit(f"pages: the port 8080 or 8081 does not listen: {words}")
+
+    def end(self):
+        for child in self.running:
+            os.killpg(child.pid, signal.SIGKILL)
+            child.wait()
+        self.running = []
+        while listens():
+            time.sleep(0.1)
+
+    def run(self, step):
+        """What it prints."""
+        if step.stays:
+            self.start(["bash", "-c", "exec " + step.command.removesuffix(" &")])
+            return ""
+        # nothing is written outside the clone
+        command = step.command.replace("/usr/local", f"{self.path}/here")
+        env = {**self.env, "U": POOLS_BASE} if step.page == "docs/USING-POOLS.md" else self.env
+        done = subprocess.run(["bash", "-c", command], cwd=self.path, env=env, stdin=subprocess.DEVNULL, capture_output=True, timeout=1800)
+        told = (done.stdout.decode() + done.stderr.decode()).replace(f"{self.path}/here", "/usr/local")
+        told = re.sub(r"^ipamd: (proving and building .*|built|the whole program is not built.*|\d+ of \d+ crates proved.*)\n", "", told, flags=re.M)
+        if done.returncode != step.status or not re.search(step.wanted, told, re.S):
+            sys.exit(f"pages: {step.page}: {step.command}\nstatus {done.returncode}, printed\n{told}\nwanted {step.wanted}")
+        return told
+
+
+def left_over(pages, steps, told):
+    """The lines of the pages that no step has and no step printed, each with its page; and how many stand in conformance/systemd_steps.sh."""
+    with open(os.path.join(TOP, "conformance/systemd_steps.sh")) as text:
+        systemd = text.read().replace("\\\\n", "\\n").replace('\\"', '"').replace("\\$", "$")
+    left, there = [], 0
+    for page, lines in pages.items():
+        known = {line for step in steps if step.page == page for line in step.command.split("\n")}
+        printed = "\n".join(told[page]).replace("\r", "")
+        for line in lines:
+            if line in known or line.strip() in printed:
+                continue
+            if page == "docs/OPERATING.md" and (line in systemd or line.replace("2026-11-28", "$today") in systemd):
+                there += 1
+                continue
+            reason = next((why for where, begin, why in ELSE if where == page and line.startswith(begin)), None)
+            left.append((page, line, reason))
+    return left, there
+
+
+def check_needs():
+    for command, package in NEEDS.items():
+        if shutil.which(command) is None:
+            sys.exit(f"pages: {command} is missing: apt-get install {package}")
+    if subprocess.run(["/usr/bin/python3", "-c", "import pynetbox"], stderr=subprocess.DEVNULL).returncode != 0:
+        sys.exit("pages: /usr/bin/python3 has no pynetbox: apt-get install python3-pynetbox")
+
+
+def main():
+    check_needs()
+    path = tempfile.mkdtemp()
+    folder = Folder(os.path.join(path, "ipamd"), "--build" in sys.argv[1:])
+    pages = {page: lines_of(page) for page in ("README.md", "docs/USING.md", "docs/USING-POOLS.md", "docs/CLIENTS.md", "docs/OPERATING.md")}
+    told, steps = {page: [] for page in pages}, [step for step in STEPS if isinstance(step, Step)]
+    try:
+        for step in STEPS:
+            if step is None:
+                folder.end()
+            elif not isinstance(step, Step):
+                words = step(folder.path)
+                if isinstance(words, list):
+                    folder.start(words)
+            else:
+                if any(line not in pages[step.page] for line in step.command.split("\n")):
+                    sys.exit(f"pages: not in {step.page}: {step.command}")
+                printed = folder.run(step)
+                told[step.page].append(printed)
+                if step is steps[0] and "--build" in sys.argv[1:]:
+                    # the first command built the small program; a server is to listen at once
+                    subprocess.run(["./build"], cwd=folder.path, check=True)
+                if "--quiet" not in sys.argv[1:]:
+                    first = printed.split("\n")[0].strip()
+                    print(f"{step.page}: {step.command.splitlines()[0]}\n    status {step.status}: {first[:160]}", flush=True)
+    finally:
+        folder.end()
+        shutil.rmtree(path, ignore_errors=True)
+    left, there = left_over(pages, steps, told)
+    for page, line, reason in left:
+        print(f"{page}: not run: {line}: {reason or 'NO REASON'}")
+    if any(reason is None for _, _, reason in left):
+        sys.exit("pages: lines without a reason")
+    print(f"pages: {len(steps)} commands as written, each with what it is to print; {there} lines are those of conformance/systemd.sh")
+
+
+if __name__ == "__main__":
+    main()

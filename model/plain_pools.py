@@ -1,0 +1,263 @@
+"""Pools of numbers once more, as plainly as it can be said: rows are dicts in lists, a rule goes over all rows, and nothing is kept beside
+them. It was written from the rules alone and not from the sources of `poold`, so that it may disagree with it: `conformance/agree.sh poold`
+compares the two byte for byte.
+
+It reads a stream of HTTP/1.1 requests and writes the stream of answers, as `poold session` does without rows at first:
+
+    python3 model/plain_pools.py < requests > answers        the answers to a stream
+    python3 model/plain_pools.py --rows                      checks it by rows that were written by hand
+
+Heads are taken to be well formed, as in model/plain_register.py, which has what both read and write of HTTP.
+"""
+import itertools
+import json
+import os
+import re
+import sys
+
+sys.path.insert(0, os.path.dirname(os.path.dirname(os.path.abspath(__file__))))
+from model.plain_register import MOST_ITEMS, MOST_LOG, Service, converse, limit_refused
+from model.plain_texts import MOST_ID, REQUIRED, Refused, a_number, a_text, limit_of, read_members, read_query
+
+# the greatest number of a range, and how many rows there may be of both kinds together
+MOST_NUMBER = {"asn": 4294967295, "vlan": 4094}
+MOST_RANGES, MOST_MEMBERS = 1000, 100000
+# of each kind: its ranges and its members, as paths name them, and the member that says of what range a member is, and its number
+WORDS = {"asn": ("asn-ranges", "asns", "range", "asn"), "vlan": ("vlan-groups", "vlans", "group", "vid")}
+RANGE = [("name", a_text(1, 100), REQUIRED), ("start", a_number(0, 4294967295), REQUIRED), ("end", a_number(0, 4294967295), REQUIRED)]
+ITEM = {"asn": [], "vlan": [("name", a_text(1, 100), REQUIRED)]}
+
+
+class Pools:
+    """The rows, their rules and the calls. What is refused is raised, and leaves all as it was."""
+
+    def __init__(self):
+        self.ranges, self.members = [], []
+        self.next_range, self.next_member = 1, 1
+        self.place, self.spent = 0, 0
+
+    def absent(self, number):
+        return Refused(404, "not_found", f"{number} is not there", asked=True)
+
+    def range_of(self, kind, number):
+        found = [row for row in self.ranges if row["id"] == number and row["kind"] == kind]
+        if not found:
+            raise self.absent(number)
+        return found[0]
+
+    def kind_of(self, member):
+        return next(row["kind"] for row in self.ranges if row["id"] == member["range"])
+
+    def check_room(self, which, rows, most, next_id, count):
+        if len(rows) + count > most:
+            raise limit_refused(which, most)
+        if next_id + count > MOST_ID + 1:
+            raise limit_refused("ids", MOST_ID)
+        self.check_log(count)
+
+    def check_log(self, count):
+        if self.spent + count > MOST_LOG:
+            raise limit_refused("log", MOST_LOG)
+
+    def accept(self, count=1):
+        self.place += 1
+        self.spent += count
+
+    # -- the calls
+
+    def add_range(self, kind, draft):
+        for row in self.ranges:
+            if row["kind"] == kind and row["name"] == draft["name"]:
+                raise Refused(400, "name_taken", f"the name is that of {row['id']}", asked=True)
+        if not 1 <= draft["start"] <= draft["end"] <= MOST_NUMBER[kind]:
+            raise Refused(400, "bounds", "first and last do not fit", asked=True)
+        self.check_room("ranges", self.ranges, MOST_RANGES, self.next_range, 1)
+        row = dict(draft, id=self.next_range, kind=kind)
+        self.ranges.append(row)
+        self.next_range += 1
+        self.accept()
+        return self.range_view(row)
+
+    def cut_range(self, kind, number):
+        row = self.range_of(kind, number)
+        held = [member["id"] for member in self.members if member["range"] == number]
+        if held:
+            raise Refused(409, "in_use", f"named by member {min(held)}", asked=True)
+        self.check_log(1)
+        self.ranges.remove(row)
+        self.accept()
+
+    def cut_member(self, kind, number):
+        found = [member for member in self.members if member["id"] == number and self.kind_of(member) == kind]
+        if not found:
+            raise self.absent(number)
+        self.check_log(1)
+        self.members.remove(found[0])
+        self.accept()
+
+    def free(self, row):
+        """The free numbers of a range, in order. No two ranges of ASNs give out one number; each group of VLANs has its own numbers."""
+        if row["kind"] == "asn":
+            pool = {one["id"] for one in self.ranges if one["kind"] == "asn"}
+        else:
+            pool = {row["id"]}
+        taken = {member["number"] for member in self.members if member["range"] in pool}
+        return (number for number in range(row["start"], row["end"] + 1) if number not in taken)
+
+    def available(self, kind, number, limit):
+        return list(itertools.islice(self.free(self.range_of(kind, number)), limit))
+
+    def claim(self, kind, number, items):
+        row = self.range_of(kind, number)
+        if len(items) > MOST_ITEMS:
+            raise limit_refused("claims", MOST_ITEMS)
+        found = list(itertools.islice(self.free(row), len(items)))
+        if len(found) < len(items):
+            raise Refused(409, "no_space", f"no space for claim {len(found)}", asked=True)
+        self.check_room("members", self.members, MOST_MEMBERS, self.next_member, len(items))
+        made = [{"id": self.next_member + place, "range": number, "number": one, "name": item.get("name", "")}
+                for place, (one, item) in enumerate(zip(found, items))]
+        self.members += made
+        self.next_member += len(made)
+        self.accept(len(made))
+        return [self.member_view(kind, member) for member in made]
+
+    # -- what is answered
+
+    def range_view(self, row):
+        return {name: row[name] for name in ("end", "id", "name", "start")}
+
+    def member_view(self, kind, member):
+        _, _, range_name, number_name = WORDS[kind]
+        seen = {"id": member["id"], range_name: member["range"], number_name: member["number"]}
+        return dict(seen, name=member["name"]) if kind == "vlan" else seen
+
+    def list_ranges(self, kind):
+        return [self.range_view(row) for row in self.ranges if row["kind"] == kind]
+
+    def list_members(self, kind, number):
+        self.range_of(kind, number)
+        return [self.member_view(kind, member) for member in self.members if member["range"] == number]
+
+
+class PoolService(Service):
+    """The paths of the pools, and what a request is answered."""
+
+    def __init__(self):
+        self.register = Pools()
+
+    def route(self, path):
+        """The kind, what is named, its id or None, and what is asked of it; and the methods of the path."""
+        match = re.fullmatch(r"/api/ipam/([a-z-]+)/(?:([1-9][0-9]{0,9})/(?:([a-z-]+)/)?)?", path)
+        if match and not (match[2] and int(match[2]) > MOST_ID + 1):
+            number = match[2] and int(match[2])
+            for kind, (ranges, members, _, _) in WORDS.items():
+                parts = {(ranges, False, None): ["GET", "POST"], (ranges, True, None): ["DELETE"], (ranges, True, f"available-{members}"): ["GET", "POST"],
+                         (ranges, True, members): ["GET"], (members, True, None): ["DELETE"]}
+                methods = parts.get((match[1], number is not None, match[3]))
+                if methods:
+                    return kind, match[1] == ranges, number, match[3], methods
+        raise Refused(404, "no_route", "no such path")
+
+    def answer(self, method, target, body):
+        path, _, query = target.partition(b"?")
+        kind, is_range, number, asked, methods = self.route(path.decode("latin-1"))
+        if method not in methods:
+            raise Refused(405, "method", "the path does not have this method", allow=methods)
+        pools = self.register
+        if method == "DELETE":
+            (pools.cut_range if is_range else pools.cut_member)(kind, number)
+            return 204, None
+        if number is None:
+            if method == "GET":
+                return 200, pools.list_ranges(kind)
+            return 201, pools.add_range(kind, read_members(self.read_object(body), RANGE, whole=True))
+        if not asked.startswith("available-"):
+            return 200, pools.list_members(kind, number)
+        if method == "GET":
+            return 200, pools.available(kind, number, limit_of(read_query(query), 50))
+        items, as_list = self.read_items(body, ITEM[kind])
+        made = pools.claim(kind, number, items)
+        return 201, made if as_list else made[0]
+
+
+# ---- rows that were written by hand: what is asked, and the status and the body that are wanted
+
+ROWS = [
+    ("POST", "asn-ranges/", {"name": "a", "start": 64512, "end": 64514}, 201, {"end": 64514, "id": 1, "name": "a", "start": 64512}),
+    ("POST", "asn-ranges/1/available-asns/", [{}, {}], 201, [{"asn": 64512, "id": 1, "range": 1}, {"asn": 64513, "id": 2, "range": 1}]),
+    ("POST", "asn-ranges/", {"name": "b", "start": 64513, "end": 64515}, 201, {"end": 64515, "id": 2, "name": "b", "start": 64513}),
+    ("GET", "asn-ranges/2/available-asns/", None, 200, [64514, 64515]),
+    ("GET", "asn-ranges/2/available-asns/?limit=1", None, 200, [64514]),
+    ("POST", "asn-ranges/2/available-asns/", [{}, {}, {}], 409, {"code": "no_space", "detail": "no space for claim 2"}),
+    ("POST", "vlan-groups/", {"name": "a", "start": 1, "end": 4094}, 201, {"end": 4094, "id": 3, "name": "a", "start": 1}),
+    ("POST", "vlan-groups/3/available-vlans/", {"name": "voice"}, 201, {"group": 3, "id": 3, "name": "voice", "vid": 1}),
+    ("POST", "vlan-groups/", {"name": "b", "start": 1, "end": 2}, 201, {"end": 2, "id": 4, "name": "b", "start": 1}),
+    ("POST", "vlan-groups/4/available-vlans/", [{"name": "voice"}], 201, [{"group": 4, "id": 4, "name": "voice", "vid": 1}]),
+    ("GET", "vlan-groups/3/vlans/", None, 200, [{"group": 3, "id": 3, "name": "voice", "vid": 1}]),
+    ("GET", "asn-ranges/3/asns/", None, 404, {"code": "not_found", "detail": "3 is not there"}),
+    ("GET", "asn-ranges/3/vlans/", None, 404, {"code": "no_route", "detail": "no such path"}),
+    ("GET", "asn-ranges/9/available-asns/?limit=x", None, 400, {"code": "field", "detail": "limit is missing or malformed"}),
+    ("GET", "asn-ranges/1/", None, 405, {"code": "method", "detail": "the path does not have this method"}),
+    ("POST", "asn-ranges/", {"name": "a", "start": 0, "end": 1}, 400, {"code": "name_taken", "detail": "the name is that of 1"}),
+    ("POST", "asn-ranges/", {"name": "c", "start": 0, "end": 1}, 400, {"code": "bounds", "detail": "first and last do not fit"}),
+    ("POST", "asn-ranges/", {"name": "c", "start": 2, "end": 1}, 400, {"code": "bounds", "detail": "first and last do not fit"}),
+    ("POST", "vlan-groups/", {"name": "c", "start": 1, "end": 4095}, 400, {"code": "bounds", "detail": "first and last do not fit"}),
+    ("POST", "vlan-groups/", {"name": "c", "start": 1, "end": 4294967296}, 400, {"code": "field", "detail": "end is missing or malformed"}),
+    ("POST", "vlan-groups/", {"name": "c", "start": 1.0, "end": 2}, 400, {"code": "field", "detail": "start is missing or malformed"}),
+    ("POST", "vlan-groups/", {"start": -1}, 400, {"code": "field", "detail": "name is missing or malformed"}),
+    ("POST", "vlan-groups/4/available-vlans/", {}, 400, {"code": "field", "detail": "name is missing or malformed"}),
+    ("POST", "asn-ranges/1/available-asns/", [], 400, {"code": "field", "detail": "body is missing or malformed"}),
+    ("POST", "asn-ranges/1/available-asns/", [5], 400, {"code": "bad_json", "detail": "the body is not the JSON that is asked for"}),
+    ("POST", "asn-ranges/9/available-asns/", [{}] * 1001, 404, {"code": "not_found", "detail": "9 is not there"}),
+    ("POST", "asn-ranges/1/available-asns/", [{}] * 1001, 507, {"code": "limit", "detail": "claims would exceed 1000"}),
+    ("POST", "asn-ranges/1/available-asns/", {"name": 5}, 201, {"asn": 64514, "id": 5, "range": 1}),
+    ("DELETE", "asn-ranges/1/", None, 409, {"code": "in_use", "detail": "named by member 1"}),
+    ("DELETE", "vlans/5/", None, 404, {"code": "not_found", "detail": "5 is not there"}),
+    ("DELETE", "asns/1/", None, 204, None),
+    ("DELETE", "asns/1/", None, 404, {"code": "not_found", "detail": "1 is not there"}),
+    ("GET", "asn-ranges/1/asns/", None, 200, [{"asn": 64513, "id": 2, "range": 1}, {"asn": 64514, "id": 5, "range": 1}]),
+    ("POST", "asn-ranges/1/available-asns/", {}, 201, {"asn": 64512, "id": 6, "range": 1}),
+    ("DELETE", "vlans/4/", None, 204, None),
+    ("DELETE", "vlan-groups/4/", None, 204, None),
+    ("GET", "vlan-groups/", None, 200, [{"end": 4094, "id": 3, "name": "a", "start": 1}]),
+]
+
+
+def request_of(method, path, body=None):
+    text = b"" if body is None else json.dumps(body, separators=(",", ":")).encode()
+    length = f"Content-Length: {len(text)}\r\n" if text else ""
+    return f"{method} /api/ipam/{path} HTTP/1.1\r\nHost: x\r\n{length}\r\n".encode() + text
+
+
+def check_row(row, place, answer):
+    """Says what is not as the row has it, and else gives the place of what follows."""
+    method, path, body, status, wanted = row
+    head, _, found = answer.partition(b"\r\n\r\n")
+    if (int(head.split(b" ")[1]), json.loads(found) if found else None) != (status, wanted):
+        sys.exit(f"plain_pools: {method} {path} {body}: {answer!r} and not {status} {wanted!r}")
+    has_place = not (status >= 400 and wanted["code"] in ("no_route", "method", "bad_json", "field"))
+    if re.findall(rb"\r\nIpam-Place: ([0-9]+)", head) != [str(place).encode()] * has_place:
+        sys.exit(f"plain_pools: {method} {path} {body}: another place than {place}: {answer!r}")
+    return place + (status in (201, 204))
+
+
+def conversation():
+    """The requests of the rows and the answers to them, which are checked."""
+    requests = [request_of(*row[:3]) for row in ROWS]
+    answers, place = list(converse(b"".join(requests), PoolService())), 0
+    for row, answer in zip(ROWS, answers, strict=True):
+        place = check_row(row, place, answer)
+    return requests, answers
+
+
+def main():
+    if sys.argv[1:] == ["--rows"]:
+        print(f"plain_pools: {len(conversation()[0])} rows are as they should be")
+        return
+    for answer in converse(sys.stdin.buffer.read(), PoolService()):
+        sys.stdout.buffer.write(answer)
+
+
+if __name__ == "__main__":
+    main()

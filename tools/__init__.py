@@ -1,0 +1,1 @@
+"""What the other folders share, and what helps those who prove."""
