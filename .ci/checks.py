@@ -8,7 +8,7 @@ import subprocess
 import sys
 
 TOP = os.path.dirname(os.path.dirname(os.path.abspath(__file__)))
-SCRIPTS = (".ci", "bench", "docs", "packaging", "examples", "netbox", "web")
+SCRIPTS = (".ci", "bench", "conformance", "docs", "examples", "model", "mutations", "netbox", "packaging", "tools", "web")
 # Each prints what is not up to date, and how it is made.
 MADE = (
     ["docs/layers.py", "--check"],
@@ -30,9 +30,8 @@ def run(*words):
 
 def documents():
     """The OpenAPI documents that are not what is written."""
-    sys.path.insert(0, f"{TOP}/bench")
-    import openapi_document
-    import openapi_pools_document
+    sys.path.insert(0, TOP)
+    from model import openapi_document, openapi_pools_document
     made = {
         "docs/openapi.json": (openapi_document.written(), "conformance/openapi.py --write"),
         "docs/openapi-pools.json": (openapi_document.written(openapi_pools_document.document()), "conformance/openapi_pools.py --write"),

@@ -8,6 +8,7 @@ import time
 from dataclasses import dataclass, field
 
 HERE = os.path.dirname(os.path.abspath(__file__))
+FOLDERS = [HERE, os.path.join(HERE, "..", "conformance")]
 # the program of number pools; what wants it is not run where it is not built
 POOLD = os.environ.get("POOLD", os.path.join(HERE, "..", "crates", "poold", "out", "poold"))
 
@@ -72,7 +73,7 @@ SAFETY = ["hostile", "fuzz", "growths", "kill", "kill_pools", "proxy", "limits",
 def run(bench, words):
     """What it prints, its status (or None where the time was over), and the seconds; all that it started is ended with it."""
     start = time.monotonic()
-    command = [os.path.join(HERE, words[0]), *words[1:]]
+    command = [next(os.path.join(it, words[0]) for it in FOLDERS if os.path.exists(os.path.join(it, words[0]))), *words[1:]]
     child = subprocess.Popen(command, stdin=subprocess.DEVNULL, stdout=subprocess.PIPE, stderr=subprocess.STDOUT, text=True, errors="replace",
                              start_new_session=True)
     try:

@@ -61,13 +61,18 @@ def written():
     return HEAD.format(len(pairs), "".join(literal(asked) for asked, _ in pairs), "".join(literal(told) for _, told in pairs))
 
 
+def without_comment(text):
+    """The text without its first line, which says what makes it: nothing is proved again for that."""
+    return text.split("\n", 1)[1]
+
+
 def main():
     if sys.argv[1:] == ["--write"]:
         with open(PLACE, "w", encoding="utf-8") as file:
             file.write(written())
         return
     with open(PLACE, encoding="utf-8") as file:
-        if file.read() != written():
+        if without_comment(file.read()) != without_comment(written()):
             sys.exit("crates/poold_trial/src/conversation.rt is not what model/pool_conversation.py --write writes")
 
 

@@ -19,7 +19,7 @@ import sys
 import tempfile
 
 TOP = os.path.abspath(os.path.join(os.path.dirname(os.path.abspath(__file__)), ".."))
-FOLDER = os.path.join(TOP, "bench", "definitions")
+FOLDER = os.path.join(TOP, "mutations", "definitions")
 
 
 def lines_of_crates():

@@ -29,13 +29,14 @@ def files_below(folder):
             yield os.path.join(at, name)
 
 
-def sum_of(*folders, ending=""):
+def sum_of(*folders, ending="", below=TOP):
+    """The checksum of the files below these folders, with their paths below another one."""
     total = hashlib.sha256()
     for folder in folders:
         for path in files_below(folder):
             if path.endswith(ending):
                 with open(path, "rb") as file:
-                    total.update(repr((os.path.relpath(path, TOP), file.read())).encode())
+                    total.update(repr((os.path.relpath(path, below), file.read())).encode())
     return total
 
 
@@ -69,7 +70,7 @@ def all_below(crate):
 def checksums(crate):
     """The checksum of the crate and its edits, and that of the crates below and the kit."""
     own = sum_of(*sources(crate))
-    own.update(sum_of(f"{EDITS}/{crate}", ending=".edit").digest())
+    own.update(sum_of(f"{EDITS}/{crate}", ending=".edit", below=EDITS).digest())
     below = hashlib.sha256(kit().encode())
     for name in all_below(crate):
         below.update(sum_of(*sources(name)).digest())
