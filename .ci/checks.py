@@ -1,9 +1,13 @@
 #!/usr/bin/env python3
-"""The checks of the repository that take seconds: what is made from something else is up to date, mutation tests apply, and scripts can be read.
+"""The checks of the repository that take seconds: what is made from something else is up to date, mutation tests apply, scripts can be read, and what pages and
+scripts name is there.
 
 usage: .ci/checks.py      prints what is wrong, and what should be looked at; its status is 1 if something is wrong
 """
+import importlib.machinery
+import importlib.util
 import os
+import re
 import subprocess
 import sys
 
@@ -19,27 +23,20 @@ MADE = (
     ["mutations/edit_files.py"],
     ["mutations/planted.py", "--texts"],
     ["model/pool_conversation.py"],
+    ["model/documents.py"],
 )
 SHELLS = {"sh": "sh", "bash": "bash"}
+# The folders whose programs are started by their `run`.
+FOLDERS = ("bench", "conformance", "model", "mutations", "tools")
+# A file or a program of one of them, where a page or a script names it. (After a `$`, a `/`, a `.` or a `-` it is another one.)
+NAMED = re.compile(rf"(?<![\w$./-])({'|'.join(FOLDERS)})/(run (?:--)?\w+|[\w.]*\w)")
+# Written when mutation tests are tried.
+MADE_LATER = ("mutations/edits_reasons.txt",)
 
 
 def run(*words):
     ran = subprocess.run(words, cwd=TOP, capture_output=True, text=True, errors="replace")
     return ran.returncode, (ran.stdout + ran.stderr).strip()
-
-
-def documents():
-    """The OpenAPI documents that are not what is written."""
-    sys.path.insert(0, TOP)
-    from model import openapi_document, openapi_pools_document
-    made = {
-        "docs/openapi.json": (openapi_document.written(), "conformance/openapi.py --write"),
-        "docs/openapi-pools.json": (openapi_document.written(openapi_pools_document.document()), "conformance/openapi_pools.py --write"),
-    }
-    for path, (text, how) in made.items():
-        with open(f"{TOP}/{path}", encoding="utf-8") as file:
-            if file.read() != text:
-                yield f"{path} is not what {how} writes"
 
 
 def language(path):
@@ -73,13 +70,43 @@ def unreadable():
                 yield said
 
 
+def programs():
+    """What can be started, by folder."""
+    found = {}
+    for folder in FOLDERS:
+        loader = importlib.machinery.SourceFileLoader(f"{folder}_run", f"{TOP}/{folder}/run")
+        module = importlib.util.module_from_spec(importlib.util.spec_from_loader(loader.name, loader))
+        loader.exec_module(module)
+        found[folder] = {it.name: it for it in module.PROGRAMS}
+    return found
+
+
+def not_there():
+    """What pages and scripts name of the folders of programs, and is not there; and the programs whose file is not there."""
+    there = programs()
+    for folder, its in there.items():
+        for program in its.values():
+            if not os.path.exists(f"{TOP}/{folder}/{program.file}"):
+                yield f"{folder}/run {program.name}: there is no {folder}/{program.file}"
+    _, listed = run("git", "ls-files", "--", "*.md", *SCRIPTS)
+    for path in listed.splitlines():
+        if os.path.islink(f"{TOP}/{path}") or path.endswith((".png", ".edit", ".control")) or not os.path.isfile(f"{TOP}/{path}"):
+            continue
+        with open(f"{TOP}/{path}", encoding="utf-8", errors="replace") as file:
+            text = file.read()
+        for folder, name in NAMED.findall(text):
+            is_there = name[4:] in there[folder] or name[4:].startswith("--") if name.startswith("run ") else os.path.exists(f"{TOP}/{folder}/{name}")
+            if not is_there and f"{folder}/{name}" not in MADE_LATER:
+                yield f"{path}: there is no {folder}/{name}"
+
+
 def main():
+    sys.dont_write_bytecode = True
     wrong = []
     for words in MADE:
         status, said = run(sys.executable, *words)
         if status:
             wrong.append(said or f"{words[0]} ends with status {status}")
-    wrong += documents()
     wrong += unreadable()
     _, left = run(sys.executable, "mutations/edits_tried.py", "left")
     if left:

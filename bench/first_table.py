@@ -1,7 +1,7 @@
 """The figures that have a peer, all in one run: README's table, docs/figures.svg and the first table of docs/PERFORMANCE.md are made of the file that this
-writes, docs/figures.json. bench/all.sh --first-table runs it, and then docs/figures.py. Nothing else is to run beside it.
+writes, docs/figures.json. docs/figures.py then makes the pages of it. Nothing else is to run at that time.
 
-    bench/first_table.py [--quick] [--out FILE]      --quick: few small rounds, whose figures say nothing; it writes no file but one that is named
+    bench/run first_table [--quick] [--out FILE]      --quick: few small rounds, whose figures say nothing; it writes no file but one that is named
 """
 import argparse
 import json
@@ -201,14 +201,13 @@ def main():
     words.add_argument("--quick", action="store_true")
     words.add_argument("--out")
     given = words.parse_args()
-    for program in (PROGRAM, POOLD):
-        if not os.access(program, os.X_OK):
-            sys.exit(f"build the programs first: ./build; ./build poold ({program} is not there)")
     begun, path = time.monotonic(), given.out or (None if given.quick else os.path.join(TOP, "docs/figures.json"))
     table = measure(QUICK if given.quick else Size())
     if path:
         with open(path, "w", encoding="utf-8") as file:
             file.write(json.dumps(table, indent=1, ensure_ascii=False) + "\n")
+    if path and not given.out:
+        subprocess.run([sys.executable, os.path.join(TOP, "docs/figures.py")], check=True)
     print(f"first_table: {len(table['rows'])} figures in {time.monotonic() - begun:.0f} s" + (f", in {path}" if path else ""))
 
 

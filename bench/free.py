@@ -1,4 +1,8 @@
-"""Inputs from a seed, and `ipamd free` beside its peers on them; see free.sh."""
+"""Times `ipamd free` beside Debian's `iprange --except` (IPv4) and Python's netaddr on inputs made from a seed, checks that the blocks are the same, and
+prints times, peak memory and ratios.
+
+    bench/run free [LINES [SEED]]
+"""
 import ipaddress
 import os
 import random

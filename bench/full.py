@@ -1,4 +1,10 @@
-"""A full register over HTTP: what its calls take; bench/full.sh says what is measured."""
+"""A full register over HTTP, in memory and with one worker: 200,000 prefixes with one role and 500,000 addresses in no order are made over one connection
+after another, a thousand requests each. Then, each the best of some: a filtered page of few addresses and one of many, a page of prefixes, a figure of a
+/8, a claim that is refused; a prefix more; last, how long it takes to delete the role that all prefixes have, with the memory before it and after it. A
+second register is filled with 10,000 ranges, and a third with 500,000 addresses by claims, over a file, and opened again. No peer.
+
+    bench/run full [PORT]
+"""
 import json
 import os
 import random

@@ -1,13 +1,10 @@
 #!/usr/bin/env bash
-# `import` by the built program (./ipamd builds it; IPAMD=PROGRAM takes another one): 10,000 prefixes and 10,000 addresses into an empty and into a
-# full register, over a file and in memory, beside `sqlite3 .import` of the same rows into a table with the same columns (which checks nothing).
-# A full register has 190,000 prefixes and 490,000 addresses besides. It needs python3 and sqlite3, and takes some minutes.   bench/import.sh [PREFIXES ADDRESSES]
+# `import`: 10,000 prefixes and 10,000 addresses into an empty and into a full register, over a file and in memory, beside `sqlite3 .import` of the same rows
+# into a table with the same columns (which checks nothing). A full register has 190,000 prefixes and 490,000 addresses besides.
+#     bench/run import [PREFIXES ADDRESSES]
 set -euo pipefail
 top=$(cd "$(dirname "$0")/.." && pwd)
 program=${IPAMD:-$top/crates/ipamd/out/ipamd}
-[ -x "$program" ] || { echo "build the program first: ./ipamd free 10.0.0.0/8 </dev/null" >&2; exit 1; }
-. "$top/tools/need.sh"
-need sqlite3 sqlite3
 most_prefixes=${1:-190000}
 most_addresses=${2:-490000}
 at=$(mktemp -d)

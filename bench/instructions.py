@@ -1,4 +1,9 @@
-"""Counts the instructions of a request; bench/instructions.sh says how."""
+"""Instructions of a request, by `valgrind --tool=callgrind`: of 990 pipelined requests of one kind in a session, in memory and over a file. What the start,
+the end and the first ten requests take is taken away.
+
+    bench/run instructions [KIND..]          get, post, claim, list, or a kind with `-file`, such as post-file; all where none is named
+    bench/run instructions --profile KIND    the functions that take most of them
+"""
 import os
 import re
 import subprocess

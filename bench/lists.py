@@ -1,4 +1,10 @@
-"""The commands on prefix lists beside their peers; see lists.sh."""
+"""The commands on prefix lists, whole processes: the fewest blocks of 200,000 random IPv4 blocks beside iprange and of 80,000 IPv6 blocks beside netaddr's
+cidr_merge; a table of 200,000 prefixes printed, and compared with 4 MiB of lines in no order; ::/1 compared with 4 MiB of single addresses. All outputs are
+compared with blocks reckoned here. With frr a router reads both families, and what it shows is compared again. iprange, netaddr and frr are used where they
+are there.
+
+    bench/run lists [SEED]
+"""
 import ipaddress
 import os
 import random

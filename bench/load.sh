@@ -1,10 +1,10 @@
 #!/usr/bin/env bash
-# `load` by the built program (./ipamd builds it; IPAMD=PROGRAM takes another one): the five lines of 1, 1,000 and 100,000 claims, whatever the number of workers, and
-# how long each takes, the median of RUNS runs (3 where it is not set).   bench/load.sh
+# `load`: the five lines of 1, 1,000 and 100,000 claims, whatever the number of workers, and how long each takes, the median of RUNS runs (3 where it is not
+# set).
+#     bench/run load
 set -euo pipefail
 top=$(cd "$(dirname "$0")/.." && pwd)
 program=${IPAMD:-$top/crates/ipamd/out/ipamd}
-[ -x "$program" ] || { echo "build the program first: ./ipamd free 10.0.0.0/8 </dev/null" >&2; exit 1; }
 
 # count, last address, percentage
 check() {

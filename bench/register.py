@@ -1,4 +1,9 @@
-"""Times `ipamd session` beside a server of Python's http.server; bench/register.sh says how."""
+"""Requests a second of `ipamd session`: runs of 999 pipelined requests, first of POSTs of different prefixes, then of GETs of one prefix, beside a plain
+server of Python's http.server over the same bytes, which keeps its rows in a dict and checks nothing. The time begins when a process has answered a request
+before them, so that the start of neither program counts.
+
+    bench/run register [RUNS]
+"""
 import io
 import json
 import os

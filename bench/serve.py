@@ -1,4 +1,11 @@
-"""`serve` under load, beside nginx; bench/serve.sh says how."""
+"""`serve` under load: answers a second of a GET of one prefix, of a list of 50 addresses, of a creation and of a claim of one address, with 1, 4, 16 and 32
+connections and as many workers, in memory and over a file; beside it nginx, which sends a file with the bytes of the GET's answer, as its users tune it:
+sendfile, tcp_nopush, open_file_cache, a worker for each processor. The client is wrk. Each figure is the median of RUNS runs (RUNS=5 bench/run serve; 1
+where it is not set; MEMORY_ONLY=yes leaves out what is over a file); a second line has the 99th percentile of the time to an answer (the median of the
+runs) and the longest answer of all runs, in milliseconds.
+
+    bench/run serve [SECONDS [PORT]]
+"""
 import os
 import statistics
 import sys

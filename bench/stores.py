@@ -1,5 +1,10 @@
-"""What a file costs: durable creations beside C SQLite, the opening of a full file, and imports beside `sqlite3 .import`; bench/store.sh and
-bench/first_table.py use it."""
+"""What a file costs: durable creations a second, by a session over a file, which gets them at once and has each on the disk before it answers it, beside the
+same rows written by C SQLite (Python's sqlite3: WAL, FULL, one transaction a row, prepared) on the same disk; one fdatasync of 4 KiB is timed in each run.
+Then what it takes to open a file of 200,000 prefixes and 500,000 addresses. Medians of RUNS runs. SCRATCH=FOLDER has the files in that folder.
+bench/first_table.py also takes the imports beside `sqlite3 .import` from here.
+
+    bench/run store [RUNS]
+"""
 import ipaddress
 import os
 import sqlite3

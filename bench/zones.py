@@ -1,4 +1,9 @@
-"""The commands on reverse zones, timed; see zones.sh."""
+"""The commands on reverse zones, whole processes: 500,000 addresses with names of 40 bytes, half of them IPv6, and 200,000 hosts that stand twice each, beside
+`reverse` of an empty prefix of the same file; and 4,194,304 bytes of PTR lines read. Medians of five. What is printed is compared with lines that are made
+here.
+
+    bench/run zones
+"""
 import ipaddress
 import os
 import sqlite3

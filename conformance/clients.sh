@@ -1,16 +1,12 @@
 #!/usr/bin/env bash
-# The scripts of examples/ and the pictures of docs/, by the built programs (./build, ./build poold; IPAMD=PROGRAM and POOLD=PROGRAM take other ones): curl's
+# The scripts of examples/ and the pictures of docs/: curl's
 # day; pynetbox over poold; the moves from NetBox, phpIPAM and a spreadsheet, with what they print and the CSV files that they write; and that docs/layers.svg
-# and docs/tree.svg are still what their scripts draw. Each has a register of its own. What runs behind nginx (pynetbox, Ansible) is in conformance/netbox.sh. It
-# needs Debian's packages curl and python3-pynetbox.   conformance/clients.sh [PORT]
+# and docs/tree.svg are still what their scripts draw. Each has a register of its own. What runs behind nginx (pynetbox, Ansible) is in conformance/netbox.py.
+#     conformance/run clients [PORT]
 set -euo pipefail
 top=$(cd "$(dirname "$0")/.." && pwd)
 program=${IPAMD:-$top/crates/ipamd/out/ipamd}
 pools=${POOLD:-$top/crates/poold/out/poold}
-[ -x "$program" ] && [ -x "$pools" ] || { echo "build the programs first: ./build; ./build poold" >&2; exit 1; }
-. "$top/tools/need.sh"
-need curl curl
-/usr/bin/python3 -c 'import pynetbox' 2> /dev/null || { echo "clients: /usr/bin/python3 has no pynetbox: apt-get install python3-pynetbox" >&2; exit 1; }
 export PYTHONDONTWRITEBYTECODE=1
 port=${1:-18490}
 url=http://127.0.0.1:$port

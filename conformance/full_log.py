@@ -1,5 +1,10 @@
-"""A log that is filled, or what it takes in memory; conformance/full_log.sh says how. Half of the items of the first are spent by claims of 1,000 addresses, the others by
-changes of nothing."""
+"""What a full log looks like: `serve` over a file in memory (/dev/shm) until 1,000,000 items are spent; the refusal of the next change, a list that is
+answered all the same, and a change behind a restart. Half of the items are spent by claims of 1,000 addresses, the others by changes of nothing.
+With --memory: what the history takes in memory, of 500,000 claims of one address each, and of 999,999 changed descriptions of 200 characters; and what is left
+of it behind a restart.
+
+    conformance/run full_log [--memory] [PORT]
+"""
 import json
 import os
 import re
@@ -104,4 +109,5 @@ def main(program, port):
 
 
 if __name__ == "__main__":
-    {"log": main, "memory": memory}[sys.argv[1]](sys.argv[2], int(sys.argv[3]))
+    is_memory = sys.argv[2:3] == ["--memory"]
+    (memory if is_memory else main)(sys.argv[1], int((sys.argv[2 + is_memory:] or [18460])[0]))

@@ -9,7 +9,7 @@ the requests stand unmutated ones whose answers say their number. Of each stream
 - cut into pieces of another size the same stream has the same answers (every fourth stream of `session`, at one byte each where it is short);
 - memory stays below a bound.
 
-    python3 conformance/fuzz.py [--session N] [--serve N] [--seed S]      the built program (./ipamd builds it; IPAMD=PROGRAM takes another one)
+    conformance/run fuzz [--session N] [--serve N] [--seed S]      the built program (./ipamd builds it; IPAMD=PROGRAM takes another one)
 """
 import argparse
 import json

@@ -10,7 +10,7 @@ call that met it. The tables are read by Python's sqlite3 and compared here. The
 
 As many runs are under way at once as there are processors (taskset gives it fewer).
 
-    python3 conformance/growths.py [--try] [free|import|post|store|load ..]
+    conformance/run growths [--try] [free|import|post|store|load ..]
 """
 import collections
 import concurrent.futures

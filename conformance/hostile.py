@@ -5,7 +5,7 @@ its bytes are handed over whole and in pieces of 1, 7 and 4,096 bytes. Where a c
 answer has to come, and the program to end, without another byte. The conversation that the gate runs (crates/ipamd/stdin) has the cases that leave a
 connection open; here are those that end one.
 
-    python3 conformance/hostile.py [PROGRAM]        the built program (./ipamd builds it; IPAMD=PROGRAM takes another one)
+    conformance/run hostile [PROGRAM]        the built program (./ipamd builds it; IPAMD=PROGRAM takes another one)
 """
 import os
 import subprocess

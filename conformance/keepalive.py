@@ -1,4 +1,8 @@
-"""How long a connection stands; conformance/keepalive.sh says how."""
+"""How long a connection stands, over a real port: one that is used for two minutes is not cut off, an upload of 100 KB at 1 KB a second is served, and a
+client that is silent or that sends a byte at a time frees its worker in 30 to 40 seconds, one that takes no answer in two minutes.
+
+    conformance/run keepalive [PORT]
+"""
 import os
 import socket
 import subprocess

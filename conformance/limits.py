@@ -1,4 +1,9 @@
-"""The least stack, and memory over many requests; conformance/limits.sh says how."""
+"""How little stack the program needs, and whether its memory grows with what it is asked. For each kind of request the least stack (`ulimit -s`, to 4 KB)
+with which `session` gives the right answers, and `serve`, whose threads get stacks of that size too; the memory of a session after 10, 100 and 1,000
+requests; that of `serve` after 1,000 to 100,000, and with bodies of 4 MiB.
+
+    conformance/run limits [PORT]
+"""
 import os
 import re
 import resource

@@ -1,6 +1,8 @@
-"""Says of each claim of docs/CLIENTS.md whether it holds, and the sum; status 1 if one does not. conformance/netbox.sh sees to what it needs.
+"""NetBox's form of requests and answers (netbox/, examples/nginx-ipamd.conf): a line for each claim of docs/CLIENTS.md, then the sum; status 1 if one does not
+hold. Units by node; requests over HTTP through nginx, with further requests that fail, hostile bodies, random records and filters; pynetbox; Ansible's
+plays, each twice; the rates of both forms. --short leaves the plays and the rates out.
 
-    conformance/netbox.py PORT [--short]      it uses PORT to PORT + 5; IPAMD=PROGRAM names the built program
+    conformance/run netbox [--short] [PORT]      it uses PORT to PORT + 5
 """
 import os
 import re
@@ -88,7 +90,8 @@ def pages():
 
 
 def main():
-    port, short = int(sys.argv[1]), "--short" in sys.argv
+    short = "--short" in sys.argv
+    port = next((int(word) for word in sys.argv[1:] if word.isdigit()), 18460)
     claims = Claims()
     claims.check("docs/CLIENTS.md claims what is tested here", pages)
     claims.check("The units of netbox/ pass", units)

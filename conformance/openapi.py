@@ -1,6 +1,5 @@
-"""docs/openapi.json, beside the program; conformance/openapi.sh says how.
+"""docs/openapi.json, compared with the program; conformance/openapi.sh says how.
 
-    openapi.py --write                     writes docs/openapi.json
     openapi.py [--program PROGRAM] [--streams N] [--requests N] [--seed N]
 """
 import argparse
@@ -14,14 +13,13 @@ from collections import Counter
 from jsonschema import Draft202012Validator
 
 sys.path.insert(0, os.path.dirname(os.path.dirname(os.path.abspath(__file__))))
-from model import openapi_document
 from conformance.agree import Start, closings, cut
 from conformance.openapi_reading import EARLY, METHODS, Document, accepts, answers_in, wrong_in
 from conformance.openapi_register_edges import RegisterEdges
+from model import documents
 from model.plain_register import converse
 
 HERE = os.path.dirname(os.path.abspath(__file__))
-DOCUMENT = os.path.join(HERE, "..", "docs", "openapi.json")
 # ---- the document alone
 
 def schemas_in(node, is_schema=False):
@@ -136,7 +134,6 @@ def tell(document, seen):
 def options(variable, name):
     """The words of the command line, for the program of this name or of this variable of the environment."""
     words = argparse.ArgumentParser()
-    words.add_argument("--write", action="store_true")
     words.add_argument("--program", default=os.environ.get(variable, os.path.join(HERE, "..", "crates", name, "out", name)))
     words.add_argument("--streams", type=int, default=20)
     words.add_argument("--requests", type=int, default=300)
@@ -145,16 +142,9 @@ def options(variable, name):
     return words.parse_args()
 
 
-def read_document(path, made, is_to_write):
-    """The document, which is what is made; or None where it was written."""
-    if is_to_write:
-        with open(path, "w", encoding="utf-8") as text:
-            text.write(made)
-        return None
-    with open(path, encoding="utf-8") as text:
-        if text.read() != made:
-            sys.exit(f"openapi: {os.path.relpath(path)} is not what is written by --write")
-    document = Document(path)
+def read_document(path):
+    """The document of this file, which is what is made."""
+    document = Document(documents.read(path))
     check_document(document)
     return document
 
@@ -167,9 +157,8 @@ def compare(document, given, start_of, edges):
 
 def main():
     given = options("IPAMD", "ipamd")
-    document = read_document(DOCUMENT, openapi_document.written(), given.write)
-    if document:
-        compare(document, given, Start, RegisterEdges(document, given.program))
+    document = read_document("docs/openapi.json")
+    compare(document, given, Start, RegisterEdges(document, given.program))
 
 
 if __name__ == "__main__":

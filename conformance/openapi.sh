@@ -1,16 +1,14 @@
 #!/usr/bin/env bash
-# docs/openapi.json beside the built program (./ipamd builds it; IPAMD=PROGRAM takes another one), and docs/openapi-pools.json beside poold, where that is built
-# (./build poold; POOLD=PROGRAM takes another one). It ends with status 1 at the first difference.
-#   the document   is what `conformance/openapi.py --write` writes; it is valid by openapi-spec-validator, where this machine has it or a package index can be
+# docs/openapi.json beside the program, and docs/openapi-pools.json beside poold, if that is built. It ends with status 1 at the first difference.
+#   the document   is what `model/run documents --write` writes; it is valid by openapi-spec-validator, where this machine has it or a package index can be
 #                  reached; and by conformance/openapi_3.1_schema.json and the schema of JSON Schema 2020-12, always
 #   conversations  random requests: each answer has the status, fields and body that the document says of this operation, and is a refusal by its bytes alone
 #                  exactly where the document says so, with the code and the member that it says
 #   edges          each member, parameter, id, list and limit at a bound and past it, each with its one status and code
-# It needs Python's jsonschema (Debian: python3-jsonschema).   conformance/openapi.sh [--streams N] [--requests N] [--seed N]
+#     conformance/run openapi [--streams N] [--requests N] [--seed N]
 set -euo pipefail
 top=$(cd "$(dirname "$0")/.." && pwd)
 export IPAMD=${IPAMD:-$top/crates/ipamd/out/ipamd} PYTHONDONTWRITEBYTECODE=1
-[ -x "$IPAMD" ] || { echo "build the program first: ./ipamd free 10.0.0.0/8 </dev/null" >&2; exit 1; }
 folder=$(mktemp -d)
 trap 'rm -rf "$folder"' EXIT
 python=

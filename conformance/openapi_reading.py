@@ -50,9 +50,8 @@ def same(schema, value):
 # ---- the document, with each reference replaced by what it names
 
 class Document:
-    def __init__(self, path):
-        with open(path, encoding="utf-8") as text:
-            self.raw = json.load(text)
+    def __init__(self, text):
+        self.raw = json.loads(text)
         self.paths = self.resolved(self.raw["paths"])
         self.other_path, self.other_method = self.resolved(self.raw["x-other-paths"]), self.resolved(self.raw["x-other-methods"])
         self.refusals = {one["properties"]["code"]["const"]: one for name, one in self.raw["components"]["schemas"].items() if name.endswith("Refusal")}

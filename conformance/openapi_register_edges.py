@@ -10,7 +10,7 @@ from conformance.openapi_edges import API, CLASSES, NO_NUMBERS, Edge, Edges, Pla
 from conformance.openapi_reading import faults
 from model.plain_texts import host_text, read_host, width
 
-# the kinds that are filled here; bench/full.sh fills the others
+# the kinds that are filled here; bench/full.py fills the others
 FULL = ("vrfs", "rirs", "roles", "aggregates")
 TABLES = ("vrfs", "rirs", "roles", "aggregates", "prefixes", "ip_ranges", "ip_addresses")
 # what the registers of the edges begin with: nothing names the first record of a kind, so that it can be deleted

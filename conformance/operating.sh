@@ -1,14 +1,10 @@
 #!/usr/bin/env bash
 # docs/OPERATING.md, tried: the program is installed below a folder, its unit is looked at, and a register over a file is filled, killed, copied, restored and
-# damaged; each status and line of the table "When something is wrong" is seen. A full disk is a small file system in memory, which root alone can
-# mount. By the built program (./ipamd builds it; IPAMD=PROGRAM takes another one). It needs curl and sqlite3.   conformance/operating.sh [PORT]
+# damaged; each status and line of the table "When something is wrong" is seen. A full disk is a small file system in memory, which root alone can mount.
+#     conformance/run operating [PORT]
 set -euo pipefail
 top=$(cd "$(dirname "$0")/.." && pwd)
 export IPAMD=${IPAMD:-$top/crates/ipamd/out/ipamd}
-[ -x "$IPAMD" ] || { echo "build the program first: ./ipamd free 10.0.0.0/8 </dev/null" >&2; exit 1; }
-. "$top/tools/need.sh"
-need curl curl
-need sqlite3 sqlite3
 port=${1:-18495}
 base=http://127.0.0.1:$port/api/ipam
 folder=$(mktemp -d)

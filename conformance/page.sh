@@ -8,18 +8,9 @@
 #   conformance/page.sh [--port PORT] [NAME...]     NAME: office, hostile, stops, reading, windows, numbers, large, pictures; all by default
 set -euo pipefail
 top=$(cd "$(dirname "$0")/.." && pwd)
-. "$top/tools/need.sh"
 port=18500
 [ "${1:-}" != --port ] || { port=$2; shift 2; }
 program=${IPAMD:-$top/crates/ipamd/out/ipamd}
-[ -x "$program" ] || { echo "build the program first: ./ipamd free 10.0.0.0/8 </dev/null" >&2; exit 1; }
-need nginx nginx-light
-need curl curl
-need openssl openssl
-need node nodejs
-need chromium chromium
-need chromedriver chromium-driver
-need firefox-esr firefox-esr
 python=
 for one in python3 /usr/bin/python3; do
     "$one" -c 'import selenium' 2> /dev/null && { python=$one; break; }

@@ -5,7 +5,7 @@ named at the end with the reason why not. What wants systemd is in conformance/s
 takes another one); with --build it is built there, the small program first, by the kit's `rt`. It needs curl, socat, dpkg-dev and python3-pynetbox, and
 the ports 8080 and 8081. What asks poold, and the package, is run where that program is built (POOLD=PROGRAM takes another one).
 
-    conformance/pages.py [--build] [--quiet]
+    conformance/run pages [--build] [--quiet]
 """
 import glob
 import os
@@ -271,28 +271,28 @@ ELSE = [
     ("docs/USING.md", "$TTL", "a zone file; conformance/reverse.sh has BIND load such"),
     ("docs/USING.md", "@ IN", "a zone file; conformance/reverse.sh has BIND load such"),
     ("docs/USING.md", "$INCLUDE", "a zone file; conformance/reverse.sh has BIND load such"),
-    ("docs/CLIENTS.md", "REQUESTS_CA_BUNDLE", "conformance/netbox.sh runs it, on another port"),
+    ("docs/CLIENTS.md", "REQUESTS_CA_BUNDLE", "conformance/run netbox runs it, on another port"),
     ("docs/CLIENTS.md", "apt-get install", "the machine's packages"),
-    ("docs/CLIENTS.md", "ansible-playbook", "conformance/netbox.sh runs it, on another port"),
+    ("docs/CLIENTS.md", "ansible-playbook", "conformance/run netbox runs it, on another port"),
     ("docs/OPERATING.md", "curl -s -H", "no NetBox is at hand"),
     ("docs/OPERATING.md", "apt install", "conformance/systemd.sh runs it"),
     ("docs/OPERATING.md", "proxy:", "conformance/proxy.sh prints it"),
     ("docs/OPERATING.md", "systemd:", "conformance/systemd.sh prints it"),
-    ("docs/OPERATING.md", "copies:", "conformance/copies.sh prints it"),
-    ("docs/OPERATING.md", "PATH=", "a line of cron, which conformance/copies.sh runs"),
-    ("docs/OPERATING.md", "30 2 ", "a line of cron, which conformance/copies.sh runs"),
-    ("docs/OPERATING.md", "45 2 ", "a line of cron, which conformance/copies.sh runs"),
-    ("docs/OPERATING.md", "5 * ", "a line of cron, which conformance/copies.sh runs"),
-    ("docs/OPERATING.md", "10 * ", "a line of cron, which conformance/copies.sh runs"),
-    ("docs/OPERATING.md", "15 * ", "a line of cron, which conformance/copies.sh runs"),
-    ("docs/OPERATING.md", "500,001 items", "conformance/full_log.sh prints it"),
-    ("docs/OPERATING.md", "1,000,000 items", "conformance/full_log.sh prints it"),
-    ("docs/OPERATING.md", "the next change", "conformance/full_log.sh prints it"),
-    ("docs/OPERATING.md", "a list: 200", "conformance/full_log.sh prints it"),
-    ("docs/OPERATING.md", "behind a restart", "conformance/full_log.sh prints it"),
-    ("docs/OPERATING.md", "full_log:", "conformance/full_log.sh prints it"),
-    ("docs/OPERATING.md", "HTTP/1.1 507", "conformance/full_log.sh sees it"),
-    ("docs/OPERATING.md", '{"code":"limit"', "conformance/full_log.sh sees it"),
+    ("docs/OPERATING.md", "copies:", "conformance/run copies prints it"),
+    ("docs/OPERATING.md", "PATH=", "a line of cron, which conformance/run copies runs"),
+    ("docs/OPERATING.md", "30 2 ", "a line of cron, which conformance/run copies runs"),
+    ("docs/OPERATING.md", "45 2 ", "a line of cron, which conformance/run copies runs"),
+    ("docs/OPERATING.md", "5 * ", "a line of cron, which conformance/run copies runs"),
+    ("docs/OPERATING.md", "10 * ", "a line of cron, which conformance/run copies runs"),
+    ("docs/OPERATING.md", "15 * ", "a line of cron, which conformance/run copies runs"),
+    ("docs/OPERATING.md", "500,001 items", "conformance/run full_log prints it"),
+    ("docs/OPERATING.md", "1,000,000 items", "conformance/run full_log prints it"),
+    ("docs/OPERATING.md", "the next change", "conformance/run full_log prints it"),
+    ("docs/OPERATING.md", "a list: 200", "conformance/run full_log prints it"),
+    ("docs/OPERATING.md", "behind a restart", "conformance/run full_log prints it"),
+    ("docs/OPERATING.md", "full_log:", "conformance/run full_log prints it"),
+    ("docs/OPERATING.md", "HTTP/1.1 507", "conformance/run full_log sees it"),
+    ("docs/OPERATING.md", '{"code":"limit"', "conformance/run full_log sees it"),
 ] + ([] if os.access(POOLD, os.X_OK) else [
     ("docs/USING-POOLS.md", "", "poold is not built"),
     ("docs/OPERATING.md", "packaging/build-deb.sh", "poold is not built"),

@@ -1,4 +1,8 @@
-"""Sessions of `poold` over a real file, and each program over the other one's file; conformance/files.sh says how."""
+"""Sessions of `poold` over a real file, as conformance/files.py has those of ipamd; that each program refuses the other one's file and leaves it; and that
+standard error says what the table of docs/USING-POOLS.md has, and each row of it.
+
+    conformance/run files_pools
+"""
 import hashlib
 import os
 import re
@@ -8,6 +12,7 @@ import subprocess
 import sys
 import tempfile
 
+sys.path.insert(0, os.path.dirname(os.path.dirname(os.path.abspath(__file__))))
 from model.plain_pools import request_of
 from tools.wire import answers
 

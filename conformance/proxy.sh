@@ -2,16 +2,11 @@
 # nginx in front of `serve`, with examples/nginx-ipamd.conf as it stands but for its ports and files: TLS, passwords and tokens, and the user in the log; HEAD
 # and what follows it on the same connection, bodies of 4 MiB and one byte more, a body in chunks, links of pages; changes that are held; requests over kept
 # connections; and a request every half second for more than twice the 30 seconds that the register gives a connection, of which none may fail. All of it of
-# the plain form, and what counts of NetBox's (conformance/netbox.sh has the rest of that). By the built program (./ipamd builds it; IPAMD=PROGRAM takes another
-# one). It needs nginx with njs, curl, openssl and python3, and two minutes and more; --short leaves the last two steps out.   conformance/proxy.sh [--short] [PORT]
+# the plain form, and what counts of NetBox's (conformance/netbox.py has the rest of that).
+#     conformance/run proxy [--short] [PORT]
 set -euo pipefail
 top=$(cd "$(dirname "$0")/.." && pwd)
 program=${IPAMD:-$top/crates/ipamd/out/ipamd}
-[ -x "$program" ] || { echo "build the program first: ./ipamd free 10.0.0.0/8 </dev/null" >&2; exit 1; }
-. "$top/tools/need.sh"
-need nginx nginx-light
-need curl curl
-need openssl openssl
 long=yes
 [ "${1:-}" != --short ] || { long=; shift; }
 port=${1:-18480}

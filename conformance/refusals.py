@@ -1,7 +1,7 @@
 #!/usr/bin/env python3
 """The table of messages in docs/USING.md, by the built program (./ipamd builds it; IPAMD=PROGRAM takes another one): each line of the table is brought about
 and compared, with its status, nothing on standard output and the records as before; then what the table says to do is done, and the command ends with status 0.
-Each row of the table has a case here, and each case a row.   conformance/refusals.py"""
+Each row of the table has a case here, and each case a row.   conformance/run refusals"""
 import os
 import re
 import resource

@@ -1,15 +1,13 @@
 #!/usr/bin/env bash
-# Reverse zones with BIND: 5,000 names of a /22 and of an IPv6 /48, some with `_`, are imported, and `ipamd reverse` prints them as PTR lines, which are compared with
-# those by Python. They are cut into zones by the endings of their owners; each zone has a $TTL, an SOA and an NS record, and $INCLUDEs its lines. named-checkzone finds no
-# error, named loads the zones, `dig -x` of each address gives its name, and what `dig AXFR` prints is read by `ipamd reverse-read`: the same pairs. They are imported into
-# a second register, which prints the same lines. It ends with a fault at the first difference. It takes the built program (./build makes it; IPAMD=PROGRAM takes another
-# one), and needs bind9, bind9-utils, bind9-dnsutils and python3, and half a minute.
-#   conformance/reverse.sh [PORT]
+# Reverse zones with BIND: 5,000 names of a /22 and of an IPv6 /48, some with `_`, are imported, and `ipamd reverse` prints them as PTR lines, which are
+# compared with those by Python. They are cut into zones by the endings of their owners; each zone has a $TTL, an SOA and an NS record, and $INCLUDEs its
+# lines. named-checkzone finds no error, named loads the zones, `dig -x` of each address gives its name, and what `dig AXFR` prints is read by `ipamd
+# reverse-read`: the same pairs. They are imported into a second register, which prints the same lines. It ends with a fault at the first difference.
+#     conformance/run reverse [PORT]
 set -euo pipefail
 top=$(cd "$(dirname "$0")/.." && pwd)
 port=${1:-18553}
 program=${IPAMD:-$top/crates/ipamd/out/ipamd}
-[ -x "$program" ] || { echo "build the program first: ./build" >&2; exit 1; }
 folder=$(mktemp -d)
 server=
 trap '[ -z "$server" ] || kill "$server" 2>/dev/null || true; rm -rf "$folder"' EXIT

@@ -1,13 +1,10 @@
 #!/usr/bin/env bash
-# `serve` over a real port and a real file, by the built program (./ipamd builds it; IPAMD=PROGRAM takes another one): two clients with two
-# connections each make prefixes and read them, the count of the changes is printed, and a session finds them in the file.
-# It needs curl.   conformance/serve_smoke.sh [PORT]
+# `serve` over a real port and a real file: two clients with two connections each make prefixes and read them, the count of the changes is printed, and a
+# session finds them in the file.
+#     conformance/run serve_smoke [PORT]
 set -euo pipefail
 top=$(cd "$(dirname "$0")/.." && pwd)
 program=${IPAMD:-$top/crates/ipamd/out/ipamd}
-[ -x "$program" ] || { echo "build the program first: ./ipamd free 10.0.0.0/8 </dev/null" >&2; exit 1; }
-. "$top/tools/need.sh"
-need curl curl
 port=${1:-18080}
 folder=$(mktemp -d)
 server=

@@ -1,19 +1,12 @@
 #!/usr/bin/env bash
-# docs/OPERATING.md under systemd: a Debian of its own is made by debootstrap below a folder (once; two minutes), started by systemd-nspawn without a network, and in it
-# conformance/systemd_steps.sh goes through the steps as they are written: an installation by install.sh, nginx, copies, a migration; and the package, which lintian
-# has to find no error in: installed, upgraded under running services, purged. By the built programs (./build, ./build poold; IPAMD=PROGRAM and POOLD=PROGRAM
-# take other ones). As root, with debootstrap, systemd-container, lintian, dpkg-dev, binutils, git and python3.   conformance/systemd.sh [FOLDER]
+# docs/OPERATING.md under systemd: a Debian of its own is made by debootstrap below a folder (once; two minutes), started by systemd-nspawn without a network,
+# and in it conformance/systemd_steps.sh goes through the steps as they are written: an installation by install.sh, nginx, copies, a migration; and the
+# package, which lintian has to find no error in: installed, upgraded under running services, purged.
+#     conformance/run systemd [FOLDER]
 set -euo pipefail
 top=$(cd "$(dirname "$0")/.." && pwd)
-. "$top/tools/need.sh"
 program=${IPAMD:-$top/crates/ipamd/out/ipamd}
 pools=${POOLD:-$top/crates/poold/out/poold}
-[ -x "$program" ] && [ -x "$pools" ] || { echo "build the programs first: ./build; ./build poold" >&2; exit 1; }
-need debootstrap debootstrap
-need systemd-nspawn systemd-container
-need lintian lintian
-need dpkg-shlibdeps dpkg-dev
-need strip binutils
 [ "$(id -u)" = 0 ] || { echo "systemd: only root can do this" >&2; exit 1; }
 root=${1:-/var/tmp/ipamd-debian}
 packages=systemd,systemd-sysv,dbus,curl,nginx-light,libnginx-mod-http-js,openssl,sqlite3,procps,iproute2,man-db
@@ -27,7 +20,7 @@ rm -rf "$root/root/ipamd" "$root/root/told" "$root"/var/lib/private/{ipamd,poold
 mkdir -p "$root/root/ipamd"
 git -C "$top" archive HEAD | tar -x -C "$root/root/ipamd"
 # what is tried is what stands here, also where it is not committed yet
-cp "$top"/conformance/systemd_steps.sh "$root/root/ipamd/bench/"
+cp "$top"/conformance/systemd_steps.sh "$root/root/ipamd/conformance/"
 cp "$top"/docs/OPERATING.md "$root/root/ipamd/docs/"
 cp "$top"/examples/* "$root/root/ipamd/examples/" 2>/dev/null || true
 install -m 755 "$program" "$root/root/program"

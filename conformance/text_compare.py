@@ -1,7 +1,7 @@
 #!/usr/bin/env python3
 """Compares the text of addresses with Python's `ipaddress`, over random and mutated texts.
 
-usage: conformance/text_compare.py [COUNT [SEED]]
+usage: conformance/run text_compare [COUNT [SEED]]
 
 A small program over inet_num is made in a temporary folder, proved and built there by `rt run`, and given every text. Of
 each it prints what read_addr, read_host and read_block answer, a value as its canonical text. Two things are compared:
@@ -18,90 +18,14 @@ import ipaddress
 import os
 import random
 import re
-import shutil
 import subprocess
 import sys
 import tempfile
 import time
 from collections import Counter
 
-DRIVER = '''//! Answers each line of the input by what it is as an address, a host and a block.
-#![tactic(auto)]
-
-use inet_num::{TextFault, read_addr, read_block, read_host, write_addr, write_block};
-use std::alloc::AllocError;
-use std::io::{self, BufRead, BufReader, BufWriter, Write};
-
-fn name_of(fault: TextFault) -> &'static str {
-    match fault {
-        TextFault::Octet => "Octet",
-        TextFault::Group => "Group",
-        TextFault::Shape => "Shape",
-        TextFault::Length => "Length",
-        TextFault::HostBits(_) => "HostBits",
-    }
-}
-
-fn say_addr(text: &[u8], out: &mut Vec<u8>) -> Result<(), AllocError> {
-    match read_addr(text) {
-        Ok(addr) => write_addr(addr, out),
-        Err(fault) => out.extend_from_slice(name_of(fault).as_bytes()),
-    }
-}
-
-fn say_length(len: u8, out: &mut Vec<u8>) -> Result<(), AllocError> {
-    out.push(b'/')?;
-    out.push(b'0' + len / 100)?;
-    out.push(b'0' + len / 10 % 10)?;
-    out.push(b'0' + len % 10)?;
-    Ok(())
-}
-
-fn say_host(text: &[u8], out: &mut Vec<u8>) -> Result<(), AllocError> {
-    match read_host(text) {
-        Ok((addr, len)) => {
-            write_addr(addr, out)?;
-            say_length(len, out)
-        }
-        Err(fault) => out.extend_from_slice(name_of(fault).as_bytes()),
-    }
-}
-
-fn say_fault(fault: TextFault, out: &mut Vec<u8>) -> Result<(), AllocError> {
-    match fault {
-        TextFault::HostBits(block) => {
-            out.extend_from_slice(b"HostBits ")?;
-            write_block(block, out)
-        }
-        _ => out.extend_from_slice(name_of(fault).as_bytes()),
-    }
-}
-
-fn say_block(text: &[u8], out: &mut Vec<u8>) -> Result<(), AllocError> {
-    match read_block(text) {
-        Ok(block) => write_block(block, out),
-        Err(fault) => say_fault(fault, out),
-    }
-}
-
-fn main(rt: HostRuntime) -> io::Result<()> {
-    let alloc = rt.alloc();
-    let mut writer = BufWriter::new(alloc, io::writer(&rt))?;
-    for line in BufReader::new(alloc, rt.reader())?.lines(alloc) {
-        let text = line?;
-        let mut out = Vec::new(alloc);
-        say_addr(text.as_bytes(), &mut out)?;
-        out.push(b'|')?;
-        say_host(text.as_bytes(), &mut out)?;
-        out.push(b'|')?;
-        say_block(text.as_bytes(), &mut out)?;
-        out.push(b'\\n')?;
-        writer.write_all(out.as_slice())?;
-    }
-    writer.flush()
-}
-'''
-
+sys.path.insert(0, os.path.dirname(os.path.dirname(os.path.abspath(__file__))))
+from tools import workspace
 
 # ---- texts
 
@@ -276,15 +200,7 @@ def purpose(text, kind, ours, theirs):
 # ---- the run
 
 def answers_of(texts, repository, folder):
-    shutil.copytree(os.path.join(repository, "crates", "inet_num"), os.path.join(folder, "crates", "inet_num"),
-                    ignore=shutil.ignore_patterns("out", "must-fail"))
-    shutil.copy(os.path.join(repository, "HANDLES"), folder)
-    os.makedirs(os.path.join(folder, "crates", "text_driver", "src"))
-    with open(os.path.join(folder, "crates.txt"), "w") as f:
-        f.write("inet_num: arrayvec itoa\ntext_driver: inet_num\n")
-    driver = os.path.join(folder, "crates", "text_driver")
-    with open(os.path.join(driver, "src", "main.rt"), "w") as f:
-        f.write(DRIVER)
+    driver = workspace.make(folder, os.path.join(repository, "conformance", "text_compare"), "text_driver: inet_num")
     given = os.path.join(folder, "texts")
     with open(given, "w", encoding="utf-8") as f:
         f.writelines(text + "\n" for text in texts)

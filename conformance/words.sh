@@ -1,10 +1,10 @@
 #!/usr/bin/env bash
-# Words over the built program (./ipamd builds it; IPAMD=PROGRAM takes another one): one that is no UTF-8 is no word of a command, as any other that is not known:
-# status 2, the usage line on standard error, and nothing on standard output, with nothing read.   conformance/words.sh
+# Words over the program: one that is no UTF-8 is no word of a command, as any other that is not known: status 2, the usage line on standard error, and
+# nothing on standard output, with nothing read.
+#     conformance/run words
 set -euo pipefail
 top=$(cd "$(dirname "$0")/.." && pwd)
 program=${IPAMD:-$top/crates/ipamd/out/ipamd}
-[ -x "$program" ] || { echo "build the program first: ./ipamd free 10.0.0.0/8 </dev/null" >&2; exit 1; }
 scratch=$(mktemp -d)
 trap 'rm -rf "$scratch"' EXIT
 refused() {

@@ -466,6 +466,6 @@ def compact(value, indent=0, used=0):
     return ends[0] + "\n" + ",\n".join(pad + part for part in parts) + "\n" + " " * indent + ends[1]
 
 
-def written(made=None):
-    """The text of a document, or of the register's."""
-    return compact(made or document()) + "\n"
+def written(made):
+    """The text of a document."""
+    return compact(made) + "\n"

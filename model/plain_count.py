@@ -1,16 +1,16 @@
 """Checks what the plain register (model/plain_register.py) says is available, claims and figures, block by block and address by address:
 each candidate of a small block is tried by the definition itself, with no splitting and no union of spans. The registers are those that the
-random conversations of conformance/agree.py make.
+random conversations of model/talker.py make.
 
-    python3 model/plain_count.py [STREAMS]
+    model/run plain_count [STREAMS]
 """
 import os
 import sys
 
 sys.path.insert(0, os.path.dirname(os.path.dirname(os.path.abspath(__file__))))
-from conformance.agree import Talker
 from model.plain_register import Service, converse, family_of
 from model.plain_texts import contains, last_of, strictly_inside, width
+from model.talker import Talker
 
 MOST = 256
 

@@ -1,5 +1,5 @@
 """Pools of numbers once more, as plainly as it can be said: rows are dicts in lists, a rule goes over all rows, and nothing is kept beside
-them. It was written from the rules alone and not from the sources of `poold`, so that it may disagree with it: `conformance/agree.sh poold`
+them. It was written from the rules alone and not from the sources of `poold`, so that it may disagree with it: `conformance/run agree_pools`
 compares the two byte for byte.
 
 It reads a stream of HTTP/1.1 requests and writes the stream of answers, as `poold session` does without rows at first:

@@ -1,5 +1,5 @@
 """The register once more, as plainly as it can be said: rows are dicts in lists, a rule goes over all rows, and nothing is kept beside
-them. It was written from the rules alone and not from the sources of `ipamd`, so that it may disagree with it: conformance/agree.sh
+them. It was written from the rules alone and not from the sources of `ipamd`, so that it may disagree with it: conformance/run agree
 compares the two byte for byte, and model/worked_rows.py has rows whose answers were written by hand.
 
 It reads a stream of HTTP/1.1 requests and writes the stream of answers, as `ipamd session` does with an empty register:

@@ -1,16 +1,16 @@
 #!/usr/bin/env python3
 """A conversation with `poold session`, for the test of `poold_trial`: the rows of model/plain_pools.py, which were written by hand, a claim of 40
-numbers, and what a seed of conformance/agree_pools.py says behind them. The answers are those of the plain pools.
+numbers, and what a seed of model/pool_talker.py says behind them. The answers are those of the plain pools.
 
-usage: model/pool_conversation.py [--write]     says whether the test has this conversation, or writes it there
+usage: model/run pool_conversation [--write]     says whether the test has this conversation, or writes it there
 """
 import os
 import sys
 
 sys.path.insert(0, os.path.dirname(os.path.dirname(os.path.abspath(__file__))))
-from conformance.agree_pools import Talker
 from model.plain_pools import PoolService, conversation, request_of
 from model.plain_register import converse
+from model.pool_talker import Talker
 
 TOP = os.path.dirname(os.path.dirname(os.path.abspath(__file__)))
 PLACE = f"{TOP}/crates/poold_trial/src/conversation.rt"

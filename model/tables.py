@@ -1,7 +1,7 @@
 """The databases that the program sqlite3 makes of model/tables.sql, model/tables_first.sql and model/pool_tables.sql, as the tests of the stores over SQLite have them.
 
-    python3 model/tables.py            says whether crates/store_trial/src has the bytes that sqlite3 makes
-    python3 model/tables.py --write    writes them there
+    model/run tables            says whether crates/store_trial/src has the bytes that sqlite3 makes
+    model/run tables --write    writes them there
 
 Two versions of sqlite3 may make different bytes: the number of the version is in the file. Those in the test are of sqlite3 3.40.1.
 """

@@ -1,7 +1,7 @@
 """The worked rows as one conversation with an empty register: their requests, and the answers that they have to have.
 
-    python3 model/worked_rows.py            checks all that is said below, and that the files have what would be written
-    python3 model/worked_rows.py --write    checks, and writes the files
+    model/run worked_rows            checks all that is said below, and that the files have what would be written
+    model/run worked_rows --write    checks, and writes the files
 
 Each row's status, the place of its answer and what it says of the body were written by hand, and the plain register
 (model/plain_register.py) has to agree with them; the bytes that no row gives are those of the plain register. The conversation is

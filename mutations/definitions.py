@@ -9,7 +9,7 @@ processor seconds an edit, and a gigabyte. A file that ends in .control is a har
 It prints one line for each: the law, the first declaration of the law's crate that was refused, and the first one of a crate below, if any. Its status
 is 1 if an edit was proved, or a control refused.
 
-usage: mutations/definitions.py [NAME..]
+usage: mutations/run definitions [NAME..]
 """
 import os
 import re

@@ -4,7 +4,7 @@
 A file has lines `file: PATH` (of the crate's src/), `old: TEXT` and `new: TEXT`. Each TEXT is one line and stands once in the file as the pairs before it have
 left it. CI tries those of crates/CRATE/must-fail; mutations/edits/CRATE has the others (NAME.edit), and a control (NAME.control) for each that CI tries.
 
-usage: mutations/edit_files.py      says which of them do not apply, or have no control; its status is then 1
+usage: mutations/run edit_files      says which of them do not apply, or have no control; its status is then 1
 """
 import glob
 import os

@@ -7,8 +7,8 @@ edit takes away, or for a limit of the prover, says nothing of a contract and co
 What CI has proved on this machine is taken from there, if the kit keeps it, and so are the edits that an earlier run tried: a run that was stopped loses
 little. mutations/edits_reasons.txt gets the reason of each refusal, the prover's first line; mutations/edits_tried.txt gets a line for each crate that was tried.
 
-usage: mutations/edits.sh [CRATE..]              the edits of mutations/edits; with no name, those of all crates
-       mutations/edits.sh --controls [CRATE..]   the controls: harmless texts in the place of each mutation test of CI, which the prover must pass. All of a
+usage: mutations/run edits [CRATE..]              the edits of mutations/edits; with no name, those of all crates
+       mutations/run edits --controls [CRATE..]   the controls: harmless texts in the place of each mutation test of CI, which the prover must pass. All of a
                                              crate's are in at once; each is tried alone only where the crate is then refused
 environment: EDITS_IN=FOLDER                 where the copy is made and stays, with all that `rt ci` said in its file `log` (default: a new folder, removed at the end)
              RT_JOBS=N                       as for `rt ci`

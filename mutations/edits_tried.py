@@ -1,11 +1,11 @@
 #!/usr/bin/env python3
 """Which crates' mutation tests of mutations/edits were all refused over the text that the crate has now. They take hours together, so they are tried crate by
-crate. mutations/edits_tried.txt has a line for each crate whose edits were all refused, written by mutations/edits.sh alone: the crate; the checksum of its sources,
+crate. mutations/edits_tried.txt has a line for each crate whose edits were all refused, written by mutations/run edits alone: the crate; the checksum of its sources,
 definitions, proofs and edits; that of the crates below it and the kit; how many edits; how many of them were not shown (refused for a name that the edit takes
 away, or for a limit of the prover); and the date. A `?` stands for what was not noted then.
 
-usage: mutations/edits_tried.py left             prints the crates that have edits and were not tried over the text that they have now
-       mutations/edits_tried.py left --below     prints those, too, whose edits were tried over other crates below, or with another kit
+usage: mutations/run edits_tried left             prints the crates that have edits and were not tried over the text that they have now
+       mutations/run edits_tried left --below     prints those, too, whose edits were tried over other crates below, or with another kit
 """
 import datetime
 import functools

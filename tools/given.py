@@ -1,7 +1,7 @@
 #!/usr/bin/env python3
 """Gives a checkout the libraries that a run of `rt ci` in another checkout has proved, or is proving, where the crate and all below it are the same text.
 
-usage: tools/given.py CHECKOUT_OF_CI LOG_OF_CI [CHECKOUT]
+usage: tools/run given CHECKOUT_OF_CI LOG_OF_CI [CHECKOUT]
 
 `rt check` then begins with them and proves nothing below again. CI cuts its libraries to their statements, which fit only libraries of the same run: so take
 all of them from one run. What is checked over them gives no verdict: CI proves everything. The last checkout is the current folder's, where none is named.

@@ -1,7 +1,7 @@
 #!/usr/bin/env python3
 """Builds the libraries of crates side by side, keeps them by the sum of their text, and puts them into checkouts of this repository.
 
-usage: tools/libraries.py [--lanes N] [--jobs N] [--rt COMMAND] [--give CHECKOUT]... [CRATE..]
+usage: tools/run libraries [--lanes N] [--jobs N] [--rt COMMAND] [--give CHECKOUT]... [CRATE..]
 
 It is for provers whose kit keeps nothing between runs, and who work in several worktrees: `rt check` in an upper crate first builds all below it, one after
 another, in each checkout anew, and only one `rt` works in a checkout's crates at a time. This builds each library once, in a tree of its own, so that several
