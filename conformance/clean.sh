@@ -5,7 +5,6 @@
 #   conformance/clean.sh page|netbox [FOLDER] [-- WORDS..]     FOLDER: /var/tmp/ipamd-clean-NAME by default; WORDS: those of the script
 set -euo pipefail
 top=$(cd "$(dirname "$0")/.." && pwd)
-. "$top/tools/need.sh"
 name=${1:-}
 case $name in
     page) packages="nginx-light libnginx-mod-http-js curl openssl nodejs chromium chromium-driver firefox-esr python3-selenium fonts-inter" ;;
@@ -17,10 +16,6 @@ root=/var/tmp/ipamd-clean-$name
 [ "${1:---}" = -- ] || { root=$1; shift; }
 [ $# = 0 ] || shift
 program=${IPAMD:-$top/crates/ipamd/out/ipamd}
-[ -x "$program" ] || { echo "build the program first: ./build" >&2; exit 1; }
-need debootstrap debootstrap
-need systemd-nspawn systemd-container
-need git git
 [ "$(id -u)" = 0 ] || { echo "clean: only root can do this" >&2; exit 1; }
 
 if [ ! -e "$root/made" ]; then

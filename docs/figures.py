@@ -1,5 +1,5 @@
 #!/usr/bin/env python3
-"""Writes what the pages say of the first table of figures, which bench/first_table.py measures: README's table, the first table of docs/PERFORMANCE.md, and
+"""Writes what the pages say of the first table of figures, which bench/run first_table measures: README's table, the first table of docs/PERFORMANCE.md, and
 docs/figures.svg, in which each figure with a peer is a bar: how many times as fast as the peer the program is, on a logarithmic scale. The picture is 800
 pixels wide and has a background of its own, so that it can be read in a light and in a dark theme.
 
@@ -221,7 +221,7 @@ def draw(bars):
 def main():
     checks = sys.argv[1:] == ["--check"]
     if not os.path.exists(TABLE):
-        sys.exit(0 if checks else "figures: docs/figures.json is not there: bench/all.sh --first-table writes it")
+        sys.exit(0 if checks else "figures: docs/figures.json is not there: bench/run first_table writes it")
     with open(TABLE, encoding="utf-8") as file:
         table = json.load(file)
     bad = []

@@ -8,8 +8,8 @@ put into a copy of the crates that are needed, and `rt try --test` runs there in
 the libraries that this checkout has proved). It prints a line a bug and, at the end, a sum; its status is 1 where one is not seen. A test that does not end
 sees nothing. A bug takes one to five minutes.
 
-usage: mutations/planted.py [CRATE | CRATE/NAME ..]     all bugs, where none is named
-       mutations/planted.py --texts                     the bugs that can't be planted, or whose test is not there; it builds nothing, and CI runs it
+usage: mutations/run planted [CRATE | CRATE/NAME ..]     all bugs, where none is named
+       mutations/run planted --texts                     the bugs that can't be planted, or whose test is not there; it builds nothing, and CI runs it
 environment: RT=COMMAND                             what runs as `rt`
 """
 import os
