@@ -108,6 +108,7 @@ def main():
         if status:
             wrong.append(said or f"{words[0]} ends with status {status}")
     wrong += unreadable()
+    wrong += not_there()
     _, left = run(sys.executable, "mutations/edits_tried.py", "left")
     if left:
         print(f"note: the mutation tests outside CI of {len(left.split())} crates were not tried over the text that they have now: {' '.join(left.split())}")
