@@ -1,4 +1,4 @@
-//! A conversation with the pools, and its answers by other pools, written from the rules alone: bench/pool_conversation.py makes it.
+//! A conversation with the pools, and its answers by other pools, written from the rules alone: model/pool_conversation.py makes it.
 
 /// What is asked: 158 requests, each on a line.
 pub(crate) const ASKED: &str = "\

@@ -1,4 +1,4 @@
-//! A database of version 1 that the program `sqlite3` made of bench/tables_first.sql is migrated, and loaded again.
+//! A database of version 1 that the program `sqlite3` made of model/tables_first.sql is migrated, and loaded again.
 
 use crate::changing::followed;
 use crate::database::{Trial, over_file};

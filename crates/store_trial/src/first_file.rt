@@ -1,4 +1,4 @@
-//! A database of version 1 that the program `sqlite3` made of bench/tables_first.sql, as bench/tables.py writes it.
+//! A database of version 1 that the program `sqlite3` made of model/tables_first.sql, as model/tables.py writes it.
 
 /// The bytes of the file in hexadecimal digits, of which `0*N` are N bytes that are zero.
 pub(crate) const FILE: &str = "\

@@ -1,4 +1,4 @@
-//! A database of pools that the program `sqlite3` made of bench/pool_tables.sql, as bench/tables.py writes it.
+//! A database of pools that the program `sqlite3` made of model/pool_tables.sql, as model/tables.py writes it.
 
 /// The bytes of the file in hexadecimal digits, of which `0*N` are N bytes that are zero.
 pub(crate) const FILE: &str = "\

@@ -43,7 +43,7 @@ const NUMBERS: &str =
     "INSERT INTO meta (name, value) VALUES ('next_ranges', 3), ('next_members', 7); ";
 
 /// Changes one after another, each with its answer: the ranges and the members that come, the id of the range and of the member that goes, the
-/// next ids. The first one makes what bench/pool_tables.sql makes. Where `many` come they are members of the range 3.
+/// next ids. The first one makes what model/pool_tables.sql makes. Where `many` come they are members of the range 3.
 const CHANGES: &str = "\
 done|2,asn,office,64512,64600;3,vlan,floor,10,4094;5,asn,lab \"x\",4200000000,4294967295;8,vlan,façade,7,9|11,2,64513,edge;12,3,20,voice;14,5,4294967294,core;20,8,1,d'or|||9,21
 Failed|9,vlan,garden,30,40;3,asn,again,1,2|21,9,31,lamp|5|12|30,31

@@ -1,4 +1,4 @@
-//! The text of the tables that keepers make: that of bench/tables.sql and bench/pool_tables.sql, of which the program `sqlite3` made the other
+//! The text of the tables that keepers make: that of model/tables.sql and model/pool_tables.sql, of which the program `sqlite3` made the other
 //! databases.
 
 use crate::database::{Trial, over_file};
