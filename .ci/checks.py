@@ -100,6 +100,15 @@ def not_there():
                 yield f"{path}: there is no {folder}/{name}"
 
 
+def public_functions():
+    """How many public functions the libraries have, if docs/PROMISES.md says another number: each is to be examined."""
+    _, listed = run("git", "grep", "-hE", r"^\s*pub fn ", "--", ":(glob)crates/*/src/**/*.rt", ":(glob,exclude)crates/*_trial/**")
+    count = len(listed.splitlines())
+    with open(f"{TOP}/docs/PROMISES.md", encoding="utf-8") as file:
+        if f"The {count} public functions" not in file.read():
+            yield f"docs/PROMISES.md: the libraries have {count} public functions; examine the new ones, and write the number"
+
+
 def main():
     sys.dont_write_bytecode = True
     wrong = []
@@ -109,6 +118,7 @@ def main():
             wrong.append(said or f"{words[0]} ends with status {status}")
     wrong += unreadable()
     wrong += not_there()
+    wrong += public_functions()
     _, left = run(sys.executable, "mutations/edits_tried.py", "left")
     if left:
         print(f"note: the mutation tests outside CI of {len(left.split())} crates were not tried over the text that they have now: {' '.join(left.split())}")
