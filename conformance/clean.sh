@@ -1,8 +1,8 @@
 #!/usr/bin/env bash
-# A script of bench/ on a clean Debian: debootstrap makes a Debian 12 below FOLDER (once), with the packages that the script names and no others, and
-# systemd-nspawn runs the script in it, without a network and from the last commit. By the built programs (./build, ./build poold; IPAMD=PROGRAM and
+# A program of conformance/ on a clean Debian: debootstrap makes a Debian 12 below FOLDER (once), with the packages that it needs and no others, and
+# systemd-nspawn runs it there, without a network and from the last commit. By the built programs (./build, ./build poold; IPAMD=PROGRAM and
 # POOLD=PROGRAM take other ones; it goes without the second one). As root, with debootstrap, systemd-container and git; 3 GB of disk.
-#   conformance/clean.sh page|netbox [FOLDER] [-- WORDS..]     FOLDER: /var/tmp/ipamd-clean-NAME by default; WORDS: those of the script
+#   conformance/clean.sh page|netbox [FOLDER] [-- WORDS..]     FOLDER: /var/tmp/ipamd-clean-NAME by default; WORDS: its arguments
 set -euo pipefail
 top=$(cd "$(dirname "$0")/.." && pwd)
 name=${1:-}
@@ -40,4 +40,4 @@ given=
 for one in PAGE_PARTS PAGE_PATIENCE; do [ -z "${!one:-}" ] || given="$given --setenv=$one=${!one}"; done
 echo "Debian $(cat "$root/etc/debian_version") with its packages $packages; no network" >&2
 exec systemd-nspawn --quiet -D "$root" --register=no --keep-unit --private-network --as-pid2 --chdir=/root/ipamd --setenv=LANG=C.UTF-8 \
-    --setenv=PYTHONDONTWRITEBYTECODE=1 $given "bench/$name.sh" "$@"
+    --setenv=PYTHONDONTWRITEBYTECODE=1 $given conformance/run "$name" "$@"

@@ -53,13 +53,13 @@ def claimed(stand, page):
 
 def given_back(stand, page):
     page.go("asn-ranges/1")
-    page.says("64515", ".facts")
+    page.says("The lowest free one is 64515", ".map-said")
     page.click("Give 64513 back")
     page.send("Give back", **{"Type 64513 to confirm": "64512"})
     page.says("is not its name", "dialog .field-fault")
     page.send("Give back", **{"Type 64513 to confirm": "64513"})
     page.closed()
-    page.says("2 of 100 given out", ".facts")
+    page.says("2 of 100", ".facts")
     check([part[0] for part in strip(page, "private")] == ["64512, given out", "64513, free", "64514, given out", "64515 – 64611, free"],
         f"the strip: {strip(page, 'private')}")
     page.click("Delete")
@@ -98,7 +98,7 @@ def stopped(stand, page):
     page.says("Nothing is new in private: the claim was not made", "dialog")
     page.click("Close", "dialog button")
     page.closed()
-    page.says("3 of 100 given out", ".facts")
+    page.says("3 of 100", ".facts")
 
 
 def hostile(stand, page):

@@ -98,9 +98,15 @@ function remove({ title, path, name, submit, after }, context) {
   openForm({ title, fields: [field], submit, isDanger: true }, { send, look }, context);
 }
 
+/** What is said below a strip while no part of it is pointed at. */
+function lowestText({ pool, taken }) {
+  const lowest = lowestFree(pool, taken);
+  return lowest === null ? "Nothing is free" : `The lowest free one is ${lowest}`;
+}
+
 /** The strip of a pool: what is given out, to scale. */
 function strip({ pool, taken }) {
-  const said = el("p", { class: "map-said", "aria-hidden": "true" }, "\u00a0");
+  const said = el("p", { class: "map-said" }, lowestText({ pool, taken }));
   const size = pool.end - pool.start + 1;
   const lane = el("div", { class: "lane", role: "group", "aria-label": `Strip of ${pool.name}` }, partsOfPool(pool, taken).map((part) => {
     const whole = part.last - part.first + 1;
@@ -108,16 +114,16 @@ function strip({ pool, taken }) {
       style: { left: `${(100 * (part.first - pool.start)) / size}%`, width: `${(100 * whole) / size}%` } });
   }));
   lane.addEventListener("pointerover", (event) => {
-    said.textContent = event.target.closest(".stop")?.getAttribute("aria-label") ?? "\u00a0";
+    said.textContent = event.target.closest(".stop")?.getAttribute("aria-label") ?? lowestText({ pool, taken });
   });
   lane.addEventListener("pointerleave", () => {
-    said.textContent = "\u00a0";
+    said.textContent = lowestText({ pool, taken });
   });
   const row = el("div", { class: "map-row" }, el("span", { class: "map-start" }, String(pool.start)), lane, el("span", { class: "map-end" }, String(pool.end)));
   return el("figure", { class: "map-box" }, row, said);
 }
 
-const usedText = ({ pool, taken }) => `${some(taken.length)} of ${some(pool.end - pool.start + 1)} given out`;
+const usedText = ({ pool, taken }) => `${some(taken.length)} of ${some(pool.end - pool.start + 1)}`;
 
 /** @param {object} context of the view: see app.js */
 export async function showNumbers(main, context) {
@@ -128,7 +134,7 @@ export async function showNumbers(main, context) {
   const next = (kind, pool) => button(`Next free ${POOL_KINDS[kind].member}`, () => claim(kind, pool, context),
     { class: "button small", "aria-label": `Next free ${POOL_KINDS[kind].member} of ${pool.name}` });
   const panel = (kind) => (one) => el("section", { class: "panel pool" }, el("div", { class: "section-head" },
-    el("h3", {}, el("a", { href: hrefOf([kind, one.pool.id]) }, one.pool.name), el("span", { class: "count" }, usedText(one))),
+    el("h3", {}, el("a", { href: hrefOf([kind, one.pool.id]) }, one.pool.name), el("span", { class: "count" }, `${usedText(one)} given out`)),
     context.mayChange ? next(kind, one.pool) : null), strip(one));
   fill(main, head, kinds.map((kind, index) => [
     el("div", { class: "section-head" }, el("h2", {}, POOL_KINDS[kind].title), context.mayChange ? create(kind) : null),
@@ -164,15 +170,13 @@ export async function showPool(main, context) {
   const gone = () => {
     window.location.hash = hrefOf(["numbers"]);
   };
-  const lowest = lowestFree(one.pool, one.taken);
   const actions = context.mayChange ? [
     button(`Next free ${member}`, () => claim(kind, one.pool, context), { class: "button main" }),
     button("Delete", () => remove({ title: `Delete ${one.pool.name}?`, path: `${kind}/${id}/`, name: one.pool.name, submit: "Delete", after: gone }, context),
       { class: "button danger" })] : [];
   const up = el("nav", { class: "crumbs", "aria-label": "Place" }, el("ol", {}, el("li", {}, el("a", { href: hrefOf(["numbers"]) }, title))));
   const head = el("div", { class: "view-head" }, el("h1", {}, one.pool.name), el("div", { class: "actions" }, actions));
-  const facts = factList([["First", String(one.pool.start)], ["Last", String(one.pool.end)], ["Given out", usedText(one)],
-    ["Lowest free", lowest === null ? "none" : String(lowest)]]);
+  const facts = factList([["First", String(one.pool.start)], ["Last", String(one.pool.end)], ["Given out", usedText(one)]]);
   const table = memberTable(kind, one, context);
   fill(main, up, head, facts, el("section", { class: "panel" }, strip(one)), el("div", { class: "tab" }, table.element), logLine());
   await table.load();
