@@ -3,6 +3,7 @@ relay, which can lose answers. conformance/page.sh says what is tested."""
 import base64
 import json
 import os
+import shutil
 import signal
 import socket
 import ssl
@@ -179,6 +180,9 @@ class Stand:
             process.wait()
         self.relay.end()
         self.errors.close()
+        # what it wrote stays if a test failed
+        if sys.exc_info()[0] is None:
+            shutil.rmtree(self.folder, ignore_errors=True)
 
     def ask(self, method, path, body=None, user="anna", base=BASE, **headers):
         """The status and the value of an answer through nginx, without a browser."""
