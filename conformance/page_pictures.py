@@ -10,7 +10,11 @@ import subprocess
 import tempfile
 import time
 
+<<<<<<< HEAD:conformance/page_pictures.py
 from conformance.page_stand import PROGRAM, TOP, Browser, check, wait
+=======
+from page_stand import PATIENCE, PROGRAM, TOP, Browser, check, wait
+>>>>>>> refs/heads/page:bench/page_pictures.py
 
 FOLDER = os.environ.get("PAGE_PICTURES") or os.path.join(TOP, "docs")
 MOST_BYTES = 200_000
@@ -21,6 +25,8 @@ class Demo:
 
     def __init__(self, port):
         words = [os.path.join(TOP, "examples/demo.sh"), str(port)]
+        # a shell that starts this in the background has it ignored
+        signal.signal(signal.SIGINT, signal.default_int_handler)
         self.process = subprocess.Popen(words, env={**os.environ, "IPAMD": PROGRAM}, stdout=subprocess.PIPE, text=True)
         self.url = f"http://127.0.0.1:{port}"
         line = self.process.stdout.readline()
@@ -28,7 +34,7 @@ class Demo:
 
     def end(self):
         self.process.send_signal(signal.SIGINT)
-        check(self.process.wait(20) == 0, f"demo.sh ends with {self.process.returncode}")
+        check(self.process.wait(20 * PATIENCE) == 0, f"demo.sh ends with {self.process.returncode}")
 
 
 def unbuilt():

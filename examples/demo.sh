@@ -71,6 +71,7 @@ create "prefixes/${site#*:}/available-prefixes/" '[{"prefix_length":20,"status":
     {"prefix_length":24,"status":"deprecated","description":"old printers"}]'
 
 cat > "$folder/nginx.conf" <<N
+$([ "$(id -u)" != 0 ] || echo "user root;")
 worker_processes 1; daemon off; pid $folder/nginx.pid; error_log $folder/errors;
 events {}
 http {
