@@ -10,11 +10,7 @@ import subprocess
 import tempfile
 import time
 
-<<<<<<< HEAD:conformance/page_pictures.py
-from conformance.page_stand import PROGRAM, TOP, Browser, check, wait
-=======
-from page_stand import PATIENCE, PROGRAM, TOP, Browser, check, wait
->>>>>>> refs/heads/page:bench/page_pictures.py
+from conformance.page_stand import PATIENCE, PROGRAM, TOP, Browser, check, wait
 
 FOLDER = os.environ.get("PAGE_PICTURES") or os.path.join(TOP, "docs")
 MOST_BYTES = 200_000
