@@ -12,8 +12,8 @@ case "$#:$name" in
     *) echo "usage: ./install.sh PREFIX [ipamd|poold]" >&2; exit 2 ;;
 esac
 top=$(cd "$(dirname "$0")" && pwd)
-# the newest version has the first heading of CHANGES.md, and stands nowhere else
-version=$(sed -n 's/^## \([0-9][0-9.]*\).*/\1/p' "$top/CHANGES.md" | head -n 1)
+# the version is a constant of the programs
+version=$(sed -n 's/^pub const VERSION: &str = "\(.*\)";$/\1/p' "$top/crates/program_entry/src/about.rt")
 [ -n "$program" ] || "$top/build" $words
 program=${program:-$top/crates/$name/out/$name}
 mkdir -p "$1"

@@ -16,6 +16,7 @@ SCRIPTS = (".ci", "bench", "conformance", "docs", "examples", "model", "mutation
 # Each prints what is not up to date, and how it is made.
 MADE = (
     ["docs/layers.py", "--check"],
+    ["docs/process.py", "--check"],
     ["docs/crate_pages.py", "--check"],
     ["docs/figures.py", "--check"],
     ["docs/proof_page.py", "--check"],
@@ -24,6 +25,9 @@ MADE = (
     ["mutations/planted.py", "--texts"],
     ["model/pool_conversation.py"],
     ["model/documents.py"],
+    ["tools/prose.py"],
+    ["tools/prose.py", "--crates"],
+    ["tools/pages.py"],
 )
 SHELLS = {"sh": "sh", "bash": "bash"}
 # The folders whose programs are started by their `run`.
@@ -109,6 +113,16 @@ def public_functions():
             yield f"docs/PROMISES.md: the libraries have {count} public functions; examine the new ones, and write the number"
 
 
+def another_version():
+    """Whether the first heading of CHANGES.md is of another version than the programs print."""
+    with open(f"{TOP}/crates/program_entry/src/about.rt", encoding="utf-8") as file:
+        version = re.search(r'^pub const VERSION: &str = "(.*)";$', file.read(), re.M)[1]
+    with open(f"{TOP}/CHANGES.md", encoding="utf-8") as file:
+        heading = re.search(r"^## ([0-9][0-9.]*)", file.read(), re.M)[1]
+    if heading != version:
+        yield f"CHANGES.md: the first heading is of version {heading}, and the programs print {version}"
+
+
 def main():
     sys.dont_write_bytecode = True
     wrong = []
@@ -119,6 +133,7 @@ def main():
     wrong += unreadable()
     wrong += not_there()
     wrong += public_functions()
+    wrong += another_version()
     _, left = run(sys.executable, "mutations/edits_tried.py", "left")
     if left:
         print(f"note: the mutation tests outside CI of {len(left.split())} crates were not tried over the text that they have now: {' '.join(left.split())}")

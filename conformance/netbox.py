@@ -38,7 +38,7 @@ WIRE = [
     ("Links have the host of the request", netbox_wire.hosts),
     ("Refusals name the member, and have the register's code in a header", netbox_wire.refusals),
     ("Held changes, wrong tokens and large bodies have a `detail`", netbox_wire.own_refusals),
-    ("Nobody waits 200 ms behind a hostile body", netbox_wire.bodies),
+    ("A hostile body holds nobody up for 200 ms", netbox_wire.bodies),
     ("The longest page fits", netbox_wire.largest),
 ]
 FILTERS = [("Filters find what they mean, in any spelling and several of one name", lambda front: filters.run(front, 400, 1))]

@@ -128,6 +128,10 @@ class Edges:
         """Other members beside a member with this value, so that only the latter is at an edge; None where there are none."""
         return {}
 
+    def items(self, base, count):
+        """So many items of a list, which are accepted together; the first is the body itself."""
+        return [base] * count
+
     def rule_code(self, schema, value, place):
         """The code with which a rule refuses the value that its schema allows, or None."""
         return None
@@ -157,7 +161,7 @@ class Edges:
         place = Place(self, operation, method, template.replace("{id}", self.claimed_from(template)), base)
         item, shapes = schema, [lambda text: text]
         if "oneOf" in schema:
-            item, shapes = schema["oneOf"][0], shapes + [lambda text: f"[{text}]", lambda text: f"[{json.dumps(base)},{text}]"]
+            item, shapes = schema["oneOf"][0], shapes + [lambda text: f"[{text}]", lambda text: f"[{json.dumps(self.items(base, 2)[1])},{text}]"]
         for name, one in item["properties"].items():
             for shape in shapes:
                 yield from (place.of_member(name, one, text, shape) for text in self.values(name, one))
@@ -177,9 +181,9 @@ class Edges:
         yield place.edge("with another member", {**place.base, "x": [None]}, success)
         if "oneOf" in schema:
             most = schema["oneOf"][1]["maxItems"]
-            yield from (place.edge(f"of {count} items", [place.base] * count, success) for count in (1, most - 1, most))
+            yield from (place.edge(f"of {count} items", self.items(place.base, count), success) for count in (1, most - 1, most))
             code = schema["oneOf"][1].get("x-refused", {}).get("maxItems", "field")
-            yield place.edge(f"of {most + 1} items", [place.base] * (most + 1), self.document.status(code), code)
+            yield place.edge(f"of {most + 1} items", self.items(place.base, most + 1), self.document.status(code), code)
 
     # -- parameters, paths and methods
 

@@ -8,8 +8,11 @@ import sys
 
 from conformance.openapi_edges import API, Edge, Edges, request
 
-# what is claimed by an item, and what a range is made of
-VALID = {"NewRange": {"name": "n", "start": 7, "end": 9}, "AsnClaim": {}, "VlanClaim": {"name": "n"}}
+# what is claimed by an item, what a range is made of, and which number is recorded
+VALID = {"NewRange": {"name": "n", "start": 7, "end": 9}, "AsnClaim": {}, "VlanClaim": {"name": "n"}, "NewAsns": {"asn": 64513, "name": "n"},
+         "NewVlans": {"vid": 10, "name": "n"}}
+# the first and the last number of the range and of the group that are recorded in
+RECORDED = {"asn-ranges": (64512, 65534), "vlan-groups": (1, 4094)}
 # what the pools of the edges begin with: a range and a group without members, which can be deleted, and one of each with a member
 ROWS = [("asn-ranges/", {"name": "one", "start": 64512, "end": 65534}), ("vlan-groups/", {"name": "one", "start": 1, "end": 4094}),
         ("asn-ranges/", {"name": "two", "start": 4200000000, "end": 4294967295}), ("vlan-groups/", {"name": "two", "start": 1, "end": 4094}),
@@ -39,9 +42,15 @@ class PoolEdges(Edges):
             return {}
         return {"end" if name == "start" else "start": value}
 
+    def items(self, base, count):
+        """Numbers that are recorded are each there once."""
+        number = next((name for name in ("asn", "vid") if name in base), None)
+        return [{**base, number: base[number] + place} if number else base for place in range(count)]
+
     def rule_code(self, schema, value, place):
-        is_number = schema.get("type") == "integer"
-        return "bounds" if is_number and not 1 <= value <= self.most(place.operation["tags"][0]) else None
+        ranges = place.operation["tags"][0]
+        first, last = RECORDED[ranges] if place.operation["operationId"].startswith("record") else (1, self.most(ranges))
+        return "bounds" if schema.get("type") == "integer" and not first <= value <= last else None
 
     def own_body_edges(self, template, place, item, shapes):
         """Ranges from the first number to the last, and past both; and a name that is taken."""
@@ -67,7 +76,22 @@ class PoolEdges(Edges):
             yield Edge(f"the last of the members of {ranges}", request("POST", target, [item]), 201, None, "members but one", claim)
             yield Edge(f"two in place of the last member of {ranges}", request("POST", target, [item] * 2), 507, "limit", "members but one", claim)
             yield Edge(f"one more member of {ranges}", request("POST", target, item), 507, "limit", "members all", claim)
+            yield from self.record_edges(ranges, number)
             yield Edge(f"no id is left for {ranges}", request("POST", base, new), 507, "limit", self.last(base), create)
+
+    def record_edges(self, ranges, number):
+        """Numbers past the ends of a range, one that a member has, one for two items, and members that are full, or full but for one row."""
+        base, members, name = API + ranges + "/", *{"asn-ranges": ("asns/", "asn"), "vlan-groups": ("vlans/", "vid")}[ranges]
+        operation, item = self.document.paths[f"{base}{{id}}/{members}"]["post"], self.body_of(f"{base}{{id}}/{members}", "post")
+        target, taken = f"{base}{number}/{members}", {"asn-ranges": (3, 4200000000), "vlan-groups": (4, 1)}[ranges]
+        first, last = RECORDED[ranges]
+        for one, status, code in ((first - 1, 400, "bounds"), (first, 201, None), (last, 201, None), (last + 1, 400, "bounds")):
+            yield Edge(f"number {one} of {ranges}", request("POST", target, {**item, name: one}), status, code, "small", operation)
+        yield Edge(f"a number that is taken of {ranges}", request("POST", f"{base}{taken[0]}/{members}", {**item, name: taken[1]}), 409, "taken", "small", operation)
+        yield Edge(f"a number for two items of {ranges}", request("POST", target, [item] * 2), 409, "taken", "small", operation)
+        yield Edge(f"the last of the members is recorded of {ranges}", request("POST", target, [item]), 201, None, "members but one", operation)
+        yield Edge(f"two are recorded in place of the last of {ranges}", request("POST", target, self.items(item, 2)), 507, "limit", "members but one", operation)
+        yield Edge(f"one more is recorded of {ranges}", request("POST", target, item), 507, "limit", "members all", operation)
 
     def make(self, folder):
         """`small`; `last 1` and `last 2`, where the range and the group without members have the last id, and so has the member of the kind; `few`, with three

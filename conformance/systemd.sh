@@ -26,7 +26,7 @@ cp "$top"/examples/* "$root/root/ipamd/examples/" 2>/dev/null || true
 install -m 755 "$program" "$root/root/program"
 install -m 755 "$pools" "$root/root/pools"
 # the package, and one of a higher version
-version=$(sed -n 's/^## \([0-9][0-9.]*\).*/\1/p' "$top/CHANGES.md" | head -n 1)
+version=$(sed -n 's/^pub const VERSION: &str = "\(.*\)";$/\1/p' "$top/crates/program_entry/src/about.rt")
 for one in "$version" "$version.1"; do VERSION=$one IPAMD=$program POOLD=$pools "$top/packaging/build-deb.sh" "$root/root/ipamd/packaging/out" > /dev/null; done
 lintian --allow-root --fail-on error "$root/root/ipamd/packaging/out/ipamd_${version}_amd64.deb"
 cat > "$root/etc/systemd/system/steps.service" <<U

@@ -167,7 +167,7 @@ step 0 '"mark_populated":false' "curl -s -X PATCH -d '{\"mark_populated\":false}
 look 0 '' 'systemctl stop ipamd; cp kept.db /var/lib/ipamd/register.db; rm -f /var/lib/ipamd/register.db-wal /var/lib/ipamd/register.db-shm; systemctl start ipamd'
 listens
 # the package in place of what install.sh put there; the register stays
-version=$(sed -n 's/^## \([0-9][0-9.]*\).*/\1/p' CHANGES.md | head -n 1)
+version=$(sed -n 's/^pub const VERSION: &str = "\(.*\)";$/\1/p' crates/program_entry/src/about.rt)
 look 0 '' 'systemctl disable --now ipamd poold; cd /usr/local; rm {bin,share/man/man1,lib/systemd/system}/{ipamd,poold}* && systemctl daemon-reload'
 step 0 'not started. To start one now and at each boot: systemctl enable --now ipamd.?$' "apt install ./packaging/out/ipamd_${version}_amd64.deb"
 for one in ipamd poold; do

@@ -1,7 +1,6 @@
 #!/usr/bin/env python3
-"""Writes what pages take from elsewhere. In the crates' pages (docs/crates/): the crates that a crate depends on, in the first paragraph, from crates.txt; and the table
-below `## Mutation tests`, from crates/CRATE/must-fail, which CI tries, and mutations/edits/CRATE; what a page says below that table stays. In docs/ARCHITECTURE.md:
-the column `Depends on`.
+"""Writes what the crates' pages (docs/crates/) take from elsewhere: the crates that a crate depends on, in the first paragraph, from crates.txt; and the table below
+`## Mutation tests`, from crates/CRATE/must-fail, which CI tries, and mutations/edits/CRATE. What a page says below that table stays.
 
     python3 docs/crate_pages.py            writes them
     python3 docs/crate_pages.py --check    ends with 1 if a page has something else, or if a crate has no page or a page no crate; prints nothing if all is well
@@ -47,31 +46,21 @@ def page_of(text, crate, crates):
     return SECTION.sub(lambda found: found.group(1) + table(crate), text), None
 
 
-def with_column(text, crates):
-    """docs/ARCHITECTURE.md with the column `Depends on` of crates.txt."""
-    def row(found):
-        name = found.group(1)
-        if name not in crates:
-            return found.group(0)
-        return f"| {name} | {found.group(2)} | " + ", ".join(one for one in crates[name][0] if one in crates) + f" |{found.group(3)}"
-    return re.sub(r"^\| ([a-z0-9_]+) \| ([^|]*) \|[^|]*\|([^|]*\|)$", row, text, flags=re.M)
-
-
 def main():
     crates, _ = read_crates(os.path.join(TOP, "crates.txt"))
     pages = os.path.join(TOP, "docs/crates")
     there = {page.removesuffix(".md") for page in os.listdir(pages)}
     bad = [f"crate_pages: {name} has no page" for name in crates if name not in there]
     bad += [f"crate_pages: docs/crates/{name}.md is of no crate" for name in sorted(there - set(crates))]
-    for page in ["ARCHITECTURE.md"] + [f"crates/{crate}.md" for crate in sorted(there & set(crates))]:
-        path = os.path.join(TOP, "docs", page)
+    for crate in sorted(there & set(crates)):
+        path = os.path.join(pages, f"{crate}.md")
         with open(path, encoding="utf-8") as file:
             text = file.read()
-        wanted, fault = (with_column(text, crates), None) if page == "ARCHITECTURE.md" else page_of(text, page[7:-3], crates)
+        wanted, fault = page_of(text, crate, crates)
         if fault:
-            bad.append(f"crate_pages: docs/{page} {fault}")
+            bad.append(f"crate_pages: docs/crates/{crate}.md {fault}")
         elif wanted != text and sys.argv[1:] == ["--check"]:
-            bad.append(f"crate_pages: docs/{page} is not up to date; python3 docs/crate_pages.py writes it")
+            bad.append(f"crate_pages: docs/crates/{crate}.md is not up to date; python3 docs/crate_pages.py writes it")
         elif wanted != text:
             with open(path, "w", encoding="utf-8") as file:
                 file.write(wanted)

@@ -1,5 +1,5 @@
 #!/usr/bin/env python3
-"""Writes what the pages say of the first table of figures, which bench/run first_table measures: README's table, the first table of docs/PERFORMANCE.md, and
+"""Writes what the pages say of the figures with a peer, which bench/run first_table measures: README's table, the first tables of docs/PERFORMANCE.md, and
 docs/figures.svg, in which each figure with a peer is a bar: how many times as fast as the peer the program is, on a logarithmic scale. The picture is 800
 pixels wide and has a background of its own, so that it can be read in a light and in a dark theme.
 
@@ -26,29 +26,25 @@ FASTER, SLOWER = "#2f6fb5", "#c8641e"
 VERSION_OF = {"iprange": "iprange", "netaddr": "netaddr", "NetBox's way, over PostgreSQL": "PostgreSQL", "the best SQL, over PostgreSQL": "PostgreSQL",
               "SQLite, no checks": "SQLite", "sqlite3 .import, no checks": "SQLite", "nginx, a file of that size": "nginx", "Python's http.server": "Python"}
 # README's rows: the key of a figure; the GET is the one with the worst ratio
-PICKED = ["free IPv4, random", "claims addresses 10000 1", "claims addresses 10000 16", "GET", "creations", "import prefixes"]
+PICKED = ["free IPv4, random", "claims addresses 10000 1", "claims addresses 10000 16", "GET", "import prefixes"]
 # the ways to run GETs by one and by four connections
-WAYS = {"free": "all processors", "on one processor": "wrk and the server pinned to one processor",
-        "no processor sleeps": "all processors, and on each a loop of the idle class"}
+WAYS = {"free": "as above", "on one processor": "all on one processor", "no processor sleeps": "no processor asleep"}
 # how the figures were measured, and what they mean
 METHODS = """\
-- What two programs both print is compared: the free blocks, the fewest blocks, the first address that is claimed.
-- **Claims**: the first addresses of a prefix are taken, as many as the row says, and each claim gets the lowest free
-  one. A client is a process of Python that claims one after another. A run has 200 claims at least, or five seconds; a
-  figure is the median of three runs. On all three sides a claim is on the disk before it is answered, and claims wait
-  for one another, so that more clients have few more claims.
-- **NetBox's way** reads the addresses of the prefix by one connection of psycopg2 a client, finds the free ones by sets
-  of netaddr, as NetBox 4 does, and inserts one row, under its advisory lock. It is without Django, permissions and the
-  log of changes; so it is quicker than NetBox. An AS number it finds as NetBox does, by a set of all numbers of the range.
-- **The best SQL** is one statement a claim: a function takes the advisory lock, finds the first gap by one query over
-  an index, and inserts it. It reads the index up to that gap, so it gets slower as the prefix fills. Both ways have
-  PostgreSQL with Debian's settings, on the same disk.
-- **Creations** are sent at once over one connection, and each is on the disk before it is answered. SQLite has the same
-  rows and checks nothing.
-- **GETs** are in memory, by wrk, one second, the median of five runs, with as many workers as connections. nginx sends a
-  file with the bytes of the answer, with sendfile, tcp_nopush, open_file_cache and a worker for each processor.
-- `free` prints nothing before all its input is known to be good, so it stores all blocks of the input, and then all
-  free blocks.
+- If two programs print the same thing, it is compared: free blocks, fewest blocks, the first claimed address.
+- **Claims**: the lowest addresses of a prefix are taken, as many as the row says; each claim returns the lowest free
+  one. A client is a Python process that waits for each answer. A figure is the median of three runs of 200 claims or
+  five seconds. On all three sides a claim is on the disk before its answer, and claims wait for one another.
+- **NetBox's way** reads the prefix's addresses (psycopg2, a connection per client) and finds the free ones by sets of
+  netaddr, as NetBox 4 does. It inserts a row, under its advisory lock. It is faster than NetBox: Django, permissions and
+  the log of changes are left out. For an AS number it takes a set of the range's numbers.
+- **The best SQL** is one statement per claim: a function takes the advisory lock, finds the first gap by a query over
+  an index, and inserts it. It reads the index up to the gap. PostgreSQL has Debian's settings, and the same disk.
+- **Creations** are sent over one connection without waiting; each is on the disk before its answer. SQLite inserts the
+  same rows without checks.
+- **GETs**: wrk for one second, the median of five runs, as many workers as connections. nginx sends a file with the
+  answer's bytes, with sendfile, tcp_nopush, open_file_cache and one worker per processor.
+- `free` stores its whole input and output, since it prints nothing until all input is checked.
 """
 
 
@@ -116,19 +112,15 @@ def worst_get(table):
 
 def readme_block(table):
     rows = {row["key"]: row for row in table["rows"]}
-    counts = [row["key"][4:] for row in table["rows"] if row["key"].startswith("GET ")]
-    text = "| What | ipamd | Peer |\n|---|---|---|\n"
-    for key in PICKED:
-        row = worst_get(table) if key == "GET" else rows[key]
-        what = row["what"] + (f": of {', '.join(counts)} the worst for ipamd" if key == "GET" else "")
-        what += f" (one sync of the disk: {row['sync_ms']:.2f} ms)" if row["sync_ms"] is not None and row["unit"] != "s" else ""
-        text += f"| {what} | {with_unit(row)} | " + "; ".join(f"{peer['name']}: {with_unit(row, peer)}" for peer in row["peers"]) + " |\n"
-    return text + "\n" + wrapped(machine_text(table))
+    counts = ", ".join(row["key"][4:] for row in table["rows"] if row["key"].startswith("GET "))
+    worst = {**worst_get(table), "what": f"{worst_get(table)['what']}: of {counts} the worst for ipamd"}
+    picked = [worst if key == "GET" else rows[key] for key in PICKED]
+    return "".join(table_lines(table, picked)) + "\n" + wrapped(machine_text(table))
 
 
-def table_lines(table):
+def table_lines(table, rows):
     yield "| What | ipamd | Peer | Its figure | Times better | One fdatasync of 4 KiB |\n|---|---|---|---|---|---|\n"
-    for row in table["rows"]:
+    for row in rows:
         sync = "" if row["sync_ms"] is None else f"{row['sync_ms']:.2f} ms"
         own = with_unit(row)
         for peer in row["peers"] or [None]:
@@ -139,38 +131,62 @@ def table_lines(table):
                 yield f"| {row['what']} | {own} | {name} | {with_unit(row, peer)} | {more}{of_times(better(row, peer))} | {sync} |\n"
 
 
-def get_text(table):
-    rows = [row for row in table["rows"] if row["key"].startswith("GET ")]
-    ratios = " / ".join(of_times(better(row, row["peers"][0])) for row in rows)
-    return f"- GETs a second to nginx's, with {' / '.join(row['key'][4:] for row in rows)} connections: {ratios}."
+def others(table):
+    """The rows that have no table of their own."""
+    return [row for row in table["rows"] if not row["key"].startswith(("claims ", "GET "))]
 
 
-def slower_text(table):
-    """Where a peer is better."""
-    found = [f"{short(row['what'])}: {of_times(better(row, peer))} of {short(peer['name'])}" for row in table["rows"] for peer in row["peers"]
-             if better(row, peer) < 1]
-    return "- Slower than a peer: " + ("; ".join(found) if found else "none of these") + "."
+def peer_lines(table):
+    yield "| What | ipamd | Peer | Its figure | Times better |\n|---|---|---|---|---|\n"
+    for row in others(table):
+        own = with_unit(row)
+        for peer in row["peers"] or [None]:
+            if peer is None:
+                yield f"| {row['what']} | {own} | | | |\n"
+            else:
+                more = "more than " if peer["stopped"] else ""
+                yield f"| {row['what']} | {own} | {peer['name']} | {with_unit(row, peer)} | {more}{of_times(better(row, peer))} |\n"
+
+
+def claim_lines(table):
+    """Claims a second, a line for each number of taken ones and of clients."""
+    yield "| Taken before | Clients | ipamd | NetBox's way | The best SQL |\n|---|---|---|---|---|\n"
+    for row in table["rows"]:
+        if row["key"].startswith("claims "):
+            kind, count, clients = re.fullmatch(r"claims (.*) (\d+) (\d+)", row["key"]).groups()
+            figures = [row["figure"]] + [peer["figure"] for peer in row["peers"]]
+            what = f"{int(count):,} {kind}" + (" (`poold`)" if kind == "AS numbers" else "")
+            yield f"| {what} | {clients} | " + " | ".join(plain(row["unit"], one) for one in figures) + " |\n"
+
+
+def get_lines(table):
+    """GETs a second, a line for each number of connections; and the other ways to run one and four."""
+    yield "| Connections | ipamd | nginx |\n|---|---|---|\n"
+    for row in table["rows"]:
+        if row["key"].startswith("GET "):
+            yield f"| {row['key'][4:]} | {plain(row['unit'], row['figure'])} | {plain(row['unit'], row['peers'][0]['figure'])} |\n"
+    for one in table["jump"]:
+        if one["how"] != "free":
+            yield f"| {one['connections']}; {WAYS[one['how']]} | {one['ipamd']:,.0f} | {one['nginx']:,.0f} |\n"
+
+
+def peers_text(table):
+    syncs = [row["sync_ms"] for row in table["rows"] if row["sync_ms"] is not None]
+    return ("Peers: " + ", ".join(f"{name} {version}" for name, version in table["versions"].items())
+            + f". While the rows with a file ran, an fdatasync of 4 KiB took {min(syncs):.2f} to {max(syncs):.2f} ms.")
 
 
 def jump_text(table):
-    """What is behind the step from one connection to four: a table of the ways to run it, and what it says."""
-    of = {(one["how"], one["connections"]): one for one in table["jump"]}
-    text = "What is behind the step from one connection to four: GETs a second, the median of three runs.\n\n"
-    text += "| How | ipamd, 1 connection | 4 connections | nginx, 1 connection | 4 connections |\n|---|---|---|---|---|\n"
-    for how, what in WAYS.items():
-        text += f"| {what} | " + " | ".join(f"{of[how, count][name]:,.0f}" for name in ("ipamd", "nginx") for count in (1, 4)) + " |\n"
-    woken = max(of[how, 1]["ipamd"] for how in WAYS) / of["free", 1]["ipamd"]
-    one = of["on one processor", 4]["ipamd"] / of["on one processor", 1]["ipamd"]
-    said = f"On one processor four connections have {one:.1f} times the GETs of one. "
-    if woken < 1.2:
-        return text + "\n" + wrapped(said + "The waking of sleeping processors is not what slows one connection: without it there are no more GETs.")
-    return text + "\n" + wrapped("With one connection, wrk and the server wait for each other in turn, and for each request a processor that sleeps is woken. "
-                                 f"Without such a wait one connection has {woken:.1f} times as many GETs. " + said)
+    """Why four connections have more than four times the GETs of one."""
+    of = {one["how"]: one["ipamd"] for one in table["jump"] if one["connections"] == 1}
+    best = max(WAYS, key=of.get)
+    return (f"- For each GET of one connection wrk and the server wake each other. With {WAYS[best]} there are {of[best] / of['free']:.1f} times as many.")
 
 
 def performance_block(table):
-    notes = wrapped(slower_text(table)) + wrapped(get_text(table)) + METHODS
-    return wrapped(machine_text(table)) + "\n" + "".join(table_lines(table)) + "\n" + notes + "\n" + jump_text(table)
+    notes = wrapped(jump_text(table)) + METHODS
+    return "\n".join([wrapped(machine_text(table) + " " + peers_text(table)), "".join(peer_lines(table)), "Claims a second, over a file:\n", "".join(claim_lines(table)),
+                      "GETs a second of one record, in memory:\n", "".join(get_lines(table)), notes])
 
 
 def with_block(text, block):
@@ -178,7 +194,7 @@ def with_block(text, block):
     before, found, rest = text.partition(BEGIN)
     _, found_end, behind = rest.partition(END)
     if not found or not found_end:
-        sys.exit("figures: a page has no two lines between which the figures stand")
+        sys.exit("figures: a page lacks the two lines between which the figures are written")
     return before + BEGIN + block + END + behind
 
 

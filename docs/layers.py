@@ -4,8 +4,8 @@ below; dependencies that go up are listed at the foot. Crates of tests are dashe
 background of its own, so that it can be read in a light and in a dark theme.
 
     python3 docs/layers.py            writes docs/layers.svg
-    python3 docs/layers.py --check    ends with 1 if docs/layers.svg is not what would be written, or if the README or docs/ARCHITECTURE.md
-                                      do not list the layers of crates.txt with the same crates in the same order; prints nothing if all is well
+    python3 docs/layers.py --check    ends with 1 if docs/layers.svg is not what would be written, or if docs/ARCHITECTURE.md does not list
+                                      the layers of crates.txt with the same crates in the same order; prints nothing if all is well
 """
 import html
 import os
@@ -56,7 +56,7 @@ def band(number, title, crates, top):
 def foot(crates):
     """A line on dashed crates, and one for each dependency on a layer above."""
     upward = [f"{name} also depends on {other}." for name in crates for other in crates[name][0] if other in crates and crates[other][1] > crates[name][1]]
-    return ["Crates depend on crates of their own layer and of those below" + (", except where the lines below say more." if upward else ".") + " Dashed: crates of tests."] + upward
+    return ["Crates depend on crates of their own layer and of those below" + (", unless a line below says more." if upward else ".") + " Dashed: crates of tests."] + upward
 
 
 def draw(crates, titles):
@@ -78,16 +78,10 @@ def layers_of(crates, titles):
     return [(title, [name for name in crates if crates[name][1] == number]) for number, title in enumerate(titles)]
 
 
-def read_readme(text):
-    """The layers of the README's table `| Layer | Crates |`."""
-    rows = text.partition("| Layer | Crates |\n|---|---|\n")[2].split("\n\n")[0].splitlines()
-    return [(cells[0].strip(), cells[1].strip().split(", ")) for cells in (row.strip("|").split("|") for row in rows)]
-
-
 def read_map(text):
-    """The layers of docs/ARCHITECTURE.md: a heading, and below it a table whose rows begin with a crate."""
+    """The layers of docs/ARCHITECTURE.md: a heading, and below it a list whose items begin with a crate."""
     parts = re.split(r"^### (.*)$", text.partition("\n## The map\n")[2].partition("\n## ")[0], flags=re.M)[1:]
-    return [(title.replace("`", ""), re.findall(r"^\| ([a-z0-9_]+) \|", body, flags=re.M)) for title, body in zip(parts[::2], parts[1::2])]
+    return [(title.replace("`", ""), re.findall(r"^- \*\*([a-z0-9_]+)\*\*:", body, flags=re.M)) for title, body in zip(parts[::2], parts[1::2])]
 
 
 def differences(layers, others, page):
@@ -99,9 +93,7 @@ def differences(layers, others, page):
 
 def check(text, path, layers):
     """Each page that is not that of crates.txt, a line each."""
-    top = os.path.join(HERE, "..")
     lines = [] if os.path.exists(path) and open(path).read() == text else ["layers: docs/layers.svg is not that of crates.txt; python3 docs/layers.py writes it"]
-    lines += differences(layers, read_readme(open(os.path.join(top, "README.md")).read()), "README.md")
     return lines + differences(layers, read_map(open(os.path.join(HERE, "ARCHITECTURE.md")).read()), "docs/ARCHITECTURE.md")
 
 

@@ -11,7 +11,7 @@ import sys
 COLOURS = {"container": "#dbe9f6", "active": "#e2f0d9", "reserved": "#fff2cc", "deprecated": "#ececec"}
 LINE, STEP, WIDE, HIGH, MARGIN = 26, 30, 250, 20, 16
 FONT = "font-family='DejaVu Sans, Verdana, sans-serif'"
-# a prefix stands two spaces further in than what contains it, and two behind its table's name
+# a prefix is indented by two spaces more than what contains it; one at the top, by two
 PREFIX = re.compile(r"  ((?:  )*)(\S+) (container|active|reserved|deprecated)")
 
 

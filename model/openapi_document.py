@@ -419,8 +419,9 @@ def shared_headers(methods):
 
 
 def version():
-    with open(os.path.join(TOP, "CHANGES.md"), encoding="utf-8") as page:
-        return re.search(r"^## ([0-9][0-9.]*)", page.read(), re.M)[1]
+    """The version of the programs, a constant of theirs."""
+    with open(os.path.join(TOP, "crates/program_entry/src/about.rt"), encoding="utf-8") as text:
+        return re.search(r'^pub const VERSION: &str = "(.*)";$', text.read(), re.M)[1]
 
 
 def other_answers(book=REFUSALS):

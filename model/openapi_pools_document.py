@@ -4,14 +4,15 @@ Names, their order and limits are those of model/plain_pools.py; what is the sam
 """
 from model.openapi_document import (ID_OF_PATH, ID_PARAMETER, MOST_FIELDS, MOST_LISTED, OTHERS, REFUSALS, answers, claim, closed, content, fields, listed,
                               other_answers, ref, refusals, shared_headers, text, version)
-from model.plain_pools import ITEM, MOST_MEMBERS, MOST_NUMBER, MOST_RANGES, RANGE, WORDS
+from model.plain_pools import CHOSEN, ITEM, MOST_MEMBERS, MOST_NUMBER, MOST_RANGES, RANGE, WORDS
 from model.plain_register import MOST_ANSWERS, MOST_BODY, MOST_HEAD, MOST_ITEMS, MOST_LOG
-from model.plain_texts import MOST_DEPTH, MOST_ID
+from model.plain_texts import MOST_DEPTH, MOST_ID, REQUIRED
 
 # of each kind: what a range is called, and what a member is
 ONE = {"asn": ("AsnRange", "Asn"), "vlan": ("VlanGroup", "Vlan")}
 ID = "[1-9][0-9]{0,9}"
-MOST = {"ranges": MOST_RANGES, "members": MOST_MEMBERS, "claims": MOST_ITEMS, "ids": MOST_ID, "log": MOST_LOG}
+ONE_NUMBER = "number (?:0|[1-9][0-9]{0,9})"
+MOST = {"ranges": MOST_RANGES, "members": MOST_MEMBERS, "claims": MOST_ITEMS, "items": MOST_ITEMS, "ids": MOST_ID, "log": MOST_LOG}
 ABOUT = """The HTTP interface of `poold serve` and `poold session`. docs/USING-POOLS.md explains it; this document has each path, parameter, body, answer and
 refusal with its bounds.
 
@@ -30,8 +31,10 @@ ALIKE = ("bad_head", "too_large", "coding", "no_route", "method", "bad_json", "f
 BOOK = [one for one in REFUSALS if one[0] in ALIKE] + [
     ("not_found", 404, f"^{ID} is not there$", True, "No range, group or member of this kind has the id of the path."),
     ("name_taken", 400, f"^the name is that of {ID}$", True, "Another range, or another group, has this name."),
-    ("bounds", 400, "first and last do not fit", True, "`start` is 0, `end` is below `start`, or `end` is above the greatest number of the kind."),
+    ("bounds", 400, f"^(?:first and last do not fit|{ONE_NUMBER} is not in the range)$", True,
+     "`start` is 0, `end` is below `start`, or `end` is above the greatest number of the kind; or a number that is to be recorded is not in the range."),
     ("in_use", 409, f"^named by member {ID}$", True, "The range or group that is to be deleted has members."),
+    ("taken", 409, f"^{ONE_NUMBER} is that of (?:member {ID}|an earlier item)$", True, "A member of the pool, or an earlier item of the body, has the number."),
     ("no_space", 409, "^no space for claim (?:0|[1-9][0-9]{0,2})$", True, "Only so many numbers are free, and the claim has more items."),
     ("limit", 507, f"^(?:{'|'.join(MOST)}) would exceed [1-9][0-9]*$", True, "A limit is reached."),
 ]
@@ -45,26 +48,30 @@ def whole(least, most, **more):
 
 def members_of(kind):
     _, _, range_name, number_name = WORDS[kind]
-    found = {"id": ref("RowId"), range_name: ref("RowId"), number_name: whole(1, MOST_NUMBER[kind])}
-    return closed(found | ({"name": ref("Name")} if kind == "vlan" else {}))
+    found = {"id": ref("RowId"), range_name: ref("RowId"), number_name: whole(1, MOST_NUMBER[kind]), "name": ref("Name")}
+    shown = closed(found)
+    return shown if kind == "vlan" else {**shown, "required": [name for name in shown["required"] if name != "name"]}
 
 
 def body(members):
-    needed = [name for name, _, _ in members]
-    known = {"name": ref("Name"), "start": ref("Number"), "end": ref("Number")}
-    return {"type": "object", "x-refused": {"type": "bad_json"}, "properties": {name: known[name] for name in needed}, **({"required": needed} if needed else {})}
+    needed = [name for name, _, default in members if default is REQUIRED]
+    known = {"name": ref("Name"), **{name: ref("Number") for name in ("start", "end", "asn", "vid")}}
+    properties = {name: known[name] if name != "name" or default is REQUIRED else ref("NameOrNone") for name, _, default in members}
+    return {"type": "object", "x-refused": {"type": "bad_json"}, "properties": properties, **({"required": needed} if needed else {})}
 
 
 def schemas():
     found = {"Name": text(1, 100, description="Characters are counted, not bytes."),
+             "NameOrNone": text(0, 100, description="Characters are counted, not bytes. An empty name is none, and is not shown."),
              "Id": whole(1, MOST_ID + 1, description=f"The id of a row. No row has an id above {MOST_ID}."), "RowId": whole(1, MOST_ID),
              "Number": whole(0, 4294967295, description="It has to be at least 1, and at most the greatest number of the kind (else `bounds`)."),
              "NewRange": body(RANGE)}
     for kind, (one, member) in ONE.items():
         row = {"id": ref("RowId"), "name": ref("Name"), "start": whole(1, MOST_NUMBER[kind]), "end": whole(1, MOST_NUMBER[kind])}
-        item = member + "ClaimItem"
+        item, chosen = member + "ClaimItem", "New" + member
         found |= {one: closed(row), one + "s": {"type": "array", "maxItems": MOST_RANGES, "items": ref(one)}, member: members_of(kind),
                   member + "s": {"type": "array", "maxItems": MOST_MEMBERS, "items": ref(member)}, item: body(ITEM[kind]), member + "Claim": claim(item),
+                  chosen: body(CHOSEN[kind]), chosen + "s": claim(chosen),
                   "Claimed" + member + "s": {"description": "One object for one object, a list for a list.",
                                              "oneOf": [ref(member), {"type": "array", "minItems": 1, "maxItems": MOST_ITEMS, "items": ref(member)}]},
                   "Available" + member + "s": {"type": "array", "maxItems": MOST_LISTED, "items": whole(1, MOST_NUMBER[kind])}}
@@ -94,11 +101,13 @@ def paths_of(kind):
     ranges, members, _, _ = WORDS[kind]
     named = fields([name for name, _, _ in RANGE])
     claims = {"bad_json": None, **fields([name for name, _, _ in ITEM[kind]] + ["body"]), **THERE, "no_space": None, "keeper": None, **limits("claims", "members", "ids", "log")}
+    records = {"bad_json": None, **fields([name for name, _, _ in CHOSEN[kind]] + ["body"]), **THERE, "bounds": f"^{ONE_NUMBER} is not in the range$", "taken": None, "keeper": None,
+               **limits("items", "members", "ids", "log")}
     base = f"/api/ipam/{ranges}/"
     return {
         base: {
             "get": operation(kind, f"list{one}s", "All of them, by id", 200, ref(one + "s"), {}),
-            "post": operation(kind, f"create{one}", "Make one", 201, ref(one), {"bad_json": None, **named, "name_taken": None, "bounds": None, "keeper": None, **limits("ranges", "ids", "log")},
+            "post": operation(kind, f"create{one}", "Make one", 201, ref(one), {"bad_json": None, **named, "name_taken": None, "bounds": ["first and last do not fit"], "keeper": None, **limits("ranges", "ids", "log")},
                               asked="NewRange")},
         base + "{id}/": {
             "parameters": [ID_PARAMETER],
@@ -109,7 +118,9 @@ def paths_of(kind):
             "post": operation(kind, f"claim{member}s", "Claim the lowest free number for each item: all of them, or none", 201, ref(f"Claimed{member}s"), claims, asked=member + "Claim")},
         base + f"{{id}}/{members}/": {
             "parameters": [ID_PARAMETER],
-            "get": operation(kind, f"list{member}s", "What it gave out, by id", 200, ref(member + "s"), THERE)},
+            "get": operation(kind, f"list{member}s", "What it gave out, by id", 200, ref(member + "s"), THERE),
+            "post": operation(kind, f"record{member}s", "Record the number of each item, which is in use already or is chosen: all of them, or none", 201, ref(f"Claimed{member}s"), records,
+                              asked=f"New{member}s")},
         f"/api/ipam/{members}/{{id}}/": {
             "parameters": [ID_PARAMETER],
             "delete": operation(kind, f"delete{member}", "Give a number back", 204, None, {**THERE, "keeper": None, **limits("log")})},
@@ -127,7 +138,7 @@ def document():
         "components": {
             "schemas": schemas(),
             "parameters": {"id": {**ID_OF_PATH, "description": "The id of a row. Any other text makes another path (404 `no_route`)."}},
-            "headers": shared_headers(["GET, POST", "DELETE", "GET"]),
+            "headers": shared_headers(["GET, POST", "DELETE"]),
             "responses": other_answers(BOOK),
         },
         **OTHERS,

@@ -26,6 +26,9 @@ MOST_RANGES, MOST_MEMBERS = 1000, 100000
 WORDS = {"asn": ("asn-ranges", "asns", "range", "asn"), "vlan": ("vlan-groups", "vlans", "group", "vid")}
 RANGE = [("name", a_text(1, 100), REQUIRED), ("start", a_number(0, 4294967295), REQUIRED), ("end", a_number(0, 4294967295), REQUIRED)]
 ITEM = {"asn": [], "vlan": [("name", a_text(1, 100), REQUIRED)]}
+# what an item is that records a chosen number
+CHOSEN = {"asn": [("asn", a_number(0, 4294967295), REQUIRED), ("name", a_text(0, 100), "")],
+          "vlan": [("vid", a_number(0, 4294967295), REQUIRED), ("name", a_text(1, 100), REQUIRED)]}
 
 
 class Pools:
@@ -95,13 +98,17 @@ class Pools:
         self.members.remove(found[0])
         self.accept()
 
-    def free(self, row):
-        """The free numbers of a range, in order. No two ranges of ASNs give out one number; each group of VLANs has its own numbers."""
+    def taken(self, row):
+        """The member of each number that is taken. No two ranges of ASNs give out one number; each group of VLANs has its own numbers."""
         if row["kind"] == "asn":
             pool = {one["id"] for one in self.ranges if one["kind"] == "asn"}
         else:
             pool = {row["id"]}
-        taken = {member["number"] for member in self.members if member["range"] in pool}
+        return {member["number"]: member["id"] for member in self.members if member["range"] in pool}
+
+    def free(self, row):
+        """The free numbers of a range, in order."""
+        taken = self.taken(row)
         return (number for number in range(row["start"], row["end"] + 1) if number not in taken)
 
     def available(self, kind, number, limit):
@@ -114,9 +121,29 @@ class Pools:
         found = list(itertools.islice(self.free(row), len(items)))
         if len(found) < len(items):
             raise Refused(409, "no_space", f"no space for claim {len(found)}", asked=True)
+        return self.give(kind, number, found, items)
+
+    def record(self, kind, number, items):
+        row, chosen = self.range_of(kind, number), []
+        if len(items) > MOST_ITEMS:
+            raise limit_refused("items", MOST_ITEMS)
+        taken = self.taken(row)
+        for item in items:
+            one = item[WORDS[kind][3]]
+            if not row["start"] <= one <= row["end"]:
+                raise Refused(400, "bounds", f"number {one} is not in the range", asked=True)
+            if one in taken:
+                raise Refused(409, "taken", f"number {one} is that of member {taken[one]}", asked=True)
+            if one in chosen:
+                raise Refused(409, "taken", f"number {one} is that of an earlier item", asked=True)
+            chosen.append(one)
+        return self.give(kind, number, chosen, items)
+
+    def give(self, kind, number, numbers, items):
+        """Makes a member of each number."""
         self.check_room("members", self.members, MOST_MEMBERS, self.next_member, len(items))
         made = [{"id": self.next_member + place, "range": number, "number": one, "name": item.get("name", "")}
-                for place, (one, item) in enumerate(zip(found, items))]
+                for place, (one, item) in enumerate(zip(numbers, items))]
         self.members += made
         self.next_member += len(made)
         self.accept(len(made))
@@ -130,7 +157,7 @@ class Pools:
     def member_view(self, kind, member):
         _, _, range_name, number_name = WORDS[kind]
         seen = {"id": member["id"], range_name: member["range"], number_name: member["number"]}
-        return dict(seen, name=member["name"]) if kind == "vlan" else seen
+        return dict(seen, name=member["name"]) if kind == "vlan" or member["name"] else seen
 
     def list_ranges(self, kind):
         return [self.range_view(row) for row in self.ranges if row["kind"] == kind]
@@ -153,7 +180,7 @@ class PoolService(Service):
             number = match[2] and int(match[2])
             for kind, (ranges, members, _, _) in WORDS.items():
                 parts = {(ranges, False, None): ["GET", "POST"], (ranges, True, None): ["DELETE"], (ranges, True, f"available-{members}"): ["GET", "POST"],
-                         (ranges, True, members): ["GET"], (members, True, None): ["DELETE"]}
+                         (ranges, True, members): ["GET", "POST"], (members, True, None): ["DELETE"]}
                 methods = parts.get((match[1], number is not None, match[3]))
                 if methods:
                     return kind, match[1] == ranges, number, match[3], methods
@@ -172,12 +199,11 @@ class PoolService(Service):
             if method == "GET":
                 return 200, pools.list_ranges(kind)
             return 201, pools.add_range(kind, read_members(self.read_object(body), RANGE, whole=True))
-        if not asked.startswith("available-"):
-            return 200, pools.list_members(kind, number)
+        is_claim = asked.startswith("available-")
         if method == "GET":
-            return 200, pools.available(kind, number, limit_of(read_query(query), 50))
-        items, as_list = self.read_items(body, ITEM[kind])
-        made = pools.claim(kind, number, items)
+            return 200, pools.available(kind, number, limit_of(read_query(query), 50)) if is_claim else pools.list_members(kind, number)
+        items, as_list = self.read_items(body, (ITEM if is_claim else CHOSEN)[kind])
+        made = (pools.claim if is_claim else pools.record)(kind, number, items)
         return 201, made if as_list else made[0]
 
 
@@ -212,12 +238,30 @@ ROWS = [
     ("POST", "asn-ranges/9/available-asns/", [{}] * 1001, 404, {"code": "not_found", "detail": "9 is not there"}),
     ("POST", "asn-ranges/1/available-asns/", [{}] * 1001, 507, {"code": "limit", "detail": "claims would exceed 1000"}),
     ("POST", "asn-ranges/1/available-asns/", {"name": 5}, 201, {"asn": 64514, "id": 5, "range": 1}),
+    ("POST", "asn-ranges/2/asns/", {"asn": 64515, "name": "edge"}, 201, {"asn": 64515, "id": 6, "name": "edge", "range": 2}),
+    ("POST", "vlan-groups/4/vlans/", {"vid": 2, "name": "voice"}, 201, {"group": 4, "id": 7, "name": "voice", "vid": 2}),
+    ("GET", "asn-ranges/2/asns/", None, 200, [{"asn": 64515, "id": 6, "name": "edge", "range": 2}]),
+    ("POST", "asn-ranges/9/asns/", [{"asn": 1}] * 1001, 404, {"code": "not_found", "detail": "9 is not there"}),
+    ("POST", "asn-ranges/2/asns/", [{"asn": 1}] * 1001, 507, {"code": "limit", "detail": "items would exceed 1000"}),
+    ("POST", "asn-ranges/2/asns/", {"asn": 64512}, 400, {"code": "bounds", "detail": "number 64512 is not in the range"}),
+    ("POST", "asn-ranges/2/asns/", [{"asn": 64514, "name": ""}, {"asn": 64516}], 409, {"code": "taken", "detail": "number 64514 is that of member 5"}),
+    ("POST", "vlan-groups/3/vlans/", [{"vid": 9, "name": "a"}, {"vid": 8, "name": "b"}, {"vid": 9, "name": "c"}], 409,
+     {"code": "taken", "detail": "number 9 is that of an earlier item"}),
+    ("POST", "vlan-groups/3/vlans/", [{"vid": 9, "name": "a"}, {"vid": 0, "name": "b"}, {"vid": 9, "name": "c"}], 400,
+     {"code": "bounds", "detail": "number 0 is not in the range"}),
+    ("POST", "vlan-groups/3/vlans/", {"vid": 1}, 400, {"code": "field", "detail": "name is missing or malformed"}),
+    ("POST", "vlan-groups/3/vlans/", {"vid": -1, "name": "a"}, 400, {"code": "field", "detail": "vid is missing or malformed"}),
+    ("POST", "asn-ranges/2/asns/", {"name": 5}, 400, {"code": "field", "detail": "asn is missing or malformed"}),
+    ("POST", "asn-ranges/2/asns/", {"asn": 64513, "name": None}, 400, {"code": "field", "detail": "name is missing or malformed"}),
+    ("POST", "asn-ranges/2/asns/", [], 400, {"code": "field", "detail": "body is missing or malformed"}),
+    ("DELETE", "asns/6/", None, 204, None),
+    ("DELETE", "vlans/7/", None, 204, None),
     ("DELETE", "asn-ranges/1/", None, 409, {"code": "in_use", "detail": "named by member 1"}),
     ("DELETE", "vlans/5/", None, 404, {"code": "not_found", "detail": "5 is not there"}),
     ("DELETE", "asns/1/", None, 204, None),
     ("DELETE", "asns/1/", None, 404, {"code": "not_found", "detail": "1 is not there"}),
     ("GET", "asn-ranges/1/asns/", None, 200, [{"asn": 64513, "id": 2, "range": 1}, {"asn": 64514, "id": 5, "range": 1}]),
-    ("POST", "asn-ranges/1/available-asns/", {}, 201, {"asn": 64512, "id": 6, "range": 1}),
+    ("POST", "asn-ranges/1/available-asns/", {}, 201, {"asn": 64512, "id": 8, "range": 1}),
     ("DELETE", "vlans/4/", None, 204, None),
     ("DELETE", "vlan-groups/4/", None, 204, None),
     ("GET", "vlan-groups/", None, 200, [{"end": 4094, "id": 3, "name": "a", "start": 1}]),

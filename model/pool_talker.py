@@ -61,6 +61,21 @@ class Talker:
         items = [self.item(kind) for _ in range(self.pick.choice([1, 1, 2, 2, 3, 9]) if self.chance(0.97) else self.pick.choice([0, 40, 1000, 1001]))]
         return items if self.chance(0.98) else items + [self.pick.choice([5, [], None])]
 
+    def chosen(self, kind, number):
+        """What records a number: one of the range mostly, or one beside it."""
+        row = next((row for row in self.pools.ranges if row["id"] == number), {"start": 1, "end": 9})
+        one = self.pick.randint(row["start"], min(row["start"] + 12, row["end"])) if self.chance(0.95) else self.pick.choice([row["start"] - 1, row["end"] + 1, row["end"]])
+        body = {WORDS[kind][3]: self.value(one)}
+        if self.chance(0.98 if kind == "vlan" else 0.4):
+            body["name"] = self.value(self.pick.choice(NAMES if kind == "vlan" else NAMES + [""]))
+        return {} if self.chance(0.02) else body
+
+    def record(self, kind, number):
+        if self.chance(0.5):
+            return self.chosen(kind, number)
+        items = [self.chosen(kind, number) for _ in range(self.pick.choice([1, 2, 2, 3, 4]) if self.chance(0.97) else self.pick.choice([0, 1000, 1001]))]
+        return items if self.chance(0.98) else items + [self.pick.choice([5, [], None])]
+
     def text(self, body):
         text = json.dumps(body, ensure_ascii=self.chance(0.3), separators=self.pick.choice([(",", ":"), (", ", ": ")]))
         if self.chance(0.01):
@@ -83,7 +98,7 @@ class Talker:
         kind = self.kind()
         ranges, members, _, _ = WORDS[kind]
         few = len(self.pools.ranges) < 4
-        asked = self.pick.choices(["make", "list", "cut range", "cut member", "free", "claim", "given"], [8 if few else 3, 1, 0.7, 4, 5, 12, 2])[0]
+        asked = self.pick.choices(["make", "list", "cut range", "cut member", "free", "claim", "given", "record"], [8 if few else 3, 1, 0.7, 5, 5, 10, 2, 8])[0]
         method, body = "GET", b""
         if asked in ("make", "list"):
             target = f"/api/ipam/{ranges}/"
@@ -92,10 +107,11 @@ class Talker:
         elif asked == "cut member":
             method, target = "DELETE", f"/api/ipam/{members}/{self.row(self.member_id(kind))}/"
         else:
-            part = {"cut range": "", "given": members + "/"}.get(asked, f"available-{members}/")
-            target = f"/api/ipam/{ranges}/{self.row(self.range_id(kind))}/{part}"
-            method = {"cut range": "DELETE", "claim": "POST"}.get(asked, "GET")
-            body = self.text(self.claim(kind)) if asked == "claim" else b""
+            part = {"cut range": "", "given": members + "/", "record": members + "/"}.get(asked, f"available-{members}/")
+            number = self.range_id(kind)
+            target = f"/api/ipam/{ranges}/{self.row(number)}/{part}"
+            method = {"cut range": "DELETE", "claim": "POST", "record": "POST"}.get(asked, "GET")
+            body = self.text(self.claim(kind)) if asked == "claim" else self.text(self.record(kind, number)) if asked == "record" else b""
         if self.chance(0.02):
             method = self.pick.choice(["GET", "POST", "DELETE", "PATCH", "PUT", "HEAD", "get"])
         if self.chance(0.01):

@@ -1,6 +1,6 @@
 #!/bin/sh
 # Makes the Debian package ipamd_VERSION_amd64.deb out of the built programs ipamd and poold, by dpkg-deb; one that is not built yet is built first (./build).
-# IPAMD=PROGRAM and POOLD=PROGRAM pack those that are built, VERSION=V gives another version than that of the first heading of CHANGES.md. The same input
+# IPAMD=PROGRAM and POOLD=PROGRAM pack those that are built, VERSION=V gives another version than that of the programs. The same input
 # makes the same bytes. It needs dpkg-dev, binutils and python3.
 # usage: packaging/build-deb.sh [FOLDER]     FOLDER: where the package is put, packaging/out by default
 set -eu
@@ -10,7 +10,7 @@ for one in "dpkg-shlibdeps dpkg-dev" "strip binutils" "python3 python3"; do
 done
 [ -n "${IPAMD:-}" ] || "$top/build"
 [ -n "${POOLD:-}" ] || "$top/build" poold
-version=${VERSION:-$(sed -n 's/^## \([0-9][0-9.]*\).*/\1/p' "$top/CHANGES.md" | head -n 1)}
+version=${VERSION:-$(sed -n 's/^pub const VERSION: &str = "\(.*\)";$/\1/p' "$top/crates/program_entry/src/about.rt")}
 mkdir -p "${1:-$top/packaging/out}"
 folder=$(cd "${1:-$top/packaging/out}" && pwd)
 umask 022

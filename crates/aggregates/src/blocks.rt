@@ -27,9 +27,9 @@ pub trait AggregateRules {
     /// The book is in order: what it answers by is of just these aggregates.
     ghost ordered: { Self → Type 0 };
 
-    /// The first rule that the row breaks beside the rows of other ids, past its registry: `ZeroMask`, or `AggregateOverlap` with the
+    /// The first rule that the row breaks given the rows of other ids, past its registry: `ZeroMask`, or `AggregateOverlap` with the
     /// least id of another one that shares an address with it. Whether there is one is asked of a space; it looks at the rows only
-    /// where the space has a block that overlaps the row's and is not the row's own.
+    /// if the space has a block that overlaps the row's and is not the row's own.
     fn fault(&self, row: &Aggregate) -> Option<Rule>
         requires { ordered self.now }
         ensures { result ≡ aggregate_fault (rows self.now) row.now };
@@ -50,7 +50,7 @@ fn has_other<S: Space>(space: &S, block: Block) -> bool
     space.around(block) != 0 || space.counting(block, true) != 0
 }
 
-/// Whether no other row of the book has an address of the row's block, by the space alone. It may answer no where the row's own block
+/// Whether no other row of the book has an address of the row's block, by the space alone. It may answer no if the row's own block
 /// in the book is another one that overlaps it.
 fn is_apart<S: Space + Drop>(book: &AggregateBook<S>, row: &Aggregate) -> bool
     requires { IsInOrder book.now }

@@ -18,7 +18,7 @@ pub trait RirRules {
     /// The RIRs in the order of their ids.
     ghost rows: { Self → List SeenRir };
 
-    /// The first rule that the row breaks beside the RIRs of other ids: `NameTaken`, then `SlugTaken`, each with the least id of one
+    /// The first rule that the row breaks given the RIRs of other ids: `NameTaken`, then `SlugTaken`, each with the least id of one
     /// that has it.
     fn fault(&self, row: &Rir) -> Option<Rule>
         ensures { result ≡ rir_fault (rows self.now) row.now };

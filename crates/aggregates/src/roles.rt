@@ -18,7 +18,7 @@ pub trait RoleRules {
     /// The roles in the order of their ids.
     ghost rows: { Self → List SeenRole };
 
-    /// The first rule that the row breaks beside the roles of other ids: `NameTaken`, then `SlugTaken`, each with the least id of one
+    /// The first rule that the row breaks given the roles of other ids: `NameTaken`, then `SlugTaken`, each with the least id of one
     /// that has it.
     fn fault(&self, row: &Role) -> Option<Rule>
         ensures { result ≡ role_fault (rows self.now) row.now };

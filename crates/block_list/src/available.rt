@@ -1,4 +1,4 @@
-//! The available blocks of a block beside those that count for it.
+//! The available blocks of a block given those that count for it.
 
 ghost use Rattle.std.specs.Prelude.{◌≡◌, ℕ};
 ghost use Rattle.inet_num.specs.Net.{Cidr, IsBlock, HasAddress, IsInside};
@@ -33,7 +33,7 @@ fn widened(blocks: &[Block], within: &Block, block: Block, strict: bool) -> Bloc
 }
 
 /// The first available block of `within` that does not begin before an address of it. It is the one around the first free
-/// address from there on, or, where that one begins before the address, the one around the first free address behind it.
+/// address from there on, or, if that one begins before the address, the one around the first free address after it.
 pub fn next_available(blocks: &[Block], within: &Block, from: u128, strict: bool) -> Option<Block>
     requires rises { Rises 0 blocks.now }
     requires inside { HasAddress within.now from }

@@ -25,7 +25,7 @@ fn low_ones(family: Family, len: u8) -> u128
     }
 }
 
-/// The lowest place for a block of this length that begins behind an address of `within`.
+/// The lowest place for a block of this length that begins after an address of `within`.
 fn next_behind(within: &Block, len: u8, last: u128) -> Option<Block>
     requires inside { HasAddress within.now last }
     requires long { within.now.len ≤ len }
@@ -55,7 +55,7 @@ fn next_from(within: &Block, len: u8, from: u128) -> Option<Block>
 }
 
 /// The lowest block of this length that fits from an address of `within` on. Each block that counts and meets the candidate
-/// moves it behind its end; what lies before it in order then ends before the candidate too.
+/// moves it past its end; what lies before it in order then ends before the candidate too.
 pub fn lowest_fit(
     blocks: &[Block],
     within: &Block,

@@ -17,7 +17,7 @@ pub fn ends_of(block: &Block) -> (u128, u128)
     (block.first().value(), block.last().value())
 }
 
-/// Whether the block counts for another of its family; strictly, not where the two are one.
+/// Whether the block counts for another of its family; strictly, not if the two are one.
 pub fn counts_for(block: &Block, within: &Block, strict: bool) -> bool
     ensures { result ≡ counts within.now strict block.now }
 {
@@ -76,7 +76,7 @@ fn begins_by(block: &Block, last: u128) -> bool
     block.first().value() <= last
 }
 
-/// How many of the blocks begin at the address or before it: they stand in front.
+/// How many of the blocks begin at the address or before it: they come first.
 pub fn beginning_by(blocks: &[Block], last: u128) -> usize
     requires { Rises 0 blocks.now }
     ensures bound { result ≤ length blocks.now }
@@ -86,7 +86,7 @@ pub fn beginning_by(blocks: &[Block], last: u128) -> usize
     blocks.partition_point(|block| begins_by(block, last))
 }
 
-/// How many of the blocks begin before the address: they stand in front.
+/// How many of the blocks begin before the address: they come first.
 fn beginning_before(blocks: &[Block], first: u128) -> usize
     requires { Rises 0 blocks.now }
     ensures bound { result ≤ length blocks.now }
@@ -117,7 +117,7 @@ pub fn beginning_in(blocks: &[Block], first: u128, last: u128) -> (usize, usize)
 }
 
 /// How many of the sorted blocks count for one of their family. Of those that begin in it, only the ones that begin at its
-/// first address are looked at: behind it there is no room for a block that is not inside.
+/// first address are looked at: after it there is no room for a block that is not inside.
 pub fn count_inside(blocks: &[Block], within: &Block, strict: bool) -> usize
     requires rises { Rises 0 blocks.now }
     requires lawful { AreBlocksOf within.now.family blocks.now }
@@ -146,7 +146,7 @@ fn position_of(blocks: &[Block], block: &Block) -> Option<usize>
     blocks.iter().position(|held| is_equal(held, block))
 }
 
-/// How often a block stands among sorted ones.
+/// How often a block occurs among sorted ones.
 pub fn times_in(blocks: &[Block], block: &Block) -> usize
     requires { Rises 0 blocks.now }
     ensures { result ≡ times_of blocks.now block.now }
@@ -172,7 +172,7 @@ pub fn count_around(blocks: &[Block], block: Block) -> usize
     count
 }
 
-/// Where a block stands among sorted ones, or `None` where it does not.
+/// Where a block is among sorted ones, or `None` if it is not.
 pub fn index_of(blocks: &[Block], block: &Block) -> Option<usize>
     requires { Rises 0 blocks.now }
     ensures found { IfSome result (λ i. (i < length blocks.now) × (is_same block.now (slice_index_or blocks.now i block.now) ≡ true)) }

@@ -17,7 +17,7 @@ fn block(family: Family, first: u128, len: u8) -> Option<Block>
     Block::of(Addr::of(family, first)?, len)
 }
 
-/// Puts a block in, where there is room.
+/// Puts a block in, if there is room.
 fn put(space: &mut BlockList, block: Block)
     ensures { space.new.family ≡ space.old.family }
 {
@@ -67,7 +67,7 @@ fn touches(child: &Block, place: &Block) -> bool {
     child.contains(place) || place.contains(child)
 }
 
-/// The block of this length at the address, where it is free inside.
+/// The block of this length at the address, if it is free inside.
 fn place_at(within: &Block, children: &[Block], len: u8, at: u128) -> Option<Block> {
     let place = block(within.family(), at, len)?;
     if !within.contains(&place) || children.iter().any(|child| touches(child, &place)) {

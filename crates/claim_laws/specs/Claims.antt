@@ -1,4 +1,4 @@
--- What claims owe: an accepted claim gets the least that is free, and a claim is refused for space exactly if too little is free.
+-- What claims owe: an accepted claim returns the least that is free, and a claim is refused for space exactly if too little is free.
 use Rattle.std.specs.Prelude.{◌≡◌, ◌↔◌, ℕ, ◌<◌, ◌≤◌, true, Contains, List, Option, Some, IsSome, map, length, take, slice_get}
 use Rattle.std.specs.Str.{str_to_ascii_lowercase}
 use Rattle.inet_num.specs.declared.Family.{Family}
@@ -62,12 +62,12 @@ pub record GotAddresses (IsFree : Address → Type 0) (vrf : Option ℕ) (len : 
 
 -- ---- claims of blocks
 
--- the least free block of a length, beside those of earlier items
+-- the least free block of a length, given those of earlier items
 pub record IsLeastBlock (s : State) (p : Prefix) (earlier : List Cidr) (len : ℕ) (b : Cidr) : Type 0 where
   pub free : IsFreeBlock s p earlier len b
   pub least : (c : Cidr) → IsFreeBlock s p earlier len c → b.first ≤ c.first
 
--- block k is the least free one for item k, beside the blocks before it
+-- block k is the least free one for item k, given the blocks before it
 abbrev pub AreLeastBlocks : State → Prefix → List BlockItem → List Cidr → Type 0
 AreLeastBlocks s p items blocks = (k : ℕ) (item : BlockItem) (b : Cidr) → slice_get items k ≡ Some item → slice_get blocks k ≡ Some b
     → IsLeastBlock s p (take k blocks) item.len b
@@ -90,7 +90,7 @@ pub record GotBlocks (s : State) (p : Prefix) (form : Answered) (items : List Bl
   pub least : AreLeastBlocks s p items (map (λ x. x.block) rows)
   pub each : AreBlocksFor p.vrf items rows
 
--- ---- an accepted claim gets the least that is free
+-- ---- an accepted claim returns the least that is free
 
 pub record ClaimsAreNew : Type 0 where
   pub in_prefixes : (s : State) (n : ℕ) (form : Answered) (items : List AddrItem) → IsListed s
@@ -122,14 +122,14 @@ pub record AreTooFew (IsFree : Address → Type 0) (items count : ℕ) : Type 0 
   pub count_is : length free ≡ count
   pub fewer : count < items
 
--- no other check refuses the items: there are not too many, each length is longer than the prefix's and one of its family, and roles are there
+-- no other check refuses the items: there are not too many, each length is longer than the prefix's and one of its family, and roles exist
 pub record MayClaimBlocks (s : State) (p : Prefix) (items : List BlockItem) : Type 0 where
   pub few : length items ≤ 1000
   pub longer : (item : BlockItem) → Contains items item → p.block.len < item.len
   pub short : (item : BlockItem) → Contains items item → item.len ≤ width_of p.block.family
   pub roles : (item : BlockItem) (role : ℕ) → Contains items item → item.role ≡ Some role → IsSome (row_at role_id s.roles.rows role)
 
--- the items before this one get the least free blocks, and no block is free for it beside those
+-- the items before this one get the least free blocks, and no block is free for it given those
 pub record IsStuck (s : State) (p : Prefix) (items : List BlockItem) (k : ℕ) : Type 0 where
   pub got : List Cidr
   pub count_is : length got ≡ k

@@ -54,7 +54,7 @@ pub record IsFreeInRange (s : State) (r : IpRange) (a : Address) : Type 0 where
 abbrev pub ShareNone : Cidr → Cidr → Type 0
 ShareNone b c = (a : Address) → IsIn b a → ¬ IsIn c a
 
--- a claim in the prefix can get the block for an item of this length, beside blocks that earlier items of the claim got: it lies strictly
+-- a claim in the prefix can get the block for an item of this length, given blocks that earlier items of the claim got: it lies strictly
 -- inside, and shares no address with a prefix that counts and lies strictly inside, nor with those blocks
 pub record IsFreeBlock (s : State) (p : Prefix) (earlier : List Cidr) (len : ℕ) (b : Cidr) : Type 0 where
   pub block : IsBlock b

@@ -1,4 +1,4 @@
--- Claims over a history: no claim gets what an earlier call made, unless an entry between released it.
+-- Claims over a history: no claim returns what an earlier call made, unless an entry between released it.
 use Rattle.std.specs.Prelude.{◌≡◌, ◌≢◌, ◌⊎◌, ℕ, ◌<◌, Bool, true, false, Contains, List, Some, take, slice_get}
 use Rattle.std.specs.List.{AllByRecursion}
 use Rattle.inet_num.specs.Net.{IsStrictlyInside}

@@ -27,7 +27,7 @@ use Rattle.ipam_data.specs.Lawful.{IsLawful}
 
 -- ---- rows in order
 
--- the rows of each kind stand in the order of their ids, below the next one, and are within their limit; a lawful state is so
+-- the rows of each kind are in the order of their ids, below the next one, and are within their limit; a lawful state is so
 pub record IsListed (s : State) : Type 0 where
   pub vrfs : IsRowList vrf_id most_vrfs s.vrfs
   pub rirs : IsRowList rir_id most_rirs s.rirs
@@ -44,12 +44,12 @@ pub record StepsKeepListed : Type 0 where
 
 -- ---- what a call made
 
--- the row is there after the call, and none with its id was there before
+-- the row exists after the call, and none with its id existed before
 abbrev pub IsMade : {T : Type 0} → KindRules T → State → Call → T → Type 0
 IsMade {T} rules s call x = Contains (rules.row_list (plain_step s call).0).rows x
     × ((y : T) → Contains (rules.row_list s).rows y → rules.id y ≢ rules.id x)
 
--- these rows came after those that were there, one for each of so many items, under the next ids, and they are the answer
+-- these rows were put after those that existed, one for each of so many items, under the next ids, and they are the answer
 pub record Came {T : Type 0} (rules : KindRules T) (s : State) (done : State × Reply) (form : Answered) (items : ℕ) (view : T → View)
     (rows : List T) : Type 0 where
   pub behind : (rules.row_list done.0).rows ≡ (rules.row_list s).rows ++ rows
@@ -93,8 +93,8 @@ pub record RowsStay : Type 0 where
 
 -- ---- ids are new
 
--- the next id of a kind never falls, and a row that is there after a call has the id of one that was there, or one from the next id on,
--- which in a listed state is above all that were there
+-- the next id of a kind never falls, and a row that exists after a call has the id of one that existed, or one from the next id on,
+-- which in a listed state is above all that existed
 abbrev pub IdsOfKindAreNew : {T : Type 0} → KindRules T → Type 0
 IdsOfKindAreNew {T} rules = (s : State) (call : Call)
     → ((rules.row_list s).next ≤ (rules.row_list (plain_step s call).0).next)

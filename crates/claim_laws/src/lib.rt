@@ -15,7 +15,7 @@ pub fn rows_stay()
     ensures { RowsStay }
 {}
 
-/// A row that is there after a call has an id that was there, or a new one, which is above all that were there.
+/// A row that exists after a call has an id that existed, or a new one, which is above all that existed.
 pub fn ids_are_new()
     ensures { IdsAreNew }
 {}
@@ -25,17 +25,17 @@ pub fn ids_never_return()
     ensures { IdsNeverReturn }
 {}
 
-/// An accepted claim gets the least that is free, item by item.
+/// An accepted claim returns the least that is free, item by item.
 pub fn claims_are_new()
     ensures { ClaimsAreNew }
 {}
 
-/// A claim is refused for want of space exactly if no other check refuses it and too little is free for all of its items.
+/// A claim is refused for lack of space exactly if no other check refuses it and too little is free for all of its items.
 pub fn refused_only_if_none_fits()
     ensures { RefusedOnlyIfNoneFits }
 {}
 
-/// No claim gets what an earlier call of the history made, unless an entry between the two released that.
+/// No claim returns what an earlier call of the history made, unless an entry between the two released that.
 pub fn claims_never_meet()
     ensures { ClaimsNeverMeet }
 {}

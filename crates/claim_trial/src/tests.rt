@@ -18,7 +18,7 @@ use std::sync::ledger::{Blank, Ledger};
 use std::test::Fail;
 use utilisation::{of_aggregate, of_container, of_hosts, of_range};
 
-/// The block of a text, if it is one of the family, and one of a single address where a host is asked for.
+/// The block of a text, if it is one of the family, and one of a single address if a host is asked for.
 fn block_of(family: Family, host: bool, text: &str) -> Option<Block>
     ensures family { IfSome result (λ b. b.family ≡ family) }
     ensures single { IfSome result (λ b. host ≡ true → b.len ≡ width_of b.family) }
@@ -45,7 +45,7 @@ fn put<S: Space>(space: &mut S, block: Block) -> Result<(), AllocError>
     Ok(())
 }
 
-/// The space of the blocks of these words, of at most 900 of them; of single addresses where it is one of hosts.
+/// The space of the blocks of these words, of at most 900 of them; of single addresses if it is one of hosts.
 fn space_of<S: Space + Drop>(
     alloc: Global,
     family: Family,
@@ -80,7 +80,7 @@ fn span_of(text: &str) -> Option<Span> {
     })
 }
 
-/// The spans of words, up to the first that does not lie behind those before it.
+/// The spans of words, up to the first that does not lie after those before it.
 fn spans_of(alloc: Global, words: &str) -> Result<Vec<Span>, AllocError>
     ensures { IfOk result (λ v. AreApart 0 v.items) }
 {
@@ -173,7 +173,7 @@ struct Case<'a> {
     number: u32,
 }
 
-/// What blocks of these lengths a claim gets, on a counter of its own.
+/// What blocks of these lengths a claim returns, on its own counter.
 fn claimed<S: Space, L: Ledger>(
     alloc: Global,
     kids: &mut S,
@@ -210,7 +210,7 @@ fn said_of_claim<S: Space>(
     }
 }
 
-/// What is said of a block beside the blocks of a space: `blocks`, `claim`, `container` or `aggregate`.
+/// What is said of a block given the blocks of a space: `blocks`, `claim`, `container` or `aggregate`.
 fn said_of_blocks<S: Space + Drop>(alloc: Global, case: &Case<'_>) -> Result<Vec<u8>, AllocError> {
     let within = case.within;
     let mut kids: S = space_of(alloc, within.family(), false, case.blocks)?;
@@ -232,7 +232,7 @@ fn said_of_blocks<S: Space + Drop>(alloc: Global, case: &Case<'_>) -> Result<Vec
     Ok(format!(in alloc; "{percent}")?.into_bytes())
 }
 
-/// What is said of the addresses of a block beside hosts and spans, in a pool or not: `addresses`, `give` or `hosts`.
+/// What is said of the addresses of a block given hosts and spans, in a pool or not: `addresses`, `give` or `hosts`.
 fn said_of_hosts<S: Space + Drop>(
     alloc: Global,
     case: &Case<'_>,
@@ -280,7 +280,7 @@ fn percent_of_range<S: Space>(hosts: &S, span: Span) -> Option<u8>
     Some(of_range(hosts, span))
 }
 
-/// What is said of the range of these pieces beside hosts: `range` or `take`, and of a span `used`.
+/// What is said of the range of these pieces given hosts: `range` or `take`, and of a span `used`.
 fn said_of_range<S: Space + Drop>(alloc: Global, case: &Case<'_>) -> Result<Vec<u8>, AllocError> {
     let family = case.within.family();
     let hosts: S = space_of(alloc, family, true, case.blocks)?;

@@ -1,4 +1,4 @@
--- What a run of the command `export` promises of each status: all records of a kind as the rows of a file, and the store as it was.
+-- What a run of the command `export` promises of each status: all records of a kind as the rows of a file, and the store unchanged.
 use Rattle.std.specs.Prelude.{◌≡◌, ℕ, ◌⊎◌, List}
 use Rattle.ipam_data.specs.declared.kinds.Kind.{Kind}
 use Rattle.ipam_data.specs.State.{State}
@@ -13,7 +13,7 @@ use Rattle.command_store.specs.Opening.{IsLoaded, NamesFault, NamesFailure, Fail
 abbrev pub IsExportText : Kind → Store → Outside → List ℕ → Type 0
 IsExportText kind store old text = (state : State) × IsLoaded store old state × (text ≡ rows_text kind (exported state kind))
 
--- the input and the messages were left alone, and told tables are as they were
+-- the input and the messages were left alone, and known tables are unchanged
 pub record LeavesInput (old new : Outside) : Type 0 where
   pub input : new.streams.input ≡ old.streams.input
   pub errors : new.streams.errors ≡ old.streams.errors
@@ -23,7 +23,7 @@ pub record LeavesInput (old new : Outside) : Type 0 where
 abbrev pub Prints : (List ℕ → Type 0) → Outside → Outside → Type 0
 Prints IsText old new = (text : List ℕ) × IsText text × Gains old.streams.output new.streams.output text × LeavesInput old new
 
--- the output failed, with a front of the text
+-- the output failed, with a prefix of the text
 abbrev pub PrintsFront : (List ℕ → Type 0) → Outside → Outside → Type 0
 PrintsFront IsText old new =
     (text : List ℕ) × IsText text × Failed old.streams.output new.streams.output × GainsFront old.streams.output new.streams.output text × LeavesInput old new

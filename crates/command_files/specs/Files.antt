@@ -23,15 +23,15 @@ kind_named Prefixes = kind.Prefixes
 kind_named Ranges = kind.Ranges
 kind_named Addresses = kind.Addresses
 
--- the input, where it tells its bytes, is a file of these rows, and it was read to its end
+-- the input, if its bytes are known, is a file of these rows, and it was read to its end
 abbrev pub GivesRows : Kind → Told → Told → List ImportRow → Type 0
 GivesRows kind old new rows = IfSome old.bytes (λ bytes. IsFileOf kind bytes (Ok rows) × (new.bytes ≡ Some []))
 
--- the input, where it tells its bytes, is a file that is refused so
+-- the input, if its bytes are known, is a file that is refused so
 abbrev pub RefusesFile : Kind → Told → Refusal → Type 0
 RefusesFile kind old refusal = IfSome old.bytes (λ bytes. IsFileOf kind bytes (Err refusal))
 
--- a refusal as a stop: out of memory stands by itself
+-- a refusal as a stop: out of memory is separate
 abbrev pub IsStopOf : Refusal → FileStop → Type 0
 IsStopOf refusal Unread = ⊥
 IsStopOf refusal (Refused other) = (other ≡ refusal) × ¬ (refusal ≡ NoMemory)
@@ -51,7 +51,7 @@ refusal_text refusal = refusal_line refusal ++ 10 ∷ []
 abbrev pub NamesIt : Refusal → ℕ → Told → Told → ℕ → Type 0
 NamesIt refusal wanted old new status = EndsWith old new (refusal_text refusal) wanted status ⊎ ((status ≡ 5) × (new ≡ old))
 
--- why the input gave no rows was said, with its status; nothing is said where it failed
+-- why the input gave no rows was said, with its status; nothing is said if it failed
 abbrev pub IsFileStopSaid : FileStop → Told → Told → ℕ → Type 0
 IsFileStopSaid Unread old new status = (status ≡ 3) × (new ≡ old)
 IsFileStopSaid (Refused refusal) old new status = NamesIt refusal 1 old new status

@@ -18,7 +18,7 @@ use Rattle.command_store.specs.FaultWords.{fault_line}
 use Rattle.command_store.specs.Opening.{IsLoaded, HoldsTold, IsBadStore}
 use Rattle.command_files.specs.Files.{GivesRows, RefusesFile, refusal_text}
 
--- how many records were made, and how many rows stand for records that were there
+-- how many records were made, and how many rows represent records that existed
 abbrev pub counts_text : ℕ → ℕ → List ℕ
 counts_text created present = codes "created " ++ decimal created ++ codes " present " ++ decimal present ++ 10 ∷ []
 
@@ -27,7 +27,7 @@ pub record IsImportOf (kind : Kind) (store : Store) (old new : Outside) (rows : 
   pub given : GivesRows kind old.streams.input new.streams.input rows
   pub loaded : IsLoaded store old state
 
--- it was accepted, and all of it is stored: told tables of the store are those of the state after it
+-- it was accepted, and all of it is stored: known tables of the store are those of the state after it
 pub record IsStored (kind : Kind) (store : Store) (old new : Outside) : Type 0 where
   pub rows : List ImportRow
   pub state : State
@@ -48,7 +48,7 @@ IsRefusedSo kind store old new refusal =
     (RefusesFile kind old.streams.input refusal × NothingOpened old new)
     ⊎ ((rows : List ImportRow) × (state : State) × IsImportOf kind store old new rows state × (verdict_of (import_plan state kind rows) ≡ Some refusal))
 
--- nothing was printed, and told tables are as they were
+-- nothing was printed, and known tables are unchanged
 pub record LeavesAll (old new : Outside) : Type 0 where
   pub output : new.streams.output ≡ old.streams.output
   pub stored : AreSame old.stores.stored new.stores.stored
@@ -99,7 +99,7 @@ pub record FailsToRead (old new : Outside) : Type 0 where
   pub left : LeavesAll old new
   pub silent : new.streams.errors ≡ old.streams.errors
 
--- 3: the output failed, with a front of the counts of an import that is stored
+-- 3: the output failed, with a prefix of the counts of an import that is stored
 pub record FailsToPrint (kind : Kind) (store : Store) (old new : Outside) : Type 0 where
   pub failed : Failed old.streams.output new.streams.output
   pub done : IsStored kind store old new
@@ -114,7 +114,7 @@ IsToSay kind store old new text =
     ⊎ (StoreFailed old new × (text ≡ fault_line NotRead))
     ⊎ (IsUnwritten kind store old new × (text ≡ refusal_text NotWritten))
 
--- 3: what was to be said could not be, and the messages have a front of it
+-- 3: what was to be said could not be, and the messages have a prefix of it
 pub record FailsToSay (kind : Kind) (store : Store) (old new : Outside) : Type 0 where
   pub failed : Failed old.streams.errors new.streams.errors
   pub text : List ℕ

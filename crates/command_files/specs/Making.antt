@@ -26,7 +26,7 @@ use Rattle.command_files.specs.declared.import.ImportStop.{ImportStop}
 use Rattle.command_files.specs.declared.import.ImportStop.TheVariants.{Opening, Making}
 use Rattle.command_files.specs.Files.{NamesIt, refusal_text}
 
--- what stops an import that is refused so: the keeper and the want of memory stand by themselves
+-- what stops an import that is refused so: the keeper and out of memory are separate
 abbrev pub stop_of : Refusal → MakeStop
 stop_of NotWritten = Keeper
 stop_of NoMemory = Memory
@@ -36,17 +36,17 @@ stop_of refusal = Refused refusal
 abbrev pub IsCounted : Plan → Counts → Type 0
 IsCounted plan counts = (verdict_of plan ≡ None) × (plan.reply ≡ Imported counts.created counts.present)
 
--- it stops by the plan's refusal, or by the keeper where no check refuses, or for lack of memory
+-- it stops by the plan's refusal, or by the keeper if no check refuses, or for lack of memory
 abbrev pub IsMakeStop : Plan → MakeStop → Type 0
 IsMakeStop plan (Refused refusal) = verdict_of plan ≡ Some refusal
 IsMakeStop plan Keeper = verdict_of plan ≡ None
 IsMakeStop plan Memory = Unit {0}
 
--- the state is the one that the store's tables stand for
+-- the state is the one that the store's tables represent
 abbrev pub IsFound : Store → Stores → State → Type 0
 IsFound store old state = IsOpened (started old.stored store.db) store.global_unique state
 
--- the rows came into the store, with these counts
+-- the rows were put into the store, with these counts
 pub record HasImported (kind : Kind) (store : Store) (rows : List ImportRow) (old new : Stores) (counts : Counts) : Type 0 where
   pub state : State
   pub found : IsFound store old state
@@ -61,7 +61,7 @@ pub record IsOpenStop (store : Store) (old new : Stores) (fault : OpenFault) : T
   pub tables : IsOfTables fault → IsUnopened (started old.stored store.db) store.global_unique fault
   pub failed : fault ≡ NotRead → Rose old.faults new.faults
 
--- why the rows did not come into the store
+-- why the rows were not put into the store
 abbrev pub IsStop : Kind → Store → List ImportRow → Stores → Stores → ImportStop → Type 0
 IsStop kind store rows old new (Opening fault) = IsOpenStop store old new fault
 IsStop kind store rows old new (Making (Refused refusal)) = (state : State) × IsFound store old state × (verdict_of (import_plan state kind rows) ≡ Some refusal)
@@ -76,7 +76,7 @@ IsStoreStop (Making (Refused refusal)) = ⊥
 IsStoreStop (Making Keeper) = Unit {0}
 IsStoreStop (Making Memory) = ⊥
 
--- and told tables are as they were
+-- and known tables are unchanged
 pub record IsImportStop (kind : Kind) (store : Store) (rows : List ImportRow) (old new : Stores) (stop : ImportStop) : Type 0 where
   pub cause : IsStop kind store rows old new stop
   pub same : AreSame old.stored new.stored

@@ -1,4 +1,4 @@
--- What a run of the command `report` promises of each status: a text about the prefixes of a register, and the store as it was.
+-- What a run of the command `report` promises of each status: a text about the prefixes of a register, and the store unchanged.
 use Rattle.std.specs.Prelude.{◌≡◌, ℕ, ◌⊎◌, List, Option, Some, None, option_map, take}
 use Rattle.inet_num.specs.Net.{Cidr}
 use Rattle.inet_num.specs.Free.{available_blocks_of}
@@ -23,7 +23,7 @@ use Rattle.command_files.specs.declared.calls.ReportStop.TheVariants.{Absent, Me
 use Rattle.command_files.specs.Files.{refusal_text, NamesIt}
 use Rattle.command_files.specs.Export.{LeavesInput, Prints, PrintsFront}
 
--- at most so many blocks are told of what is free
+-- at most so many blocks are listed of what is free
 abbrev pub most_blocks : ℕ
 most_blocks = 1000
 
@@ -37,7 +37,7 @@ report_text s Tree = Some (tree_text (survey_of s))
 report_text s Utilization = Some (table_text (survey_of s))
 report_text s (Free n) = option_map (free_lines_of s) (row_at prefix_id s.prefixes.rows n)
 
--- what is said where the prefix of a report is not there
+-- what is said if the prefix of a report is not there
 abbrev pub report_refusal : Report → Option Refusal
 report_refusal Tree = None
 report_refusal Utilization = None
@@ -47,7 +47,7 @@ report_refusal (Free n) = Some (NotFound Prefixes n)
 abbrev pub IsAbsentIn : State → Report → Refusal → Type 0
 IsAbsentIn s report refusal = (report_text s report ≡ None) × (report_refusal report ≡ Some refusal)
 
--- what a refusal of the blocks of a prefix stands for
+-- what a refusal of the blocks of a prefix represents
 abbrev pub report_stop_of : Refusal → ReportStop
 report_stop_of (NotFound kind n) = Absent (NotFound kind n)
 report_stop_of refusal = Memory

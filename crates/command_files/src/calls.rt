@@ -27,7 +27,7 @@ const CALLER: u32 = 0;
 /// Most blocks that a report of what is free has.
 const MOST_BLOCKS: u32 = 1_000;
 
-/// How many rows of an import made a record, and how many stand for one that was there.
+/// How many rows of an import made a record, and how many represent one that existed.
 #[derive(Clone, Copy, Debug)]
 pub struct Counts {
     pub created: u32,
@@ -131,7 +131,7 @@ impl From<AllocError> for ReportStop {
     }
 }
 
-/// Why the free blocks of a prefix are not told.
+/// Why the free blocks of a prefix are not listed.
 fn absent_or_memory(refusal: Refusal) -> ReportStop
     ensures { result ≡ report_stop_of refusal }
 {

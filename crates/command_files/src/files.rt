@@ -1,4 +1,4 @@
-//! A file of rows on the input, and what is said where it is refused.
+//! A file of rows on the input, and what is said if it is refused.
 
 ghost use Rattle.std.specs.Prelude.{◌≡◌, ◌≤◌, ◌⊎◌, IfOk, IfErr, IsErrOf, string_bytes};
 ghost use Rattle.command_streams.specs.Streams.{told};
@@ -83,7 +83,7 @@ fn refusal_words(alloc: Global, refusal: &Refusal) -> Result<String, AllocError>
     Ok(line)
 }
 
-/// Says a refusal, and gives this status; or that of a fault where it can't be said, or of out of memory.
+/// Says a refusal, and gives this status; or that of a fault if it can't be said, or of out of memory.
 pub(crate) fn say_refusal<Se: Sink>(
     alloc: Global,
     refusal: &Refusal,
@@ -99,7 +99,7 @@ pub(crate) fn say_refusal<Se: Sink>(
     }
 }
 
-/// Says why the input gives no rows, and gives the status of that: 1 for a refusal, 3 where the input failed and 5 for lack of memory, of
+/// Says why the input gives no rows, and gives the status of that: 1 for a refusal, 3 if the input failed and 5 for lack of memory, of
 /// which nothing is said.
 pub(crate) fn say_file_stop<Se: Sink>(alloc: Global, stop: &FileStop, errors: &mut Se) -> u8
     ensures said { IsFileStopSaid stop.now (told Se.written Se.faults errors.old) (told Se.written Se.faults errors.new) result }

@@ -21,7 +21,7 @@ use itoa::Buffer;
 use std::alloc::Global;
 use stored_tables::opening::OpenFault;
 
-/// How many records were made and how many rows stand for others, in words. It takes no memory: the import is stored by then.
+/// How many records were made and how many rows represent others, in words. It takes no memory: the import is stored by then.
 fn counts_text(counts: Counts) -> ArrayVec<u8, LINE>
     ensures { result.items ≡ counts_of counts.created counts.present }
 {
@@ -36,7 +36,7 @@ fn counts_text(counts: Counts) -> ArrayVec<u8, LINE>
     line
 }
 
-/// Why rows did not come into a store.
+/// Why rows were not put into a store.
 #[derive(Drop)]
 pub enum ImportStop {
     /// The opening of the store is refused.
@@ -45,7 +45,7 @@ pub enum ImportStop {
     Making(MakeStop),
 }
 
-/// Imports rows into the register of a store, and gives the counts. `Err` leaves what the store tells.
+/// Imports rows into the register of a store, and gives the counts. `Err` leaves what is known of the store.
 fn import_into<O: KeeperOpener>(
     alloc: Global,
     kind: Kind,
@@ -75,10 +75,10 @@ fn import_into<O: KeeperOpener>(
     }
 }
 
-/// What is said where the store could not be written. It takes no memory, so that it is not lost.
+/// What is said if the store could not be written. It takes no memory, so that it is not lost.
 const UNWRITTEN: &[u8] = b"keeper: the store could not be written\n";
 
-/// Says why rows were not made, and gives the status of that: 1 for a refusal, 4 where the keeper failed, and 5 for lack of memory, of which
+/// Says why rows were not made, and gives the status of that: 1 for a refusal, 4 if the keeper failed, and 5 for lack of memory, of which
 /// nothing is said.
 fn say_making<Se: Sink>(alloc: Global, stop: &MakeStop, errors: &mut Se) -> u8
     ensures said { IsMakingSaid stop.now (told Se.written Se.faults errors.old) (told Se.written Se.faults errors.new) result }
@@ -91,7 +91,7 @@ fn say_making<Se: Sink>(alloc: Global, stop: &MakeStop, errors: &mut Se) -> u8
     }
 }
 
-/// Says why rows did not come into a store, and gives the status of that.
+/// Says why rows were not put into a store, and gives the status of that.
 fn say_stop<Se: Sink>(alloc: Global, stop: &ImportStop, errors: &mut Se) -> u8
     ensures said { IsStopSaid stop.now (told Se.written Se.faults errors.old) (told Se.written Se.faults errors.new) result }
     ensures later { Se.faults errors.old ≤ Se.faults errors.new }

@@ -1,13 +1,14 @@
--- What the command `free` answers: the available blocks of a block beside the blocks that an input's lines name, or the
+-- What the command `free` answers: the available blocks of a block given the blocks that an input's lines name, or the
 -- first line that is refused. It is said over whole lines, as std's `lines` gives them: a line ends with a line feed and
--- loses a carriage return before it, and what follows the last line feed is a line where it is not empty.
-use Rattle.std.specs.Prelude.{◌≡◌, ◌≢◌, ℕ, ◌+◌, ◌<◌, ◌≤◌, List, [], ◌∷◌, ◌++◌, length, codes, decimal}
+-- loses a carriage return before it, and what follows the last line feed is a line if it is not empty.
+use Rattle.std.specs.Prelude.{◌≡◌, ◌≢◌, ℕ, ◌+◌, ◌<◌, ◌≤◌, not, ◌&&◌, IsTrue, List, [], ◌∷◌, ◌++◌, length, codes, decimal}
 use Rattle.std.specs.List.{flat_map}
 use Rattle.std.specs.Str.Lines.{lines}
-use Rattle.inet_num.specs.Net.{Cidr, IsStrictlyInside}
+use Rattle.inet_num.specs.Net.{Cidr, IsBlock, IsStrictlyInside}
 use Rattle.inet_num.specs.Text.{block_text_of, IsBlockText}
 use Rattle.inet_num.specs.Fault.{IsHostBitsFault}
-use Rattle.inet_num.specs.Free.{available_blocks_of}
+use Rattle.inet_num.specs.Free.{has_address, is_taken, available_blocks_of}
+use Rattle.inet_num.specs.Fewest.{HaveJust}
 use Rattle.command_free.specs.declared.free.LineFault.{LineFault}
 use Rattle.command_free.specs.declared.free.LineFault.TheVariants.{NotAPrefix, HostBits, NotInside, TooManyLines}
 
@@ -37,7 +38,7 @@ AreChildren within ([] ∷ rest) children = AreChildren within rest children
 AreChildren within ((x ∷ xs) ∷ rest) children =
     (b : Cidr) × (others : List Cidr) × IsChildLine within (x ∷ xs) b × (children ≡ b ∷ others) × AreChildren within rest others
 
--- a block on a line of its own
+-- a block on its own line
 abbrev pub line_text_of : Cidr → List ℕ
 line_text_of b = block_text_of b ++ 10 ∷ []
 
@@ -87,3 +88,8 @@ pub record FreeHasOneAnswer : Type 0 where
   pub outputs : (within : Cidr) (input one other : List ℕ) → IsFreeText within input one → IsFreeText within input other → one ≡ other
   pub refusals : (within : Cidr) (input : List ℕ) (m n : ℕ) (f g : LineFault) → IsRefusedLine within input m f → IsRefusedLine within input n g → (m ≡ n) × (f ≡ g)
   pub apart : (within : Cidr) (input output : List ℕ) (n : ℕ) (f : LineFault) → IsFreeText within input output → ¬ IsRefusedLine within input n f
+
+-- the available blocks are the fewest: no list of blocks that has just the addresses of a block which no other block takes is shorter
+abbrev pub AvailableAreFewest : Type 0
+AvailableAreFewest = (within : Cidr) (blocks cs : List Cidr) → IsBlock within
+    → HaveJust within.family (λ a. IsTrue (has_address within a && not (is_taken blocks a))) cs → length (available_blocks_of within blocks) ≤ length cs

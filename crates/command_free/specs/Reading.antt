@@ -23,11 +23,11 @@ line_fault_of text.Octet = line.NotAPrefix
 line_fault_of text.Group = line.NotAPrefix
 line_fault_of text.Length = line.NotAPrefix
 
--- no line feed stands in the bytes
+-- no line feed is in the bytes
 abbrev pub HasNoFeed : List ℕ → Type 0
 HasNoFeed bytes = All (λ b. (b == 10) ≡ false) bytes
 
--- a line as it stands in the input, with the line feed that ends it
+-- a line as it is in the input, with the line feed that ends it
 abbrev pub fed : List ℕ → List ℕ
 fed raw = raw ++ 10 ∷ []
 
@@ -68,7 +68,7 @@ StopsWhatever within bytes stop.Unread = ⊥
 StopsWhatever within bytes stop.Unwritten = ⊥
 StopsWhatever within bytes stop.Memory = Unit {0}
 
--- a stop at a line that is refused where nothing follows these bytes
+-- a stop at a line that is refused if nothing follows these bytes
 abbrev pub StopsAtEnd : Cidr → List ℕ → Stop → Type 0
 StopsAtEnd within bytes (stop.Line number fault) = IsRefusedLine within bytes number fault
 StopsAtEnd within bytes stop.Unread = ⊥

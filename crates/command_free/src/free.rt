@@ -1,4 +1,4 @@
-//! The command `free`: blocks come in, one to a line, and the available blocks of a block beside them go out.
+//! The command `free`: blocks come in, one to a line, and the available blocks of a block given them go out.
 
 ghost use Rattle.std.specs.Prelude.{◌≡◌, ◌≤◌, ◌⊎◌, IfOk, IsErrOf};
 ghost use Rattle.std.specs.List.{AllByRecursion};
@@ -6,7 +6,7 @@ ghost use Rattle.inet_num.specs.Net.{IsBlock, IsStrictlyInside};
 ghost use Rattle.inet_num.specs.Free.{available_blocks_of};
 ghost use Rattle.span_set.specs.Blocks.{IsRest};
 ghost use Rattle.command_streams.specs.Streams.{streams, told};
-ghost use Rattle.command_free.specs.Free.{refusal_text_of, FreeHasOneAnswer};
+ghost use Rattle.command_free.specs.Free.{refusal_text_of, FreeHasOneAnswer, AvailableAreFewest};
 ghost use Rattle.command_free.specs.Run.{IsFree, IsFreeEnd, IsNamed};
 
 use crate::lines::read_children;
@@ -27,7 +27,7 @@ pub enum LineFault {
     HostBits(Block),
     /// It names a block that is not strictly inside the one asked for.
     NotInside,
-    /// It stands behind the most lines that an input may have.
+    /// It is after the most lines that an input may have.
     TooManyLines,
 }
 
@@ -81,7 +81,7 @@ fn left_of(alloc: Global, within: &Block, children: &[Block]) -> Result<SpanSet,
     Ok(left)
 }
 
-/// The available blocks of a block beside blocks inside it, in whatever order they come.
+/// The available blocks of a block given blocks inside it, in any order.
 fn blocks_left(
     alloc: Global,
     within: &Block,
@@ -163,7 +163,7 @@ fn name_line<Se: Sink>(
     }
 }
 
-/// Runs `free`: the blocks that are left of this one beside those that the lines name go to the output, or the first refused line
+/// Runs `free`: the blocks that are left of this one given those that the lines name go to the output, or the first refused line
 /// is named on the messages. It gives the status: done, refused, a fault, or out of memory.
 pub fn run_free<So: Source, Si: Sink, Se: Sink>(
     alloc: Global,
@@ -188,4 +188,9 @@ pub fn run_free<So: Source, Si: Sink, Se: Sink>(
 /// An input has one answer: one output, or one first refused line.
 pub fn free_has_one_answer()
     ensures { FreeHasOneAnswer }
+{}
+
+/// No list of blocks that has just the addresses which are left of a block is shorter than the list of its available blocks.
+pub fn available_are_fewest()
+    ensures { AvailableAreFewest }
 {}

@@ -52,7 +52,7 @@ fn line_fault(fault: TextFault) -> LineFault
     }
 }
 
-/// The block that the line with this number names, or `None` where it is empty.
+/// The block that the line with this number names, or `None` if it is empty.
 fn verdict(within: &Block, number: u32, line: &[u8], long: bool) -> Result<Option<Block>, LineFault>
     ensures { (whole : List ℕ) → IsEnded whole line.now long → IsVerdict within.now number whole result }
 {
@@ -77,7 +77,7 @@ fn verdict(within: &Block, number: u32, line: &[u8], long: bool) -> Result<Optio
     }
 }
 
-/// Keeps the block that a line names, where it names one.
+/// Keeps the block that a line names, if it names one.
 fn keep(children: &mut Vec<Block>, found: Option<Block>) -> Result<(), AllocError>
     ensures { OnOk result (children.new.items ≡ children.old.items ++ option_to_list found) }
 {

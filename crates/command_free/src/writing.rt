@@ -23,7 +23,7 @@ fn put_line<Si: Sink>(
     put_both(output, piece, text.as_str().as_bytes(), b"\n")
 }
 
-/// Writes the blocks, one to a line. It takes no memory but a buffer of its own.
+/// Writes the blocks, one to a line. It takes no memory but its own buffer.
 pub(crate) fn write_blocks<Si: Sink>(output: &mut Si, blocks: &[Block]) -> Result<(), Failed>
     ensures told { WritesAll (Si.written output.old) (Si.written output.new) result (lines_text_of blocks.now) }
     ensures cause { HasCause (Si.faults output.old) (Si.faults output.new) result }

@@ -1,6 +1,6 @@
 -- Each command is one of those that clap's definition speaks of.
 use Rattle.std.proofs.Common.{refl}
-use Rattle.command_grammar.specs.Grammar.{IsPlainCommand, free_app, session_app, serve_app, mirror_app, import_app, export_app, report_app, prefix_list_app, prefix_check_app, reverse_app, reverse_read_app, migrate_app, load_app}
+use Rattle.command_grammar.specs.Grammar.{IsPlainCommand, free_app, session_app, serve_app, mirror_app, import_app, export_app, report_app, prefix_list_app, prefix_check_app, reverse_app, reverse_read_app, migrate_app, load_app, version_app, help_app}
 
 pub free_is_plain : IsPlainCommand free_app
 unfolding IsPlainCommand free_app
@@ -53,3 +53,11 @@ reverse_read_is_plain = (refl, refl)
 pub migrate_is_plain : IsPlainCommand migrate_app
 unfolding IsPlainCommand migrate_app
 migrate_is_plain = (refl, refl)
+
+pub version_is_plain : IsPlainCommand version_app
+unfolding IsPlainCommand version_app
+version_is_plain = (refl, refl)
+
+pub help_is_plain : IsPlainCommand help_app
+unfolding IsPlainCommand help_app
+help_is_plain = (refl, refl)

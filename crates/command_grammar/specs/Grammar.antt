@@ -10,6 +10,10 @@ use Rattle.clap.specs.declared.builder.action.ArgAction.TheVariants.{Set}
 abbrev pub place_rule : List ℕ → Rule
 place_rule name = record (new_rule name) { required = true; action = Some Set }
 
+-- a place that may be left empty
+abbrev pub spare_place_rule : List ℕ → Rule
+spare_place_rule name = record (new_rule name) { action = Some Set }
+
 -- an option that takes one value
 abbrev pub option_rule : List ℕ → Rule
 option_rule name = record (new_rule name) { long = Some name; action = Some Set }
@@ -85,11 +89,19 @@ migrate_app = with_rule (with_rule (command_app (codes "migrate")) (needed_rule 
 unfoldable pub load_app : App
 load_app = with_rule (with_rule (command_app (codes "load")) (place_rule (codes "count"))) (option_rule (codes "workers"))
 
+-- `version`
+unfoldable pub version_app : App
+version_app = command_app (codes "version")
+
+-- `help`, or `help COMMAND`
+unfoldable pub help_app : App
+help_app = with_rule (command_app (codes "help")) (spare_place_rule (codes "command"))
+
 -- the words are some that the command takes
 unfoldable pub Takes : App → List Text → Type 0
 Takes app words = fault_of app words ≡ []
 
--- what the words give
+-- what the arguments give
 unfoldable pub given : App → List Text → List Row
 given app words = matches_of app words
 

@@ -1,10 +1,10 @@
-//! The words of each command as clap takes them: a command of places and options, and what words give to them.
+//! The arguments of each command as clap takes them: a command of places and options, and what arguments give to them.
 #![tactic(auto)]
 
 ghost use Rattle.std.specs.Prelude.{◌≡◌, ◌↔◌, Option, IfOk, IsTrue, MatchOption, map, option_map, true, false, codes};
 ghost use Rattle.clap.specs.Words.{app_of, first_of, found_of, kind_of, rows_of, rule_of};
 ghost use Rattle.clap.specs.Simple.{App, with_rule};
-ghost use Rattle.command_grammar.specs.Grammar.{IsPlainCommand, Takes, given, command_app, option_rule, needed_rule, place_rule, with_store, list_app, free_app, session_app, serve_app, mirror_app, import_app, export_app, report_app, prefix_list_app, prefix_check_app, reverse_app, reverse_read_app, migrate_app, load_app};
+ghost use Rattle.command_grammar.specs.Grammar.{IsPlainCommand, Takes, given, command_app, option_rule, needed_rule, place_rule, with_store, list_app, free_app, session_app, serve_app, mirror_app, import_app, export_app, report_app, prefix_list_app, prefix_check_app, reverse_app, reverse_read_app, migrate_app, load_app, version_app, help_app, spare_place_rule};
 
 use clap::error::ErrorKind;
 use clap::{Arg, ArgAction, ArgMatches, Error};
@@ -35,6 +35,14 @@ fn place<'a>(alloc: Global, name: &'a str) -> Arg<'a>
     ensures local { result.global ≡ false }
 {
     Arg::new(alloc, name).required(true).action(ArgAction::Set)
+}
+
+/// A place that may be left empty.
+fn spare_place<'a>(alloc: Global, name: &'a str) -> Arg<'a>
+    ensures rule { rule_of result ≡ spare_place_rule name.entry.now }
+    ensures local { result.global ≡ false }
+{
+    Arg::new(alloc, name).action(ArgAction::Set)
 }
 
 /// A command of this name, without a help flag.
@@ -188,6 +196,22 @@ pub fn load_command<'a>(alloc: Global) -> Result<clap::Command<'a>, AllocError>
     with(command, option(alloc, "workers"))
 }
 
+/// `version`.
+#[tactic(auto, unfolding(crate::specs::Grammar::version_app))]
+pub fn version_command<'a>(alloc: Global) -> clap::Command<'a>
+    ensures { app_of result ≡ version_app }
+{
+    plain_command(alloc, "version")
+}
+
+/// `help [COMMAND]`. `Err` means out of memory.
+#[tactic(auto, unfolding(crate::specs::Grammar::help_app))]
+pub fn help_command<'a>(alloc: Global) -> Result<clap::Command<'a>, AllocError>
+    ensures { IfOk result (λ c. app_of c ≡ help_app) }
+{
+    with(plain_command(alloc, "help"), spare_place(alloc, "command"))
+}
+
 /// Whether the error means out of memory; any other is that the words are not taken.
 fn is_memory(error: &Error) -> bool
     ensures { IsTrue result ↔ (kind_of error.now ≡ ErrorKind.OutOfMemory) }
@@ -195,7 +219,7 @@ fn is_memory(error: &Error) -> bool
     matches!(error.kind(), ErrorKind::OutOfMemory)
 }
 
-/// What the words give, or none where the command does not take them. `Err` means out of memory.
+/// What the arguments give, or none if the command does not take them. `Err` means out of memory.
 #[tactic(auto, unfolding(crate::specs::Grammar::IsPlainCommand, crate::specs::Grammar::Takes, crate::specs::Grammar::given))]
 pub fn parse<'a>(
     command: clap::Command<'a>,

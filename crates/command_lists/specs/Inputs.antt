@@ -20,16 +20,16 @@ IsListAsked asked bytes blocks = IsList (style_named asked.style) asked.name ask
 abbrev pub IsRefusedLine : ListAsked → List ℕ → ℕ → Type 0
 IsRefusedLine asked bytes n = IsRefused (style_named asked.style) asked.name asked.family bytes n
 
--- the input, where it tells its bytes, is a list of these blocks, and it was read to its end
+-- the input, if its bytes are known, is a list of these blocks, and it was read to its end
 abbrev pub GivesList : ListAsked → Told → Told → List Cidr → Type 0
 GivesList asked old new blocks =
     IfSome old.bytes (λ bytes. (length bytes ≤ most_bytes) × IsListAsked asked bytes blocks × (new.bytes ≡ Some []))
 
--- the input, where it tells its bytes, has more of them than a list may have
+-- the input, if its bytes are known, has more of them than a list may have
 abbrev pub IsTooLong : Told → Type 0
 IsTooLong old = IfSome old.bytes (λ bytes. most_bytes < length bytes)
 
--- the input, where it tells its bytes, is not too long, and the first line that is not of the style has this number
+-- the input, if its bytes are known, is not too long, and the first line that is not of the style has this number
 abbrev pub RefusesLine : ListAsked → Told → ℕ → Type 0
 RefusesLine asked old n = IfSome old.bytes (λ bytes. (length bytes ≤ most_bytes) × IsRefusedLine asked bytes n)
 

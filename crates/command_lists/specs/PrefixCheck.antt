@@ -1,5 +1,5 @@
 -- What a run of the command `prefix-check` promises of each status: what the prefixes of a table and a router's list on the input have beyond
--- each other, and the store as it was.
+-- each other, and the store unchanged.
 use Rattle.std.specs.Prelude.{◌≡◌, ℕ, ◌⊎◌, ◌≤◌, List, IfSome, IsSome, length}
 use Rattle.inet_num.specs.Net.{Cidr}
 use Rattle.ipam_data.specs.State.{State}
@@ -27,7 +27,7 @@ pub record PrintsDifference (asked : ListAsked) (old new : Outside) : Type 0 whe
   pub printed : Gains old.streams.output new.streams.output text
   pub silent : new.streams.errors ≡ old.streams.errors
 
--- the output failed, with a front of the difference, and nothing was said
+-- the output failed, with a prefix of the difference, and nothing was said
 pub record FailsToPrintDifference (asked : ListAsked) (old new : Outside) : Type 0 where
   pub failed : Failed old.streams.output new.streams.output
   pub text : List ℕ
@@ -41,7 +41,7 @@ IsInputRefused asked input message =
     (IsTooLong input × (message ≡ too_large_text))
     ⊎ ((n : ℕ) × RefusesLine asked input n × (message ≡ line_text n))
 
--- the table is there and the input is refused, which was said; nothing was printed
+-- the table exists and the input is refused, which was said; nothing was printed
 pub record NamesInput (asked : ListAsked) (old new : Outside) : Type 0 where
   pub state : State
   pub table : IsLoadedTable asked old state
@@ -79,7 +79,7 @@ IsCheckRefused asked old =
 abbrev pub IsReadable : ListAsked → List ℕ → Type 0
 IsReadable asked bytes = (length bytes ≤ most_bytes) × ((n : ℕ) → ¬ IsRefusedLine asked bytes n)
 
--- the status says whether the comparison is refused: 1 where it is, 0 where the tables were loaded, no VRF is absent and the input is read, and 5
+-- the status says whether the comparison is refused: 1 if it is, 0 if the tables were loaded, no VRF is absent and the input is read, and 5
 -- for lack of memory
 abbrev pub IsCheckExact : ListAsked → Outside → ℕ → Type 0
 IsCheckExact asked old status =
@@ -90,7 +90,7 @@ IsCheckExact asked old status =
 -- a run of `prefix-check`
 pub record IsPrefixCheck (asked : ListAsked) (old new : Outside) (status : ℕ) : Type 0 where
   pub statuses : (status ≡ 0) ⊎ (status ≡ 1) ⊎ (status ≡ 3) ⊎ (status ≡ 4) ⊎ (status ≡ 5)
-  -- 0: also where the two differ
+  -- 0: also if the two differ
   pub done : status ≡ 0 → PrintsDifference asked old new
   -- 1: the opening was refused for what the store holds, or the VRF is not there, or the input is refused
   pub refused : status ≡ 1 → NamesFault asked.store old new ⊎ NamesAbsent asked old new ⊎ NamesInput asked old new
@@ -101,10 +101,10 @@ pub record IsPrefixCheck (asked : ListAsked) (old new : Outside) (status : ℕ) 
   pub store_fault : status ≡ 4 → NamesFailure old new
   -- 5: out of memory. Nothing was printed, and nothing said
   pub memory : status ≡ 5 → (new.streams.output ≡ old.streams.output) × (new.streams.errors ≡ old.streams.errors)
-  -- where the store tells its tables and nothing fails, the status is 1 only for a refusal, and it is where the VRF is not there or the
-  -- input, where it tells its bytes, is too long or has a line that is not of the style
+  -- if the tables of the store are known and nothing fails, the status is 1 only for a refusal, and it is if the VRF is not there or the
+  -- input, if its bytes are known, is too long or has a line that is not of the style
   pub exact : IsSome (found_tables asked.store old) → (¬ AnyFailed old new) → IsCheckExact asked old status
-  -- with each status told tables are as they were
+  -- with each status known tables are unchanged
   pub keeps : AreSame old.stores.stored new.stores.stored
   pub later : NoCountFalls old new
   -- 5: no count of faults rose

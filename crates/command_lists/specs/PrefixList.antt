@@ -1,5 +1,5 @@
 -- What a run of the command `prefix-list` promises of each status: the prefixes of a table as the fewest blocks for a router, and the store
--- as it was.
+-- unchanged.
 use Rattle.std.specs.Prelude.{◌≡◌, ℕ, ◌⊎◌, List, true, IsSome}
 use Rattle.ipam_data.specs.State.{State}
 use Rattle.stored_tables.specs.declared.opening.OpenFault.{OpenFault}
@@ -13,7 +13,7 @@ use Rattle.command_lists.specs.Said.{absent_text}
 
 -- ---- for both commands
 
--- the state was loaded, and the table is there
+-- the state was loaded, and the table exists
 pub record IsLoadedTable (asked : ListAsked) (old : Outside) (state : State) : Type 0 where
   pub loaded : IsLoaded asked.store old state
   pub there : is_there state asked.table ≡ true
@@ -51,7 +51,7 @@ pub record PrintsList (asked : ListAsked) (old new : Outside) : Type 0 where
   pub silent : new.streams.errors ≡ old.streams.errors
   pub unread : new.streams.input ≡ old.streams.input
 
--- the output failed, with a front of the list, and nothing was said
+-- the output failed, with a prefix of the list, and nothing was said
 pub record FailsToPrintList (asked : ListAsked) (old new : Outside) : Type 0 where
   pub failed : Failed old.streams.output new.streams.output
   pub text : List ℕ
@@ -64,7 +64,7 @@ pub record FailsToPrintList (asked : ListAsked) (old new : Outside) : Type 0 whe
 abbrev pub IsListRefused : ListAsked → Outside → Type 0
 IsListRefused asked old = ((fault : OpenFault) × IsBadStore asked.store old fault) ⊎ ((n : ℕ) × IsAbsent asked old n)
 
--- the status says whether the list is refused: 1 where it is, 0 where the tables were loaded and no VRF is absent, and 5 for lack of memory
+-- the status says whether the list is refused: 1 if it is, 0 if the tables were loaded and no VRF is absent, and 5 for lack of memory
 abbrev pub IsListExact : ListAsked → Outside → ℕ → Type 0
 IsListExact asked old status =
     (status ≡ 5)
@@ -83,9 +83,9 @@ pub record IsPrefixList (asked : ListAsked) (old new : Outside) (status : ℕ) :
   pub store_fault : status ≡ 4 → NamesFailure old new
   -- 5: out of memory. Nothing was printed, and nothing said
   pub memory : status ≡ 5 → IsUnused old new × (new.streams.errors ≡ old.streams.errors)
-  -- where the store tells its tables and nothing fails, the status is 1 only for a refusal, and it is where the VRF is not there
+  -- if the tables of the store are known and nothing fails, the status is 1 only for a refusal, and it is if the VRF is not there
   pub exact : IsSome (found_tables asked.store old) → (¬ AnyFailed old new) → IsListExact asked old status
-  -- with each status told tables are as they were
+  -- with each status known tables are unchanged
   pub keeps : AreSame old.stores.stored new.stores.stored
   pub later : NoCountFalls old new
   -- 5: no count of faults rose

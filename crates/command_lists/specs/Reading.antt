@@ -43,7 +43,7 @@ IsAnswer n reply (Err (Absent m)) = (m ≡ n) × (kind : Kind) × (k : ℕ) × (
 IsAnswer n reply (Err (Opening fault)) = (fault ≡ Keeper) × (reply ≡ Refused KeeperFailed)
 IsAnswer n reply (Err Memory) = Unit {0}
 
--- why a register of this state did not tell of a table, by its keeper's count before and after
+-- why a register of this state did not give a table, by its keeper's count before and after
 abbrev pub IsTableStop : State → TableName → ℕ → ℕ → TableStop → Type 0
 IsTableStop s table few more (Opening fault) = (fault ≡ Keeper) × Rose few more
 IsTableStop s table few more (Absent n) = IsAbsentIn s table n
@@ -51,11 +51,11 @@ IsTableStop s table few more Memory = Unit {0}
 
 -- ---- the store
 
--- the state is the one that the store's tables stand for
+-- the state is the one that the store's tables represent
 abbrev pub IsFound : Store → Stores → State → Type 0
 IsFound store old state = IsOpened (started old.stored store.db) store.global_unique state
 
--- the blocks are those of the prefixes of the table and the family, of the state that the store's tables stand for
+-- the blocks are those of the prefixes of the table and the family, of the state that the store's tables represent
 pub record IsRead (asked : ListAsked) (old : Stores) (blocks : List Cidr) : Type 0 where
   pub state : State
   pub found : IsFound asked.store old state

@@ -1,4 +1,4 @@
--- What is said where a list is not printed or not compared.
+-- What is said if a list is not printed or not compared.
 use Rattle.std.specs.Prelude.{◌≡◌, ℕ, ◌⊎◌, List, [], ◌∷◌, ◌++◌, codes, decimal}
 use Rattle.ipam_data.specs.declared.kinds.Kind.TheVariants.{Vrfs}
 use Rattle.ipam_data.specs.declared.replies.Part.TheVariants.{Body}
@@ -38,7 +38,7 @@ IsTableStopSaid (Opening fault) old new status = IsSaid fault old new status
 IsTableStopSaid (Absent n) old new status = NamesIt (absent_text n) old new status
 IsTableStopSaid NoMemory old new status = (status ≡ 5) × (new ≡ old)
 
--- why the input gave no list was said, with its status; nothing is said where it failed
+-- why the input gave no list was said, with its status; nothing is said if it failed
 abbrev pub IsInputStopSaid : InputStop → Told → Told → ℕ → Type 0
 IsInputStopSaid Unread old new status = (status ≡ 3) × (new ≡ old)
 IsInputStopSaid TooLong old new status = NamesIt too_large_text old new status

@@ -1,4 +1,4 @@
--- The prefixes of a table: which table a name stands for, whether it is there, and the blocks of its prefixes of a family.
+-- The prefixes of a table: which table a name represents, whether it exists, and the blocks of its prefixes of a family.
 use Rattle.std.specs.Prelude.{◌≡◌, ℕ, ◌&&◌, Bool, true, List, None, is_some, map, filter}
 use Rattle.inet_num.specs.declared.Family.{Family}
 use Rattle.inet_num.specs.Net.{Cidr}
@@ -18,7 +18,7 @@ abbrev pub table_named : TableName → Table
 table_named Global = GlobalTable
 table_named (Vrf n) = Of n
 
--- the table is there: the global one always is, and that of a VRF where the VRF is, whether or not it has prefixes
+-- the table exists: the global one always does, and that of a VRF if the VRF does, whether or not it has prefixes
 abbrev pub is_there : State → TableName → Bool
 is_there s Global = true
 is_there s (Vrf n) = is_some (row_at vrf_id s.vrfs.rows n)

@@ -42,7 +42,7 @@ fn front_text(alloc: Global, asked: &ListAsked) -> Result<Vec<u8>, AllocError>
     Ok(front)
 }
 
-/// The list that is asked for: the fewest blocks of the prefixes of the table. The keeper went back, and told tables are as they were.
+/// The list that is asked for: the fewest blocks of the prefixes of the table. The keeper went back, and known tables are unchanged.
 fn list_of<O: KeeperOpener>(
     alloc: Global,
     asked: &ListAsked,

@@ -11,7 +11,7 @@ use ipam_edge::{Failed, Sink, write_all};
 use prefix_list::{STEP, Style, line_end};
 use text_pieces::{ROOM, put_both};
 
-/// Puts the line of a block behind the piece: a front, and what a line of the style has after it.
+/// Puts the line of a block after the piece: a front, and what a line of the style has after it.
 fn put_line<Si: Sink>(
     output: &mut Si,
     piece: &mut ArrayVec<u8, ROOM>,
@@ -27,7 +27,7 @@ fn put_line<Si: Sink>(
     put_both(output, piece, front, end.as_slice())
 }
 
-/// Puts a line for each block behind the piece.
+/// Puts a line for each block after the piece.
 fn put_lines<Si: Sink>(
     output: &mut Si,
     piece: &mut ArrayVec<u8, ROOM>,
@@ -46,7 +46,7 @@ fn put_lines<Si: Sink>(
     Ok(())
 }
 
-/// Writes a line for each block. It takes no memory but a buffer of its own.
+/// Writes a line for each block. It takes no memory but its own buffer.
 pub(crate) fn write_blocks<Si: Sink>(
     output: &mut Si,
     style: Style,
@@ -61,7 +61,7 @@ pub(crate) fn write_blocks<Si: Sink>(
     write_all(output, piece.as_slice())
 }
 
-/// Puts a line for each block that is missing behind the piece, and then one for each that is beyond.
+/// Puts a line for each block that is missing after the piece, and then one for each that is beyond.
 fn put_difference<Si: Sink>(
     output: &mut Si,
     piece: &mut ArrayVec<u8, ROOM>,
@@ -75,7 +75,7 @@ fn put_difference<Si: Sink>(
     put_lines(output, piece, Style::Plain, b"beyond ", beyond)
 }
 
-/// Writes a line for each block that is missing, and then one for each that is beyond. It takes no memory but a buffer of its own.
+/// Writes a line for each block that is missing, and then one for each that is beyond. It takes no memory but its own buffer.
 pub(crate) fn write_difference<Si: Sink>(
     output: &mut Si,
     missing: &[Block],

@@ -1,4 +1,4 @@
-//! What is said where a list is not printed or not compared.
+//! What is said if a list is not printed or not compared.
 
 ghost use Rattle.std.specs.Prelude.{◌≡◌, ◌≤◌, IfOk, string_bytes};
 ghost use Rattle.command_streams.specs.Streams.{told};
@@ -23,7 +23,7 @@ fn refusal_words(alloc: Global, refusal: &Refusal) -> Result<String, AllocError>
     Ok(line)
 }
 
-/// Says a refusal, and gives the status 1; or that of a fault where it can't be said, or of out of memory.
+/// Says a refusal, and gives the status 1; or that of a fault if it can't be said, or of out of memory.
 fn say_refusal<Se: Sink>(alloc: Global, refusal: &Refusal, errors: &mut Se) -> u8
     ensures said { NamesIt (refusal_text refusal.now) (told Se.written Se.faults errors.old) (told Se.written Se.faults errors.new) result }
     ensures later { Se.faults errors.old ≤ Se.faults errors.new }
@@ -41,7 +41,7 @@ fn line_text(alloc: Global, number: u64) -> Result<String, AllocError>
     format!(in alloc; "line {number}: not of the style\n")
 }
 
-/// Says which line of the input is refused, and gives the status 1; or that of a fault where it can't be said, or of out of memory.
+/// Says which line of the input is refused, and gives the status 1; or that of a fault if it can't be said, or of out of memory.
 fn say_line<Se: Sink>(alloc: Global, number: u64, errors: &mut Se) -> u8
     ensures said { NamesIt (text_of_line number) (told Se.written Se.faults errors.old) (told Se.written Se.faults errors.new) result }
     ensures later { Se.faults errors.old ≤ Se.faults errors.new }
@@ -52,7 +52,7 @@ fn say_line<Se: Sink>(alloc: Global, number: u64, errors: &mut Se) -> u8
     }
 }
 
-/// Says why a table was not read, and gives the status of that: 1 for a fault of the store's tables or a VRF that is not there, 4 where the
+/// Says why a table was not read, and gives the status of that: 1 for a fault of the store's tables or a VRF that is not there, 4 if the
 /// store failed, and 5 for lack of memory, of which nothing is said.
 pub(crate) fn say_table_stop<Se: Sink>(alloc: Global, stop: &TableStop, errors: &mut Se) -> u8
     ensures said { IsTableStopSaid stop.now (told Se.written Se.faults errors.old) (told Se.written Se.faults errors.new) result }
@@ -65,7 +65,7 @@ pub(crate) fn say_table_stop<Se: Sink>(alloc: Global, stop: &TableStop, errors: 
     }
 }
 
-/// Says why the input gives no list, and gives the status of that: 1 where it is refused, 3 where it failed, and 5 for lack of memory; of the
+/// Says why the input gives no list, and gives the status of that: 1 if it is refused, 3 if it failed, and 5 for lack of memory; of the
 /// last two nothing is said.
 pub(crate) fn say_input_stop<Se: Sink>(alloc: Global, stop: &InputStop, errors: &mut Se) -> u8
     ensures said { IsInputStopSaid stop.now (told Se.written Se.faults errors.old) (told Se.written Se.faults errors.new) result }

@@ -78,7 +78,7 @@ fn answer(id: u32, reply: &Reply) -> Result<(), TableStop>
     }
 }
 
-/// Asks a register for the VRF of this id. The state stays, and so does what the keeper tells.
+/// Asks a register for the VRF of this id. The state stays, and so does what is known of the keeper.
 fn ask_vrf<K: Keeper>(register: &mut Register<K>, id: u32) -> Result<(), TableStop>
     ensures there { OnOk result (is_there register.old.state (Vrf id) ≡ true) }
     ensures stop { IfErr result (IsTableStop register.old.state (Vrf id) (K.faults register.old.keeper) (K.faults register.new.keeper)) }
@@ -101,7 +101,7 @@ fn ask_vrf<K: Keeper>(register: &mut Register<K>, id: u32) -> Result<(), TableSt
     found
 }
 
-/// Asks a register whether a table is there: the global one always is, and that of a VRF where the VRF is.
+/// Asks a register whether a table exists: the global one always does, and that of a VRF if the VRF does.
 fn ask_table<K: Keeper>(register: &mut Register<K>, table: TableName) -> Result<(), TableStop>
     ensures there { OnOk result (is_there register.old.state table ≡ true) }
     ensures stop { IfErr result (IsTableStop register.old.state table (K.faults register.old.keeper) (K.faults register.new.keeper)) }
@@ -123,7 +123,7 @@ fn is_listed(table: Table, family: Family, row: &Prefix) -> bool
     is_one_table(Table::of(row.vrf), table) && is_one_family(row.block.family(), family)
 }
 
-/// Puts the block of a prefix behind the others where it is in the table and of the family.
+/// Puts the block of a prefix after the others if it is in the table and of the family.
 fn keep_listed(
     blocks: &mut Vec<Block>,
     table: Table,
@@ -138,7 +138,7 @@ fn keep_listed(
     Ok(())
 }
 
-/// The prefix at an index that is there.
+/// The prefix at an index that exists.
 fn prefix_at<K: Keeper>(register: &Register<K>, index: u32) -> &Prefix
     requires { index < length register.now.state.prefixes.rows }
     ensures { Some result.now ≡ slice_get register.now.state.prefixes.rows index }
@@ -193,8 +193,8 @@ fn blocks_in<K: Keeper>(
     Ok(blocks)
 }
 
-/// The blocks of the prefixes of the table and the family that are asked for, from the register of the store. The keeper went back, and told
-/// tables are as they were.
+/// The blocks of the prefixes of the table and the family that are asked for, from the register of the store. The keeper went back, and known
+/// tables are unchanged.
 pub(crate) fn read_table<O: KeeperOpener>(
     alloc: Global,
     asked: &ListAsked,

@@ -21,7 +21,7 @@ pub record HasAllClaimed (count workers : ℕ) (v w : Caller) (came : LoadOutcom
   pub seen : IsPrefix v.seen w.seen
   pub claimed : came.tally.claimed ≡ count
   pub dismissed : HasDismissed true (top_number + 1 - workers) workers w came.tally
-  -- the percentage is the plain register's behind all that the seat has seen
+  -- the percentage is the plain register's after all that the seat has seen
   pub percent : (plain_step (replay plain_step (empty_state true) w.seen) figure_call).1 ≡ Percent came.percent
 
 -- so many claims were made and nothing else but the prefix, one change each: they got the addresses from the first to that of this number

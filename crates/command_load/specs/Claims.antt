@@ -1,4 +1,4 @@
--- A register in which one prefix was made and addresses of it were claimed, one by one: what it holds, and what the next claim gets.
+-- A register in which one prefix was made and addresses of it were claimed, one by one: what it holds, and what the next claim returns.
 use Rattle.std.specs.Prelude.{◌≡◌, ℕ, zero, suc, ◌+◌, ◌-◌, ◌^◌, ◌<◌, ◌≤◌, Bool, false, List, [], ◌∷◌, ◌++◌, None, map, length}
 use Rattle.inet_num.specs.declared.Family.TheVariants.{V4}
 use Rattle.inet_num.specs.Net.{Cidr}
@@ -58,7 +58,7 @@ abbrev pub address_rows : ℕ → ℕ → List IpAddress
 address_rows len zero = []
 address_rows len (suc k) = address_rows len k ++ address_row len (suc k) ∷ []
 
--- the register behind the prefix and so many claims
+-- the register after the prefix and so many claims
 abbrev pub claimed_state : Bool → ℕ → ℕ → State
 claimed_state unique len k = record {
   vrfs = empty_row_list;
@@ -78,7 +78,7 @@ claimed_state unique len k = record {
 abbrev pub PrefixIsMade : Type 0
 PrefixIsMade = (unique : Bool) (len : ℕ) → 1 ≤ len → plain_step (empty_state unique) (creation_of len) ≡ (claimed_state unique len 0, Made (PrefixView (prefix_row len) 0 0))
 
--- where one of the addresses that hosts can have is left, the next claim gets the one behind the last
+-- if one of the addresses that hosts can have is left, the next claim returns the one after the last
 abbrev pub NextClaimGetsNextAddress : Type 0
 NextClaimGetsNextAddress = (unique : Bool) (len k : ℕ) → len ≤ 30 → suc k + 1 < 2 ^ (32 - len) → k < most_addresses
     → plain_step (claimed_state unique len k) claim_of_one ≡ (claimed_state unique len (suc k), Made (AddressView (address_row len (suc k))))
@@ -91,7 +91,7 @@ claim_entry who = record { who = who; call = claim_of_one }
 abbrev pub load_history : ℕ → ℕ → List ℕ → List Entry
 load_history len maker callers = record { who = maker; call = creation_of len } ∷ map claim_entry callers
 
--- whoever called, and in whatever order, the register behind them is the one of their number
+-- whoever called, and in whatever order, the register after them is the one of their number
 abbrev pub ClaimsLeadToState : Type 0
 ClaimsLeadToState = (unique : Bool) (len maker : ℕ) (callers : List ℕ) → 1 ≤ len → len ≤ 30 → length callers + 1 < 2 ^ (32 - len) → length callers ≤ most_addresses
     → replay (empty_state unique) (load_history len maker callers) ≡ claimed_state unique len (length callers)

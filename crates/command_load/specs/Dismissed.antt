@@ -20,7 +20,7 @@ number_of p = p.seat.number
 abbrev pub ended_of : Part → ℕ × List (ℕ × Call)
 ended_of p = (p.seat.number, own_entries p.seat.number p.seat.seen)
 
--- the tally is what the claims through the seat came to
+-- the tally is what the claims through the seat led to
 abbrev pub IsNotedPart : Part → Type 0
 IsNotedPart p = Notes p.seat p.tally.claimed p.tally.least p.tally.greatest
 
@@ -41,7 +41,7 @@ pub record HasDismissed (whole : Bool) (first many : ℕ) (seat : Caller) (all :
   pub numbers : AreNumberedFrom first parts
   -- all that each of them had seen begins what the seat has seen
   pub seen : AllByRecursion (λ p. IsPrefix p.seat.seen seat.seen) parts
-  -- where each got its share
+  -- if each got its share
   pub noted : whole ≡ true → AllByRecursion IsNotedPart parts
   pub count : all.claimed ≡ sum_by (λ p. p.tally.claimed) parts
   -- in any history by which each tally is its seat's, this one is that of all

@@ -15,7 +15,7 @@ Caller = SeatView Seen Call
 abbrev pub last_of_v4 : ℕ
 last_of_v4 = 4294967295
 
--- the caller of this seat made claims alone, and this is what they came to
+-- the caller of this seat made claims alone, and this is what they led to
 abbrev pub Notes : Caller → ℕ → ℕ → ℕ → Type 0
 Notes seat claimed least greatest = IsNoted true last_of_v4 seat claimed least greatest
 
@@ -29,7 +29,7 @@ pub record IsHired {K : Type 0} (z : TableId) (w : Claimer K) : Type 0 where
   pub ended : seat.ended ≡ []
   pub fresh : Notes seat 0 last_of_v4 0
 
--- a worker of the lock z after its claims; where it got its share, its tally is what they came to
+-- a worker of the lock z after its claims; if it got its share, its tally is what they led to
 pub record IsDone {K : Type 0} (z : TableId) (w : Claimer K) : Type 0 where
   pub seat : Caller
   pub has : w.seat ≡ Some seat
@@ -39,7 +39,7 @@ pub record IsDone {K : Type 0} (z : TableId) (w : Claimer K) : Type 0 where
   pub noted : w.tally.claimed ≡ w.share → Notes seat w.tally.claimed w.tally.least w.tally.greatest
   pub few : w.tally.claimed ≤ w.share
 
--- a worker was so and is so: it made claims through its seat, and where it got its share its tally is what they came to
+-- a worker was so and is so: it made claims through its seat, and if it got its share its tally is what they led to
 pub record HasClaimed {K : Type 0} (old new : Claimer K) : Type 0 where
   pub before : Caller
   pub after : Caller
@@ -54,7 +54,7 @@ pub record HasClaimed {K : Type 0} (old new : Claimer K) : Type 0 where
 abbrev pub AllHaveClaimed : {K : Type 0} → List (Claimer K) → List (Claimer K) → Type 0
 AllHaveClaimed {K} old new = (i : ℕ) (w : Claimer K) → i < length old → HasClaimed (slice_index_or old i w) (slice_index_or new i w)
 
--- the seats of hired workers have numbers one behind the other, the greatest first
+-- the seats of hired workers have numbers one after the other, the greatest first
 abbrev pub AreNumberedDown : {K : Type 0} → ℕ → List (Claimer K) → Type 0
 AreNumberedDown top [] = Unit {0}
 AreNumberedDown top (w ∷ ws) = IfSome w.seat (λ seat. seat.number ≡ top) × AreNumberedDown (top - 1) ws

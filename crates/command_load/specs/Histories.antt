@@ -22,7 +22,7 @@ use Rattle.command_load.specs.Claims.{creation_of, claim_of_one, claimed_state, 
 abbrev pub AreClaims : List (ℕ × Call) → Type 0
 AreClaims entries = AllByRecursion (λ e. e.1 ≡ claim_of_one) entries
 
--- the prefix of this length was made first, and then came claims alone
+-- the prefix of this length was made first, and then claims alone were made
 pub record IsLoadHistory (len : ℕ) (history : List (ℕ × Call)) : Type 0 where
   pub maker : ℕ
   pub claims : List (ℕ × Call)
@@ -36,18 +36,18 @@ pub record HasRoomFor (len entries : ℕ) : Type 0 where
   pub block : entries + 1 < 2 ^ (32 - len)
   pub limit : entries ≤ most_addresses
 
--- behind such a history the register is the one of the number of claims
+-- after such a history the register is the one of the number of claims
 abbrev pub HistoryLeadsToState : Type 0
 HistoryLeadsToState = (unique : Bool) (len : ℕ) (history : List (ℕ × Call)) (h : IsLoadHistory len history) → HasRoomFor len (length history)
     → replay plain_step (empty_state unique) history ≡ claimed_state unique len (length h.claims)
 
--- whoever claimed: an accepted claim that stands at place n of such a history, behind the creation, got address n
+-- whoever claimed: an accepted claim that is at place n of such a history, after the creation, got address n
 abbrev pub PlaceSaysAddress : Type 0
 PlaceSaysAddress = (unique : Bool) (len : ℕ) (history : List (ℕ × Call)) (who : ℕ) (reply : Reply) (place : ℕ) → IsLoadHistory len history → HasRoomFor len (length history)
     → 1 ≤ place → IsLegalAt plain_step is_accepted (empty_state unique) history who claim_of_one reply accepted place
     → reply ≡ Made (AddressView (address_row len place))
 
--- ---- whose entry stands where
+-- ---- whose entry is where
 
 module _ {C : Type 0} where
   -- the places of the entries with this caller's number, the first entry being counted so
@@ -68,7 +68,7 @@ abbrev pub CallHasNextPlace : Type 0
 CallHasNextPlace = (v w : SeatView Seen Call) (call : Call) (reply : Reply) (place : ℕ) → IsCall seen_step is_accepted v w call reply accepted place
     → own_places v.number 0 w.seen ≡ own_places v.number 0 v.seen ++ place ∷ []
 
--- where no entry of a caller came, its places stay
+-- if no entry of a caller was added, its places stay
 abbrev pub PlacesStay : Type 0
 PlacesStay = (number : ℕ) (before after : List (ℕ × Call)) → IsPrefix before after → own_entries number after ≡ own_entries number before
     → own_places number 0 after ≡ own_places number 0 before

@@ -7,7 +7,7 @@ use Rattle.inet_num.specs.Text.{canonical_text_of}
 use Rattle.block_space.specs.Usable.{host_room}
 use Rattle.command_load.specs.declared.figures.Figures.{Figures}
 
--- the greatest length, up to this one, of a block of IPv4 with four addresses for each claim; 0 where there is none
+-- the greatest length, up to this one, of a block of IPv4 with four addresses for each claim; 0 if there is none
 unfoldable pub longest : ℕ → ℕ → ℕ
 longest claims zero = zero
 longest claims (suc len) = if nat_le (4 * claims) (2 ^ (32 - suc len)) then suc len else longest claims len
@@ -24,11 +24,11 @@ load_first = 167772160
 abbrev pub load_block : ℕ → Cidr
 load_block claims = record { family = V4; first = load_first; len = load_len claims }
 
--- the address that claim n gets, counted from 1: the n-th behind 10.0.0.0, which is kept back
+-- the address that claim n gets, counted from 1: the n-th after 10.0.0.0, which is kept back
 abbrev pub load_address : ℕ → Address
 load_address n = record { family = V4; value = load_first + n }
 
--- what so many claims come to: the least and the greatest address, the whole percentage of the addresses that hosts can have, and one
+-- what so many claims lead to: the least and the greatest address, the whole percentage of the addresses that hosts can have, and one
 -- accepted change for the prefix and one for each claim
 abbrev pub load_figures : ℕ → Figures
 load_figures claims = record {

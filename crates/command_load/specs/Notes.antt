@@ -55,7 +55,7 @@ NotesAreTally = (unique : Bool) (len most : ℕ) (history : List (ℕ × Call)) 
     → IsNoted unique most v claimed least greatest → IsPrefix v.seen history → own_entries v.number history ≡ own_entries v.number v.seen → h.maker ≢ v.number
     → (load_address (length history)).value ≤ most → IsTallyOf history (v.number ∷ []) claimed least greatest
 
--- where the prefix was made first, and each other entry is of a caller that made claims alone, those are claims
+-- if the prefix was made first, and each other entry is of a caller that made claims alone, those are claims
 abbrev pub OthersMakeClaims : Type 0
 OthersMakeClaims = (len maker : ℕ) (claims : List (ℕ × Call)) (numbers : List ℕ) → length (own_entries maker ((maker, creation_of len) ∷ claims)) ≡ 1
     → AreShared (maker ∷ numbers) ((maker, creation_of len) ∷ claims) → ((n : ℕ) → Contains numbers n → AreClaims (own_entries n ((maker, creation_of len) ∷ claims)))

@@ -24,7 +24,7 @@ abbrev pub TalliesAdd : Type 0
 TalliesAdd = (history : List (ℕ × Call)) (ns ms : List ℕ) (a b least other greatest more : ℕ) → IsTallyOf history ns a least greatest → IsTallyOf history ms b other more
     → IsTallyOf history (ns ++ ms) (a + b) (min least other) (max greatest more)
 
--- of all callers, beside the one that made the prefix and nothing else: the claims, the first address and the last one
+-- of all callers, besides the one that made the prefix and nothing else: the claims, the first address and the last one
 abbrev pub TallyOfAll : Type 0
 TallyOfAll = (len : ℕ) (history : List (ℕ × Call)) (numbers : List ℕ) (claimed least greatest : ℕ) (h : IsLoadHistory len history) → length (own_entries h.maker history) ≡ 1
     → AreShared (h.maker ∷ numbers) history → 2 ≤ length history → IsTallyOf history numbers claimed least greatest

@@ -28,7 +28,7 @@ fn block_for(count: u32) -> Option<Block>
     Block::of(Addr::of(Family::V4, FIRST)?, load_len(count))
 }
 
-/// The creation of the prefix for so many claims. It takes no memory; `None` comes for more than 8,388,608 claims alone, and `load` asks for
+/// The creation of the prefix for so many claims. It takes no memory; `None` is returned for more than 8,388,608 claims alone, and `load` asks for
 /// 100,000 at most.
 pub fn creation(alloc: Global, count: u32) -> Option<Call>
     ensures { IfSome result (λ c. c ≡ creation_of (len_of count)) }

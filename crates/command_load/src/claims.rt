@@ -17,7 +17,7 @@ use register_core::Register;
 use std::alloc::Global;
 use std::sync::Wait;
 
-/// Makes the prefix for so many claims. It was not made where memory ran out.
+/// Makes the prefix for so many claims. It was not made if memory ran out.
 pub fn create<R: Wait, K: Keeper>(
     rt: &R,
     alloc: Global,
@@ -39,7 +39,7 @@ pub fn create<R: Wait, K: Keeper>(
     (seat, made)
 }
 
-/// The number where it is one of an address of IPv4.
+/// The number if it is one of an address of IPv4.
 fn of_v4(number: Option<u128>) -> Option<u128>
     ensures { IfSome result (λ value. (number ≡ Some value) × (value ≤ last_of_v4)) }
 {
@@ -49,7 +49,7 @@ fn of_v4(number: Option<u128>) -> Option<u128>
     }
 }
 
-/// Claims one address. It got none where memory ran out.
+/// Claims one address. It got none if memory ran out.
 fn claim_one<R: Wait, K: Keeper>(
     rt: &R,
     alloc: Global,
@@ -70,7 +70,7 @@ fn claim_one<R: Wait, K: Keeper>(
     (seat, got)
 }
 
-/// Claims so many addresses, one by one, or fewer where memory runs out.
+/// Claims so many addresses, one by one, or fewer if memory runs out.
 pub fn claim_share<R: Wait, K: Keeper>(
     rt: &R,
     alloc: Global,
@@ -96,7 +96,7 @@ pub fn claim_share<R: Wait, K: Keeper>(
     (seat, tally)
 }
 
-/// How much of the prefix is used. None where memory ran out.
+/// How much of the prefix is used. None if memory ran out.
 pub fn ask_figure<R: Wait, K: Keeper>(
     rt: &R,
     shared: &Shared<Register<K>>,

@@ -1,4 +1,4 @@
-//! What so many claims come to, and its text.
+//! What so many claims lead to, and its text.
 
 ghost use Rattle.std.specs.Prelude.{◌≡◌, ◌++◌, ◌∷◌, [], decimal, OnOk};
 ghost use Rattle.inet_num.specs.Text.{canonical_text_of};
@@ -8,7 +8,7 @@ use inet_num::{Addr, write_addr};
 use itoa::Buffer;
 use std::alloc::AllocError;
 
-/// What a number of claims came to.
+/// What a number of claims led to.
 #[derive(Clone, Copy)]
 pub struct Figures {
     /// How many got an address.

@@ -1,4 +1,4 @@
-//! What the claims of all workers came to.
+//! What the claims of all workers led to.
 
 ghost use Rattle.std.specs.Prelude.{◌≡◌, true, Some, IfSome};
 ghost use Rattle.inet_num.specs.declared.Family.TheVariants.{V4};
@@ -7,14 +7,14 @@ use crate::figures::Figures;
 use crate::tally::Tally;
 use inet_num::{Addr, Family};
 
-/// What the claims of all workers came to, and how much of the prefix is used then, as a whole percentage.
+/// What the claims of all workers led to, and how much of the prefix is used then, as a whole percentage.
 #[derive(Clone, Copy, Drop)]
 pub struct LoadOutcome {
     pub tally: Tally,
     pub percent: u8,
 }
 
-/// Both, where each worker got its share and the percentage was told.
+/// Both, if each worker got its share and the percentage was given.
 pub fn load_outcome_of(tally: Tally, whole: bool, percent: Option<u8>) -> Option<LoadOutcome>
     ensures { IfSome result (λ came. (whole ≡ true) × (came.tally ≡ tally) × (percent ≡ Some came.percent)) }
 {
@@ -26,7 +26,7 @@ pub fn load_outcome_of(tally: Tally, whole: bool, percent: Option<u8>) -> Option
     }
 }
 
-/// The figures of it, with the number of accepted changes. None where a number is none of an address.
+/// The figures of it, with the number of accepted changes. None if a number is none of an address.
 pub fn figures_of(came: LoadOutcome, entries: u64) -> Option<Figures>
     ensures { IfSome result (λ f. f ≡ record {
       claimed = came.tally.claimed;

@@ -92,7 +92,7 @@ fn load_shared<R: Threads + Wait + Sync, K: Keeper + Send>(
     }
 }
 
-/// Makes the prefix and the claims on a register without rows, and says what came of it. None for lack of memory.
+/// Makes the prefix and the claims on a register without rows, and says how it went. None for lack of memory.
 fn load_register<R: Threads + Wait + Sync, K: Keeper + Send + Drop>(
     rt: &R,
     alloc: Global,
@@ -122,7 +122,7 @@ fn load_register<R: Threads + Wait + Sync, K: Keeper + Send + Drop>(
     }
 }
 
-/// What so many claims by so many workers come to. None for lack of memory.
+/// What so many claims by so many workers lead to. None for lack of memory.
 fn load<R: Threads + Wait + Sync>(
     rt: &R,
     alloc: Global,
@@ -145,7 +145,7 @@ fn load<R: Threads + Wait + Sync>(
 }
 
 /// Runs `load`: opens a register in memory, makes one prefix, lets so many workers claim so many addresses of it, one by one, and prints
-/// five lines of what came of it. Nothing is printed where memory runs out.
+/// five lines on the outcome. Nothing is printed if memory runs out.
 pub fn run_load<R: Threads + Wait + Sync, Si: Sink>(
     rt: &R,
     alloc: Global,

@@ -1,4 +1,4 @@
-//! What claims of one address came to.
+//! What claims of one address led to.
 
 ghost use Rattle.std.specs.Prelude.{◌≡◌, ◌+◌, ◌<◌, min, max};
 ghost use Rattle.command_load.specs.Hired.{last_of_v4};

@@ -1,4 +1,4 @@
-//! Workers that claim at once, each by a seat of its own.
+//! Workers that claim at once, each by its own seat.
 
 ghost use mathlib.Core.List.{IsPrefix};
 ghost use Rattle.std.specs.Prelude.{◌≡◌, ◌≤◌, ◌+◌, ◌-◌, All, length, vec_capacity, [], true, sum_by};
@@ -43,7 +43,7 @@ fn work<R: Wait, K: Keeper>(
     claimer.seat = Some(seat);
 }
 
-/// All workers at once, each in a thread of its own; where no thread can be had they run one after another.
+/// All workers at once, each in its own thread; if no thread can be started they run one after another.
 pub fn each_claims<R: Threads + Wait + Sync, K: Keeper + Send>(
     rt: &R,
     alloc: Global,

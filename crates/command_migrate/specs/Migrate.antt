@@ -19,11 +19,11 @@ use Rattle.command_migrate.specs.declared.migrate.MigrateStop.TheVariants.{Unrea
 abbrev pub count_text : ℕ → List ℕ
 count_text n = codes "migrated " ++ decimal n ++ 10 ∷ []
 
--- what is said where the file could not be written
+-- what is said if the file could not be written
 abbrev pub unwritten_text : List ℕ
 unwritten_text = codes "store: the store could not be written" ++ 10 ∷ []
 
--- ---- tables that are told or not
+-- ---- tables that are known or not
 
 -- they can be migrated
 pub record AreFit (told : Option Tables) : Type 0 where
@@ -37,7 +37,7 @@ pub record AreUnfit (told : Option Tables) (fault : MigrateFault) : Type 0 where
   pub found : IsTold told tables
   pub refused : unmigrated tables ≡ Some fault
 
--- they could be migrated, and were: they have so many ranges, and told ones became those that the migration gives
+-- they could be migrated, and were: they have so many ranges, and known ones became those that the migration gives
 pub record AreMigrated (populated : Bool) (old new : Option Tables) (count : ℕ) : Type 0 where
   pub of : AreFit old
   pub count_is : count ≡ range_count of.tables
@@ -62,7 +62,7 @@ IsFailure Lacking = ⊥
 abbrev pub tables_of_file : List ℕ → Stores → Option Tables
 tables_of_file db old = started old.stored (Some db)
 
--- they could be migrated, and were; those of all other files are as they were
+-- they could be migrated, and were; those of all other files are unchanged
 abbrev pub IsMigrated : List ℕ → Bool → Stores → Stores → ℕ → Type 0
 IsMigrated db populated old new count =
     (told : Option Tables) × AreMigrated populated (tables_of_file db old) told count × IsReturned (Some (Some db)) told old.stored new.stored
@@ -91,7 +91,7 @@ pub record PrintsMigrated (db : List ℕ) (populated : Bool) (old new : Outside)
   pub printed : Gains old.streams.output new.streams.output (count_text count)
   pub silent : new.streams.errors ≡ old.streams.errors
 
--- the output failed, with a front of the number; the tables are migrated
+-- the output failed, with a prefix of the number; the tables are migrated
 pub record FailsToPrint (db : List ℕ) (populated : Bool) (old new : Outside) : Type 0 where
   pub failed : Failed old.streams.output new.streams.output
   pub count : ℕ
@@ -120,7 +120,7 @@ IsToSay db old new text =
     ⊎ (StoreFailed old new × (text ≡ fault_line Keeper))
     ⊎ (AreFit (tables_of_file db old.stores) × StoreFailed old new × (text ≡ unwritten_text))
 
--- what was to be said could not be, the messages have a front of it, and nothing else was used
+-- what was to be said could not be, the messages have a prefix of it, and nothing else was used
 pub record FailsToSay (db : List ℕ) (old new : Outside) : Type 0 where
   pub failed : Failed old.streams.errors new.streams.errors
   pub text : List ℕ
@@ -128,7 +128,7 @@ pub record FailsToSay (db : List ℕ) (old new : Outside) : Type 0 where
   pub front : GainsFront old.streams.errors new.streams.errors text
   pub unused : IsUnused old new
 
--- told tables are as the start found them; or they are those that the migration gives, and the status is 0 or the output failed
+-- known tables are as the start found them; or they are those that the migration gives, and the status is 0 or the output failed
 abbrev pub IsWhole : List ℕ → Bool → Outside → Outside → ℕ → Type 0
 IsWhole db populated old new status =
     (AreSame old.stores.stored new.stores.stored × ¬ (status ≡ 0))
@@ -141,13 +141,13 @@ pub record IsMigrate (db : List ℕ) (populated : Bool) (old new : Outside) (sta
   pub done : status ≡ 0 → PrintsMigrated db populated old new
   -- 1: the tables have another version, or a range has another number of texts
   pub refused : status ≡ 1 → NamesUnfit db old new
-  -- 3: the output failed, and the tables are migrated; or what was to be said could not be, and told tables are as they were
+  -- 3: the output failed, and the tables are migrated; or what was to be said could not be, and known tables are unchanged
   pub fault : status ≡ 3 → FailsToPrint db populated old new ⊎ FailsToSay db old new
   -- 4: the file could not be read or not be written
   pub store_fault : status ≡ 4 → NamesFailure old new ⊎ NamesUnwritten db old new
-  -- 5: out of memory. Nothing was printed, nothing said, and told tables are as they were
+  -- 5: out of memory. Nothing was printed, nothing said, and known tables are unchanged
   pub memory : status ≡ 5 → IsUnused old new × (new.streams.errors ≡ old.streams.errors)
-  -- with each status the input was left alone, and told tables are as they were or migrated
+  -- with each status the input was left alone, and known tables are unchanged or migrated
   pub input : new.streams.input ≡ old.streams.input
   pub whole : IsWhole db populated old new status
   pub later : NoCountFalls old new

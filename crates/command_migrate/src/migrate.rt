@@ -16,7 +16,7 @@ use std::alloc::Global;
 use stored_tables::migration::{MigrateFault, count_ranges, migrate};
 use stored_tables::opening::OpenFault;
 
-/// What is said where the file could not be written. It takes no memory, so that it is not lost.
+/// What is said if the file could not be written. It takes no memory, so that it is not lost.
 const UNWRITTEN: &[u8] = b"store: the store could not be written\n";
 
 /// Why a file was not migrated.
@@ -70,7 +70,7 @@ fn migrate_kept<K: Keeper>(kept: &mut K, populated: bool) -> Result<usize, Migra
     }
 }
 
-/// Migrates the file of a path, and gives the number of its ranges. `Err` leaves what the opener tells.
+/// Migrates the file of a path, and gives the number of its ranges. `Err` leaves what is known of the opener.
 fn migrate_file<O: KeeperOpener>(
     alloc: Global,
     db: &WordText,
@@ -108,7 +108,7 @@ fn opening_fault(fault: &MigrateFault) -> OpenFault
     }
 }
 
-/// Says why a file was not migrated, and gives the status of that: 1 for its tables, 4 where it could not be read or written, and 5 for lack
+/// Says why a file was not migrated, and gives the status of that: 1 for its tables, 4 if it could not be read or written, and 5 for lack
 /// of memory, of which nothing is said.
 fn say_stop<Se: Sink>(alloc: Global, stop: &MigrateStop, errors: &mut Se) -> u8
     ensures said { IsStopSaid stop.now (told Se.written Se.faults errors.old) (told Se.written Se.faults errors.new) result }

@@ -1,9 +1,9 @@
--- The lanes of a mirror: all that are wanted came, or none is used.
+-- The lanes of a mirror: all that are wanted were handed out, or none is used.
 use Rattle.std.specs.Prelude.{◌≡◌, ◌+◌, ◌++◌, ◌<◌, ℕ, List, [], All, length, Option, IfSome}
 use Rattle.ipam_listen.specs.Connections.{Binding, Connection, Returned}
 use Rattle.machine_serving.specs.Views.{ListenerView, ListeningFailed}
 
--- so many lanes came, none with a connection yet, from a listener that is bound so
+-- so many lanes were handed out, none with a connection yet, from a listener that is bound so
 pub record HaveCome {L : Type 0} (told : L → Option (List Connection)) (binding : Binding) (wanted : ℕ) (before after : ListenerView) (came : List L) : Type 0 where
   pub fresh : All (λ lane. IfSome (told lane) (λ connections. connections ≡ [])) came
   pub many : length came ≡ wanted
@@ -12,8 +12,8 @@ pub record HaveCome {L : Type 0} (told : L → Option (List Connection)) (bindin
   pub returned : after.returned ≡ before.returned
   pub faults : after.faults ≡ before.faults
 
--- the listener could not be bound, or a lane did not come, so that fewer came than were wanted; those that came went back, and tell no
--- connection
+-- the listener could not be bound, or a lane was not handed out, so that fewer were handed out than were wanted; those that were
+-- handed out were given back, and have no known connection
 pub record HasNoLanes (binding : Binding) (wanted : ℕ) (before after : ListenerView) : Type 0 where
   pub failed : ListeningFailed before after
   pub back : List Returned

@@ -29,14 +29,14 @@ pub record Mirrors (asked : Mirroring) (old new : Outside) (before after : Liste
   -- the published changes, after each number of which the lists are those of the register after as many accepted changes
   pub published : List Update
   pub follows : IsFollowing serves.state serves.last.now.log published
-  -- all lanes that were wanted came and went back, without an accept left; the connections of each were answered from the published changes
+  -- all lanes that were wanted were handed out and given back, without an accept left; the connections of each were answered from the published changes
   pub back : List Returned
   pub returned : after.returned ≡ before.returned ++ back
   pub many : length back ≡ asked.readers
   pub lanes : after.lanes ≡ before.lanes + asked.readers
   pub read : AreReadLanes (Some (lists_of serves.state)) published back
 
--- the same, where each accepted change was published
+-- the same, if each accepted change was published
 pub record MirrorsAll (asked : Mirroring) (old new : Outside) (before after : ListenerView) (how : SessionEnd) : Type 0 where
   pub mirrors : Mirrors asked old new before after how
   pub all : length mirrors.published ≡ length mirrors.serves.last.now.log
@@ -48,14 +48,14 @@ pub record Finishes (asked : Mirroring) (old new : Outside) (before after : List
   pub prints : Prints answers_kept (fresh mirrored.mirrors.serves.state) old new
   pub plain : (¬ StoreFailed old new) → Prints answers_plainly (opened mirrored.mirrors.serves.state) old new
 
--- the input failed, or the output, or, where the operator was answered all, the listener
+-- the input failed, or the output, or, if the operator was answered all, the listener
 pub record Falters (asked : Mirroring) (old new : Outside) (before after : ListenerView) : Type 0 where
   pub how : SessionEnd
   pub mirrored : MirrorsAll asked old new before after how
   pub cause : ((how ≡ SourceFault) × Failed old.streams.input new.streams.input) ⊎ ((how ≡ SinkFault) × Failed old.streams.output new.streams.output)
       ⊎ (Finishes asked old new before after × ListeningFailed before after)
 
--- memory ran out for the operator's session, and no count rose but the opener's where a call was answered by a failed keeper; or its session
+-- memory ran out for the operator's session, and no count rose but the opener's if a call was answered by a failed keeper; or its session
 -- ended so since it ran out to publish an accepted change
 pub record Exhausts (asked : Mirroring) (old new : Outside) (before after : ListenerView) : Type 0 where
   pub how : SessionEnd
@@ -63,7 +63,7 @@ pub record Exhausts (asked : Mirroring) (old new : Outside) (before after : List
   pub cause : ((how ≡ Memory) × NeverRises old.streams new.streams × ((new.stores.faults ≡ old.stores.faults) ⊎ HasFailedCall asked.store old new Memory))
       ⊎ ((how ≡ Memory) × (length mirrors.published < length mirrors.serves.last.now.log))
 
--- the listener could not be bound, or a lane did not come: neither operator nor readers ran, and nothing is said
+-- the listener could not be bound, or a lane was not handed out: neither operator nor readers ran, and nothing is said
 pub record HasNoPlace (asked : Mirroring) (old new : Outside) (before after : ListenerView) : Type 0 where
   pub lanes : HasNoLanes (binding asked.bind asked.connections) asked.readers before after
   pub unused : IsUnused old new
@@ -92,7 +92,7 @@ pub record IsMirror (asked : Mirroring) (old new : Outside) (before after : List
   pub memory : status ≡ 5 → (new.streams.errors ≡ old.streams.errors) × (Starves old new before after ⊎ Exhausts asked old new before after)
   -- every lane that was handed out was given back
   pub lanes_back : length after.returned + before.lanes ≡ length before.returned + after.lanes
-  -- where a lane came, the listener was bound to the place of the words, with their number of connections
+  -- if a lane was handed out, the listener was bound to the place of the words, with their number of connections
   pub bound : before.lanes < after.lanes → IsBoundBy asked after
   -- no count of faults falls
   pub later : NoCountFalls old new

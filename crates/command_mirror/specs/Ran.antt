@@ -26,8 +26,8 @@ use Rattle.command_mirror.specs.Lanes.{HasNoLanes}
 use Rattle.command_mirror.specs.Readers.{AreReadLanes}
 use Rattle.command_mirror.specs.Together.{HasCause}
 
--- the operator was served by a register that was `first` and is `last`, and the lanes are those of the readers beside it: they were answered
--- from the published changes, which are the first accepted ones, and where it is whole all of them
+-- the operator was served by a register that was `first` and is `last`, and the lanes are those of the readers next to it: they were answered
+-- from the published changes, which are the first accepted ones, and, if it is whole, all of them
 pub record HasMirrored {R K : Type 0} (step : Step R) (told_by : K → Option Tables) (faults_by : K → ℕ) (first last : Kept K) (how : SessionEnd) (whole : Bool) (lanes : List Returned)
     (from to : R) (read_old read_new wrote_old wrote_new : Told) : Type 0 where
   pub session : IsOwnSession seen_protocol step (owned (seen first.opening (told_by first.keeper)) (map pair_of first.log) (faults_by first.keeper))
@@ -40,7 +40,7 @@ pub record HasMirrored {R K : Type 0} (step : Step R) (told_by : K → Option Ta
   pub read : AreReadLanes (Some (lists_of last.opening)) published lanes
   pub cause : HasCause how read_old.faults read_new.faults wrote_old.faults wrote_new.faults
 
--- the same with the lanes of a listener, all of which came and went back
+-- the same with the lanes of a listener, all of which were handed out and given back
 pub record HasEnded {R K : Type 0} (step : Step R) (told_by : K → Option Tables) (faults_by : K → ℕ) (asked : Mirroring) (first last : Kept K) (from to : R) (read_old read_new wrote_old wrote_new : Told)
     (before after : ListenerView) (how : SessionEnd) (whole : Bool) (heard : Listening) : Type 0 where
   pub back : List Returned
@@ -51,7 +51,7 @@ pub record HasEnded {R K : Type 0} (step : Step R) (told_by : K → Option Table
   pub bound : after.bound ≡ binding asked.bind asked.connections
   pub listened : IsListening (NoneFailed before after) (ListeningFailed before after) heard
 
--- neither operator nor readers ran: the register is as it was, nothing was read and nothing written
+-- neither operator nor readers ran: the register is unchanged, nothing was read and nothing written
 pub record HasNotRun {K : Type 0} (first last : Kept K) (read_old read_new wrote_old wrote_new : Told) : Type 0 where
   pub same : last ≡ first
   pub unread : read_new ≡ read_old
@@ -66,7 +66,7 @@ HasRun step told_by faults_by asked first last from to read_old read_new wrote_o
 HasRun step told_by faults_by asked first last from to read_old read_new wrote_old wrote_new before after (Ended how whole heard) =
     HasEnded step told_by faults_by asked first last from to read_old read_new wrote_old wrote_new before after how whole heard
 
--- the status of the command by how it ended: 5 where memory ran out, also to publish a change; 3 where an end or the listener failed
+-- the status of the command by how it ended: 5 if memory ran out, also to publish a change; 3 if an end or the listener failed
 abbrev pub ended_status : SessionEnd → Bool → Listening → ℕ
 ended_status how false heard = 5
 ended_status (Closed n) true heard = listening_status heard

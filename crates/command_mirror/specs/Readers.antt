@@ -12,7 +12,7 @@ use Rattle.snapshot_session.specs.Reads.{Seen, answers_read}
 abbrev pub look_of : FeedView Lists Update → Seen
 look_of feed = record { book = feed.book; opening = feed.opening; seen = []; told = [] }
 
--- a reader with a look, whose lane has handed out no connection yet, where it tells them
+-- a reader with a look, whose lane has handed out no connection yet, if they are known
 pub record IsReady {L : Type 0} (told : L → Option (List Connection)) (look : Option Seen) (lane : L) : Type 0 where
   pub now : Seen
   pub has : look ≡ Some now
@@ -51,7 +51,7 @@ abbrev pub AreWithin : List Update → List Connection → Seen → Seen → Typ
 AreWithin published [] s t = t ≡ s
 AreWithin published (c ∷ cs) s t = (mid : Seen) × IsServedWhole answers_read c s mid × IsPrefix mid.seen published × AreWithin published cs mid t
 
--- the connections of a lane that came back were answered, one after another, from one look: at the opening lists, as more and more changes
+-- the connections of a lane that was given back were answered, one after another, from one look: at the opening lists, as more and more changes
 -- left them. All that it had seen at the end of each connection begins the published changes
 pub record IsReadLane (opening : Option Lists) (published : List Update) (r : Returned) : Type 0 where
   pub first : Seen

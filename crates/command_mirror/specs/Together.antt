@@ -40,7 +40,7 @@ pub record HasOperated {R K X : Type 0} (step : Step R) (told_by : K → Option 
   pub session : IsOwnSession seen_protocol step (owned (seen (register before).opening (told_by (register before).keeper)) (map pair_of (register before).log) (faults_by (register before).keeper))
       (owned (seen (register after).opening (told_by (register after).keeper)) (map pair_of (register after).log) (faults_by (register after).keeper)) from to left_old left_new written_old written_new (end after)
   pub kept : IsKept (whole after) (register after).opening (map pair_of (register after).log) (feed after)
-  -- it is whole but where memory ran out
+  -- it is whole but if memory ran out
   pub memory : (end after ≡ Memory) ⊎ (whole after ≡ true)
   pub same : ((feed after).book ≡ (feed before).book) × ((feed after).opening ≡ (feed before).opening)
   pub cause : HasCause (end after) read_old read_new wrote_old wrote_new

@@ -8,7 +8,7 @@ ghost use Rattle.command_mirror.specs.Lanes.{HasNoLanes, HaveCome};
 use http_lanes::{Listening, give_back_lanes, take_lanes};
 use ipam_listen::Listener;
 
-/// Takes so many lanes of a listener that is bound, for which there is room. `None` where one does not come: those that came went back.
+/// Takes so many lanes of a listener that is bound, for which there is room. `None` if one is not handed out: those that were handed out are given back.
 fn take_all<L: Listener>(listener: &mut L, wanted: u32, lanes: Vec<L::Door>) -> Option<Vec<L::Door>>
     requires none_yet { lanes.items ≡ [] }
     requires room { wanted ≤ vec_capacity lanes }
@@ -29,8 +29,8 @@ fn take_all<L: Listener>(listener: &mut L, wanted: u32, lanes: Vec<L::Door>) -> 
     }
 }
 
-/// Binds a listener, and takes so many lanes, for which there is room. `None` where it can't be bound, or a lane does not come: those that
-/// came went back. It takes no memory.
+/// Binds a listener, and takes so many lanes, for which there is room. `None` if it can't be bound, or a lane is not handed out: those that
+/// were handed out were given back. It takes no memory.
 pub(crate) fn open_lanes<L: Listener>(
     listener: &mut L,
     place: Vec<u8>,

@@ -1,4 +1,4 @@
-//! The command `mirror` over a store: the operator's session over the input and the output, and beside it readers of what is published.
+//! The command `mirror` over a store: the operator's session over the input and the output, and next to it readers of what is published.
 #![tactic(auto)]
 
 mod lanes;

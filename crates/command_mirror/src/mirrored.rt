@@ -32,13 +32,13 @@ use std::thread::Threads;
 pub(crate) enum Ran {
     /// Memory ran out before the listener was bound: neither operator nor readers ran.
     Starved,
-    /// The listener could not be bound, or a lane did not come: neither operator nor readers ran.
+    /// The listener could not be bound, or a lane was not handed out: neither operator nor readers ran.
     Placeless,
     /// The operator's session ended so; whether all of its changes were published; and how the listening went.
     Ended(SessionEnd, bool, Listening),
 }
 
-/// The register and the lanes behind a mirror, and how it went.
+/// The register and the lanes after a mirror, and how it went.
 struct Mirrored<K: Keeper, A> {
     register: Register<K>,
     lanes: Vec<A>,
@@ -46,7 +46,7 @@ struct Mirrored<K: Keeper, A> {
     is_whole: bool,
 }
 
-/// The operator's session and the readers beside it, to their ends.
+/// The operator's session and the readers next to it, to their ends.
 fn mirror_all<R: Threads + Wait + Sync, K: Keeper, A: Lane + Send, So: Source, Si: Sink>(
     rt: &R,
     alloc: Global,
@@ -96,7 +96,7 @@ fn mirror_all<R: Threads + Wait + Sync, K: Keeper, A: Lane + Send, So: Source, S
     }
 }
 
-/// The same with the lanes of a listener, where all come.
+/// The same with the lanes of a listener, if all are handed out.
 fn mirror_prepared<R: Threads + Wait + Sync, K: Keeper, L: Listener, So: Source, Si: Sink>(
     rt: &R,
     alloc: Global,

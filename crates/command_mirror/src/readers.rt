@@ -1,4 +1,4 @@
-//! Readers, each with a look and a lane of its own.
+//! Readers, each with a look and its own lane.
 
 ghost use Rattle.std.specs.Prelude.{◌≡◌, ◌≤◌, [], All, IfSome, Some, length, map, vec_capacity, vec_len};
 ghost use Rattle.http_lanes.specs.Listened.{returned_as};
@@ -21,7 +21,7 @@ pub(crate) struct ReaderLane<A> {
     pub lane: A,
 }
 
-/// One reader's work, in a thread of its own: serves the connections of its lane, one after another, until no accept is left.
+/// One reader's work, in its own thread: serves the connections of its lane, one after another, until no accept is left.
 fn read_lane<A: Lane>(alloc: Global, reader: &mut ReaderLane<A>)
     requires { IsReady A.told reader.old.look reader.old.lane }
     ensures { HasRead A.told A.accepts A.faults reader.old.look reader.old.lane reader.new.look reader.new.lane }
@@ -35,7 +35,7 @@ fn read_lane<A: Lane>(alloc: Global, reader: &mut ReaderLane<A>)
     drop(handler);
 }
 
-/// Serves the connections of all readers' lanes, each reader in a thread of its own; where no thread can be had they run one after another.
+/// Serves the connections of all readers' lanes, each reader in its own thread; if no thread can be started they run one after another.
 pub(crate) fn serve_readers<R: Threads + Sync, A: Lane + Send>(
     rt: &R,
     alloc: Global,

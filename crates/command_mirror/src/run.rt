@@ -18,8 +18,8 @@ use std::sync::Wait;
 use std::thread::Threads;
 
 /// Runs `mirror`: opens the register of the store, binds the listener and takes a lane for each reader. Then the operator's requests are
-/// read from the input and answered on the output, each change being published before it is answered; and beside it each reader, in a
-/// thread of its own, answers the connections of its lane from what is published. Where the listener can't be bound, or a lane does not come,
+/// read from the input and answered on the output, each change being published before it is answered; and next to it each reader, in
+/// its own thread, answers the connections of its lane from what is published. If the listener can't be bound, or a lane is not handed out,
 /// neither runs. What a refused opening says goes to the messages.
 pub fn run_mirror<
     R: Threads + Wait + Sync,

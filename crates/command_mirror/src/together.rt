@@ -1,4 +1,4 @@
-//! The operator in the caller's thread, and readers beside it in others.
+//! The operator in the caller's thread, and readers next to it in others.
 
 ghost use Rattle.std.specs.Prelude.{◌≡◌, All, length};
 ghost use Rattle.std.specs.Thread.{IsSync};
@@ -41,7 +41,7 @@ fn operate<R: Wait, K: Keeper, So: Source, Si: Sink>(
     let None = before else { unreachable!() };
 }
 
-/// Lets the operator serve its session in this thread, and the readers the connections of their lanes in others. Where no thread can be had
+/// Lets the operator serve its session in this thread, and the readers the connections of their lanes in others. If no thread can be started
 /// they run before the operator.
 pub(crate) fn mirror<R: Threads + Wait + Sync, K: Keeper, A: Lane + Send, So: Source, Si: Sink>(
     rt: &R,

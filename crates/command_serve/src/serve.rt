@@ -82,7 +82,7 @@ fn serve_by<R: Threads + Wait + Sync, Si: Sink, Se: Sink, L: Listener, O: Keeper
     }
 }
 
-/// The same with the words of the command. The store keeps the opener that is lent to it.
+/// The same with the arguments of the command. The store keeps the opener that is lent to it.
 fn serve_of<R: Threads + Wait + Sync, Si: Sink, Se: Sink, L: Listener, O: KeeperOpener>(
     rt: &R,
     alloc: Global,

@@ -16,7 +16,7 @@ use std::marker::{Send, Sync};
 use std::sync::Wait;
 use std::thread::Threads;
 
-/// Where as many workers have come as were wanted, lets them work, each in a thread of its own, until no lane has an accept left.
+/// If as many workers were hired as were wanted, lets them work, each in its own thread, until no lane has an accept left.
 pub(crate) fn work_all<R: Threads + Wait + Sync, K: Keeper + Send, A: Lane + Send>(
     rt: &R,
     alloc: Global,

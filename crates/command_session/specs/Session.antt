@@ -1,5 +1,5 @@
--- What a run of the command `session` promises of each status: one connection over the input and the output, with a register of
--- its own, over the store that the words name, or else in memory.
+-- What a run of the command `session` promises of each status: one connection over the input and the output, with its own
+-- register, over the store that the words name, or else in memory.
 use Rattle.std.specs.Prelude.{◌≡◌, ℕ, ◌+◌, ◌≤◌, ◌⊎◌, List, [], IfSome}
 use Rattle.ipam_data.specs.declared.calls.Call.{Call}
 use Rattle.ipam_data.specs.State.{State}
@@ -24,20 +24,20 @@ pub record Serves (store : Store) (old new : Outside) (end : SessionEnd) : Type 
   pub state : State
   pub loaded : IsLoaded store old state
   pub bytes : List ℕ
-  -- the register behind the last answer, its keeper's count of faults, and how many answers told that the keeper failed
+  -- the register after the last answer, its keeper's count of faults, and how many answers reported that the keeper failed
   pub last : Counted State Call
   pub grown : Grown old.streams.input.bytes new.streams.input.bytes [] bytes
-  -- the answers are the plain register's, from the loaded state, but where the keeper failed a change or memory ran out in the register ..
+  -- the answers are the plain register's, from the loaded state, but if the keeper failed a change or memory ran out in the register ..
   pub ends : IsEnd answers_kept (fresh state) last old.streams.output.bytes new.streams.output.bytes bytes new.streams.input.bytes end
-  -- .. of which the first is told at most as often as the opener's count rose, as far as that goes ..
+  -- .. of which the first is reported at most as often as the opener's count rose, as far as that goes ..
   pub bounded : (old.stores.faults + last.told ≤ new.stores.faults) ⊎ (last_count ≤ new.stores.faults)
-  -- .. and where it did not rise they are all the plain register's, out of memory aside
+  -- .. and if it did not rise they are all the plain register's, out of memory aside
   pub plain : (¬ StoreFailed old new)
       → IsEnd answers_plainly (opened state) (plain_of_owned plain_step last.now) old.streams.output.bytes new.streams.output.bytes bytes new.streams.input.bytes end
   pub needed : IsReadAsNeeded bytes
-  -- .. and it rose only where a call was answered by a failed keeper
+  -- .. and it rose only if a call was answered by a failed keeper
   pub calm : last.told ≡ 0 → new.stores.faults ≡ old.stores.faults
-  -- the store has what was accepted, and tells it where its tables were told
+  -- the store has what was accepted, and its tables are known if they were known at first
   pub holds : HoldsTold store old new (replay plain_step state last.now.log)
   -- nothing is said
   pub silent : new.streams.errors ≡ old.streams.errors
@@ -62,7 +62,7 @@ pub record Starves (store : Store) (old new : Outside) : Type 0 where
   pub failed : Failed old.streams.input new.streams.input
   pub serves : Serves store old new SourceFault
 
--- the output failed, with a front of the last answer on it
+-- the output failed, with a prefix of the last answer on it
 pub record Breaks (store : Store) (old new : Outside) : Type 0 where
   pub failed : Failed old.streams.output new.streams.output
   pub serves : Serves store old new SinkFault
@@ -88,5 +88,5 @@ pub record IsSession (store : Store) (old new : Outside) (status : ℕ) : Type 0
   pub memory : status ≡ 5 → (new.streams.errors ≡ old.streams.errors) × (IsUnused old new ⊎ Serves store old new Memory)
   -- no count of faults falls
   pub later : NoCountFalls old new
-  -- 5: the count of no stream rose, and the opener's only where a call was answered by a failed keeper
+  -- 5: the count of no stream rose, and the opener's only if a call was answered by a failed keeper
   pub quiet : status ≡ 5 → NeverRises old.streams new.streams × ((new.stores.faults ≡ old.stores.faults) ⊎ HasFailedCall store old new Memory)

@@ -1,4 +1,4 @@
--- What is said where an opening is refused.
+-- What is said if an opening is refused.
 use Rattle.std.specs.Prelude.{◌≡◌, ℕ, ◌⊎◌, List, [], ◌∷◌, ◌++◌, codes}
 use Rattle.ipam_words.specs.Lines.{breach_text, unreadable_text, version_text, next_id_text, excess_text}
 use Rattle.stored_tables.specs.declared.opening.OpenFault.{OpenFault}

@@ -1,5 +1,5 @@
--- The opening of a register over the store that the words name, or else in memory: what it stands for, what it leaves in the store, and
--- what is said where it is refused.
+-- The opening of a register over the store that the words name, or else in memory: what it represents, what it leaves in the store, and
+-- what is said if it is refused.
 use Rattle.std.specs.Prelude.{◌≡◌, ◌⊎◌, List, IsSome, Option, Some}
 use Rattle.ipam_data.specs.State.{State}
 use Rattle.stored_tables.specs.declared.opening.OpenFault.{OpenFault}
@@ -14,19 +14,19 @@ use Rattle.command_streams.specs.Streams.{Gains, GainsFront, Failed}
 use Rattle.command_store.specs.Outside.{Outside, StoreFailed, IsUnused}
 use Rattle.command_store.specs.FaultWords.{fault_line}
 
--- the tables with which the store begins, where they are told: without a file the empty ones
+-- the tables with which the store begins, if they are known: without a file the empty ones
 abbrev pub found_tables : Store → Outside → Option Tables
 found_tables store old = started old.stores.stored store.db
 
--- the state is one for which the tables of the store stand
+-- the state is one that the tables of the store represent
 abbrev pub IsLoaded : Store → Outside → State → Type 0
 IsLoaded store old state = IsOpened (found_tables store old) store.global_unique state
 
--- told tables of the store are those of this state, and all others are as they were
+-- known tables of the store are those of this state, and all others are unchanged
 abbrev pub Holds : Store → Outside → Outside → State → Type 0
 Holds store old new state = (told : Option Tables) × Tells told state × IsReturned (Some store.db) told old.stores.stored new.stores.stored
 
--- the same, and they are told at the end where the tables of the store were told at the start
+-- the same, and they are known at the end if the tables of the store were known at the start
 abbrev pub HoldsTold : Store → Outside → Outside → State → Type 0
 HoldsTold store old new state = (told : Option Tables) × (IsSome (found_tables store old) → IsSome told)
     × Tells told state × IsReturned (Some store.db) told old.stores.stored new.stores.stored

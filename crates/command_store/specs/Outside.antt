@@ -5,11 +5,11 @@ use Rattle.ipam_keeper.specs.Keeping.{tables_at}
 use Rattle.command_streams.specs.Streams.{Streams, SomeFailed, NeverRises}
 use Rattle.machine_command.specs.Outside as any
 
--- what an opener tells: the tables under each path, where it tells them, and its count of faults
+-- what is known of an opener: the tables under each path, if they are known, and its count of faults
 abbrev pub Stores : Type 0
 Stores = any.Stores Tables
 
--- what an opener tells, by the members of its trait
+-- what is known of the opener, by the members of its trait
 abbrev pub stores : {O : Type 0} → (O → Option (List (List ℕ × Tables))) → (O → ℕ) → O → Stores
 stores stored faults opener = any.stores stored faults opener
 
@@ -23,13 +23,13 @@ outside streams stores = any.outside streams stores
 abbrev pub StoreFailed : Outside → Outside → Type 0
 StoreFailed old new = any.StoreFailed old new
 
--- where tables are told, those under each path are as they were
+-- if tables are known, those under each path are unchanged
 abbrev pub AreSame : Option (List (List ℕ × Tables)) → Option (List (List ℕ × Tables)) → Type 0
 AreSame None new = Unit {0}
 AreSame (Some old) None = ⊥
 AreSame (Some old) (Some new) = (path : List ℕ) → tables_at new path ≡ tables_at old path
 
--- nothing was read and nothing written, and told tables are as they were
+-- nothing was read and nothing written, and known tables are unchanged
 pub record IsUnused (old new : Outside) : Type 0 where
   pub input : new.streams.input ≡ old.streams.input
   pub output : new.streams.output ≡ old.streams.output

@@ -1,4 +1,4 @@
-//! What is said where an opening is refused.
+//! What is said if an opening is refused.
 
 ghost use Rattle.std.specs.Prelude.{◌≡◌, IfOk, string_bytes};
 ghost use Rattle.stored_tables.specs.Opening.{IsOfTables};
@@ -8,7 +8,7 @@ use ipam_words::{breach_words, excess_words, next_id_words, unreadable_words, ve
 use std::alloc::{AllocError, Global};
 use stored_tables::opening::OpenFault;
 
-/// A fault of the tables in words. The other two have none here: a store that failed has a line of its own, and of memory nothing is said.
+/// A fault of the tables in words. The other two have none here: a store that failed has its own line, and of memory nothing is said.
 fn words(alloc: Global, fault: &OpenFault) -> Result<String, AllocError>
     ensures { IsOfTables fault.now → IfOk result (λ s. string_bytes s ≡ fault_words fault.now) }
 {

@@ -18,7 +18,7 @@ use std::alloc::{AllocError, Global};
 use stored_tables::opening::OpenFault;
 use stored_tables::tables::Text;
 
-/// What is said where the store fails: a fixed text, so that it takes no memory.
+/// What is said if the store fails: a fixed text, so that it takes no memory.
 const UNREAD: &[u8] = b"store: the store could not be read\n";
 
 /// The path of a file. `Err` means out of memory.
@@ -38,7 +38,7 @@ pub fn path_of(alloc: Global, word: &Option<WordText>) -> Result<Option<Text>, A
     }
 }
 
-/// Starts a keeper for a store, which has not failed. `Err` is `Keeper` only where the opener's count rose, which it does in no other case.
+/// Starts a keeper for a store, which has not failed. `Err` is `Keeper` only if the opener's count rose, which it does in no other case.
 pub fn start_keeper<O: KeeperOpener>(
     alloc: Global,
     store: &Store,
@@ -65,8 +65,8 @@ pub fn start_keeper<O: KeeperOpener>(
     }
 }
 
-/// Opens a register over a store, whose keeper has not failed. Where that is refused the keeper went back, and told tables are as they
-/// were. `Err` is `Keeper` only where the opener's count rose, which it does in no other case.
+/// Opens a register over a store, whose keeper has not failed. If that is refused the keeper went back, and known tables are
+/// unchanged. `Err` is `Keeper` only if the opener's count rose, which it does in no other case.
 pub fn open_store<O: KeeperOpener>(
     alloc: Global,
     store: &Store,
@@ -101,8 +101,8 @@ pub fn open_store<O: KeeperOpener>(
     }
 }
 
-/// Says why an opening was refused, and gives the status of that: 1 for a fault of the tables, 4 where the store failed, 5 for want of
-/// memory, of which nothing is said; and 3 where the line could not be written.
+/// Says why an opening was refused, and gives the status of that: 1 for a fault of the tables, 4 if the store failed, 5 for lack of
+/// memory, of which nothing is said; and 3 if the line could not be written.
 pub fn say_fault<Se: Sink>(alloc: Global, fault: &OpenFault, errors: &mut Se) -> u8
     ensures said { IsSaid fault.now (told Se.written Se.faults errors.old) (told Se.written Se.faults errors.new) result }
     ensures later { Se.faults errors.old ≤ Se.faults errors.new }

@@ -4,16 +4,16 @@ use Rattle.std.specs.Io.KnownBytes.{Appends, Keeps}
 use Rattle.ipam_edge.specs.Faults.{Rose}
 use Rattle.ipam_edge.specs.Writing.{AppendsFront}
 
--- what an object of the outside tells: its bytes, where it tells them, and its count of faults
+-- what is known of an object of the outside: its bytes, if they are known, and its count of faults
 pub record Told : Type 0 where
   pub bytes : Option (List ℕ)
   pub faults : ℕ
 
--- what an object tells, by the members of its trait
+-- what is known of the object, by the members of its trait
 abbrev pub told : {S : Type 0} → (S → Option (List ℕ)) → (S → ℕ) → S → Told
 told bytes faults object = record { bytes = bytes object; faults = faults object }
 
--- the input tells the bytes that are left, the output and the messages those that were written
+-- known of the input are the bytes that are left, of the output and the messages those that were written
 pub record Streams : Type 0 where
   pub input : Told
   pub output : Told
@@ -26,11 +26,11 @@ streams input output errors = record { input = input; output = output; errors = 
 abbrev pub Gains : Told → Told → List ℕ → Type 0
 Gains old new text = Appends old.bytes new.bytes text
 
--- it gained a front of this text, which may be empty
+-- it gained a prefix of this text, which may be empty
 abbrev pub GainsFront : Told → Told → List ℕ → Type 0
 GainsFront old new text = AppendsFront old.bytes new.bytes text
 
--- its bytes are as they were
+-- its bytes are unchanged
 abbrev pub Stays : Told → Told → Type 0
 Stays old new = Keeps old.bytes new.bytes
 
@@ -54,12 +54,12 @@ pub record NeverRises (old new : Streams) : Type 0 where
   pub output : new.output.faults ≡ old.output.faults
   pub errors : new.errors.faults ≡ old.errors.faults
 
--- the message was said and the command ends with its status, or the object failed, gained a front of it, and the status is 3
+-- the message was said and the command ends with its status, or the object failed, gained a prefix of it, and the status is 3
 abbrev pub EndsWith : Told → Told → List ℕ → ℕ → ℕ → Type 0
 EndsWith old new message wanted status =
     ((status ≡ wanted) × Gains old new message) ⊎ ((status ≡ 3) × Failed old new × GainsFront old new message)
 
--- what is said where the words ask for no command
+-- what is said if the arguments ask for no command
 abbrev pub usage_text : List ℕ
 usage_text = codes "usage: ipamd COMMAND" ++ 10 ∷ []
 

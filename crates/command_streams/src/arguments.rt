@@ -1,4 +1,4 @@
-//! The words behind the program's name.
+//! The arguments after the program's name.
 
 ghost use Rattle.std.specs.Prelude.{◌≡◌, IfOk, drop, map, string_bytes};
 ghost use Rattle.std.specs.Vec.Iter.{into_iter_items};
@@ -43,7 +43,7 @@ fn why(error: &io::Error) -> NoArguments
     }
 }
 
-/// The arguments behind the program's name, of those that the system gave, as `std::env::args` answers. `Err` is `NoText` where one of them is
+/// The arguments after the program's name, of those that the system gave, as `std::env::args` answers. `Err` is `NoText` if one of them is
 /// no UTF-8, and else `Memory`.
 pub fn words_given(alloc: Global, given: io::Result<Args>) -> Result<Vec<String>, NoArguments>
     ensures { AreWords given result }

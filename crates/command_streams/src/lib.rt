@@ -24,7 +24,7 @@ pub const STORE: u8 = 4;
 /// Out of memory.
 pub const MEMORY: u8 = 5;
 
-/// Writes a message, after which a command ends with this status, or with that of a fault where it can't be written.
+/// Writes a message, after which a command ends with this status, or with that of a fault if it can't be written.
 pub fn end_with<Se: Sink>(errors: &mut Se, message: &[u8], status: u8) -> u8
     ensures ends { EndsWith (told Se.written Se.faults errors.old) (told Se.written Se.faults errors.new) message.now status result }
     ensures later { Se.faults errors.old ≤ Se.faults errors.new }
@@ -35,7 +35,7 @@ pub fn end_with<Se: Sink>(errors: &mut Se, message: &[u8], status: u8) -> u8
     }
 }
 
-/// What is said where the words ask for no command.
+/// What is said if the arguments ask for no command.
 const USAGE_TEXT: &[u8] = b"usage: ipamd COMMAND\n";
 
 /// Says the usage line; nothing else is used.

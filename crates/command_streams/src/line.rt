@@ -8,7 +8,7 @@ use arrayvec::ArrayVec;
 /// How many bytes a line has, at most.
 pub const LINE: usize = 64;
 
-/// Puts bytes behind the line, which has room for them.
+/// Puts bytes after the line, which has room for them.
 pub fn push_bytes(line: &mut ArrayVec<u8, LINE>, bytes: &[u8])
     requires { array_vec_len line.old + length bytes.now ≤ 64 }
     ensures { line.new.items ≡ line.old.items ++ bytes.now }

@@ -168,7 +168,7 @@ fn put_times(alloc: Global, bytes: &mut Vec<u8>, text: &str, times: u32) -> Resu
     Ok(())
 }
 
-/// Puts what stands behind a `<`, or before the first one.
+/// Puts what follows a `<`, or precedes the first one.
 fn put_piece(alloc: Global, bytes: &mut Vec<u8>, piece: &str) -> Result<(), AllocError> {
     let Some((repeated, rest)) = piece.split_once('>') else {
         return put_text(alloc, bytes, piece, 0);
@@ -178,7 +178,7 @@ fn put_piece(alloc: Global, bytes: &mut Vec<u8>, piece: &str) -> Result<(), Allo
     put_text(alloc, bytes, rest, 0)
 }
 
-/// What a part of a line stands for: a semicolon is the end of a line, a caret a carriage return, and `<N:text>` the text N times, in which `@` is
+/// What a part of a line represents: a semicolon is the end of a line, a caret a carriage return, and `<N:text>` the text N times, in which `@` is
 /// 1 the first time, 2 the second, and so on.
 pub fn bytes_of(alloc: Global, part: &str) -> Result<Vec<u8>, AllocError> {
     let mut bytes = Vec::new(alloc);

@@ -2,6 +2,8 @@
 #![tactic(auto)]
 
 #[cfg(test)]
+mod about_tests;
+#[cfg(test)]
 mod claims_tests;
 #[cfg(test)]
 mod command_files_tests;

@@ -21,9 +21,9 @@ use stored_tables::tables::{Row, Text};
 const POST: &str =
     "POST /api/ipam/prefixes/ HTTP/1.1^;Host: x^;Content-Length: 24^;^;{\"prefix\":\"10.0.0.0/24\"}";
 
-/// A run a line: which calls fail, each as the object and the number of its call, from 0; the words; the input, where `once` and `twice` stand
-/// for that request; the status; the output; what is said; how many connections were answered; the rows of the store afterwards. Where `nobody`
-/// is told no lane comes, and where `nowhere` is no place can be bound. `''` is an empty word. A semicolon, a caret and `<N:text>` are what `bytes_of` says.
+/// A run a line: which calls fail, each as the object and the number of its call, from 0; the words; the input, in which `once` and `twice` are that
+/// request; the status; the output; what is said; how many connections were answered; the rows of the store afterwards. If it says `nobody` no lane is
+/// handed out, and if it says `nowhere` no place can be bound. `''` is an empty word. A semicolon, a caret and `<N:text>` are what `bytes_of` says.
 const RUNS: &str = r#"input 0|session --db a|once|3|||0|
 input 1|session|once|3|HTTP/1.1 201 Created^;Content-Type: application/json^;Content-Length: 188^;Ipam-Place: 0^;^;{"children":0,"depth":0,"description":"","family":4,"id":1,"is_pool":false,"mark_utilized":false,"prefix":"10.0.0.0/24","role":null,"status":{"label":"Active","value":"active"},"vrf":null}||0|
 output 0|session --db a|once|3|||0|1,10.0.0.0/24,,active,,false,false,;
@@ -56,6 +56,13 @@ input 0 output 0||x;|2||usage: ipamd COMMAND;|0|
 input 0 output 0|''|x;|2||usage: ipamd COMMAND;|0|
 input 0 output 0|free|x;|2||usage: ipamd COMMAND;|0|
 input 0 output 0|free 10.0.0.1/24|x;|2||usage: ipamd COMMAND;|0|
+output 0|version||3|||0|
+input 0|help version|x;|0|usage: ipamd version;Prints the version of the program. Also --version, -V.;||0|
+input 0 output 0|version x|x;|2||usage: ipamd COMMAND;|0|
+input 0 output 0|help ipamd|x;|2||usage: ipamd COMMAND;|0|
+input 0 output 0|help free x|x;|2||usage: ipamd COMMAND;|0|
+input 0 output 0|session --help|x;|2||usage: ipamd COMMAND;|0|
+input 0 output 0|--Version|x;|2||usage: ipamd COMMAND;|0|
 input 0 output 0|Session|x;|2||usage: ipamd COMMAND;|0|
 input 0 output 0|session x|x;|2||usage: ipamd COMMAND;|0|
 input 0 output 0|session --db|x;|2||usage: ipamd COMMAND;|0|
@@ -141,7 +148,7 @@ fn lane_of(alloc: Global, line: &str) -> Result<ListLane, AllocError>
     ListLane::new(alloc, pairs, fails)
 }
 
-/// A listener with such a lane, where one comes.
+/// A listener with such a lane, if one is handed out.
 fn listener_of(alloc: Global, line: &str) -> Result<ListListener, AllocError> {
     if line.starts_with("nowhere") {
         return Ok(ListListener::nowhere(alloc));
@@ -169,7 +176,7 @@ fn answered(lane: &ListLane) -> usize {
         .count()
 }
 
-/// The same of the first lane that came back.
+/// The same of the first lane that was given back.
 fn served(listener: &ListListener) -> usize {
     match listener.returned().first() {
         Some(lane) => answered(lane),

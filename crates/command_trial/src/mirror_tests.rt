@@ -145,7 +145,7 @@ impl<'a> Source for HeldSource<'a> {
     }
 }
 
-/// A lane with one connection of the reader. It tells a proof nothing of it.
+/// A lane with one connection of the reader. A proof knows nothing of it.
 #[derive(Drop)]
 struct HeldLane<'a> {
     waits: Option<(HeldSource<'a>, BytesSink)>,
@@ -315,7 +315,7 @@ fn listener_of<'a>(
     })
 }
 
-/// Runs the words over an operator's requests, of whose bytes a read gives so many, beside a reader's.
+/// Runs the words over an operator's requests, of whose bytes a read gives so many, next to a reader's.
 fn mirrored<R: Threads + Wait + Sync>(
     rt: &R,
     alloc: Global,

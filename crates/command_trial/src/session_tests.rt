@@ -56,7 +56,7 @@ DELETE /api/ipam/prefixes/1/||404 Not Found|Ipam-Place: 12|{"code":"not_found","
 HEAD /api/ipam/vrfs/3/||405 Method Not Allowed|Allow: GET, PATCH, DELETE|{"code":"method","detail":"the path does not have this method"}
 GET /api/ipam/vrfs/1/||200 OK|Ipam-Place: 12|{"description":"","enforce_unique":true,"id":1,"name":"red","rd":null}"#;
 
-/// Refusals of what is not there, changes that are refused and the one that changes nothing, on a register of their own.
+/// Refusals of what is not there, changes that are refused and the one that changes nothing, on their own register.
 const CHANGES: &str =
     r#"GET /api/ipam/prefixes/?limit=2||200 OK|Ipam-Place: 0|{"count":0,"next":null,"previous":null,"results":[]}
 GET /api/ipam/prefixes/9/||404 Not Found|Ipam-Place: 0|{"code":"not_found","detail":"prefixes 9 is not there"}
@@ -77,7 +77,7 @@ POST /api/ipam/prefixes/|{"prefix":"10.1.0.0/16"}|201 Created|Ipam-Place: 6|{"ch
 POST /api/ipam/prefixes/|{"prefix":"10.2.0.0/16","vrf":1}|201 Created|Ipam-Place: 7|{"children":0,"depth":0,"description":"","family":4,"id":4,"is_pool":false,"mark_utilized":false,"prefix":"10.2.0.0/16","role":null,"status":{"label":"Active","value":"active"},"vrf":1}
 DELETE /api/ipam/vrfs/1/||409 Conflict|Ipam-Place: 8|{"code":"in_use","detail":"named by prefixes 4"}"#;
 
-/// RIRs, roles, aggregates, ranges and addresses, on a register of their own.
+/// RIRs, roles, aggregates, ranges and addresses, on their own register.
 const KINDS: &str =
     r#"POST /api/ipam/rirs/|{"name":"ARIN","slug":"arin"}|201 Created|Ipam-Place: 0|{"description":"","id":1,"is_private":false,"name":"ARIN","slug":"arin"}
 POST /api/ipam/rirs/|{"name":"ARIN","slug":"other"}|400 Bad Request|Ipam-Place: 1|{"code":"name_taken","detail":"the name is that of 1"}
@@ -127,7 +127,7 @@ DELETE /api/ipam/ip-addresses/2/||204 No Content|Ipam-Place: 17|
 DELETE /api/ipam/aggregates/1/||204 No Content|Ipam-Place: 18|
 DELETE /api/ipam/rirs/1/||204 No Content|Ipam-Place: 19|"#;
 
-/// A part of a line. Where there is none, the line is wrong, and the test fails as for lack of memory.
+/// A part of a line. If there is none, the line is wrong, and the test fails as for lack of memory.
 pub(crate) fn part(line: &str, index: usize) -> Result<&str, AllocError> {
     line.split('|').nth(index).ok_or(AllocError)
 }
@@ -141,7 +141,7 @@ fn put(out: &mut Vec<u8>, text: &str) -> Result<(), AllocError> {
     out.extend_from_slice(text.as_bytes())
 }
 
-/// Puts a field on a line of its own, if there is one.
+/// Puts a field on its own line, if there is one.
 fn put_field(out: &mut Vec<u8>, field: &str) -> Result<(), AllocError> {
     if field.is_empty() {
         return Ok(());
@@ -150,7 +150,7 @@ fn put_field(out: &mut Vec<u8>, field: &str) -> Result<(), AllocError> {
     put(out, "\r\n")
 }
 
-/// The length of a body, where there is one.
+/// The length of a body, if there is one.
 fn put_length(alloc: Global, out: &mut Vec<u8>, body: &str) -> Result<(), AllocError> {
     if body.is_empty() {
         return Ok(());
@@ -175,7 +175,7 @@ pub(crate) fn put_request(
     put(out, body)
 }
 
-/// The fields that tell of a body, where there is one.
+/// The fields that describe a body, if there is one.
 fn put_size(alloc: Global, out: &mut Vec<u8>, body: &str) -> Result<(), AllocError> {
     if body.is_empty() {
         return Ok(());
@@ -186,7 +186,7 @@ fn put_size(alloc: Global, out: &mut Vec<u8>, body: &str) -> Result<(), AllocErr
     put(out, "\r\n")
 }
 
-/// The answer of an exchange, which leaves the connection open. That to HEAD tells of a body and sends none.
+/// The answer of an exchange, which leaves the connection open. That to HEAD describes a body and sends none.
 pub(crate) fn put_answer(
     alloc: Global,
     out: &mut Vec<u8>,
@@ -225,7 +225,7 @@ fn opening(alloc: Global) -> Result<(Vec<u8>, Vec<u8>), AllocError> {
     Ok((input, output))
 }
 
-/// A VRF that does not enforce, with two prefixes and two addresses that coincide: the prefixes are told first. The register is its own.
+/// A VRF that does not enforce, with two prefixes and two addresses that coincide: the prefixes are named first. The register is its own.
 const ENFORCING: &str =
     r#"POST /api/ipam/vrfs/|{"name":"red","enforce_unique":false}|201 Created|Ipam-Place: 0|{"description":"","enforce_unique":false,"id":1,"name":"red","rd":null}
 POST /api/ipam/ip-addresses/|{"address":"10.0.0.1/24","vrf":1}|201 Created|Ipam-Place: 1|{"address":"10.0.0.1/24","description":"","dns_name":"","family":4,"id":1,"role":null,"status":{"label":"Active","value":"active"},"vrf":1}
@@ -238,10 +238,10 @@ PATCH /api/ipam/vrfs/1/|{"enforce_unique":true}|400 Bad Request|Ipam-Place: 6|{"
 DELETE /api/ipam/ip-addresses/2/||204 No Content|Ipam-Place: 6|
 PATCH /api/ipam/vrfs/1/|{"enforce_unique":true}|200 OK|Ipam-Place: 7|{"description":"","enforce_unique":true,"id":1,"name":"red","rd":null}"#;
 
-/// Conversations, each of which has a register of its own.
+/// Conversations, each of which has its own register.
 const CONVERSATIONS: [&str; 4] = [EXCHANGES, CHANGES, KINDS, ENFORCING];
 
-/// The first request and its answer, and behind it a request that ends inside its body.
+/// The first request and its answer, and after it a request that ends inside its body.
 fn cut_short(alloc: Global) -> Result<(Vec<u8>, Vec<u8>), AllocError> {
     let (mut input, mut output) = opening(alloc)?;
     put(

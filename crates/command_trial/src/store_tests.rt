@@ -1,4 +1,4 @@
-//! Sessions over stores: what outlives a session, what is refused, and what a store that fails leaves.
+//! Sessions over stores: what persists after a session, what is refused, and what a store that fails leaves.
 
 use crate::session_tests::{part, put_answer, put_request};
 use crate::tests::{Left, run_over};
@@ -15,9 +15,9 @@ use std::test::Fail;
 use std::thread::Threads;
 use stored_tables::tables::{Change, Row, Rows, Tables, Text, Texts};
 
-/// A store a case. Its first line is the version of the tables under the path `a` and, behind semicolons, what is put into the empty
-/// ones: prefixes and ranges, where a hyphen stands for the empty text, their next ids, and which calls of each keeper fail. Each line after it is a session over
-/// the store: its status, its words and what it says, and behind each `~` an exchange.
+/// A store a case. Its first line is the version of the tables under the path `a` and, after semicolons, what is put into the empty
+/// ones: prefixes and ranges, in which a hyphen is the empty text, their next ids, and which calls of each keeper fail. Each line after it is a session over
+/// the store: its status, its words and what it says, and after each `~` an exchange.
 const CASES: [&str; 8] = [
     r#"2
 0|session --db a|~POST /api/ipam/prefixes/|{"prefix":"10.0.0.0/24"}|201 Created|Ipam-Place: 0|{"children":0,"depth":0,"description":"","family":4,"id":1,"is_pool":false,"mark_utilized":false,"prefix":"10.0.0.0/24","role":null,"status":{"label":"Active","value":"active"},"vrf":null}
@@ -43,12 +43,12 @@ const CASES: [&str; 8] = [
 0|session --db a|~GET /api/ipam/ip-addresses/1/||200 OK|Ipam-Place: 0|{"address":"10.0.0.1/24","description":"","dns_name":"","family":4,"id":1,"role":null,"status":{"label":"Active","value":"active"},"vrf":null}"#,
 ];
 
-/// The number that a word is. Where it is none, the line is wrong, and the test fails as for lack of memory.
+/// The number that a word is. If it is none, the line is wrong, and the test fails as for lack of memory.
 pub fn number(word: &str) -> Result<u32, AllocError> {
     word.parse::<u32>().map_err(|_| AllocError)
 }
 
-/// The words behind the first one.
+/// The arguments after the first one.
 fn texts_of(alloc: Global, part: &str) -> Result<Texts, AllocError> {
     let mut texts = Vec::new(alloc);
     for word in part.split(' ').skip(1) {
@@ -58,7 +58,7 @@ fn texts_of(alloc: Global, part: &str) -> Result<Texts, AllocError> {
     Ok(Texts::of(texts))
 }
 
-/// The row of these words: a prefix, or behind the word `range` a range.
+/// The row of these words: a prefix, or after the word `range` a range.
 fn row_of(alloc: Global, words: &str) -> Result<Row, AllocError> {
     let (kind, words) = match words.strip_prefix("range ") {
         Some(rest) => (Kind::Ranges, rest),
@@ -93,7 +93,7 @@ fn fails_of(alloc: Global, line: &str) -> Result<Vec<u32>, AllocError> {
     Ok(fails)
 }
 
-/// The next ids of prefixes and ranges, where they are given.
+/// The next ids of prefixes and ranges, if they are given.
 fn nexts_of(alloc: Global, line: &str) -> Result<Ids, AllocError> {
     let mut next = Vec::new(alloc);
     for words in line.split(';').skip(1) {

@@ -29,7 +29,7 @@ fn words_of<'a>(alloc: Global, text: &'a str) -> Result<Vec<&'a str>, AllocError
     Ok(list)
 }
 
-/// Runs words over told objects, whose calls with these numbers fail, in pieces of this size.
+/// Runs words over known objects, whose calls with these numbers fail, in pieces of this size.
 pub fn run_with<R: Threads + Wait + Sync>(
     rt: &R,
     alloc: Global,
@@ -78,7 +78,7 @@ pub fn run_over<R: Threads + Wait + Sync>(
     run_with(rt, alloc, &mut nobody, opener, words, input, piece, fails)
 }
 
-/// The same with an opener of its own, which has no tables.
+/// The same with its own opener, which has no tables.
 pub fn run_on<R: Threads + Wait + Sync>(
     rt: &R,
     alloc: Global,

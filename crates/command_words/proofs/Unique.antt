@@ -1,5 +1,5 @@
 -- Words ask for one command: each value is determined by the text that was given, and the names of commands differ.
-use Rattle.std.proofs.Common.{◌≡◌, ℕ, ◌+◌, ◌<◌, ◌^◌, refl, sym, ◌∙◌, ap, ap₂, arith, Bool, true, false, List, Option, Some, None, codes, sum, take, subst, decimal}
+use Rattle.std.proofs.Common.{◌≡◌, ◌⊎◌, inl, inr, ℕ, ◌+◌, ◌<◌, ◌^◌, refl, sym, ◌∙◌, ap, ap₂, arith, Bool, true, false, List, Option, Some, None, codes, sum, take, subst, decimal}
 use Rattle.std.specs.Str.Parse.{AllDigits}
 use Rattle.std.proofs.lemmas.Fmt.{decimal_injective, digits_decimal}
 use Rattle.std.proofs.lemmas.Str.Parse.{digit_at, numerals_by_value, tells_digits}
@@ -23,8 +23,12 @@ use Rattle.command_words.specs.declared.asked.StyleName.TheVariants.{Plain, Ios,
 use Rattle.command_words.specs.declared.asked.ListAsked.{ListAsked}
 use Rattle.command_words.specs.declared.asked.Command.{Command}
 use Rattle.command_words.specs.declared.asked.Command.TheVariants as command
+use Rattle.command_words.specs.declared.asked.CommandName.{CommandName}
+use Rattle.command_words.specs.declared.asked.CommandName.TheVariants as names
+use Rattle.command_words.specs.declared.asked.Topic.{Topic}
+use Rattle.command_words.specs.declared.asked.Topic.TheVariants as topic
 use Rattle.command_grammar.specs.Grammar.{given}
-use Rattle.command_words.specs.Values.{most_workers, most_readers, most_connections, most_claims, most_id, IsBlockValue, IsNumberValue, IsNumberOr, IsTextValue, IsYesValue, IsAnswerValue, IsKindValue, IsReportValue, IsTableValue, IsFamilyValue, IsStyleValue, IsNameValue, kind_word, family_word, style_word}
+use Rattle.command_words.specs.Values.{most_workers, most_readers, most_connections, most_claims, most_id, IsBlockValue, IsNumberValue, IsNumberOr, IsTextValue, IsYesValue, IsAnswerValue, IsKindValue, IsReportValue, IsTableValue, IsFamilyValue, IsStyleValue, IsNameValue, IsTopicValue, command_word, main_name, kind_word, family_word, style_word}
 use Rattle.word_values.proofs.Unique.{one_number, one_number_or, one_text, same_first}
 use Rattle.command_words.specs.Asked.{name_of, app_for, IsStore, IsServing, IsMirroring, IsListAsked, HasValues, WordsAskForOne}
 
@@ -164,8 +168,34 @@ one_list rows a b h k =
     first ∙ second ∙ ap (λ (s : Store). record b { store = s }) store
 
 -- the sum of a name's letters, its first one twice: it tells the commands' names apart
-abbrev mark : List ℕ → ℕ
+abbrev pub mark : List ℕ → ℕ
 mark name = sum name + sum (take 1 name)
+
+one_command : (n m : CommandName) → mark (command_word n) ≡ mark (command_word m) → n ≡ m
+one_command names.Free names.Free e = refl
+one_command names.Session names.Session e = refl
+one_command names.Serve names.Serve e = refl
+one_command names.Mirror names.Mirror e = refl
+one_command names.Import names.Import e = refl
+one_command names.Export names.Export e = refl
+one_command names.Report names.Report e = refl
+one_command names.PrefixList names.PrefixList e = refl
+one_command names.PrefixCheck names.PrefixCheck e = refl
+one_command names.Reverse names.Reverse e = refl
+one_command names.ReverseRead names.ReverseRead e = refl
+one_command names.Migrate names.Migrate e = refl
+one_command names.Load names.Load e = refl
+one_command names.Version names.Version e = refl
+one_command names.Help names.Help e = refl
+one_command n m e = absurd (omega arith)
+
+none_given : (text : Option (List ℕ)) (word : List ℕ) → text ≡ None → text ≡ Some word → ⊥
+none_given text word h k = cc
+
+about_mark : (t : Topic) → (mark (name_of (command.About t)) ≡ mark (codes "version")) ⊎ (mark (name_of (command.About t)) ≡ mark (codes "help"))
+about_mark topic.Version = inl refl
+about_mark topic.Commands = inr refl
+about_mark (topic.Command n) = inr refl
 
 -- with one name they are one
 one_named : (words : List (List ℕ)) (one other : Command) → mark (name_of one) ≡ mark (name_of other) → HasValues (given (app_for one) words) one
@@ -184,8 +214,17 @@ one_named words command.ReverseRead command.ReverseRead e h k = refl
 one_named words (command.Migrate d p) (command.Migrate e q) same h k = ap₂ command.Migrate (one_text _ d e h.0 k.0) (one_given_answer _ p q h.1 k.1)
 one_named words (command.Load m w) (command.Load n v) e h k =
     ap₂ command.Load (one_number most_claims _ m n (omega arith) h.0 k.0) (one_number_or 1 most_workers _ w v (omega arith) h.1 k.1)
+one_named words (command.About topic.Version) (command.About topic.Version) e h k = refl
+one_named words (command.About topic.Commands) (command.About topic.Commands) e h k = refl
+one_named words (command.About topic.Commands) (command.About (topic.Command n)) e h k = absurd (none_given _ (command_word n) h k)
+one_named words (command.About (topic.Command n)) (command.About topic.Commands) e h k = absurd (none_given _ (command_word n) k h)
+one_named words (command.About (topic.Command n)) (command.About (topic.Command m)) e h k =
+    ap (λ (x : CommandName). command.About (topic.Command x)) (one_command n m (ap mark (one_of_two (command_word n) (command_word m) (sym h ∙ k))))
+one_named words (command.About t) other e h k = absurd (elim (about_mark t) [ inl i ↦ omega arith | inr i ↦ omega arith ])
+one_named words one (command.About t) e h k = absurd (elim (about_mark t) [ inl i ↦ omega arith | inr i ↦ omega arith ])
 one_named words one other e h k = absurd (omega arith)
 
 pub words_ask_for_one : WordsAskForOne
 words_ask_for_one = λ words one other h k.
-    one_named words one other (ap mark (same_first (name_of one) (name_of other) h.rest k.rest (sym h.named ∙ k.named))) h.values k.values
+    one_named words one other
+    (ap mark (sym h.named ∙ ap main_name (same_first h.first k.first h.rest k.rest (sym h.split ∙ k.split)) ∙ k.named)) h.values k.values

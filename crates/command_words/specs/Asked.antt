@@ -1,4 +1,4 @@
--- Which command the words ask for: its name comes first, the words are some that it takes, and they give its values.
+-- Which command the arguments ask for: its name comes first, the arguments are some that it takes, and they give its values.
 use Rattle.std.specs.Prelude.{◌≡◌, ℕ, List, ◌∷◌, Option, MatchOption, codes}
 use Rattle.clap.specs.Simple.{App}
 use Rattle.clap.specs.Walk.{Row}
@@ -8,41 +8,56 @@ use Rattle.command_words.specs.declared.asked.Serving.{Serving}
 use Rattle.command_words.specs.declared.asked.Mirroring.{Mirroring}
 use Rattle.command_words.specs.declared.asked.ListAsked.{ListAsked}
 use Rattle.command_words.specs.declared.asked.Command.{Command}
-use Rattle.command_words.specs.declared.asked.Command.TheVariants.{Free, Session, Serve, Mirror, Import, Export, Report, PrefixList, PrefixCheck, Reverse, ReverseRead, Migrate, Load}
-use Rattle.command_grammar.specs.Grammar.{Takes, given, free_app, session_app, serve_app, mirror_app, import_app, export_app, report_app, prefix_list_app, prefix_check_app, reverse_app, reverse_read_app, migrate_app, load_app}
-use Rattle.command_words.specs.Values.{most_workers, most_readers, most_connections, most_claims, most_id, IsBlockValue, IsNumberValue, IsNumberOr, IsTextValue, IsTextOrNone, IsYesValue, IsAnswerValue, IsKindValue, IsReportValue, IsTableValue, IsFamilyValue, IsStyleValue, IsNameValue}
+use Rattle.command_words.specs.declared.asked.Command.TheVariants.{Free, Session, Serve, Mirror, Import, Export, Report, PrefixList, PrefixCheck, Reverse, ReverseRead, Migrate, Load, About}
+use Rattle.command_words.specs.declared.asked.CommandName.{CommandName}
+use Rattle.command_words.specs.declared.asked.CommandName.TheVariants as names
+use Rattle.command_words.specs.declared.asked.Topic.{Topic}
+use Rattle.command_words.specs.declared.asked.Topic.TheVariants.{Version, Commands, Command as OfCommand}
+use Rattle.command_grammar.specs.Grammar.{Takes, given, free_app, session_app, serve_app, mirror_app, import_app, export_app, report_app, prefix_list_app, prefix_check_app, reverse_app, reverse_read_app, migrate_app, load_app, version_app, help_app}
+use Rattle.command_words.specs.Values.{most_workers, most_readers, most_connections, most_claims, most_id, IsBlockValue, IsNumberValue, IsNumberOr, IsTextValue, IsTextOrNone, IsYesValue, IsAnswerValue, IsKindValue, IsReportValue, IsTableValue, IsFamilyValue, IsStyleValue, IsNameValue, IsTopicValue, command_word, main_name}
 
--- the first word
+-- which command it is
+abbrev pub name_in : Command → CommandName
+name_in (Free block) = names.Free
+name_in (Session store) = names.Session
+name_in (Serve serving) = names.Serve
+name_in (Mirror mirroring) = names.Mirror
+name_in (Import kind store) = names.Import
+name_in (Export kind store) = names.Export
+name_in (Report report store) = names.Report
+name_in (PrefixList asked) = names.PrefixList
+name_in (PrefixCheck asked) = names.PrefixCheck
+name_in (Reverse prefix store) = names.Reverse
+name_in ReverseRead = names.ReverseRead
+name_in (Migrate db populated) = names.Migrate
+name_in (Load count workers) = names.Load
+name_in (About Version) = names.Version
+name_in (About Commands) = names.Help
+name_in (About (OfCommand named)) = names.Help
+
 abbrev pub name_of : Command → List ℕ
-name_of (Free block) = codes "free"
-name_of (Session store) = codes "session"
-name_of (Serve serving) = codes "serve"
-name_of (Mirror mirroring) = codes "mirror"
-name_of (Import kind store) = codes "import"
-name_of (Export kind store) = codes "export"
-name_of (Report report store) = codes "report"
-name_of (PrefixList asked) = codes "prefix-list"
-name_of (PrefixCheck asked) = codes "prefix-check"
-name_of (Reverse prefix store) = codes "reverse"
-name_of ReverseRead = codes "reverse-read"
-name_of (Migrate db populated) = codes "migrate"
-name_of (Load count workers) = codes "load"
+name_of command = command_word (name_in command)
 
--- the words behind it that are taken
+-- the words that a command of this name takes
+abbrev pub app_of_name : CommandName → App
+app_of_name names.Free = free_app
+app_of_name names.Session = session_app
+app_of_name names.Serve = serve_app
+app_of_name names.Mirror = mirror_app
+app_of_name names.Import = import_app
+app_of_name names.Export = export_app
+app_of_name names.Report = report_app
+app_of_name names.PrefixList = prefix_list_app
+app_of_name names.PrefixCheck = prefix_check_app
+app_of_name names.Reverse = reverse_app
+app_of_name names.ReverseRead = reverse_read_app
+app_of_name names.Migrate = migrate_app
+app_of_name names.Load = load_app
+app_of_name names.Version = version_app
+app_of_name names.Help = help_app
+
 abbrev pub app_for : Command → App
-app_for (Free block) = free_app
-app_for (Session store) = session_app
-app_for (Serve serving) = serve_app
-app_for (Mirror mirroring) = mirror_app
-app_for (Import kind store) = import_app
-app_for (Export kind store) = export_app
-app_for (Report report store) = report_app
-app_for (PrefixList asked) = prefix_list_app
-app_for (PrefixCheck asked) = prefix_check_app
-app_for (Reverse prefix store) = reverse_app
-app_for ReverseRead = reverse_read_app
-app_for (Migrate db populated) = migrate_app
-app_for (Load count workers) = load_app
+app_for command = app_of_name (name_in command)
 
 -- what was given to the options of a store
 pub record IsStore (rows : List Row) (store : Store) : Type 0 where
@@ -86,11 +101,16 @@ HasValues rows (Reverse prefix store) = IsNumberValue most_id (first_of (codes "
 HasValues rows ReverseRead = Unit {0}
 HasValues rows (Migrate db populated) = IsTextValue (first_of (codes "db") rows) db × IsAnswerValue (first_of (codes "populated") rows) populated
 HasValues rows (Load count workers) = IsNumberValue most_claims (first_of (codes "count") rows) count × IsNumberOr 1 most_workers (first_of (codes "workers") rows) workers
+HasValues rows (About Version) = Unit {0}
+HasValues rows (About Commands) = IsTopicValue (first_of (codes "command") rows) Commands
+HasValues rows (About (OfCommand named)) = IsTopicValue (first_of (codes "command") rows) (OfCommand named)
 
--- the words ask for the command
+-- the arguments ask for the command: the first one is its name, or another name of it
 pub record Asks (words : List (List ℕ)) (command : Command) : Type 0 where
+  pub first : List ℕ
   pub rest : List (List ℕ)
-  pub named : words ≡ name_of command ∷ rest
+  pub split : words ≡ first ∷ rest
+  pub named : main_name first ≡ name_of command
   pub taken : Takes (app_for command) words
   pub values : HasValues (given (app_for command) words) command
 
@@ -98,11 +118,11 @@ pub record Asks (words : List (List ℕ)) (command : Command) : Type 0 where
 abbrev pub IsNoCommand : List (List ℕ) → Type 0
 IsNoCommand words = (command : Command) → ¬ Asks words command
 
--- what was found in words is the command of this name that they ask for, if their first word is this name, and nothing where they
+-- what was found in words is the command of this name that they ask for, if their first word is this name, and nothing if they
 -- ask for none of this name
 abbrev pub IsReadAs : List ℕ → List (List ℕ) → Option Command → Type 0
 IsReadAs name words found = MatchOption found ((c : Command) → name_of c ≡ name → ¬ Asks words c)
-    (λ c. (rest : List (List ℕ)) → words ≡ name ∷ rest → Asks words c)
+    (λ c. (first : List ℕ) (rest : List (List ℕ)) → words ≡ first ∷ rest → main_name first ≡ name → Asks words c)
 
 -- words ask for one command
 abbrev pub WordsAskForOne : Type 0

@@ -1,15 +1,19 @@
--- What the text of a place or an option says, where there is one.
+-- What the text of a place or an option says, if there is one.
 use Rattle.std.specs.Prelude.{◌≡◌, ◌≢◌, ℕ, ◌≤◌, Bool, true, false, List, [], Option, Some, None, codes, decimal}
 use Rattle.inet_num.specs.declared.Family.{Family}
 use Rattle.inet_num.specs.declared.Family.TheVariants.{V4, V6}
 use Rattle.inet_num.specs.Net.{Cidr}
 use Rattle.inet_num.specs.Text.{IsBlockText}
 use Rattle.list_name.specs.Names.{IsListName}
-pub use Rattle.word_values.specs.Values.{IsNumberOr, IsNumberValue, IsTextOrNone, IsTextValue, most_connections, most_workers}
+pub use Rattle.word_values.specs.Values.{IsNumberOr, IsNumberValue, IsTextOrNone, IsTextValue, main_name, most_connections, most_workers}
+use Rattle.command_words.specs.declared.asked.CommandName.{CommandName}
+use Rattle.command_words.specs.declared.asked.CommandName.TheVariants as names
 use Rattle.command_words.specs.declared.asked.KindName.{KindName}
 use Rattle.command_words.specs.declared.asked.KindName.TheVariants.{Vrfs, Rirs, Roles, Aggregates, Prefixes, Ranges, Addresses}
 use Rattle.command_words.specs.declared.asked.Report.{Report}
 use Rattle.command_words.specs.declared.asked.Report.TheVariants.{Tree, Utilization, Free}
+use Rattle.command_words.specs.declared.asked.Topic.{Topic}
+use Rattle.command_words.specs.declared.asked.Topic.TheVariants.{Version, Commands, Command}
 use Rattle.command_words.specs.declared.asked.TableName.{TableName}
 use Rattle.command_words.specs.declared.asked.TableName.TheVariants.{Global, Vrf}
 use Rattle.command_words.specs.declared.asked.StyleName.{StyleName}
@@ -90,3 +94,27 @@ IsStyleValue text style = text ≡ Some (style_word style)
 abbrev pub IsNameValue : Option (List ℕ) → List ℕ → Type 0
 IsNameValue None found = ⊥
 IsNameValue (Some text) found = (found ≡ text) × IsListName text
+
+-- the name of a command
+abbrev pub command_word : CommandName → List ℕ
+command_word names.Free = codes "free"
+command_word names.Session = codes "session"
+command_word names.Serve = codes "serve"
+command_word names.Mirror = codes "mirror"
+command_word names.Import = codes "import"
+command_word names.Export = codes "export"
+command_word names.Report = codes "report"
+command_word names.PrefixList = codes "prefix-list"
+command_word names.PrefixCheck = codes "prefix-check"
+command_word names.Reverse = codes "reverse"
+command_word names.ReverseRead = codes "reverse-read"
+command_word names.Migrate = codes "migrate"
+command_word names.Load = codes "load"
+command_word names.Version = codes "version"
+command_word names.Help = codes "help"
+
+-- what help is asked for: all commands, or one by its name
+abbrev pub IsTopicValue : Option (List ℕ) → Topic → Type 0
+IsTopicValue text Version = ⊥
+IsTopicValue text Commands = text ≡ None
+IsTopicValue text (Command name) = text ≡ Some (command_word name)

@@ -74,6 +74,37 @@ pub struct ListAsked {
     pub store: Store,
 }
 
+/// A command by its name.
+#[derive(Clone, Copy, Debug)]
+pub enum CommandName {
+    Free,
+    Session,
+    Serve,
+    Mirror,
+    Import,
+    Export,
+    Report,
+    PrefixList,
+    PrefixCheck,
+    Reverse,
+    ReverseRead,
+    Migrate,
+    Load,
+    Version,
+    Help,
+}
+
+/// What the program says of itself.
+#[derive(Clone, Copy, Debug)]
+pub enum Topic {
+    /// Its version.
+    Version,
+    /// Its commands, a line each.
+    Commands,
+    /// What this command takes, and with which defaults.
+    Command(CommandName),
+}
+
 /// What the program is asked to do.
 #[derive(Debug, Drop)]
 pub enum Command {
@@ -83,7 +114,7 @@ pub enum Command {
     Session(Store),
     /// Sessions with all that connect.
     Serve(Serving),
-    /// One session over the input and the output, beside readers with all that connect.
+    /// One session over the input and the output, next to readers with all that connect.
     Mirror(Mirroring),
     /// The rows of a file into the register.
     Import(KindName, Store),
@@ -103,4 +134,6 @@ pub enum Command {
     Migrate { db: WordText, populated: bool },
     /// So many claims by so many workers.
     Load { count: u32, workers: u32 },
+    /// A text about the program: `version` and `help`.
+    About(Topic),
 }

@@ -1,4 +1,4 @@
-//! The words of the command on files of version 1.
+//! The arguments of the command on files of version 1.
 
 ghost use Rattle.std.specs.Prelude.{IfOk, map, codes};
 ghost use Rattle.command_words.specs.Asked.{IsReadAs};

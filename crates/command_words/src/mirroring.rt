@@ -1,4 +1,4 @@
-//! The words of the command on readers beside an operator.
+//! The arguments of the command on readers next to an operator.
 
 ghost use Rattle.std.specs.Prelude.{IfOk, map, codes, MatchOption};
 ghost use Rattle.clap.specs.Words.{found_of, rows_of};

@@ -1,4 +1,4 @@
-//! What a text says, where one was given: a block, a number, a kind, a report, a store.
+//! What a text says, if one was given: a block, a number, a kind, a report, a store.
 
 ghost use Rattle.std.specs.Prelude.{◌≡◌, ◌≢◌, Option, List, Some, Bool, option_map, IfOk, MatchOption};
 ghost use Rattle.inet_num.specs.Net.{Cidr};

@@ -1,4 +1,4 @@
--- What follows of runs of the two commands: one text or one refusal, and exact statuses where nothing fails.
+-- What follows of runs of the two commands: one text or one refusal, and exact statuses if nothing fails.
 use Rattle.std.specs.Prelude.{◌≡◌, ℕ, ◌⊎◌, List, IfSome, IsSome}
 use Rattle.ipam_data.specs.State.{State}
 use Rattle.stored_tables.specs.declared.opening.OpenFault.{OpenFault}
@@ -12,7 +12,7 @@ use Rattle.command_zones.specs.Zone.{IsTextOf, IsZoneRefusal}
 use Rattle.command_zones.specs.Reverse.{IsZoneText, IsRefusedSo, IsReverse}
 use Rattle.command_zones.specs.Pairs.{IsReadRefusal, IsReverseRead}
 
--- a state and a prefix have one text or one refusal, and not both; so have a store whose tables are told and a prefix
+-- a state and a prefix have one text or one refusal, and not both; so have a store whose tables are known and a prefix
 pub record ReverseHasOneAnswer : Type 0 where
   pub texts : (s : State) (id : ℕ) (one other : List ℕ) → IsTextOf s id one → IsTextOf s id other → one ≡ other
   pub refusals : (s : State) (id : ℕ) (one other : ZoneRefusal) → IsZoneRefusal s id one → IsZoneRefusal s id other → one ≡ other
@@ -24,8 +24,8 @@ pub record ReverseHasOneAnswer : Type 0 where
   pub store_apart : (id : ℕ) (store : Store) (old : Outside) (text : List ℕ) (refusal : ZoneRefusal) → IsSome (found_tables store old)
       → IsZoneText id store old text → ¬ IsRefusedSo id store old refusal
 
--- the status says whether there is a cause of 1: 1 where the tables of the store have a fault, or the state that was loaded has a refusal,
--- 0 where that state has none, nor any other for which told tables stand, and 5 for lack of memory
+-- the status says whether there is a cause of 1: 1 if the tables of the store have a fault, or the state that was loaded has a refusal,
+-- 0 if that state has none, nor any other that known tables represent, and 5 for lack of memory
 abbrev pub IsExact : ℕ → Store → Outside → ℕ → Type 0
 IsExact id store old status =
     (status ≡ 5)
@@ -33,18 +33,18 @@ IsExact id store old status =
     ⊎ ((status ≡ 0) × ((state : State) × IsLoaded store old state × ((refusal : ZoneRefusal) → ¬ IsZoneRefusal state id refusal))
     × (IsSome (found_tables store old) → (refusal : ZoneRefusal) → ¬ IsRefusedSo id store old refusal))
 
--- where nothing fails, the status of `reverse` is exact
+-- if nothing fails, the status of `reverse` is exact
 abbrev pub ReverseIsExact : Type 0
 ReverseIsExact = (id : ℕ) (store : Store) (old new : Outside) (status : ℕ) → IsReverse id store old new status
     → (¬ AnyFailed old new) → IsExact id store old status
 
--- the status says whether an input of these bytes is refused: 1 where it is, 0 where it is not, and 5 for lack of memory
+-- the status says whether an input of these bytes is refused: 1 if it is, 0 if it is not, and 5 for lack of memory
 abbrev pub IsReadExact : ℕ → List ℕ → Type 0
 IsReadExact status bytes =
     (status ≡ 5)
     ⊎ ((status ≡ 1) × ((refusal : ReadRefusal) × IsReadRefusal bytes refusal))
     ⊎ ((status ≡ 0) × ((refusal : ReadRefusal) → ¬ IsReadRefusal bytes refusal))
 
--- over a told input, where nothing fails, the status of `reverse-read` is exact
+-- over a known input, if nothing fails, the status of `reverse-read` is exact
 abbrev pub ReverseReadIsExact : Type 0
 ReverseReadIsExact = (old new : Streams) (status : ℕ) → IsReverseRead old new status → (¬ SomeFailed old new) → IfSome old.input.bytes (IsReadExact status)

@@ -37,11 +37,11 @@ abbrev pub IsReadRefusal : List ℕ → ReadRefusal → Type 0
 IsReadRefusal bytes TooLong = most_bytes < length bytes
 IsReadRefusal bytes (Line n) = (length bytes ≤ most_bytes) × IsFirstRefused (lines bytes) n
 
--- the input, where it tells its bytes, has these pairs, and it was read to its end
+-- the input, if its bytes are known, has these pairs, and it was read to its end
 abbrev pub GivesPairs : Told → Told → List Pair → Type 0
 GivesPairs old new pairs = IfSome old.bytes (λ bytes. HasPairs bytes pairs × (new.bytes ≡ Some []))
 
--- the input, where it tells its bytes, is refused so
+-- the input, if its bytes are known, is refused so
 abbrev pub RefusesInput : Told → ReadRefusal → Type 0
 RefusesInput old refusal = IfSome old.bytes (λ bytes. IsReadRefusal bytes refusal)
 
@@ -71,7 +71,7 @@ read_refusal_text (Line n) = codes "line " ++ decimal n ++ codes ": not a PTR li
 abbrev pub NamesReadRefusal : ReadRefusal → Told → Told → ℕ → Type 0
 NamesReadRefusal refusal old new status = EndsWith old new (read_refusal_text refusal) 1 status ⊎ ((status ≡ 5) × (new ≡ old))
 
--- why the input gave no pairs was said, with its status; nothing is said where it failed
+-- why the input gave no pairs was said, with its status; nothing is said if it failed
 abbrev pub IsReadStopSaid : ReadStop → Told → Told → ℕ → Type 0
 IsReadStopSaid Unread old new status = (status ≡ 3) × (new ≡ old)
 IsReadStopSaid (Refused refusal) old new status = NamesReadRefusal refusal old new status
@@ -98,7 +98,7 @@ pub record FailsToRead (old new : Streams) : Type 0 where
   pub output : new.output ≡ old.output
   pub errors : new.errors ≡ old.errors
 
--- the output failed, with a front of the text, and nothing was said
+-- the output failed, with a prefix of the text, and nothing was said
 pub record FailsToPrint (old new : Streams) : Type 0 where
   pub failed : Failed old.output new.output
   pub pairs : List Pair

@@ -1,4 +1,4 @@
--- What a run of the command `reverse` promises of each status: the names of a prefix's addresses as PTR lines, and the store as it was.
+-- What a run of the command `reverse` promises of each status: the names of a prefix's addresses as PTR lines, and the store unchanged.
 use Rattle.std.specs.Prelude.{◌≡◌, ℕ, ◌⊎◌, List, [], ◌∷◌, ◌++◌, codes, decimal}
 use Rattle.ipam_data.specs.declared.kinds.Kind.TheVariants.{Prefixes}
 use Rattle.ipam_data.specs.declared.replies.Refusal.TheVariants.{NotFound}
@@ -27,7 +27,7 @@ refusal_text (Unfit n) = codes "address " ++ decimal n ++ codes ": the name does
 abbrev pub NamesIt : ZoneRefusal → Told → Told → ℕ → Type 0
 NamesIt refusal old new status = EndsWith old new (refusal_text refusal) 1 status ⊎ ((status ≡ 5) × (new ≡ old))
 
--- why nothing, or not all, was printed was said, with its status; nothing is said where the output failed
+-- why nothing, or not all, was printed was said, with its status; nothing is said if the output failed
 abbrev pub IsZoneStopSaid : ZoneStop → Told → Told → ℕ → Type 0
 IsZoneStopSaid (Refused refusal) old new status = NamesIt refusal old new status
 IsZoneStopSaid Unwritten old new status = (status ≡ 3) × (new ≡ old)
@@ -46,7 +46,7 @@ abbrev pub PrintsZone : ℕ → Store → Outside → Outside → Type 0
 PrintsZone id store old new =
     (text : List ℕ) × IsZoneText id store old text × Gains old.streams.output new.streams.output text × (new.streams.errors ≡ old.streams.errors)
 
--- the output failed, with a front of the text, and nothing was said
+-- the output failed, with a prefix of the text, and nothing was said
 abbrev pub PrintsZoneFront : ℕ → Store → Outside → Outside → Type 0
 PrintsZoneFront id store old new =
     (text : List ℕ) × IsZoneText id store old text × Failed old.streams.output new.streams.output × GainsFront old.streams.output new.streams.output text
@@ -80,7 +80,7 @@ pub record IsReverse (id : ℕ) (store : Store) (old new : Outside) (status : �
   pub store_fault : status ≡ 4 → NamesFailure old new
   -- 5: out of memory. Nothing was printed, and nothing said
   pub memory : status ≡ 5 → (new.streams.output ≡ old.streams.output) × (new.streams.errors ≡ old.streams.errors)
-  -- with each status the input was left alone, and told tables are as they were
+  -- with each status the input was left alone, and known tables are unchanged
   pub input : new.streams.input ≡ old.streams.input
   pub keeps : AreSame old.stores.stored new.stores.stored
   pub later : NoCountFalls old new

@@ -1,4 +1,4 @@
--- The names of a prefix's addresses: the lines that a state has for a prefix, or why it has none, and how they come about.
+-- The names of a prefix's addresses: the lines that a state has for a prefix, or why it has none, and how they are made.
 use Rattle.std.specs.Prelude.{◌≡◌, ℕ, Bool, true, not, ◌&&◌, IsTrue, Option, Some, None, option_map, unwrap_or, Result, Ok, Err, List, [], ◌∷◌, All, filter, find, flat_map, map, slice_get, slice_index_or, if◌then◌else◌}
 use Rattle.std.specs.declared.cmp.Ordering.{Ordering}
 use Rattle.std.specs.Ordering.{ordering_then, nat_cmp}
@@ -30,7 +30,7 @@ is_unfit prefix row = is_zone_row prefix row && not (fits_dns (name_of row))
 abbrev pub unfit_id : State → Prefix → Option ℕ
 unfit_id s prefix = least address_id (is_unfit prefix) s.addresses.rows
 
--- the prefix of this id is there, all names in its zone fit, and the text has a line for each row of the zone, in order, and no other
+-- the prefix of this id exists, all names in its zone fit, and the text has a line for each row of the zone, in order, and no other
 pub record IsTextOf (s : State) (id : ℕ) (text : List ℕ) : Type 0 where
   pub prefix : Prefix
   pub rows : List IpAddress
@@ -108,7 +108,7 @@ IsZoneStop s id (Refused refusal) = IsZoneRefusal s id refusal
 IsZoneStop s id Unwritten = ⊥
 IsZoneStop s id Memory = Unit {0}
 
--- what the output gained where the lines were printed, or why they were not: only a failure of the output leaves a front of them
+-- what the output gained if the lines were printed, or why they were not: only a failure of the output leaves a prefix of them
 abbrev pub IsZoneEnd : State → ℕ → Told → Told → Result (Unit {0}) ZoneStop → Type 0
 IsZoneEnd s id old new (Ok _) = (text : List ℕ) × IsTextOf s id text × Gains old new text
 IsZoneEnd s id old new (Err (Refused refusal)) = IsZoneRefusal s id refusal × (new ≡ old)

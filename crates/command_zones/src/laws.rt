@@ -2,17 +2,17 @@
 
 ghost use Rattle.command_zones.specs.Laws.{ReverseHasOneAnswer, ReverseIsExact, ReverseReadIsExact};
 
-/// A state and a prefix have one text or one refusal, and so have a store whose tables are told and a prefix.
+/// A state and a prefix have one text or one refusal, and so have a store whose tables are known and a prefix.
 pub fn reverse_has_one_answer()
     ensures { ReverseHasOneAnswer }
 {}
 
-/// Where nothing fails, `reverse` ends with 1 exactly for its named causes, out of memory apart.
+/// If nothing fails, `reverse` ends with 1 exactly for its named causes, out of memory apart.
 pub fn reverse_is_exact()
     ensures { ReverseIsExact }
 {}
 
-/// Where nothing fails, `reverse-read` over a told input ends with 1 exactly for its named causes, out of memory apart.
+/// If nothing fails, `reverse-read` over a known input ends with 1 exactly for its named causes, out of memory apart.
 pub fn reverse_read_is_exact()
     ensures { ReverseReadIsExact }
 {}

@@ -19,7 +19,7 @@ const MOST_BYTES: usize = 4_194_304;
 /// The names of the columns.
 const HEADER: &[u8] = b"address,dns_name\n";
 
-/// Why an input has no pairs, where a message says it.
+/// Why an input has no pairs, if a message says it.
 #[derive(Clone, Copy, Debug)]
 pub enum ReadRefusal {
     /// It has more bytes than the limit.
@@ -39,7 +39,7 @@ pub enum ReadStop {
     Memory,
 }
 
-/// What stops the reading where lines are not read.
+/// What stops the reading if lines are not read.
 fn stop_by(fault: PtrFault) -> ReadStop
     ensures { IsStopBy fault result }
 {
@@ -120,7 +120,7 @@ fn refusal_text(alloc: Global, refusal: ReadRefusal) -> Result<String, AllocErro
     }
 }
 
-/// Says a refusal, and gives the status of that; or that of a fault where it can't be said, or of out of memory.
+/// Says a refusal, and gives the status of that; or that of a fault if it can't be said, or of out of memory.
 fn say_refusal<Se: Sink>(alloc: Global, refusal: ReadRefusal, errors: &mut Se) -> u8
     ensures said { NamesReadRefusal refusal (told Se.written Se.faults errors.old) (told Se.written Se.faults errors.new) result }
     ensures later { Se.faults errors.old ≤ Se.faults errors.new }

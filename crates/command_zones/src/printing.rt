@@ -51,7 +51,7 @@ fn put_line<Si: Sink>(
     }
 }
 
-/// Writes the lines of the rows at these places. It takes no memory but a buffer of its own.
+/// Writes the lines of the rows at these places. It takes no memory but its own buffer.
 fn write_lines<Si: Sink>(
     output: &mut Si,
     addresses: &Addresses,

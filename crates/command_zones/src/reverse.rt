@@ -38,7 +38,7 @@ fn refusal_text(alloc: Global, refusal: ZoneRefusal) -> Result<String, AllocErro
     }
 }
 
-/// Says a refusal, and gives the status of that; or that of a fault where it can't be said, or of out of memory.
+/// Says a refusal, and gives the status of that; or that of a fault if it can't be said, or of out of memory.
 fn say_refusal<Se: Sink>(alloc: Global, refusal: ZoneRefusal, errors: &mut Se) -> u8
     ensures said { NamesIt refusal (told Se.written Se.faults errors.old) (told Se.written Se.faults errors.new) result }
     ensures later { Se.faults errors.old ≤ Se.faults errors.new }

@@ -16,7 +16,7 @@ use register_tables::Addresses;
 use reverse_zone::{fits, ptr_name};
 use std::alloc::{AllocError, AllocFailed, Global};
 
-/// Why the names of a prefix are not printed, where a message says it.
+/// Why the names of a prefix are not printed, if a message says it.
 #[derive(Clone, Copy, Debug)]
 pub enum ZoneRefusal {
     /// The prefix with this id is not there.
@@ -58,7 +58,7 @@ impl<T: Drop> From<AllocFailed<T>> for ZoneStop {
     }
 }
 
-/// Where a row stands in the zone, and at which index among all rows: by these numbers the rows are sorted, and the rows stay where they are.
+/// Where a row is in the zone, and at which index among all rows: by these numbers the rows are sorted, and the rows stay where they are.
 #[derive(Clone, Copy, Debug)]
 pub(crate) struct Place {
     pub(crate) address: u128,
@@ -103,7 +103,7 @@ fn has_name(row: &IpAddress) -> bool
     }
 }
 
-/// The name that the DNS has for a row, empty where it has none.
+/// The name that the DNS has for a row, empty if it has none.
 pub(crate) fn name_of(row: &IpAddress) -> &str
     ensures { result.now ≡ name_of row.now }
 {
@@ -152,7 +152,7 @@ fn add_row(
     Ok(())
 }
 
-/// The address at an index that is there.
+/// The address at an index that exists.
 fn address_at(addresses: &Addresses, index: u32) -> &IpAddress
     requires { index < length addresses.now.rows }
     ensures { Some result.now ≡ slice_get addresses.now.rows index }
@@ -163,7 +163,7 @@ fn address_at(addresses: &Addresses, index: u32) -> &IpAddress
     }
 }
 
-/// The places of the rows of a prefix's zone, in the order of their ids, where all their names fit.
+/// The places of the rows of a prefix's zone, in the order of their ids, if all their names fit.
 fn zone_places(
     alloc: Global,
     addresses: &Addresses,

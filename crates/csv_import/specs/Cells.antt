@@ -44,11 +44,11 @@ is_plain least most text =
 abbrev pub within : ℕ → ℕ → List ℕ → Option (List ℕ)
 within least most text = if is_plain least most text then Some text else None
 
--- a text of so many characters, or none where the cell is empty
+-- a text of so many characters, or none if the cell is empty
 abbrev pub within_or_none : ℕ → List ℕ → Option (Option (List ℕ))
 within_or_none most text = if length text == 0 then Some None else option_map Some (within 1 most text)
 
--- a slug has 1 to 100 characters, and each may stand in a slug
+-- a slug has 1 to 100 characters, and each may be in a slug
 abbrev pub slugged : List ℕ → Option (List ℕ)
 slugged text = if is_plain 1 100 text && list_all is_slug_char (chars text) then Some text else None
 
@@ -75,7 +75,7 @@ range_status_of text = if length text == 0 then Some ActiveRange else range_stat
 abbrev pub address_status_of : List ℕ → Option AddressStatus
 address_status_of text = if length text == 0 then Some ActiveAddress else address_status_named text
 
--- the role of an address, or none where the cell is empty
+-- the role of an address, or none if the cell is empty
 abbrev pub address_role_of : List ℕ → Option (Option AddressRole)
 address_role_of text = if length text == 0 then Some None else option_map Some (address_role_named text)
 
@@ -105,7 +105,7 @@ abbrev pub IsBlockReading : List ℕ → Result Cidr RowFault → Type 0
 IsBlockReading text (Ok block) = IsBlockText text block
 IsBlockReading text (Err fault) = (why : TextFault) × IsBlockFault text why × (fault ≡ block_fault why)
 
--- a text is that of a host, whose mask is its width where it has none, or has a fault
+-- a text is that of a host, whose mask is its width if it has none, or has a fault
 abbrev pub IsHostReading : FieldName → List ℕ → Result Masked RowFault → Type 0
 IsHostReading key text (Ok host) = IsHostText text host.addr host.len
 IsHostReading key text (Err fault) = ((why : TextFault) × IsHostFault text why) × (fault ≡ Field key)

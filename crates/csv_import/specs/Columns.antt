@@ -34,7 +34,7 @@ columns_of Addresses =
 abbrev pub is_column : List Column → List ℕ → Bool
 is_column columns name = list_any (λ c. bytes_eq (field_text c.name) name) columns
 
--- the column stands in the header once at most, and once where it is required
+-- the column is in the header once at most, and once if it is required
 abbrev pub is_met : List (List ℕ) → Column → Bool
 is_met header c =
     let n = count_by (bytes_eq (field_text c.name)) header in nat_le n 1 && (not c.required || nat_le 1 n)

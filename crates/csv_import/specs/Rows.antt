@@ -1,4 +1,4 @@
--- What a line stands for: the columns of its kind in their order, and the first that is malformed is answered.
+-- What a line represents: the columns of its kind in their order, and the first that is malformed is answered.
 use Rattle.std.specs.Prelude.{◌≡◌, ◌⊎◌, ℕ, true, false, List, length, Option, Result, Ok, Err}
 use Rattle.csv.specs.Records.{AllText}
 use Rattle.inet_num.specs.Net.{Cidr}
@@ -15,7 +15,7 @@ use Rattle.csv_import.specs.declared.stops.Stop.{Stop}
 use Rattle.csv_import.specs.declared.stops.Stop.TheVariants.{Fault, Memory}
 use Rattle.csv_import.specs.Cells.{cell, column, within, within_or_none, slugged, of_bytes, flag_of, prefix_status_of, range_status_of, address_status_of, address_role_of, IsWeightCell, IsBlockReading, IsHostReading}
 
--- what comes next of a good value; a fault stands
+-- what comes next of a good value; a fault stays
 abbrev pub then : {A B : Type 0} → Result A RowFault → (A → Result B RowFault) → Result B RowFault
 then (Ok a) next = next a
 then (Err fault) next = Err fault
@@ -90,7 +90,7 @@ address_row host header fields =
     then (read Description (within 0 200) header fields) λ description.
     Ok (AddressRow host vrf status role dns_name description)
 
--- what the cells of a line stand for
+-- what the cells of a line represent
 abbrev pub IsCellsOf : Kind → List (List ℕ) → List (List ℕ) → Result ImportRow RowFault → Type 0
 IsCellsOf Vrfs header fields row = vrf_row header fields ≡ row
 IsCellsOf Rirs header fields row = rir_row header fields ≡ row
@@ -111,7 +111,7 @@ pub record IsWhole (header fields : List (List ℕ)) : Type 0 where
   pub long : length fields ≡ length header
   pub text : AllText fields
 
--- what a line stands for
+-- what a line represents
 abbrev pub IsRowOf : Kind → List (List ℕ) → List (List ℕ) → Result ImportRow RowFault → Type 0
 IsRowOf kind header fields row =
     (IsWhole header fields × IsCellsOf kind header fields row) ⊎ ((¬ IsWhole header fields) × (row ≡ Err (Field RowField)))

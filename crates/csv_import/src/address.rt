@@ -18,7 +18,7 @@ use ipam_data::replies::FieldName;
 use ipam_words::address_status_value;
 use std::alloc::{AllocError, Global};
 
-/// The row of an address that the cells of a line stand for.
+/// The row of an address that the cells of a line represent.
 pub(crate) fn read_address(
     alloc: Global,
     header: &ByteRecord,

@@ -86,7 +86,7 @@ pub(crate) fn name(
     }
 }
 
-/// The name under a column, or none where the cell is empty.
+/// The name under a column, or none if the cell is empty.
 pub(crate) fn name_or_none(
     alloc: Global,
     header: &ByteRecord,
@@ -117,7 +117,7 @@ pub(crate) fn slug(alloc: Global, header: &ByteRecord, line: &StringRecord) -> R
     }
 }
 
-/// The route distinguisher of a line, or none where the cell is empty.
+/// The route distinguisher of a line, or none if the cell is empty.
 pub(crate) fn distinguisher(
     alloc: Global,
     header: &ByteRecord,

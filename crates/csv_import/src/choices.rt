@@ -62,7 +62,7 @@ pub(crate) fn address_status(
     }
 }
 
-/// The role of an address, or none where the cell is empty.
+/// The role of an address, or none if the cell is empty.
 pub(crate) fn address_role(
     header: &ByteRecord,
     line: &StringRecord,

@@ -80,7 +80,7 @@ fn text_of(alloc: Global, kind: Kind, rows: &[ImportRow]) -> Result<Vec<u8>, All
     Ok(text)
 }
 
-/// Puts an export behind what the output has: the header of all columns of the kind, and a line for each row, as `csv` writes
+/// Puts an export after what the output has: the header of all columns of the kind, and a line for each row, as `csv` writes
 /// them. `Err` means out of memory, and leaves the output.
 pub fn write_rows(
     alloc: Global,

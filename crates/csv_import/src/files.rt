@@ -1,4 +1,4 @@
-//! The rows that the bytes of a file stand for.
+//! The rows that the bytes of a file represent.
 
 ghost use Rattle.std.specs.Prelude.{◌≡◌, ◌⊎◌, ◌++◌, ◌∷◌, ◌<◌, ◌^◌, [], List, Ok, Err, IfOk, IfErr, OnOk, length, map};
 ghost use Rattle.csv.specs.Records.{fields_of};
@@ -99,9 +99,9 @@ fn read_table(
     read_lines(alloc, kind, &header, lines)
 }
 
-/// What the bytes of a file ask for: the rows of the kind, or the first refusal. `TooLarge` comes where there are more than
-/// 4,194,304 bytes, `Row(0, ..)` where there is no good header, `Row(n, ..)` where row n is the first that is refused, and
-/// `Memory` may come in place of any answer.
+/// What the bytes of a file ask for: the rows of the kind, or the first refusal. `TooLarge` is returned if there are more than
+/// 4,194,304 bytes, `Row(0, ..)` if there is no good header, `Row(n, ..)` if row n is the first that is refused, and
+/// `Memory` may be returned in place of any answer.
 pub fn read_rows(alloc: Global, kind: Kind, bytes: &[u8]) -> Result<Vec<ImportRow>, Refusal>
     ensures ok { IfOk result (λ v. IsFileOf kind bytes.now (Ok v.items)) }
     ensures err { IfErr result (λ e. (e ≡ Memory) ⊎ IsFileOf kind bytes.now (Err e)) }

@@ -36,7 +36,7 @@ fn are_known(columns: &[Column], header: &ByteRecord) -> bool
     true
 }
 
-/// How often the name stands in the header.
+/// How often the name occurs in the header.
 fn times(header: &ByteRecord, name: &str) -> usize
     ensures { result ≡ count_by (bytes_eq name.now) (fields_of header.now) }
 {
@@ -49,7 +49,7 @@ fn times(header: &ByteRecord, name: &str) -> usize
     n
 }
 
-/// Whether the column stands in the header once at most, and once where it is required.
+/// Whether the column is in the header once at most, and once if it is required.
 fn fits(header: &ByteRecord, column: &Column) -> bool
     ensures { result ≡ is_met (fields_of header.now) column.now }
 {
@@ -57,7 +57,7 @@ fn fits(header: &ByteRecord, column: &Column) -> bool
     n <= 1 && (!column.required || n >= 1)
 }
 
-/// Whether each column stands as it has to.
+/// Whether each column is as it has to.
 fn are_met(columns: &[Column], header: &ByteRecord) -> bool
     ensures { result ≡ list_all (is_met (fields_of header.now)) columns.now }
 {

@@ -33,7 +33,7 @@ pub(crate) fn block(header: &ByteRecord, line: &StringRecord) -> Result<Block, R
     }
 }
 
-/// The host that a text is: an address, whose mask is its width where the text has none.
+/// The host that a text is: an address, whose mask is its width if the text has none.
 fn host_of(text: &str, name: FieldName) -> Result<Host, RowFault>
     ensures { IsHostReading name text.now result }
 {

@@ -18,7 +18,7 @@ use ipam_data::replies::FieldName;
 use ipam_words::range_status_value;
 use std::alloc::{AllocError, Global};
 
-/// The row of a range that the cells of a line stand for.
+/// The row of a range that the cells of a line represent.
 pub(crate) fn read_range(
     alloc: Global,
     header: &ByteRecord,

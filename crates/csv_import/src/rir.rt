@@ -15,7 +15,7 @@ use ipam_data::imports::ImportRow;
 use ipam_data::replies::FieldName;
 use std::alloc::{AllocError, Global};
 
-/// The row of an RIR that the cells of a line stand for.
+/// The row of an RIR that the cells of a line represent.
 pub(crate) fn read_rir(
     alloc: Global,
     header: &ByteRecord,

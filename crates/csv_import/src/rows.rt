@@ -1,4 +1,4 @@
-//! What a line stands for.
+//! What a line represents.
 
 ghost use Rattle.csv.specs.Records.{fields_of};
 ghost use Rattle.csv_import.specs.Rows.{OrMemory, IsCellsOf, IsRowOf};
@@ -18,7 +18,7 @@ use ipam_data::kinds::Kind;
 use ipam_data::replies::FieldName;
 use std::alloc::Global;
 
-/// The row of a kind that the cells of a line stand for.
+/// The row of a kind that the cells of a line represent.
 fn row_of_cells(
     alloc: Global,
     kind: Kind,
@@ -38,7 +38,7 @@ fn row_of_cells(
     }
 }
 
-/// The row of a kind that a line stands for.
+/// The row of a kind that a line represents.
 pub(crate) fn read_row(
     alloc: Global,
     kind: Kind,

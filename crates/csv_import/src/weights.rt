@@ -44,7 +44,7 @@ fn weight_of(text: &str) -> Option<Weight>
     }
 }
 
-/// The weight of a line, where the cell is none that is malformed; an empty one is the default.
+/// The weight of a line, if the cell is none that is malformed; an empty one is the default.
 pub(crate) fn weight(header: &ByteRecord, line: &StringRecord) -> Option<Weight>
     ensures { IsWeightCell (cell (fields_of header.now) (fields_of line.now) WeightField) result }
 {

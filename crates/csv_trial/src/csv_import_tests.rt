@@ -27,7 +27,7 @@ address,vrf,status,role,dns_name,description
 row 0: field: column is missing or malformed
 ";
 
-/// Puts a file behind a text as it is written again, or why it is refused.
+/// Puts a file after a text as it is written again, or why it is refused.
 fn again(alloc: Global, kind: Kind, file: &[u8], text: &mut Vec<u8>) -> Result<(), AllocError> {
     match read_rows(alloc, kind, file) {
         Ok(rows) => write_rows(alloc, kind, &rows, text),

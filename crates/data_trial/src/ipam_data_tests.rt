@@ -17,7 +17,7 @@ fn repeated(alloc: Global, text: &str, count: u32) -> Result<String, AllocError>
 
 #[test]
 fn texts_at_their_bounds(rt: HostRuntime) -> Result<(), Fail> {
-    // a text, how often it stands, and whether that is a name, a slug, a distinguisher, a description
+    // a text, how often it occurs, and whether that is a name, a slug, a distinguisher, a description
     let cases = [
         ("a", 0, [false, false, false, true]),
         ("a", 1, [true, true, true, true]),

@@ -20,7 +20,7 @@ apply failed 2
 apply done 2
 ";
 
-/// The path of a keeper a line, a hyphen for none, and how many rows it begins with; one row is put before it comes back.
+/// The path of a keeper a line, a hyphen for none, and how many rows it begins with; one row is put before it is given back.
 const STARTS: &str = "\
 - 0
 a 0
@@ -34,7 +34,7 @@ fn text_of(alloc: Global, text: &str) -> Result<Text, AllocError> {
     Ok(Text::of(String::from_str(alloc, text)?))
 }
 
-/// A VRF of id 2 comes, and the next id is 3.
+/// A VRF of id 2 is put, and the next id is 3.
 fn change(alloc: Global) -> Result<Change, AllocError> {
     let mut fields = Vec::new(alloc);
     fields.push(text_of(alloc, "red")?)?;

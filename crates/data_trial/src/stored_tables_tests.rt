@@ -7,7 +7,7 @@ use stored_tables::reading::read_row;
 use stored_tables::tables::{Row, Text, Texts};
 use stored_tables::writing::write_row;
 
-/// A case a line: whether the row is read, its kind, its id, and its texts, where a hyphen stands for the empty one.
+/// A case a line: whether the row is read, its kind, its id, and its texts, in which a hyphen is the empty one.
 const CASES: &str = "\
 yes vrfs 1 red 65000:1 true -
 yes vrfs 4294967295 red - false note
@@ -64,7 +64,7 @@ fn kind_named(name: &str) -> Kind {
     }
 }
 
-/// The row of a line, behind its first word. An id that is no number fails as for lack of memory.
+/// The row of a line, after its first word. An id that is no number fails as for lack of memory.
 fn row_of_line(alloc: Global, line: &str) -> Result<Row, AllocError> {
     let mut words = line.split(' ').skip(1);
     let kind = kind_named(words.next().unwrap_or(""));

@@ -7,8 +7,8 @@ use ipam_edge::{
 use std::alloc::{AllocError, Global};
 use std::test::Fail;
 
-/// What ten calls with room for `size` bytes read: the bytes, and a letter for each call, `r` where
-/// it read some bytes, `e` for the end and `f` where it failed.
+/// What ten calls with room for `size` bytes read: the bytes, and a letter for each call, `r` if
+/// it read some bytes, `e` for the end and `f` if it failed.
 fn read_in_ten<S: Source>(
     alloc: Global,
     source: &mut S,
@@ -42,7 +42,7 @@ fn numbers_of(alloc: Global, word: &str) -> Result<Vec<u32>, AllocError> {
     Ok(numbers)
 }
 
-/// The word of a case at an index, behind a bar each. Where there is none, the case is wrong, and the test fails as for lack of memory.
+/// The word of a case at an index, after a bar each. If there is none, the case is wrong, and the test fails as for lack of memory.
 fn word(case: &str, index: usize) -> Result<&str, AllocError> {
     case.split('|').nth(index).ok_or(AllocError)
 }
@@ -109,7 +109,7 @@ const SINKS: &str = "\
 3|2|8|register|true|0
 ";
 
-/// What is written to a sink of a case, and what it tells of that: whether all was, the faults, its bytes, whether nothing can be written
+/// What is written to a sink of a case, and what is known of that: whether all was, the faults, its bytes, whether nothing can be written
 /// then, and the bytes that it gives back.
 fn told_sink(alloc: Global, case: &str) -> Result<String, AllocError> {
     let fails = numbers_of(alloc, word(case, 0)?)?;

@@ -42,8 +42,8 @@ fn lane_of_two(alloc: Global, fails: &[u32]) -> Result<ListLane, AllocError>
     ListLane::new(alloc, pairs, Vec::from_slice(alloc, fails)?)
 }
 
-/// What a listener's one lane answers that is bound with so many connections, and `!` where the listener counts a fault once the lane
-/// came back.
+/// What a listener's one lane answers that is bound with so many connections, and `!` if the listener counts a fault once the lane
+/// was given back.
 fn trace_of(
     alloc: Global,
     bound: u32,

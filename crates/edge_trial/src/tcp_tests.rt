@@ -1,5 +1,5 @@
 //! Connections over a socket of this process: how long a client has, by a clock that a test sets; what the socket is set to; and that the
-//! last answer comes whole.
+//! last answer is received whole.
 
 use ipam_edge::{Sink, Source};
 use ipam_listen::{Lane, Listener, TcpDoor, TcpDoors};
@@ -85,7 +85,7 @@ fn send(client: &mut TcpStream, count: usize) -> Result<(), AllocError> {
     client.write_all(sent).map_err(|_| AllocError)
 }
 
-/// Does what a word of a case says, and notes of a read whether bytes came. Another word fails as for lack of memory.
+/// Does what a word of a case says, and notes of a read whether it gave bytes. Another word fails as for lack of memory.
 fn step<R, So: Source, Si: Sink>(
     timed: &Timed<'_, R>,
     client: &mut TcpStream,
@@ -113,8 +113,8 @@ fn step<R, So: Source, Si: Sink>(
 }
 
 /// What a connection's client sends and is answered, and when, by the words of a case: `t` sets the clock, in milliseconds, `s` sends so many
-/// bytes, `r` reads on the other side, and `w` writes there. Behind the bar stands of each read whether bytes came. A client has 30 seconds for a
-/// request, counted from the beginning of the connection or from the first write behind the last read, and a second more for every 500 bytes.
+/// bytes, `r` reads on the other side, and `w` writes there. After the bar, for each read, whether it gave bytes. A client has 30 seconds for a
+/// request, counted from the beginning of the connection or from the first write after the last read, and a second more for every 500 bytes.
 const CASES: &str = "\
 s1 r t29999 s1 r t30000 s1 r|++-
 s499 r t30000 s1 r|+-
@@ -126,7 +126,7 @@ s1 r t29000 w t30000 s500 r t59999 s1 r t60000 s1 r|+++-
 s1 r t29500 r|+-
 ";
 
-/// What came of the reads of a case.
+/// The outcome of the reads of a case.
 fn traced<R: Net<Listener = TcpListener, Stream = TcpStream> + Sync>(
     rt: &R,
     alloc: Global,
@@ -163,7 +163,7 @@ fn a_client_has_its_time(rt: HostRuntime) -> Result<(), Fail> {
     Ok(())
 }
 
-/// The milliseconds of a time-out, or 0 where there is none.
+/// The milliseconds of a time-out, or 0 if there is none.
 fn millis_of(timeout: io::Result<Option<Duration>>) -> u128 {
     match timeout {
         Ok(Some(time)) => time.as_millis(),
@@ -171,7 +171,7 @@ fn millis_of(timeout: io::Result<Option<Duration>>) -> u128 {
     }
 }
 
-/// What a socket is set to, where its other end is this client: whether it sends at once, and how long a write and a read wait.
+/// What a socket is set to, if its other end is this client: whether it sends at once, and how long a write and a read wait.
 fn settings_of(alloc: Global, stream: &TcpStream, client: SocketAddr) -> Option<String> {
     if stream.peer_addr().ok()? != client {
         return None;
@@ -201,7 +201,7 @@ fn settings_to(alloc: Global, client: SocketAddr) -> Option<String> {
     None
 }
 
-/// What the socket of a connection is set to, behind a read of its first byte.
+/// What the socket of a connection is set to, after a read of its first byte.
 fn settings<R: Net<Listener = TcpListener, Stream = TcpStream> + Sync>(
     rt: &R,
     alloc: Global,

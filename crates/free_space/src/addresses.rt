@@ -13,10 +13,10 @@ use block_space::Space;
 use inet_num::{Addr, Block, Family, Span};
 use std::alloc::{AllocError, Global};
 
-/// The first `limit` addresses of a block that can be given out, in order, or all of them where there are fewer: those that no
+/// The first `limit` addresses of a block that can be given out, in order, or all of them if there are fewer: those that no
 /// host has, that no held span has, and that are not kept back (`usable_bounds` says which are). The space has the block's
 /// family, and each of its blocks is one address, as often as hosts have it. The spans are in order, and no two share an
-/// address; they may begin before the block and end behind it. The one error means out of memory.
+/// address; they may begin before the block and end after it. The one error means out of memory.
 pub fn available_addrs<S: Space>(
     alloc: Global,
     hosts: &S,
@@ -54,7 +54,7 @@ pub fn available_addrs<S: Space>(
     Ok(out)
 }
 
-/// The first `limit` addresses of a range that no host has, or all of them where there are fewer. The range is given by
+/// The first `limit` addresses of a range that no host has, or all of them if there are fewer. The range is given by
 /// blocks, its pieces, whose addresses follow one another; a range keeps no address back. The pieces have the space's
 /// family, and each block of the space is one address. The one error means out of memory.
 pub fn range_addrs<S: Space>(

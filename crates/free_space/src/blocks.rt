@@ -11,7 +11,7 @@ use block_space::Space;
 use inet_num::{Addr, Block};
 use std::alloc::{AllocError, Global};
 
-/// The address behind a block inside another one, or `None` where the other one ends with it.
+/// The address after a block inside another one, or `None` if the other one ends with it.
 fn behind(within: &Block, block: &Block) -> Option<Addr>
     requires { IsInside block.now within.now }
     ensures { IsBehind within.now block.now result }
@@ -26,7 +26,7 @@ fn behind(within: &Block, block: &Block) -> Option<Addr>
     }
 }
 
-/// The first `limit` available blocks of a block, or all of them where there are fewer: the largest free blocks inside it, in
+/// The first `limit` available blocks of a block, or all of them if there are fewer: the largest free blocks inside it, in
 /// address order (blocks as in RFC 4632 and RFC 4291, each aligned at its own size). The blocks of the space that lie strictly
 /// inside it are in the way; one that equals it is the block itself and is not. The block has the space's family. The one
 /// error means out of memory.

@@ -7,7 +7,7 @@ use std::alloc::{AllocError, Global};
 use std::test::Fail;
 
 /// A case to a line: a block; lines that come in, with `;` for a line feed and `~` for a carriage return; the call that fails, as
-/// `r1` for the second read, `w0` for the first write and `e0` for the first message; and what has to come: the status, the output,
+/// `r1` for the second read, `w0` for the first write and `e0` for the first message; and what is expected: the status, the output,
 /// the messages.
 const CASES: &str =
     "10.0.0.0/16|10.0.0.0/24;10.0.4.0/22;||0|10.0.1.0/24;10.0.2.0/23;10.0.8.0/21;10.0.16.0/20;10.0.32.0/19;10.0.64.0/18;10.0.128.0/17;|
@@ -56,7 +56,7 @@ fn bytes_of(alloc: Global, column: &str) -> Result<Vec<u8>, AllocError> {
     Ok(bytes)
 }
 
-/// The number of the call that fails, where it is one of this object.
+/// The number of the call that fails, if it is one of this object.
 fn failing(alloc: Global, column: &str, object: &str) -> Result<Vec<u32>, AllocError> {
     let mut numbers = Vec::new(alloc);
     if let Some(number) = column.strip_prefix(object) {
@@ -73,7 +73,7 @@ struct Left {
     errors: Vec<u8>,
 }
 
-/// Runs over told objects that read and write at most so many bytes at once.
+/// Runs over known objects that read and write at most so many bytes at once.
 fn run_on(
     alloc: Global,
     within: &str,
@@ -96,7 +96,7 @@ fn run_on(
     })
 }
 
-/// Whether the case's line comes, with pieces of this size.
+/// Whether the case's line is given, with pieces of this size.
 fn is_met(alloc: Global, case: &str, piece: usize) -> Result<bool, Fail> {
     let mut columns = case.split('|');
     let within = columns.next().unwrap_or("");

@@ -1,4 +1,4 @@
-//! The ground tried by tables: addresses and blocks, their texts, and sets of addresses.
+//! Tests by tables: addresses and blocks, their texts, and sets of addresses.
 #![tactic(auto)]
 
 #[cfg(test)]

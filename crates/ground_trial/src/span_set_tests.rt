@@ -149,7 +149,7 @@ const COUNTS: [&str; 6] = [
     "+::-::9 +::c-::e +::10-::28|::c/128|1",
 ];
 
-/// How many addresses of the block of a case are in a set after its changes; none where all addresses of a family are asked for.
+/// How many addresses of the block of a case are in a set after its changes; none if all addresses of a family are asked for.
 fn counted(alloc: Global, case: &str) -> Result<Option<u128>, AllocError> {
     let Ok(within) = read_block(column(case, 1).as_bytes()) else {
         return Ok(None);

@@ -23,7 +23,7 @@ pub record LeadsHistory {S C : Type 0} (history : List (ℕ × C)) (turned fault
   pub mine : HasTicket turned v.stage
   -- it has seen the whole history
   pub all : v.seen ≡ history
-  -- the faults of all seats are counted by the machine that it took, until its count stands at the last value
+  -- the faults of all seats are counted by the machine that it took, until its count is at the last value
   pub total : Reaches (v.base + faults) v.total
 
 -- what the rule says of the seat at this index
@@ -34,11 +34,11 @@ pub record FitsRule {S C : Type 0} (history : List (ℕ × C)) (opening : S) (ba
   pub heavy : tickets_held v.stage ≤ v.weight
   -- what is said of the seat that has the turn
   pub turn : HasTurn v.stage → LeadsHistory history turned faults v
-  -- a live seat tells the opening state and the count of faults of the machine that the lock was made with
+  -- a live seat knows the opening state and the count of faults of the machine that the lock was made with
   pub start : v.live ≡ true → (v.opening.value ≡ opening) × (v.base ≡ base)
   -- what it has seen begins the history
   pub seen : IsPrefix v.seen history
-  -- all entries of a live seat's number stand in what it has seen
+  -- all entries of a live seat's number are in what it has seen
   pub mine : v.live ≡ true → (own_entries v.number history ≡ v.mine) × (own_entries v.number v.seen ≡ v.mine)
   -- what it heard from another seat begins what it has seen
   pub heard : IsPrefix v.heard v.seen
@@ -51,7 +51,7 @@ pub record IsAtHome {M S C A : Type 0} (W : Meaning M S C A) (history : List (�
   pub state : W.state x ≡ replay W.step opening history
   -- its accepted changes are the history
   pub log : W.log x ≡ history
-  -- its count of faults has risen by at least the faults of all seats, until it stands at the last value
+  -- its count of faults has risen by at least the faults of all seats, until it is at the last value
   pub count : Reaches (base + faults) (W.faults x)
 
 -- a lock's words, its one slot and the views of its seats
@@ -73,7 +73,7 @@ pub record KeepsOneHistory {M S C A : Type 0} (W : Meaning M S C A) (key : M) (s
   pub turned : ℕ
   -- the index of the seat that drew a ticket
   pub owner : ℕ → ℕ
-  -- the words on which waiting seats sleep, whatever stands in them
+  -- the words on which waiting seats sleep, whatever is in them
   pub bells : List ℕ
   -- the words are the ticket and the turn modulo 2^64, and the length of the history
   pub words : s.words ≡ drawn % 2 ^ 64 ∷ turned % 2 ^ 64 ∷ length history ∷ bells

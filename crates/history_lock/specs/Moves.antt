@@ -1,4 +1,4 @@
--- What each kind of step on the lock's words tells the seat that makes it. A token is a seat's view and the slots that it carries, as (view, slots).
+-- What each kind of step on the lock's words shows the seat that makes it. A token is a seat's view and the slots that it carries, as (view, slots).
 use Rattle.std.specs.Prelude.{◌≡◌, ◌≢◌, ℕ, ◌%◌, ◌^◌, List, [], ◌∷◌, true, Option, Some}
 use mathlib.Core.List.{IsPrefix}
 use Rattle.atomic_table.specs.Table.{Me, Step}
@@ -19,7 +19,7 @@ Move M = Step (Option M)
 
 -- what a seat whose turn has come knows of the machine that it took
 pub record IsTaken {M S C A : Type 0} (W : Meaning M S C A) (v : View S C) (x : M) : Type 0 where
-  -- its opening state is the one that the seat tells
+  -- its opening state is the one that the seat knows
   pub same : W.opening x ≡ v.opening.value
   -- its state is the replay of its accepted changes
   pub state : W.state x ≡ replay W.step v.opening.value (W.log x)
@@ -35,12 +35,12 @@ module _ {M S C : Type 0} where
   abbrev pub HasDrawn : Move M → Token M S C → ℕ → Token M S C → Type 0
   HasDrawn st m n m' = (t : ℕ) × (n ≡ t % 2 ^ 64) × (m' ≡ (waiting t m.0, m.1))
 
-  -- look: where the number found is the seat's ticket, the seat has the turn and takes the machine; else nothing changes
+  -- look: if the number found is the seat's ticket, the seat has the turn and takes the machine; else nothing changes
   abbrev pub HasLooked : {A : Type 0} → Meaning M S C A → Move M → Token M S C → ℕ → Token M S C → Type 0
   HasLooked W st m n m' = (t : ℕ) → m.0.stage ≡ Waits t
       → (n ≢ t % 2 ^ 64 → m' ≡ m) × (n ≡ t % 2 ^ 64 → (x : M) × IsTaken W m.0 x × (m' ≡ (leading W t x m.0, (0, Some x) ∷ m.1)))
 
-  -- publish: what the seat's call did stands in its view
+  -- publish: what the seat's call did is in its view
   abbrev pub HasPublished : List (ReplyKind × C) → Move M → Token M S C → ℕ → Token M S C → Type 0
   HasPublished done st m n m' = (k : ReplyKind) (c : C) → done ≡ (k, c) ∷ [] → m' ≡ (told k c m.0, m.1)
 
@@ -56,6 +56,6 @@ module _ {M S C : Type 0} where
   abbrev pub HasOffered : Move M → Token M S C → ℕ → Token M S C → Type 0
   HasOffered st m n m' = m' ≡ (offering st.first m.0, m.1)
 
-  -- learn: a load tells what the rule says of the seat's own view
+  -- learn: a load shows what the rule says of the seat's own view
   abbrev pub HasLearned : Move M → Token M S C → ℕ → Token M S C → Type 0
   HasLearned st m n m' = (m' ≡ m) × IsSoundView m.0

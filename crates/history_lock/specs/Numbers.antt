@@ -36,7 +36,7 @@ pub record KeepsNumbers {C : Type 0} (history : List (ℕ × C)) (hs : List (Hol
   pub apart : (i j : ℕ) (h k : Holding C) (n : ℕ) → get_elem? hs i ≡ some h → get_elem? hs j ≡ some k → OwnsNumber h n → OwnsNumber k n → i ≡ j
   -- of the numbers that a seat owns only its own number may have an entry
   pub idle : (i : ℕ) (h : Holding C) (n : ℕ) → get_elem? hs i ≡ some h → OwnsNumber h n → n ≢ h.number → own_entries n history ≡ []
-  -- each number with an entry is a live seat's or stands among one's ended numbers
+  -- each number with an entry is a live seat's or is among one's ended numbers
   pub known : (n : ℕ) → (own_entries n history ≡ []) ⊎ ((i : ℕ) × (h : Holding C) × (get_elem? hs i ≡ some h) × (h.live ≡ true) × BearsNumber h n)
   -- an ended number is owned by no live seat, and its entries in the history are those kept for it
   pub gone : (i : ℕ) (h : Holding C) (e : ℕ × List (ℕ × C)) → get_elem? hs i ≡ some h → h.live ≡ true → Contains h.ended e → ((j : ℕ) (k : Holding C) → get_elem? hs j ≡ some k → ¬ OwnsNumber k e.0) × (own_entries e.0 history ≡ e.1)

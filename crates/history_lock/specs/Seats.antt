@@ -15,7 +15,7 @@ use Rattle.history_lock.specs.declared.views.Stage.TheVariants.{Idle}
 pub record SeatView (S C : Type 0) : Type 0 where
   -- the lock that it belongs to
   pub lock : TableId
-  -- the number under which its changes stand in the history
+  -- the number under which its changes are in the history
   pub number : ℕ
   -- how many numbers it owns, its own and those that it may give to new seats
   pub spare : ℕ
@@ -58,17 +58,17 @@ pub record IsCall {S C A : Type 0} (step : S → C → S × A) (fallible : A →
   pub seat_stays : IsSameSeat v w
   -- what the seat had seen begins what it has seen now
   pub seen_only_grows : IsPrefix v.seen w.seen
-  -- the place is behind all that the seat had seen
+  -- the place is after all that the seat had seen
   pub place_is_after_seen : length v.seen ≤ place
   -- the reply has this place in what the seat has seen now
   pub reply_is_legal : IsLegalAt step fallible v.opening w.seen v.number call answer kind place
-  -- what it has seen now are the entries before the place, and its own entry where the change was accepted
+  -- what it has seen now are the entries before the place, and its own entry if the change was accepted
   pub seen_ends_at_place : w.seen ≡ grown kind (v.number, call) (take place w.seen)
-  -- its own entries are the old ones, and this call where the change was accepted
+  -- its own entries are the old ones, and this call if the change was accepted
   pub own_entries_grow : own_entries v.number w.seen ≡ grown kind (v.number, call) (own_entries v.number v.seen)
-  -- where no other seat is live nothing comes between
+  -- if no other seat is live nothing is between
   pub alone_misses_nothing : v.weight ≡ 65536 → place ≡ length v.seen
-  -- its faults rise by one exactly where the reply is a fault
+  -- its faults rise by one exactly if the reply is a fault
   pub faults_rise : w.faults ≡ v.faults + failures_of kind
 
 -- a split: the seat was v and is l, and r is new
@@ -95,14 +95,14 @@ pub record IsJoined {S C : Type 0} (v w r : SeatView S C) : Type 0 where
   -- the ended numbers of both are kept, and then the right seat's number with its own entries
   pub ended_are_kept : r.ended ≡ (v.ended ++ w.ended) ++ (w.number, own_entries w.number w.seen) ∷ []
 
--- a close: the last seat was v, and the machine x comes back
+-- a close: the last seat was v, and the machine x is given back
 pub record IsClosed {M S C A : Type 0} (W : Meaning M S C A) (v : SeatView S C) (x : M) : Type 0 where
   -- the accepted changes of the machine are just what the seat has seen
   pub log_is_seen : W.log x ≡ v.seen
-  -- its opening state is the one that the seat tells, and its state the replay of its accepted changes
+  -- its opening state is the one that the seat knows, and its state the replay of its accepted changes
   pub opening_stays : W.opening x ≡ v.opening
   pub state_is_replay : W.state x ≡ replay W.step v.opening v.seen
-  -- its count has risen by at least the faults of all seats since the lock was made, until it stands at the last value
+  -- its count has risen by at least the faults of all seats since the lock was made, until it is at the last value
   pub faults_are_counted : Reaches (v.base + v.faults) (W.faults x)
   -- each entry bears the seat's number or one of a seat that was joined to it
   pub entries_have_seats : (e : ℕ × C) → Contains v.seen e → (e.0 ≡ v.number) ⊎ ((es : List (ℕ × C)) × Contains v.ended (e.0, es))

@@ -43,7 +43,7 @@ module _ {S C : Type 0} where
   abbrev pub weight_of : View S C → ℕ
   weight_of v = v.weight
 
-  -- the faults that the seat with this view was told of
+  -- the faults that the seat with this view met
   abbrev pub faults_of : View S C → ℕ
   faults_of v = v.faults
 
@@ -84,7 +84,7 @@ module _ {M S C A : Type 0} where
   abbrev pub leading : Meaning M S C A → ℕ → M → View S C → View S C
   leading W t x v = record v { stage = Turns t; seen = W.log x; total = W.faults x }
 
--- the view once the count tells what the call did
+-- the view once the count shows what the call did
 abbrev pub told : {S C : Type 0} → ReplyKind → C → View S C → View S C
 told kind c v = record v { seen = grown kind (v.number, c) v.seen; faults = v.faults + failures_of kind; total = v.total + failures_of kind; mine = grown kind (v.number, c) v.mine }
 
@@ -98,5 +98,5 @@ pub record IsSoundView {S C : Type 0} (v : View S C) : Type 0 where
   pub numbers : v.number + v.spare ≤ 65536
   -- what it heard from another seat begins what it has seen
   pub heard : IsPrefix v.heard v.seen
-  -- all entries that it made stand in what it has seen
+  -- all entries that it made are in what it has seen
   pub mine : own_entries v.number v.seen ≡ v.mine

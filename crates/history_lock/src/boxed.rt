@@ -1,4 +1,4 @@
-//! A machine in a box is a machine: a lock then moves a pointer where it would move the whole machine.
+//! A machine in a box is a machine: a lock then moves a pointer instead of the whole machine.
 
 use crate::machine::Machine;
 

@@ -16,7 +16,7 @@ use std::sync::Wait;
 
 /// A machine that callers take turns with, and the one history of the changes that it accepted.
 ///
-/// A contract sees it as the identity that its seats tell as their `lock`.
+/// A contract sees it as the identity that its seats know as their `lock`.
 #[derive(Drop)]
 pub struct Shared<M: Machine> {
     table: Table<Option<Box<M>>, View<M::State, M::Said>, Snapshot<Box<M>>, Rule, Global>,
@@ -30,7 +30,7 @@ impl<M: Machine> Model for Shared<M> {
     ghost invariant = { λ s. (s.table.shared.table_id.words ≡ 19) × (s.table.shared.table_id.slots ≡ 1) };
 }
 
-/// The right to call under a number of its own.
+/// The right to call under its own number.
 ///
 /// A contract sees it as a `SeatView`: the lock, the number, the spare and the weight, the machine's opening state and count of faults when the lock was made, the beginning of the history that it has seen, how many faults its calls met, and the ended numbers that it keeps. A seat that is dropped leaves its entries in the history, but then the lock cannot be closed, as the seat's weight is gone.
 #[derive(Drop)]
@@ -52,13 +52,13 @@ impl<M: Machine> Model for Seat<M> {
 impl<M: Machine> Shared<M> {
     /// A lock over this machine, which has accepted no change yet, and the first seat, with the number 0, a spare of 65,536 and a weight of 65,536.
     ///
-    /// For out of memory, and for nothing else, the machine comes back as it was.
+    /// For out of memory, and for nothing else, the machine is given back unchanged.
     pub fn new(alloc: Global, machine: M) -> Result<(Shared<M>, Seat<M>), M>
         requires { M.log machine ≡ [] }
         ensures ok { IfOk result (λ r. r.1 ≡ first_seat r.0 (M.opening machine) (M.faults machine)) }
         ensures err { IfErr result (λ m. m ≡ machine) }
     {
-        // In a box, so that no call moves it.
+        // In a box, so that it never moves.
         match Box::new(alloc, machine) {
             Ok(machine) => match Shared::over(alloc, machine) {
                 Ok(made) => Ok(made),
@@ -111,7 +111,7 @@ impl<M: Machine> Shared<M> {
 
     /// Waits for the seat's turn, and lets the machine answer the call. Gives the seat back, with the reply and its place, the number of accepted changes before it.
     ///
-    /// It takes no memory beside what the machine takes, and has no answer of its own.
+    /// It takes no memory besides what the machine takes, and has no answer of its own.
     pub fn call<R: Wait>(&self, rt: &R, seat: Seat<M>, call: M::Call) -> (Seat<M>, M::Reply, u64)
         requires lock { seat.lock ≡ self.now }
         requires call { M.takes call }
@@ -236,7 +236,7 @@ fn machine_of<M>(slot: Option<M>) -> M
 }
 
 impl<M: Machine> Seat<M> {
-    /// The number under which its accepted changes stand in the history.
+    /// The number under which its accepted changes are in the history.
     pub fn who(&self) -> u32
         ensures { result ≡ self.now.number }
     {

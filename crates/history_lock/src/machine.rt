@@ -4,7 +4,7 @@ ghost use Rattle.history_lock.specs.Replies.{ReplyKind};
 ghost use Rattle.history_lock.specs.Replay.{replay};
 ghost use Rattle.history_lock.specs.Machines.{Meaning, meaning, IsAct};
 
-/// A value with a state, which takes calls and gives replies, and which tells the changes that it accepted.
+/// A value with a state, which takes calls and gives replies, and which shows the changes that it accepted.
 ///
 /// The ghost members are what contracts see of it, and cost nothing when the program runs.
 pub trait Machine {
@@ -20,7 +20,7 @@ pub trait Machine {
     /// A reply as contracts see it. No value of it is made.
     type Answer;
 
-    /// What the machine stands for. No value of it is made.
+    /// What the machine represents. No value of it is made.
     type State;
 
     /// A call as contracts see it.
@@ -32,7 +32,7 @@ pub trait Machine {
     /// Whether a reply is an accepted change, a fault, out of memory, or none of these.
     ghost kind: { Self.Reply → ReplyKind };
 
-    /// The plain answers in whose place a fault may be told.
+    /// The plain answers in whose place a fault may be reported.
     ghost fallible: { Self.Answer → Bool };
 
     /// The calls that the machine takes.
@@ -53,12 +53,12 @@ pub trait Machine {
     /// How many faults the machine met. It never falls, and may stay at the last value of a u64.
     ghost faults: { Self → ℕ };
 
-    /// The state and the reply that a call leads to where nothing fails.
+    /// The state and the reply that a call leads to if nothing fails.
     ghost step: { Self.State → Self.Said → Self.State × Self.Answer };
 
     /// Answers a call of the caller with the number `who`.
     ///
-    /// The reply is the plain step's, and the call joins the accepted changes where it is an accepted change; or the reply is a fault, or out of memory, and state and accepted changes stay. A fault is told only in place of a fallible answer, and only where the count of faults rose in this call, or stands at the last value of a u64; and the count rises only where a fault is told.
+    /// The reply is the plain step's, and the call joins the accepted changes if it is an accepted change; or the reply is a fault, or out of memory, and state and accepted changes stay. A fault is reported only in place of a fallible answer, and only if the count of faults rose in this call, or is at the last value of a u64; and the count rises only if a fault is reported.
     fn act(&mut self, who: u32, call: Self::Call) -> Self::Reply
         requires { takes call }
         ensures { IsAct (meaning opening state log faults step) fallible self.old self.new who (said call) (answer result) (kind result) };

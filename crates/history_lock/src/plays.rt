@@ -1,4 +1,4 @@
-//! The rule of the lock, and what each kind of step on its words tells the seat that makes it.
+//! The rule of the lock, and what each kind of step on its words shows the seat that makes it.
 ghost use Rattle.history_lock.specs.Machines.{meaning};
 ghost use Rattle.history_lock.specs.LockRule.{KeepsOneHistory};
 ghost use Rattle.history_lock.specs.Views.{first_view, kept_part, new_part, joined, spent_view};
@@ -37,15 +37,15 @@ impl<M: Machine> Play<Option<M>, View<M::State, M::Said>> for Draw {
     ghost then = { HasDrawn };
 }
 
-/// Looks at the turn, and takes the slot where the turn is the seat's ticket.
+/// Looks at the turn, and takes the slot if the turn is the seat's ticket.
 pub(crate) struct Look;
 
 impl<M: Machine> Play<Option<M>, View<M::State, M::Said>> for Look {
     ghost then = { HasLooked (meaning M.opening M.state M.log M.faults M.step) };
 }
 
-/// What the step that publishes is told: at most one call, and of which kind its reply was.
-/// A step has no parameters of its own, so this comes as a brand, which its caller picks.
+/// What the step that publishes is given: at most one call, and of which kind its reply was.
+/// A step has no parameters of its own, so this is given as a brand, which its caller picks.
 pub(crate) trait Recorded<C> {
     ghost use Rattle.std.specs.Prelude.{List};
     ghost use Rattle.history_lock.specs.Replies.{ReplyKind};
@@ -89,7 +89,7 @@ impl<M: Machine> Play<Option<M>, View<M::State, M::Said>> for Offer {
     ghost then = { HasOffered };
 }
 
-/// Tells a seat what the rule says of its own view.
+/// Shows a seat what the rule says of its view.
 pub(crate) struct Learn;
 
 impl<M: Machine> Play<Option<M>, View<M::State, M::Said>> for Learn {

@@ -97,7 +97,7 @@ fn wait_at_door<M: Machine, R: Wait>(rt: &R, top: &Top<M>, place: &mut Place<M>)
     unreachable!()
 }
 
-/// Wakes one caller that sleeps at the door. Costs no system call where nobody has rung there.
+/// Wakes one caller that sleeps at the door. Costs no system call if nobody has rung there.
 fn wake_at_door<M: Machine>(top: &Top<M>, place: &mut Place<M>)
     requires table { (place.old.table_id ≡ top.now.table_id) × (top.now.table_id.words ≡ 19) }
     ensures table { (place.new.table_id ≡ place.old.table_id) × (place.new.id ≡ place.old.id) }
@@ -166,7 +166,7 @@ pub(crate) fn take_turn<M: Machine, R: Wait>(rt: &R, top: &Top<M>, place: &mut P
     await_turn(rt, top, place)
 }
 
-/// Wakes the seat with this ticket where it sleeps. Costs no system call where nobody sleeps on its bell.
+/// Wakes the seat with this ticket if it sleeps. Costs no system call if nobody sleeps on its bell.
 fn wake<M: Machine>(top: &Top<M>, place: &mut Place<M>, ticket: u64)
     requires table { (place.old.table_id ≡ top.now.table_id) × (top.now.table_id.words ≡ 19) }
     ensures table { (place.new.table_id ≡ place.old.table_id) × (place.new.id ≡ place.old.id) }

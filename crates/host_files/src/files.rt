@@ -9,7 +9,7 @@ use sqlite_std_file::File;
 use sqlite_store::FileStore;
 use stored_tables::tables::{Change, Tables, Text};
 
-/// A keeper over a file of the host. It is here alone that the store of a real file is named: a type of its own, so that what is over
+/// A keeper over a file of the host. It is here alone that the store of a real file is named: its own type, so that what is over
 /// keepers has no part of that name.
 #[derive(Drop)]
 pub struct HostKeeper {
@@ -65,7 +65,7 @@ impl<'a> Connects for HostFiles<'a> {
 
     fn close(&mut self, kept: HostKeeper) {
         let HostKeeper { inner } = kept;
-        // Where the log can't be put into the file, what was committed stands in the log.
+        // If the log can't be put into the file, what was committed is in the log.
         let _ = inner.into_connection().close();
     }
 }

@@ -9,6 +9,6 @@ abbrev pub IsListening : Type 0 → Type 0 → Listening → Type 0
 IsListening came failed Whole = came
 IsListening came failed Broken = failed
 
--- a lane as the listener tells it once it has it back
+-- a lane as the listener shows it once it has it back
 abbrev pub returned_as : {L : Type 0} → (L → Option (List Connection)) → (L → ℕ) → L → Returned
 returned_as told accepts lane = record { told = told lane; accepts = accepts lane }

@@ -17,7 +17,7 @@ pub record IsServed {V : Type 0} (may : May V) (before after : Ends) (s t : V) :
   pub needed : IsReadAsNeeded bytes
   -- what was answered and written
   pub talk : IsEnd may s t before.written after.written bytes after.left how
-  -- a fault of an end comes only where its count rose, which it does with no other end
+  -- a fault of an end is returned only if its count rose, which it does with no other end
   pub source : how ≡ SourceFault → Rose before.source_faults after.source_faults
   pub source_kept : (how ≡ SourceFault) ⊎ (after.source_faults ≡ before.source_faults)
   pub sink : how ≡ SinkFault → Rose before.sink_faults after.sink_faults
@@ -32,7 +32,7 @@ abbrev pub AreServed : {V : Type 0} → May V → List Connection → V → V �
 AreServed may [] s t = t ≡ s
 AreServed {V} may (c ∷ cs) s t = (mid : V) × IsServedWhole may c s mid × AreServed may cs mid t
 
--- the seat served all connections that the lane tells
+-- the seat served all known connections of the lane
 pub record HasServed {V : Type 0} (may : May V) (s t : V) (told : Option (List Connection)) : Type 0 where
   pub connections : List Connection
   pub told_are : IfSome told (λ all. all ≡ connections)

@@ -35,7 +35,7 @@ fn serve_connection<D: Desk, A: Lane, G: Gate>(
 }
 
 /// Serves the connections of a lane, one after another, until no accept is left. An accept that failed is spent, and the next one is made.
-/// The gate is told the worker's number and how many connections it served before.
+/// The gate is given the worker's number and how many connections it served before.
 pub fn serve_lane<D: Desk, A: Lane, G: Gate>(
     alloc: Global,
     handler: &D,

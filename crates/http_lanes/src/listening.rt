@@ -6,14 +6,14 @@ use ipam_listen::Lane;
 /// How the listening went.
 #[derive(Clone, Copy, Debug)]
 pub enum Listening {
-    /// Every lane that was wanted came, and no accept failed.
+    /// Every lane that was wanted was handed out, and no accept failed.
     Whole,
-    /// A lane did not come, or an accept failed.
+    /// A lane was not handed out, or an accept failed.
     Broken,
 }
 
 impl Listening {
-    /// How both went: whole where each did.
+    /// How both went: whole if each did.
     pub fn and(self, other: Listening) -> Listening
         ensures whole { result ≡ Listening.Whole → (self ≡ Listening.Whole) × (other ≡ Listening.Whole) }
         ensures broken { result ≡ Listening.Broken → (self ≡ Listening.Broken) ⊎ (other ≡ Listening.Broken) }
@@ -25,7 +25,7 @@ impl Listening {
     }
 }
 
-/// How the listening of a lane went: it broke where an accept failed.
+/// How the listening of a lane went: it broke if an accept failed.
 pub(crate) fn heard_of<A: Lane>(lane: &A) -> Listening
     ensures whole { result ≡ Listening.Whole → A.faults lane.now ≡ 0 }
     ensures broken { result ≡ Listening.Broken → 0 < A.faults lane.now }

@@ -6,7 +6,7 @@ ghost use Rattle.http_lanes.specs.Listened.{IsListening, returned_as};
 use crate::listening::{Listening, heard_of};
 use ipam_listen::Listener;
 
-/// Takes so many lanes, for which there is room. Stops early where the listener has no lane.
+/// Takes so many lanes, for which there is room. Stops early if the listener has no lane.
 pub fn take_lanes<L: Listener>(listener: &mut L, wanted: u32, lanes: &mut Vec<L::Door>) -> Listening
     requires none_yet { lanes.old.items ≡ [] }
     requires room { wanted ≤ vec_capacity lanes.old }
@@ -27,7 +27,7 @@ pub fn take_lanes<L: Listener>(listener: &mut L, wanted: u32, lanes: &mut Vec<L:
     Listening::Whole
 }
 
-/// Gives lanes back, the first one first. The listening broke where an accept failed. It takes no memory.
+/// Gives lanes back, the first one first. The listening broke if an accept failed. It takes no memory.
 pub fn give_back_lanes<L: Listener>(listener: &mut L, lanes: Vec<L::Door>) -> Listening
     requires out { length (L.returned listener.old) + vec_len lanes ≤ L.lanes listener.old }
     ensures returned { L.returned listener.new ≡ L.returned listener.old ++ map (returned_as L.Door.told L.Door.accepts) lanes.items }

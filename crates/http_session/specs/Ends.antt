@@ -31,7 +31,7 @@ pub record IsCutShort {S : Type 0} (may : May S) (s t : S) (old new : Option (Li
   pub unfinished : IsUnfinished rest
   pub talk : IsTalk may s t old new items
 
--- the answers but the last were written, and then a front of the last one that is shorter
+-- the answers but the last were written, and then a prefix of the last one that is shorter
 pub record IsUnsaid {S : Type 0} (may : May S) (s t : S) (old new : Option (List ℕ)) (bytes : List ℕ) (ended : Type 0) : Type 0 where
   pub items : List Item
   pub last : Item
@@ -75,7 +75,7 @@ pub record HadToRead (bytes : List ℕ) : Type 0 where
   pub open_ : AllOpen items
   pub unfinished : IsUnfinished rest
 
--- no more was read than was needed: nothing is read behind an item that closes
+-- no more was read than was needed: nothing is read after an item that closes
 abbrev pub IsReadAsNeeded : List ℕ → Type 0
 IsReadAsNeeded bytes = (bytes ≡ []) ⊎ HadToRead bytes
 
@@ -94,14 +94,14 @@ pub record HasNoNext (bytes : List ℕ) : Type 0 where
   pub open_ : AllOpen items
   pub unfinished : IsUnfinished rest
 
--- what the last read of a session said: that it failed, exactly where the session ends with that
+-- what the last read of a session said: that it failed, exactly if the session ends with that
 abbrev pub IsLastRead : SessionEnd → Last → Type 0
 IsLastRead (end.Closed n) last = (last ≡ Open) ⊎ (last ≡ Told)
 IsLastRead end.SourceFault last = last ≡ Failed
 IsLastRead end.SinkFault last = (last ≡ Open) ⊎ (last ≡ Told)
 IsLastRead end.Memory last = last ≡ Open
 
--- a session: the bytes that it read, its end, and its reads, each made while the bytes so far had no whole next item, and none behind
+-- a session: the bytes that it read, its end, and its reads, each made while the bytes so far had no whole next item, and none after
 -- one that said that the input has ended, or that failed
 pub record IsSession {S R : Type 0} (may : May S) (step : Step R) (s t : S) (from to : R) (left_old left_new old new : Option (List ℕ)) (end_ : SessionEnd) : Type 0 where
   pub bytes : List ℕ
@@ -112,7 +112,7 @@ pub record IsSession {S R : Type 0} (may : May S) (step : Step R) (s t : S) (fro
   pub last_is : IsLastRead end_ last
   pub reads : GrownByReads step HasNoNext from to [] bytes last
 
--- where memory runs out, a request was not acted on, or it was and its answer is lost
+-- if memory runs out, a request was not acted on, or it was and its answer is lost
 abbrev pub IsLeft : {S : Type 0} → May S → S → Framed → S → Type 0
 IsLeft may s r t = (t ≡ s) ⊎ ((a : Answer) × may.answers s r a t)
 

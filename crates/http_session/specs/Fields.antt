@@ -57,7 +57,7 @@ is_comma byte = byte == 44
 unfoldable pub is_close : List ℕ → Bool
 is_close text = str_eq_ignore_ascii_case (trim_ows text) (codes "close")
 
--- one of the tokens of the value, which stand between commas, is `close`
+-- one of the tokens of the value, which are between commas, is `close`
 unfoldable pub names_close : List ℕ → Bool
 names_close value = list_any is_close (slice_split is_comma value)
 

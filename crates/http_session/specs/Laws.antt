@@ -4,15 +4,15 @@ use Rattle.std.specs.Prelude.{◌≡◌, ◌≤◌, ◌⊎◌, List, ◌∷◌, 
 use Rattle.http_session.specs.declared.request.Fault.TheVariants.{BadHead, LargeHead}
 use Rattle.http_session.specs.Requests.{AreAllItems, AreItems, IsItem, Item, Refuses, MayBecomeHead, NeverHead, front}
 
--- an item that was given stays as more bytes come, and what follows it grows
+-- an item that was given stays as more bytes are read, and what follows it grows
 abbrev pub MoreBytes : Type 0
 MoreBytes = (n : ℕ) (bytes more : List ℕ) (items : List Item) (rest : List ℕ) → AreItems n bytes ⊥ items rest → AreItems n (bytes ++ more) ⊥ items (rest ++ more)
 
--- what was found in the bytes that were taken are all the items of the whole input, if the end was told only where nothing is left
+-- what was found in the bytes that were taken are all the items of the whole input, if the end was reported only when nothing was left
 abbrev pub CutAnywhere : Type 0
 CutAnywhere = (taken left : List ℕ) (items : List Item) → AreAllItems taken (left ≡ []) items → AreAllItems (taken ++ left) (Unit {0}) items
 
--- the front is full, never becomes a head of at most 64 fields, and the parser still waits: it ends in a target, or the head that comes has more fields
+-- the front is full, never becomes a head of at most 64 fields, and the parser still waits: it ends in a target, or the head that follows has more fields
 abbrev pub IsCorner : List ℕ → Type 0
 IsCorner bytes = (16384 ≤ length bytes) × NeverHead (front bytes) × MayBecomeHead (front bytes)
 
@@ -37,6 +37,6 @@ pub record DifferInCorner (n : ℕ) (bytes : List ℕ) (ended : Type 0) (items o
   pub first : items ≡ same ++ item ∷ []
   pub second : others ≡ same ++ other ∷ []
 
--- the bytes have one list of all their items, unless they come to the corner, where two lists differ in their last refusal alone
+-- the bytes have one list of all their items, unless they reach the corner, where two lists differ in their last refusal alone
 abbrev pub OneList : Type 0 → Type 0
 OneList ended = (bytes : List ℕ) (items others : List Item) → AreAllItems bytes ended items → AreAllItems bytes ended others → (items ≡ others) ⊎ DifferInCorner 0 bytes ended items others

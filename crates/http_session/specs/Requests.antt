@@ -1,4 +1,4 @@
--- The items that stand in the bytes of a connection, one after another: requests (RFC 9112, sections
+-- The items that are in the bytes of a connection, one after another: requests (RFC 9112, sections
 -- 2.1 and 6), and refusals of bytes that are none.
 use Rattle.std.specs.Prelude.{◌≡◌, ℕ, ◌+◌, ◌<◌, ◌≤◌, ◌⊎◌, ◌||◌, Bool, true, false, List, [], ◌∷◌, ◌++◌, length, take, Result, Ok, Err, nat_le}
 use Rattle.httparse.specs.Grammar.{RequestHead, print_request, ReadsRequest, MayBecomeRequest}
@@ -18,7 +18,7 @@ pub record InboxView : Type 0 where
   pub bytes : List ℕ
   pub number : ℕ
 
--- a request, or a refusal of the bytes that stand in a request's place
+-- a request, or a refusal of the bytes that are in a request's place
 pub data Item : Type 0 where
   Asks : (request : Framed) → Item
   Refuses : (fault : Fault) → Item
@@ -39,7 +39,7 @@ pub record BeginsWithHead (text : List ℕ) (h : RequestHead) (rest : List ℕ) 
 abbrev pub NeverHead : List ℕ → Type 0
 NeverHead bytes = (more : List ℕ) (h : RequestHead) (rest : List ℕ) → ¬ (BeginsWithHead (bytes ++ more) h rest)
 
--- no head is whole in these bytes, and the parser says that one may come
+-- no head is whole in these bytes, and the parser says that one may follow
 pub record MayBecomeHead (bytes : List ℕ) : Type 0 where
   pub none : (h : RequestHead) (rest : List ℕ) → ¬ (BeginsWithHead bytes h rest)
   pub may : MayBecomeRequest bytes
@@ -55,27 +55,27 @@ pub record HasHead (bytes : List ℕ) (h : RequestHead) (rest : List ℕ) : Type
 
 -- ---- items
 
--- a head stands there, whose fields say this of the body
+-- a head is there, whose fields say this of the body
 abbrev pub HasLength : List ℕ → Result ℕ Fault → List ℕ → Type 0
 HasLength bytes said rest = (h : RequestHead) × HasHead bytes h rest × (length_of h ≡ said)
 
--- no head is whole in the bytes, which are fewer than 16,384, and one may come
+-- no head is whole in the bytes, which are fewer than 16,384, and one may follow
 abbrev pub StopsInHead : List ℕ → Type 0
 StopsInHead bytes = (length bytes < 16384) × MayBecomeHead bytes
 
--- a head is whole, and the body behind it is not
+-- a head is whole, and the body after it is not
 abbrev pub StopsInBody : List ℕ → Type 0
 StopsInBody bytes = (n : ℕ) × (rest : List ℕ) × HasLength bytes (Ok n) rest × (length rest < n)
 
--- the bytes stop inside a head of which one came, or inside a body
+-- the bytes stop inside a head of which one was read, or inside a body
 abbrev pub StopsShort : List ℕ → Type 0
 StopsShort bytes = ((0 < length bytes) × StopsInHead bytes) ⊎ StopsInBody bytes
 
--- more bytes have to come before the next item is known
+-- more bytes have to be read before the next item is known
 abbrev pub IsUnfinished : List ℕ → Type 0
 IsUnfinished bytes = StopsInHead bytes ⊎ StopsInBody bytes
 
--- why the bytes are refused, where they have ended or not
+-- why the bytes are refused, if they have ended or not
 abbrev pub IsRefused : List ℕ → Type 0 → Fault → Type 0
 -- they never become a head, or its fields say no length, or the input ends too early
 IsRefused bytes ended BadHead = NeverHead (front bytes) ⊎ ((rest : List ℕ) × HasLength bytes (Err BadHead) rest) ⊎ (ended × StopsShort bytes)
@@ -94,12 +94,12 @@ pub record IsRequest (n : ℕ) (bytes : List ℕ) (r : Framed) (rest : List ℕ)
   pub target : r.target ≡ head.target
   pub close : r.close ≡ (asks_close head || nat_le 999 n)
 
--- the item number n, counted from 0, at the front of the bytes, and what follows it; `ended` says that no byte comes after these
+-- the item number n, counted from 0, at the start of the bytes, and what follows it; `ended` says that no byte follows these
 abbrev pub IsItem : ℕ → List ℕ → Type 0 → Item → List ℕ → Type 0
 IsItem n bytes ended (Asks r) rest = IsRequest n bytes r rest
 IsItem n bytes ended (Refuses fault) rest = IsRefused bytes ended fault × (rest ≡ bytes)
 
--- these items, one after another, and what follows them; none stands behind one that closes
+-- these items, one after another, and what follows them; none is after one that closes
 abbrev pub AreItems : ℕ → List ℕ → Type 0 → List Item → List ℕ → Type 0
 AreItems n bytes ended [] rest = rest ≡ bytes
 AreItems n bytes ended (item ∷ items) rest =

@@ -39,13 +39,13 @@ IsShort needed bytes = length bytes < needed
 abbrev pub IsReadWhile : (List ℕ → Type 0) → List ℕ → List ℕ → Type 0
 IsReadWhile P old new = (new ≡ old) ⊎ HasLastPiece P old new
 
--- this error comes only where the count rose, which it does for no other answer, and the count never falls
+-- this error is returned only if the count rose, which it does for no other answer, and the count never falls
 pub record HasCauseOf {T E : Type 0} (fault : E) (old new : ℕ) (result : Result T E) : Type 0 where
   pub later : old ≤ new
   pub fault_rose : result ≡ Err fault → Rose old new
   pub kept : (result ≡ Err fault) ⊎ (new ≡ old)
 
--- something came, or the end, or nothing
+-- something was read, or the end, or nothing
 abbrev pub IsPiece : List ℕ → List ℕ → Option (List ℕ) → Result (Unit {0}) Short → Type 0
 IsPiece old new left (Ok x) = length old < length new
 IsPiece old new left (Err short.End) = (new ≡ old) × IsAtEnd left
@@ -74,7 +74,7 @@ IsStopLast (Err stop.End) last = last ≡ Told
 IsStopLast (Err stop.SourceFault) last = last ≡ Failed
 IsStopLast (Err stop.Memory) last = last ≡ Open
 
--- what the last read said, by what stands next
+-- what the last read said, by what comes next
 abbrev pub IsAskedLast : Asked → Last → Type 0
 IsAskedLast (asked.Request r) last = last ≡ Open
 IsAskedLast (asked.Bad fault) last = (last ≡ Open) ⊎ (last ≡ Told)
@@ -135,7 +135,7 @@ IsAsk n bytes left (Err stop.Memory) kept = kept ≡ bytes
 abbrev pub next_number : ℕ → ℕ
 next_number n = min (n + 1) (2 ^ 32 - 1)
 
--- what stands next in the bytes, of which `number` items were given before, and the inbox behind it
+-- what comes next in the bytes, of which `number` items were given before, and the inbox after it
 abbrev pub IsAsked : ℕ → List ℕ → Option (List ℕ) → Asked → InboxView → Type 0
 IsAsked n bytes left (asked.Request r) inbox = IsItem n bytes (IsAtEnd left) (Asks (framed r)) inbox.bytes × (inbox.number ≡ next_number n)
 IsAsked n bytes left (asked.Bad fault) inbox = IsItem n bytes (IsAtEnd left) (Refuses fault) inbox.bytes × (inbox.number ≡ next_number n)

@@ -17,7 +17,7 @@ pub record Answer : Type 0 where
 abbrev pub is_head : List ℕ → Bool
 is_head method = bytes_eq method (codes "HEAD")
 
--- a HEAD request is answered with the head of the answer, its length too, and no byte of the body behind it (RFC 9110, section 9.3.2;
+-- a HEAD request is answered with the head of the answer, its length too, and no byte of the body after it (RFC 9110, section 9.3.2;
 -- RFC 9112, section 6.3); a refusal has its body, whatever was asked, since no answer follows it
 abbrev pub is_bare : Item → Bool
 is_bare (Asks r) = is_head r.method

@@ -31,7 +31,7 @@ Rounds may reads writes written n s from so_far [] (a ∷ answers) t to now = �
 Rounds may reads writes written n s from so_far (item ∷ items) [] t to now = ⊥
 
 -- all reads of a session: those of the rounds, and those of the last wait, which too were made while the bytes had no whole item but
--- those that were answered; what was written behind the last wait, the last answer or a front of it, no read followed
+-- those that were answered; what was written after the last wait, the last answer or a prefix of it, no read followed
 pub record IsInTurns {S L : Type 0} (may : May S) (reads writes : Step L) (written : L → Option (List ℕ)) (s : S) (from to : L) (bytes : List ℕ) (ended : Type 0) (last : Last) : Type 0 where
   pub items : List Item
   pub answers : List Answer
@@ -55,7 +55,7 @@ pub record IsLineSession {S L : Type 0} (may : May S) (reads writes : Step L) (l
   pub last_is : IsLastRead end_ last
   pub turns : IsInTurns may reads writes written s from to bytes (IsAtEnd (left to)) last
 
--- a session ends with a fault only where the count of the side that failed rose; a count rises with no other end, and none falls
+-- a session ends with a fault only if the count of the side that failed rose; a count rises with no other end, and none falls
 pub record HasEndCause (source_old source_new sink_old sink_new : ℕ) (end_ : SessionEnd) : Type 0 where
   pub source_later : source_old ≤ source_new
   pub source : end_ ≡ SourceFault → Rose source_old source_new

@@ -36,11 +36,11 @@ fn sent_body(bare: bool, body: &[u8]) -> &[u8]
     if bare { b"" } else { body }
 }
 
-/// Writes an answer of these parts: the status line, then `Content-Type` and `Content-Length` where there is a
-/// body, `Allow` where there are methods, the field that the request handler names where there is one and
-/// `Connection: close` where the connection closes, and then the body. A bare answer, to a HEAD
-/// request, has the same head and no body behind it. `SinkFault` comes where a write failed, and
-/// then a front of the answer was written. It takes no memory.
+/// Writes an answer of these parts: the status line, then `Content-Type` and `Content-Length` if there is a
+/// body, `Allow` if there are methods, the field that the request handler names if there is one and
+/// `Connection: close` if the connection closes, and then the body. A bare answer, to a HEAD
+/// request, has the same head and no body after it. `SinkFault` is returned if a write failed, and
+/// then a prefix of the answer was written. It takes no memory.
 pub fn put_parts<S: Sink>(
     sink: &mut S,
     status: StatusCode,

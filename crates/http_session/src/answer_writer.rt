@@ -44,7 +44,7 @@ impl AnswerWriter {
         }
     }
 
-    /// Goes on with these bytes, where nothing has failed yet.
+    /// Goes on with these bytes, if nothing has failed yet.
     pub fn put<S: Sink>(&mut self, sink: &mut S, bytes: &[u8])
         ensures told { (start : Option (List ℕ)) (before : List ℕ) → IsGathered start (S.written sink.old) self.old.end self.old.gathered.items before → IsGathered start (S.written sink.new) self.new.end self.new.gathered.items (before ++ bytes.now) }
         ensures cause { (start : ℕ) → HasPutCause start (S.faults sink.old) self.old.end → HasPutCause start (S.faults sink.new) self.new.end }
@@ -63,7 +63,7 @@ impl AnswerWriter {
         }
     }
 
-    /// Goes on with a line of a name and a text, where there is one.
+    /// Goes on with a line of a name and a text, if there is one.
     pub fn put_line<S: Sink>(&mut self, sink: &mut S, there: bool, name: &[u8], text: &[u8])
         ensures told { (start : Option (List ℕ)) (before : List ℕ) → IsGathered start (S.written sink.old) self.old.end self.old.gathered.items before → IsGathered start (S.written sink.new) self.new.end self.new.gathered.items (before ++ line_where there name.now text.now) }
         ensures cause { (start : ℕ) → HasPutCause start (S.faults sink.old) self.old.end → HasPutCause start (S.faults sink.new) self.new.end }
@@ -76,7 +76,7 @@ impl AnswerWriter {
         }
     }
 
-    /// Goes on with the two fields that tell of a body, where there is one: its media type and its length.
+    /// Goes on with the two fields that describe a body, if there is one: its media type and its length.
     pub fn put_body_fields<S: Sink>(
         &mut self,
         sink: &mut S,
@@ -97,7 +97,7 @@ impl AnswerWriter {
         }
     }
 
-    /// Goes on with a field that the desk names, where there is one.
+    /// Goes on with a field that the desk names, if there is one.
     pub fn put_field<S: Sink>(&mut self, sink: &mut S, field: &Option<NumberField>)
         ensures told { (start : Option (List ℕ)) (before : List ℕ) → IsGathered start (S.written sink.old) self.old.end self.old.gathered.items before → IsGathered start (S.written sink.new) self.new.end self.new.gathered.items (before ++ field_line (option_map field_of field.now)) }
         ensures cause { (start : ℕ) → HasPutCause start (S.faults sink.old) self.old.end → HasPutCause start (S.faults sink.new) self.new.end }

@@ -1,4 +1,4 @@
-//! The head of a request, where it is whole.
+//! The head of a request, if it is whole.
 ghost use Rattle.std.specs.Prelude.{◌≡◌, ◌≤◌, ℕ, List, length};
 ghost use Rattle.http_session.specs.Steps.{IsHeadAnswer};
 
@@ -28,14 +28,14 @@ pub struct Head {
 #[derive(Drop)]
 pub enum HeadAnswer {
     Whole(Head),
-    /// No head yet: more bytes have to come.
+    /// No head yet: more bytes have to be read.
     More,
     /// No bytes that go on from these begin with a head.
     Bad,
     NoMemory,
 }
 
-/// Looks for a head of at most 64 fields at the front of the bytes, within the first 16,384.
+/// Looks for a head of at most 64 fields at the start of the bytes, within the first 16,384.
 pub fn look(alloc: Global, bytes: &[u8]) -> HeadAnswer
     ensures { IsHeadAnswer bytes.now result }
 {

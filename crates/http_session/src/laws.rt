@@ -1,4 +1,4 @@
-//! What the definition of the items of a connection comes to.
+//! What the definition of the items of a connection gives.
 ghost use Rattle.http_session.specs.Laws.{CutAnywhere, MoreBytes, OneList, OneReading};
 
 /// More bytes change no item that was given.
@@ -6,7 +6,7 @@ pub fn more_bytes()
     ensures { MoreBytes }
 {}
 
-/// The items of an input are those of the bytes that were read, however they came and whatever is
+/// The items of an input are those of the bytes that were read, in whatever parts, and whatever is
 /// left.
 pub fn cut_anywhere()
     ensures { CutAnywhere }
@@ -18,7 +18,7 @@ pub fn one_reading()
     ensures { OneReading (Unit {0}) × OneReading ⊥ }
 {}
 
-/// The bytes have one list of all their items. Where they come to that corner two lists agree up to
+/// The bytes have one list of all their items. If they reach that corner two lists agree up to
 /// it, and differ there in that one refusal alone.
 pub fn one_list()
     ensures { OneList (Unit {0}) × OneList ⊥ }

@@ -1,4 +1,4 @@
-//! HTTP/1.x over a connection that gives and takes bytes (RFC 9112): the requests that stand in the
+//! HTTP/1.x over a connection that gives and takes bytes (RFC 9112): the requests that are in the
 //! bytes, the answers as bytes, and the loop that serves one connection to its end. It knows
 //! nothing of what is asked.
 #![tactic(auto)]

@@ -32,8 +32,8 @@ pub struct NumberField {
     pub number: u64,
 }
 
-/// What a desk answers: the status, the methods of the path for status 405 (and else no bytes), a field of its own where it has
-/// one, and the body with its media type (RFC 9110 8.3), which is told where there is a body.
+/// What a desk answers: the status, the methods of the path for status 405 (and else no bytes), its own field if it has
+/// one, and the body with its media type (RFC 9110 8.3), which is given if there is a body.
 #[derive(Drop)]
 pub struct Reply {
     pub status: StatusCode,

@@ -1,4 +1,4 @@
-//! The requests that stand in the bytes of a connection, one at a time.
+//! The requests that are in the bytes of a connection, one at a time.
 ghost use Rattle.std.specs.Prelude.{◌≡◌, ◌<◌, ◌≤◌, ◌⊎◌, ◌+◌, ◌-◌, ◌^◌, ◌++◌, ℕ, List, [], length, take, drop, min, IfOk, OnErr, ◌||◌, nat_le};
 ghost use Rattle.std.specs.Io.KnownBytes.{IsAtEnd};
 ghost use Rattle.ipam_edge.specs.Faults.{Rose};
@@ -24,7 +24,7 @@ pub enum Fault {
     Coding,
 }
 
-/// A request before its route: its method and target as they stand, its body, and whether no
+/// A request before its route: its method and target as they are, its body, and whether no
 /// request follows it.
 #[derive(Debug, Drop)]
 pub struct HttpRequest {
@@ -41,11 +41,11 @@ pub struct Inbox {
     number: u32,
 }
 
-/// What stands next.
+/// What comes next.
 #[derive(Drop)]
 pub enum Asked {
     Request(HttpRequest),
-    /// The bytes are no request, and nothing behind them is read.
+    /// The bytes are no request, and nothing after them is read.
     Bad(Fault),
     /// The input has ended between two requests.
     End,
@@ -118,7 +118,7 @@ fn drop_front(bytes: &mut Vec<u8>, count: usize)
     bytes.truncate(left);
 }
 
-/// The request with this head at the front of the bytes, which lose it.
+/// The request with this head at the start of the bytes, which lose it.
 fn take_request(
     alloc: Global,
     bytes: &mut Vec<u8>,
@@ -143,7 +143,7 @@ fn take_request(
     })
 }
 
-/// The next request at the front of the bytes and of what the source gives.
+/// The next request at the start of the bytes and of what the source gives.
 fn ask<S: Source>(
     alloc: Global,
     source: &mut S,
@@ -171,9 +171,9 @@ fn ask<S: Source>(
 }
 
 /// The next item of the bytes that the inbox has and the source has left, read in pieces of at most
-/// 4,096 bytes: a request, a refusal of the bytes that stand in its place, or the end of the input
-/// between two requests. `SourceFault` comes where a read failed while more bytes were needed,
-/// `Memory` where memory ran out; after both no byte is lost, and the call may be made again.
+/// 4,096 bytes: a request, a refusal of the bytes that are in its place, or the end of the input
+/// between two requests. `SourceFault` is returned if a read failed while more bytes were needed,
+/// `Memory` if memory ran out; after both no byte is lost, and the call may be made again.
 pub fn next_request<S: Source>(alloc: Global, source: &mut S, inbox: &mut Inbox) -> Asked
     ensures item { (all : List ℕ) × Grown (S.left source.old) (S.left source.new) inbox.old.bytes all × IsAsked inbox.old.number all (S.left source.new) result inbox.new × IsReadWhile IsUnfinished inbox.old.bytes all
         × IsReadUntil S.reads IsUnfinished source.old source.new inbox.old.bytes all (λ last. IsAskedLast result last) }

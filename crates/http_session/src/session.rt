@@ -57,7 +57,7 @@ pub enum SessionEnd {
     Memory,
 }
 
-/// Whether the method is HEAD, whose answers have no byte behind their head.
+/// Whether the method is HEAD, whose answers have no byte after their head.
 fn is_head(method: &[u8]) -> bool
     ensures { result ≡ is_head method.now }
 {
@@ -65,8 +65,8 @@ fn is_head(method: &[u8]) -> bool
 }
 
 /// Serves one connection to its end, over a line. Each read is made while the bytes so far have no
-/// whole item but those whose answers were written whole before, so that no client waits for an
-/// answer while the session waits for its bytes. The ends are those of `serve`.
+/// whole item but those whose answers were written whole before, so that a client never waits
+/// for an answer while the session waits for its bytes. The ends are those of `serve`.
 pub fn serve_line<D: Desk, L: Line>(
     alloc: Global,
     desk: &D,
@@ -131,10 +131,10 @@ fn serve_both<D: Desk, R: Source, W: Sink>(
 }
 
 /// Serves one connection to its end: answers its requests in order, until one closes, or the bytes
-/// are refused, or the input ends. The answer to HEAD is the head alone. `SourceFault` comes where a read failed, with all requests that
-/// lay whole in the bytes read answered; `SinkFault` where a write failed, with a front of the last
-/// answer written; `Memory` where memory ran out. The count of either rises with its own fault alone. It serves the two as one line, as
-/// `serve_line` does, which says which reads came before which writes.
+/// are refused, or the input ends. The answer to HEAD is the head alone. `SourceFault` is returned if a read failed, with all requests that
+/// lay whole in the bytes read answered; `SinkFault` if a write failed, with a prefix of the last
+/// answer written; `Memory` if memory ran out. The count of either rises with its own fault alone. It serves the two as one line, as
+/// `serve_line` does, which says which reads were before which writes.
 pub fn serve<D: Desk, R: Source, W: Sink>(
     alloc: Global,
     desk: &D,

@@ -9,7 +9,7 @@ use crate::request::Stop;
 use ipam_edge::{Failed, Source};
 use std::alloc::{AllocError, Global};
 
-/// Why no more bytes came.
+/// Why no more bytes were read.
 #[derive(Clone, Copy, Debug, PartialEq, Eq)]
 pub enum Short {
     End,
@@ -48,7 +48,7 @@ fn read_piece<S: Source>(source: &mut S, bytes: &mut Vec<u8>) -> Result<(), Shor
     Ok(())
 }
 
-/// Reads until a head stands at the front, or cannot come.
+/// Reads until a head is at the front, or cannot follow.
 pub fn wait_for_head<S: Source>(
     alloc: Global,
     source: &mut S,
@@ -84,7 +84,7 @@ pub fn wait_for_head<S: Source>(
     }
 }
 
-/// Reads until so many bytes are there.
+/// Reads until it has so many bytes.
 pub fn wait_for_body<S: Source>(
     source: &mut S,
     bytes: &mut Vec<u8>,

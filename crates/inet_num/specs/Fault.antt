@@ -1,5 +1,5 @@
 -- Why a text is no address, host or block text: the first fault that holds, in the order Shape, then Octet or Group from
--- the left, Length, HostBits. A fault of the address text comes before one of the length behind it (RFC 4291 2.2 and 2.3,
+-- the left, Length, HostBits. A fault of the address text is returned before one of the length after it (RFC 4291 2.2 and 2.3,
 -- RFC 4632 3.1). An address text with a colon is one of IPv6, every other one of IPv4.
 use Rattle.std.specs.Prelude.{ℕ, ◌≡◌, ◌+◌, ◌≤◌, Bool, true, false, not, ◌&&◌, ◌||◌, nat_lt, nat_le, nat_eq, List, [], ◌∷◌, length, if◌then◌else◌, ◌==◌, count_by, codes}
 use Rattle.std.specs.List.{list_any, list_all, slice_split, starts_with, ends_with}
@@ -23,7 +23,7 @@ quad_fault_of text = if count_by is_period text == 3 then Octet else Shape
 
 -- ---- a text with a colon
 
--- what stands between the colons, of which there is one fewer; `::` makes an empty piece
+-- what is between the colons, of which there is one fewer; `::` makes an empty piece
 abbrev pub pieces_of : List ℕ → List (List ℕ)
 pieces_of text = slice_split is_colon text
 
@@ -33,17 +33,17 @@ last_of [] = []
 last_of (p ∷ []) = p
 last_of (p ∷ q ∷ rest) = last_of (q ∷ rest)
 
--- how often two colons stand side by side: `:::` counts twice
+-- how often two colons are side by side: `:::` counts twice
 abbrev pub colon_pairs_of : List ℕ → ℕ
 colon_pairs_of [] = 0
 colon_pairs_of (a ∷ []) = 0
 colon_pairs_of (a ∷ b ∷ rest) = (if is_colon a && is_colon b then 1 else 0) + colon_pairs_of (b ∷ rest)
 
--- a single colon stands first
+-- a single colon comes first
 abbrev pub begins_single : List ℕ → Bool
 begins_single text = starts_with nat_eq text (codes ":") && not (starts_with nat_eq text (codes "::"))
 
--- a single colon stands last
+-- a single colon comes last
 abbrev pub ends_single : List ℕ → Bool
 ends_single text = ends_with nat_eq text (codes ":") && not (ends_with nat_eq text (codes "::"))
 
@@ -54,7 +54,7 @@ is_written (b ∷ bs) = true
 abbrev pub is_dotted : List ℕ → Bool
 is_dotted piece = list_any is_period piece
 
--- how many groups the pieces stand for: one each, but a dotted last one two
+-- how many groups the pieces represent: one each, but a dotted last one two
 abbrev pub group_count_of : List (List ℕ) → ℕ
 group_count_of pieces = count_by is_written pieces + (if is_dotted (last_of pieces) then 1 else 0)
 
@@ -67,7 +67,7 @@ is_count_wrong text =
 abbrev pub is_quad_misshapen : List ℕ → Bool
 is_quad_misshapen piece = is_dotted piece && not (count_by is_period piece == 3)
 
--- the shape is wrong: `::` stands twice, a single colon first or last, the number of groups, or that of a quad's parts
+-- the shape is wrong: `::` occurs twice, a single colon first or last, the number of groups, or that of a quad's parts
 abbrev pub is_misshapen : List ℕ → Bool
 is_misshapen text =
     nat_lt 1 (colon_pairs_of text) || begins_single text || ends_single text || is_count_wrong text
@@ -101,7 +101,7 @@ pub record IsAddressFault (text : List ℕ) (fault : TextFault) : Type 0 where
   pub none : IsNoAddressText text
   pub is : fault ≡ address_fault_of text
 
--- an address stands before the slash, but behind it no length that the family has
+-- an address is before the slash, but after it no length that the family has
 pub record IsLengthFault (text : List ℕ) : Type 0 where
   pub addr : Address
   pub address : IsAddressText (front_of text) addr

@@ -28,7 +28,7 @@ pub record HaveJust (family : Family) (set : ℕ → Type 0) (bs : List Cidr) : 
   pub each : AllByRecursion (IsWithin family set) bs
   pub covers : (a : ℕ) → set a → IsTrue (is_taken bs a)
 
--- each largest block needs a block of its own: no list of blocks that has just the addresses of a set is shorter than one of
+-- each largest block needs its own block: no list of blocks that has just the addresses of a set is shorter than one of
 -- its largest blocks in address order; the set is that of the numbers which meet a test
 abbrev pub LargestAreFewest : Type 0
 LargestAreFewest = (family : Family) (is_in : ℕ → Bool) (bs cs : List Cidr) → AllByRecursion (IsLargest family (λ a. IsTrue (is_in a))) bs → InOrder 0 bs

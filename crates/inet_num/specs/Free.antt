@@ -1,4 +1,4 @@
--- What of a block is free beside a list of blocks of its family, and its available blocks: the largest free blocks,
+-- What of a block is free given a list of blocks of its family, and its available blocks: the largest free blocks,
 -- in address order, as an operator reads them off a register.
 use Rattle.std.specs.Prelude.{◌≡◌, ℕ, ◌+◌, ◌%◌, ◌<◌, ◌≤◌, Bool, false, not, ◌&&◌, ◌==◌, nat_lt, nat_le, List, [], ◌∷◌, Contains, filter, map, if◌then◌else◌}
 use Rattle.std.specs.List.{list_any, flat_map, AllByRecursion}
@@ -51,7 +51,7 @@ is_available within blocks b =
 unfoldable pub blocks_at : Cidr → ℕ → List Cidr
 blocks_at within a = map (λ l. record { family = within.family; first = a; len = l }) (numbers_from 0 (width_of within.family + 1))
 
--- the block, where it is available, and else nothing
+-- the block, if it is available, and else nothing
 abbrev pub picked_of : Cidr → List Cidr → Cidr → List Cidr
 picked_of within blocks b = if is_available within blocks b then b ∷ [] else []
 
@@ -59,7 +59,7 @@ picked_of within blocks b = if is_available within blocks b then b ∷ [] else [
 unfoldable pub picked_at : Cidr → List Cidr → ℕ → List Cidr
 picked_at within blocks a = filter (is_available within blocks) (blocks_at within a)
 
--- the available blocks of a block beside a list of blocks of its family, in address order
+-- the available blocks of a block given a list of blocks of its family, in address order
 unfoldable pub available_blocks_of : Cidr → List Cidr → List Cidr
 available_blocks_of within blocks = flat_map (picked_at within blocks) (addresses_of within)
 

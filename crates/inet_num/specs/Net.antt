@@ -61,7 +61,7 @@ enclosing_of b =
     let size = 2 ^ (width_of b.family - (b.len - 1)) in
     record { family = b.family; first = b.first / size * size; len = b.len - 1 }
 
--- an address with a length behind it
+-- an address with a length after it
 abbrev pub block_at : Address → ℕ → Cidr
 block_at a len = record { family = a.family; first = a.value; len = len }
 

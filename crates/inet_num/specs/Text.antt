@@ -29,19 +29,19 @@ IsNoAddressText text = (a : Address) → ¬ IsAddressText text a
 abbrev pub is_slash : ℕ → Bool
 is_slash b = b == 47
 
--- what stands before the first slash
+-- what is before the first slash
 abbrev pub front_of : List ℕ → List ℕ
 front_of text = before_first is_slash text
 
--- behind the first slash stands this length, and nothing else
+-- after the first slash is this length, and nothing else
 abbrev pub EndsInLength : List ℕ → ℕ → Type 0
 EndsInLength text len = text ≡ front_of text ++ 47 ∷ decimal len
 
--- no slash stands in the text
+-- no slash is in the text
 abbrev pub HasNoSlash : List ℕ → Type 0
 HasNoSlash text = front_of text ≡ text
 
--- an address text alone, whose length is then the family's width, or with a slash and a length behind it
+-- an address text alone, whose length is then the family's width, or with a slash and a length after it
 pub record IsHostText (text : List ℕ) (a : Address) (len : ℕ) : Type 0 where
   pub address : IsAddressText (front_of text) a
   pub length_is : (HasNoSlash text × (len ≡ width_of a.family)) ⊎ (EndsInLength text len × (len ≤ width_of a.family))
@@ -61,7 +61,7 @@ canonical_text_of V6 n = hex_groups_text (segments_of (to_be_bytes w128 n))
 abbrev pub block_text_of : Cidr → List ℕ
 block_text_of b = canonical_text_of b.family b.first ++ 47 ∷ decimal b.len
 
--- the canonical text of an address is read as that address, and with no length behind it as a host of the full length
+-- the canonical text of an address is read as that address, and with no length after it as a host of the full length
 pub record AddressIsRead (a : Address) : Type 0 where
   pub address : IsAddressText (canonical_text_of a.family a.value) a
   pub host : IsHostText (canonical_text_of a.family a.value) a (width_of a.family)

@@ -7,7 +7,7 @@ ghost use Rattle.inet_num.specs.Fault.{is_colon, is_period, is_dotted, is_writte
 
 use crate::text::TextFault;
 
-/// What stands before the first colon, and what follows it.
+/// What is before the first colon, and what follows it.
 fn next_piece(text: &[u8]) -> (&[u8], Option<&[u8]>)
     ensures some { IfSome result.1 (λ rest. pieces_of text.now ≡ result.0.now ∷ pieces_of rest.now) }
     ensures shorter { IfSome result.1 (λ rest. length rest.now < length text.now) }
@@ -53,7 +53,7 @@ fn last_piece(text: &[u8]) -> &[u8]
     }
 }
 
-/// Whether two colons stand side by side here.
+/// Whether two colons are side by side here.
 fn is_pair(text: &[u8], i: usize) -> bool
     requires { i < length text.now }
     ensures { result ≡ (is_colon (slice_index text.now i) && is_colon (slice_index text.now (i + 1))) }
@@ -68,7 +68,7 @@ fn is_pair(text: &[u8], i: usize) -> bool
     }
 }
 
-/// How often two colons stand side by side.
+/// How often two colons are side by side.
 fn colon_pairs(text: &[u8]) -> usize
     ensures { result ≡ colon_pairs_of text.now }
 {
@@ -130,14 +130,14 @@ fn has_wrong_count(text: &[u8]) -> bool
     }
 }
 
-/// Whether a single colon stands first.
+/// Whether a single colon comes first.
 fn begins_single(text: &[u8]) -> bool
     ensures { result ≡ begins_single text.now }
 {
     text.starts_with(b":") && !text.starts_with(b"::")
 }
 
-/// Whether a single colon stands last.
+/// Whether a single colon comes last.
 fn ends_single(text: &[u8]) -> bool
     ensures { result ≡ ends_single text.now }
 {
@@ -170,7 +170,7 @@ fn is_misshapen(text: &[u8]) -> bool
     is_quad_misshapen(last_piece(text))
 }
 
-/// The fault of the last piece, where each one before it is good.
+/// The fault of the last piece, if each one before it is good.
 fn last_fault(piece: &[u8]) -> TextFault
     ensures { result ≡ pieces_fault_of (piece.now ∷ []) }
 {

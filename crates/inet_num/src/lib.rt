@@ -74,7 +74,7 @@ impl Model for Addr {
 }
 
 impl Addr {
-    /// The address of this number, or `None` where the family has no such number.
+    /// The address of this number, or `None` if the family has no such number.
     pub fn of(family: Family, value: u128) -> Option<Addr>
         ensures some { IfSome result (λ a. a ≡ record { family = family; value = value }) }
         ensures cause { IsSome result ↔ (value < 2 ^ width_of family) }
@@ -152,7 +152,7 @@ fn low_ones(family: Family, len: u8) -> u128
 }
 
 impl Block {
-    /// The block of this length at this address, or `None` where the length exceeds the family's width or the address has
+    /// The block of this length at this address, or `None` if the length exceeds the family's width or the address has
     /// a bit set past the length.
     #[tactic(auto, using(crate::proofs::Numbers::and_ones))]
     pub fn of(addr: Addr, len: u8) -> Option<Block>

@@ -43,7 +43,7 @@ fn is_one(within: &Block, children: &[Block], block: &Block) -> bool
     is_met(children, &enclosing)
 }
 
-/// Appends the block of this length at an address, where it is an available block.
+/// Appends the block of this length at an address, if it is an available block.
 fn push_one(
     within: &Block,
     children: &[Block],
@@ -82,7 +82,7 @@ fn push_at(
     Ok(())
 }
 
-/// The available blocks of a block beside its children, found by looking at every address and every length.
+/// The available blocks of a block given its children, found by looking at every address and every length.
 pub fn available_blocks(
     alloc: Global,
     within: &Block,
@@ -107,8 +107,8 @@ pub fn available_blocks_are_those()
     ensures { AvailableBlocksAreThose }
 {}
 
-/// No list of blocks that has just the addresses of a set is shorter than the list of its largest blocks: each of them needs a
-/// block of its own.
+/// No list of blocks that has just the addresses of a set is shorter than the list of its largest blocks: each of them needs its
+/// own block.
 pub fn largest_are_fewest()
     ensures { LargestAreFewest }
 {}

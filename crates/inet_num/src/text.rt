@@ -10,7 +10,7 @@ use crate::fault::address_fault;
 use crate::{Addr, Block, Family, low_ones};
 use std::net::{Ipv4Addr, Ipv6Addr};
 
-/// Why a text is no address, host or block. Where several hold, the one is the first of Shape, then Octet or Group from the
+/// Why a text is no address, host or block. If several hold, the one is the first of Shape, then Octet or Group from the
 /// left, Length, HostBits. An address text with a colon is one of IPv6 (RFC 4291 2.2), every other one of IPv4.
 #[derive(Clone, Copy, Debug)]
 pub enum TextFault {
@@ -18,10 +18,10 @@ pub enum TextFault {
     Octet,
     /// A part between colons is not one to four hexadecimal digits. So is a dotted one that is not the last.
     Group,
-    /// The number of parts or groups is wrong, `::` stands twice, or a single colon stands first or last.
+    /// The number of parts or groups is wrong, `::` occurs twice, or a single colon comes first or last.
     Shape,
     /// What follows the first slash is not a decimal number without a leading zero from 0 to the family's width, or no slash
-    /// stands there although a block is read.
+    /// is there although a block is read.
     Length,
     /// The address has a bit set past the length. It carries the block with those bits cleared.
     HostBits(Block),
@@ -49,7 +49,7 @@ fn read_groups(text: &[u8]) -> Option<u128>
     }
 }
 
-/// Reads an address that has no length behind it, as `10.0.0.1` or `2001:db8::1` (RFC 4291 2.2). It takes no memory. Where
+/// Reads an address that has no length after it, as `10.0.0.1` or `2001:db8::1` (RFC 4291 2.2). It takes no memory. If
 /// the text is no address's, the fault says why, and is the first that holds: Shape, or else Octet or Group.
 pub fn read_addr(text: &[u8]) -> Result<Addr, TextFault>
     ensures ok { IfOk result (IsAddressText text.now) }
@@ -115,7 +115,7 @@ fn read_length(text: &[u8], family: Family) -> Option<u8>
     Some(len)
 }
 
-/// What stands before the first slash, and what follows it.
+/// What is before the first slash, and what follows it.
 fn cut(text: &[u8]) -> (&[u8], Option<&[u8]>)
     ensures front { result.0.now ≡ front_of text.now }
     ensures some { IfSome result.1 (λ rest. text.now ≡ front_of text.now ++ 47 ∷ rest.now) }
@@ -130,8 +130,8 @@ fn cut(text: &[u8]) -> (&[u8], Option<&[u8]>)
     (text, None)
 }
 
-/// Reads an address with a length behind it or none, as `10.0.0.1/24` or `2001:db8::1`: the address and the length,
-/// which without `/L` is the family's width. Bits past the length may be set. It takes no memory. Where the text is no
+/// Reads an address with a length after it or none, as `10.0.0.1/24` or `2001:db8::1`: the address and the length,
+/// which without `/L` is the family's width. Bits past the length may be set. It takes no memory. If the text is no
 /// host's, the fault says why, and is the first that holds in the order Shape, Octet or Group, Length.
 pub fn read_host(text: &[u8]) -> Result<(Addr, u8), TextFault>
     ensures ok { IfOk result (λ host. IsHostText text.now host.0 host.1) }
@@ -154,7 +154,7 @@ pub fn read_host(text: &[u8]) -> Result<(Addr, u8), TextFault>
 }
 
 /// Reads a block: an address, a slash and a length, as `10.0.0.0/8` (RFC 4632 3.1) or `2001:db8::/32` (RFC 4291 2.3). It
-/// takes no memory. Where the text is no block's, the fault says why, and is the first that holds in the order Shape, Octet
+/// takes no memory. If the text is no block's, the fault says why, and is the first that holds in the order Shape, Octet
 /// or Group, Length, HostBits.
 pub fn read_block(text: &[u8]) -> Result<Block, TextFault>
     ensures ok { IfOk result (IsBlockText text.now) }

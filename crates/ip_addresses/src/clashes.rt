@@ -1,4 +1,4 @@
-//! Which addresses may not stand beside one another in a table that enforces: those with one host, unless both have a shared role.
+//! Which addresses may not be next to one another in a table that enforces: those with one host, unless both have a shared role.
 
 ghost use Rattle.std.specs.Prelude.{◌≡◌, ℕ, ◌+◌, ◌<◌, ◌≤◌, ◌&&◌, not, Some, drop, find, length, slice_get, option_map};
 ghost use Rattle.std.specs.List.{count_by};
@@ -61,7 +61,7 @@ fn is_clashing(row: &IpAddress, other: &IpAddress) -> bool
                 && !(shares(row) && shares(other))))
 }
 
-/// The same, where the other one's id is above `past`.
+/// The same, if the other one's id is above `past`.
 fn is_clashing_past(past: u32, row: &IpAddress, other: &IpAddress) -> bool
     ensures { result ≡ clashes_past past row.now other.now }
 {
@@ -84,7 +84,7 @@ fn clash_from<S: Space + Drop>(book: &AddressBook<S>, from: u32, row: &IpAddress
     None
 }
 
-/// The id of the one other row with the row's host in its table, where its id is above `past` and it clashes with the row.
+/// The id of the one other row with the row's host in its table, if its id is above `past` and it clashes with the row.
 fn only_clash<S: Space + Drop>(book: &AddressBook<S>, past: u32, row: &IpAddress) -> Option<u32>
     requires order { IsInOrder book.now }
     requires one { count_by (is_placed_rival address_id placed_address row.now) book.now.rows ≡ 1 }
@@ -103,7 +103,7 @@ fn only_clash<S: Space + Drop>(book: &AddressBook<S>, past: u32, row: &IpAddress
     None
 }
 
-/// The id of the first row behind the row at an index that clashes with that one.
+/// The id of the first row after the row at an index that clashes with that one.
 fn clash_behind<S: Space + Drop>(book: &AddressBook<S>, index: u32, row: &IpAddress) -> Option<u32>
     requires order { IsInOrder book.now }
     requires at { Some row.now ≡ slice_get book.now.rows index }
@@ -117,7 +117,7 @@ fn clash_behind<S: Space + Drop>(book: &AddressBook<S>, index: u32, row: &IpAddr
     }
 }
 
-/// The least id of another row that clashes with the row: any with its host in its table, where its own role is not shared.
+/// The least id of another row that clashes with the row: any with its host in its table, if its own role is not shared.
 pub fn least_clash<S: Space + Drop>(book: &AddressBook<S>, row: &IpAddress) -> Option<u32>
     requires { IsInOrder book.now }
     ensures { result ≡ least_rival address_id clashes book.now.rows row.now }

@@ -1,4 +1,4 @@
-//! The addresses of the register: a book of rows with a place, where a host is a block of one address, and the rules that it answers
+//! The addresses of the register: a book of rows with a place, in which a host is a block of one address, and the rules that it answers
 //! of addresses.
 #![tactic(auto)]
 
@@ -27,14 +27,14 @@ pub trait AddressRules {
     /// The book is in order: what it answers by is of just these addresses.
     ghost ordered: { Self → Type 0 };
 
-    /// The first rule that the row breaks beside the rows of other ids, past the VRF that it names: `ZeroMask`, `SlaacFamily`,
-    /// `DnsName`, or, where its table enforces, `Duplicate` with the least id of another row of the table with its host, unless both
-    /// have a shared role. It looks at all rows only where the row's own role is shared and several others have its host.
+    /// The first rule that the row breaks given the rows of other ids, past the VRF that it names: `ZeroMask`, `SlaacFamily`,
+    /// `DnsName`, or, if its table enforces, `Duplicate` with the least id of another row of the table with its host, unless both
+    /// have a shared role. It looks at all rows only if the row's own role is shared and several others have its host.
     fn fault(&self, row: &IpAddress, enforcing: bool) -> Option<Rule>
         requires { ordered self.now }
         ensures { result ≡ address_fault (rows self.now) row.now enforcing };
 
-    /// The least ids of two addresses of the table that may not stand in one that enforces, or `None`: the lesser id is the least of
+    /// The least ids of two addresses of the table that may not be in one that enforces, or `None`: the lesser id is the least of
     /// one that has a later one that clashes with it. It looks at later rows only of a row whose host several others have.
     fn coincide(&self, table: Table) -> Option<(u32, u32)>
         requires { ordered self.now }

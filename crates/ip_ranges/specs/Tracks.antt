@@ -31,7 +31,7 @@ entry_of row = record { lane = lane_of (table_of row.vrf) row.ends.start.family;
 abbrev pub spot_of : Table → Address → Entry
 spot_of table a = record { lane = lane_of table a.family; span = record { first = a; last = a } }
 
--- where an address of a lane stands among those of all lanes
+-- where an address of a lane is among those of all lanes
 abbrev pub number : ℕ → ℕ → ℕ
 number lane value = lane * 2 ^ 128 + value
 
@@ -76,20 +76,20 @@ EndBefore place es i = IsPartitionPoint (λ e. high e < place) (λ e. place ≤ 
 abbrev pub lane_spans : ℕ → List Entry → List Span
 lane_spans lane entries = map (λ e. e.span) (filter (is_in_lane lane) entries)
 
--- each begins behind the end of the one before it, and not behind its own
+-- each begins after the end of the one before it, and not after its own
 abbrev pub AreSeparate : ℕ → List Entry → Type 0
 AreSeparate from [] = Unit {0}
 AreSeparate from (e ∷ es) = (from ≤ low e) × (low e ≤ high e) × AreSeparate (high e + 1) es
 
--- the entry leaves them separate where it is put in at an index
+-- the entry leaves them separate if it is put in at an index
 pub record FitsAt (entries : List Entry) (at : ℕ) (entry : Entry) : Type 0 where
   pub order : low entry ≤ high entry
   pub before : (d : Entry) (i : ℕ) → i + 1 ≡ at → high (slice_index_or entries i d) < low entry
   pub behind : (d : Entry) → at < length entries → high entry < low (slice_index_or entries at d)
 
--- ---- entries beside the rows
+-- ---- entries, and the rows
 
--- 1 where it is so
+-- 1 if it is so
 abbrev pub one : Bool → ℕ
 one t = cond t 1 0
 
@@ -101,11 +101,11 @@ passes which p row = is_meant which row && p (entry_of row)
 abbrev pub IsTrackOf : SpanKind → List IpRange → List Entry → Type 0
 IsTrackOf which rows entries = (p : Entry → Bool) → count_by p entries ≡ count_by (passes which p) rows
 
--- 1 where there is a row, and it passes
+-- 1 if there is a row, and it passes
 abbrev pub one_of : (IpRange → Bool) → Option IpRange → ℕ
 one_of t None = 0
 one_of t (Some row) = one (t row)
 
--- where the row is put, no track changes: one of its id is there, and the two pass the same tests
+-- if the row is put, no track changes: one of its id exists, and the two pass the same tests
 abbrev pub IsKept : List IpRange → IpRange → Type 0
 IsKept rows row = (which : SpanKind) (p : Entry → Bool) → one_of (passes which p) (row_at range_id rows row.id) ≡ one (passes which p row)

@@ -62,7 +62,7 @@ fn spot(table: Table, host: Addr) -> Entry
     }
 }
 
-/// Takes the entry of the row of an id out of a track, where there is such a row and it is meant.
+/// Takes the entry of the row of an id out of a track, if there is such a row and it is meant.
 fn forget(rows: &RowBook<IpRange>, which: SpanKind, track: &mut Track, id: u32)
     requires { IsTrackOf which rows.now.rows track.old.entries }
     ensures counts { (p : SeenEntry → Bool) → count_by p track.new.entries + one_of (passes which p) (row_at range_id rows.now.rows id) ≡ count_by p track.old.entries }
@@ -89,7 +89,7 @@ fn is_meant(which: SpanKind, row: &IpRange) -> bool
     }
 }
 
-/// Puts the entry of a row into a track, where it is meant.
+/// Puts the entry of a row into a track, if it is meant.
 fn note(which: SpanKind, track: &mut Track, row: &IpRange)
     requires { 1 ≤ track.old.spare }
     ensures counts { (p : SeenEntry → Bool) → count_by p track.new.entries ≡ count_by p track.old.entries + one (passes which p row.now) }
@@ -100,7 +100,7 @@ fn note(which: SpanKind, track: &mut Track, row: &IpRange)
     }
 }
 
-/// Whether the row of the row's id is there, with its span, its table and its marks.
+/// Whether the row of the row's id exists, with its span, its table and its marks.
 fn is_kept(rows: &RowBook<IpRange>, row: &IpRange) -> bool
     ensures { IsTrue result → IsKept rows.now.rows row.now }
 {
@@ -179,8 +179,8 @@ impl RangeBook {
         }
     }
 
-    /// A range as blocks, in address order: the fewest that have just its addresses. The range of the id is there. `Err` is want of
-    /// memory.
+    /// A range as blocks, in address order: the fewest that have just its addresses. The range of the id exists. `Err` means out
+    /// of memory.
     pub fn pieces(&self, id: u32) -> Result<Vec<Block>, AllocError>
         requires there { IsSome (row_at range_id self.now.rows id) }
         requires each { AllAre IsRange self.now.rows }
@@ -192,7 +192,7 @@ impl RangeBook {
         }
     }
 
-    /// The first rule past the rows that it names that a range breaks beside the rows of other ids: `RangeFamily`, `ZeroMask`,
+    /// The first rule past the rows that it names that a range breaks given the rows of other ids: `RangeFamily`, `ZeroMask`,
     /// `RangeOrder`, `RangeSize`, or `RangeOverlap` with the least id of one of its table with which it shares an address. It takes no
     /// memory. That none crosses it is found by halving, as long as no two of a table do; else it looks at all rows.
     #[tactic(auto, unfolding(ipam_data::specs::Ranges::range_fault))]
@@ -230,7 +230,7 @@ impl RangeBook {
         None
     }
 
-    /// Puts a row where its span, its table and its marks stay: the tracks stay as they are.
+    /// Puts a row if its span, its table and its marks stay: the tracks stay as they are.
     fn put_in_place(&mut self, row: IpRange)
         requires room { 1 ≤ self.old.spare }
         requires id { 1 ≤ row.id }
@@ -263,7 +263,7 @@ impl RangeBook {
     }
 }
 
-/// The rows stand side by side, and what changes them changes the tracks of their spans.
+/// The rows are side by side, and what changes them changes the tracks of their spans.
 impl Book for RangeBook {
     type Item = IpRange;
 

@@ -60,7 +60,7 @@ fn high(entry: &Entry) -> Place
     }
 }
 
-/// Whether one place stands before another.
+/// Whether one place is before another.
 fn is_before(a: Place, b: Place) -> bool
     ensures { result ≡ nat_lt (number a.lane a.value) (number b.lane b.value) }
 {
@@ -76,7 +76,7 @@ pub fn is_same(a: &Entry, b: &Entry) -> bool
         && is_one_address(a.span.last, b.span.last)
 }
 
-/// How many entries begin before the place: they stand in front.
+/// How many entries begin before the place: they come first.
 fn beginning_before(entries: &[Entry], place: Place) -> usize
     requires { IsNonDecreasingBy low entries.now }
     ensures point { BeginBefore (number place.lane place.value) entries.now result }
@@ -85,7 +85,7 @@ fn beginning_before(entries: &[Entry], place: Place) -> usize
     entries.partition_point(|entry| is_before(low(entry), place))
 }
 
-/// How many entries end before the place: they stand in front.
+/// How many entries end before the place: they come first.
 fn ending_before(entries: &[Entry], place: Place) -> usize
     requires { AreSeparate 0 entries.now }
     ensures point { EndBefore (number place.lane place.value) entries.now result }
@@ -94,7 +94,7 @@ fn ending_before(entries: &[Entry], place: Place) -> usize
     entries.partition_point(|entry| is_before(high(entry), place))
 }
 
-/// Between which indexes the entries of a lane stand.
+/// Between which indexes the entries of a lane are.
 fn lane_bounds(entries: &[Entry], lane: u64) -> (usize, usize)
     requires rises { IsNonDecreasingBy low entries.now }
     requires few { lane < 2 ^ 63 }
@@ -127,7 +127,7 @@ fn index_of(entries: &[Entry], entry: &Entry) -> Option<usize>
     None
 }
 
-/// Whether entries that are separate, where it is so, stay so when one is put in at an index.
+/// Whether entries that are separate, if it is so, stay so when one is put in at an index.
 fn stay_separate(separate: bool, entries: &[Entry], at: usize, entry: &Entry) -> bool
     requires { at ≤ length entries.now }
     ensures { IsTrue result → IsTrue separate × FitsAt entries.now at entry.now }
@@ -147,7 +147,7 @@ fn stay_separate(separate: bool, entries: &[Entry], at: usize, entry: &Entry) ->
     true
 }
 
-/// Puts an item in at an index, into room that is there.
+/// Puts an item in at an index, into room that was reserved.
 fn put_in<T: Copy>(items: &mut Vec<T>, at: usize, item: T)
     requires bound { at ≤ vec_len items.old }
     requires room { vec_len items.old < vec_capacity items.old }
@@ -196,7 +196,7 @@ impl Track {
         }
     }
 
-    /// Makes room for `n` more entries. `Err` means out of memory, and leaves the track as it was.
+    /// Makes room for `n` more entries. `Err` means out of memory, and does not change the track.
     pub fn reserve(&mut self, n: u32) -> Result<(), AllocError>
         ensures entries { self.new.entries ≡ self.old.entries }
         ensures ok { OnOk result (n ≤ self.new.spare) }
@@ -225,7 +225,7 @@ impl Track {
         self.spare -= 1;
     }
 
-    /// Takes an entry out that is there, once. It leaves the room.
+    /// Takes an entry out that exists, once. It leaves the room.
     pub fn remove(&mut self, entry: Entry)
         requires there { 1 ≤ count_by (is_same entry) self.old.entries }
         ensures counts { (p : SeenEntry → Bool) → count_by p self.new.entries + one (p entry) ≡ count_by p self.old.entries }
@@ -250,7 +250,7 @@ impl Track {
         &self.spans[from..to]
     }
 
-    /// Whether an entry of the lane of this one may share an address with it. Where all are known to be separate it is asked by
+    /// Whether an entry of the lane of this one may share an address with it. If all are known to be separate it is asked by
     /// halving.
     pub fn may_meet(&self, entry: &Entry) -> bool
         ensures { IsFalse result → count_by (is_met entry.now) self.now.entries ≡ 0 }

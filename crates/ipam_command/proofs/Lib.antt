@@ -9,3 +9,4 @@ pub mod LimitLaws
 pub mod OpenedLaws
 pub mod ExactLaws
 pub mod HeadlineRuns
+pub mod AboutLaws

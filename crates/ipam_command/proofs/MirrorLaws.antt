@@ -50,7 +50,7 @@ pub of_mirror : (words : List (List ℕ)) (old new : Outside) (before after : Li
     → IsMirror mirroring old new before after status → HasClauses words old new before after status
 of_mirror words old new before after status mirroring asks s = record {
   status_ = elim s.statuses [ inl e ↦ omega arith | inr a ↦ elim a [ inl e ↦ omega arith | inr b ↦ elim b [ inl e ↦ omega arith | inr c ↦ elim c [ inl e ↦ omega arith | inr e ↦ omega arith ] ] ] ];
-  done = λ z. (let t = (s.done z).0 in (inr (inr (inr (inr (inr (inr (inr (inr (inr (inr (inr (inr (mirroring, asks, t)))))))))))), t.mirrored.mirrors.serves.silent));
+  done = λ z. (let t = (s.done z).0 in (inr (inr (inr (inr (inr (inr (inr (inr (inr (inr (inr (inr (inl (mirroring, asks, t))))))))))))), t.mirrored.mirrors.serves.silent));
   refused = λ z. inr (inr (inr (inr (inr (inr (inr (inr (inr (inr (inr (mirroring, asks, (s.refused z).0)))))))))));
   usage = λ z. absurd (elim s.statuses [ inl e ↦ omega arith | inr a ↦ elim a [ inl e ↦ omega arith | inr b ↦ elim b [ inl e ↦ omega arith | inr c ↦ elim c [ inl e ↦ omega arith | inr e ↦ omega arith ] ] ] ]);
   usage_first = λ n. absurd (n (Mirror mirroring) asks);

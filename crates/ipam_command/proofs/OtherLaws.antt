@@ -1,13 +1,14 @@
--- A run of a command on prefix lists, reverse zones or files of version 1 gives each promise.
+-- A run of a command on prefix lists, reverse zones, files of version 1 or the program itself gives each promise.
 use Rattle.std.proofs.Common.{◌≡◌, ℕ, ◌⊎◌, inl, inr, sym, ap, subst, arith, Bool, List, None}
 use Rattle.inet_num.specs.Net.{Cidr}
 use Rattle.command_words.specs.declared.asked.ListAsked.{ListAsked}
 use Rattle.command_words.specs.declared.asked.Store.{Store}
 use Rattle.command_words.specs.declared.asked.Command.{Command}
-use Rattle.command_words.specs.declared.asked.Command.TheVariants.{Free, Session, Serve, Mirror, Import, Export, Report, PrefixList, PrefixCheck, Reverse, ReverseRead, Migrate, Load}
+use Rattle.command_words.specs.declared.asked.Command.TheVariants.{Free, Session, Serve, Mirror, Import, Export, Report, PrefixList, PrefixCheck, Reverse, ReverseRead, Migrate, Load, About}
+use Rattle.command_words.specs.declared.asked.Topic.{Topic}
 use Rattle.command_words.specs.Asked.{Asks}
 use Rattle.command_words.proofs.Unique.{words_ask_for_one}
-use Rattle.command_streams.specs.Streams.{Streams, Failed, NeverFalls}
+use Rattle.command_streams.specs.Streams.{Failed, NeverFalls, Streams}
 use Rattle.command_store.specs.Outside.{Stores, Outside, NoCountFalls, NoCountRises}
 use Rattle.command_store.specs.Opening.{NamesFailure}
 use Rattle.machine_serving.specs.Views.{ListenerView}
@@ -16,6 +17,8 @@ use Rattle.command_lists.specs.PrefixCheck.{IsPrefixCheck}
 use Rattle.command_migrate.specs.Migrate.{NamesUnwritten, IsWhole, IsMigrate}
 use Rattle.command_zones.specs.Reverse.{IsReverse}
 use Rattle.command_zones.specs.Pairs.{IsReverseRead}
+use Rattle.program_entry.proofs.Printed.{never_else, printed_not_begun, printed_quiet, said_failed, said_nothing, said_statuses, said_whole}
+use Rattle.ipam_command.specs.About.{IsAbout, topic_text}
 use Rattle.ipam_command.specs.Runs.{Answers}
 use Rattle.ipam_command.specs.Clauses.{AsksRegister, AsksMigrate, IsDone, IsNamed, HasClauses}
 use Rattle.ipam_command.proofs.Apart.{unused, lanes_kept, count_kept, nobody, same_migrate, answers_of, none_rose, quiet_beside, streams_same}
@@ -36,6 +39,7 @@ IsOther (Reverse prefix store) = Unit {0}
 IsOther ReverseRead = Unit {0}
 IsOther (Migrate db populated) = Unit {0}
 IsOther (Load count workers) = ⊥
+IsOther (About topic) = Unit {0}
 
 -- what its record gives
 record IsOtherRun (words : List (List ℕ)) (command : Command) (old new : Outside) (before after : ListenerView) (status : ℕ) : Type 0 where
@@ -303,3 +307,26 @@ migrate_not_begun db populated old new status five same =
       later = none_fell old new same;
       quiet = λ z. none_rose old new same;
     }
+
+-- ---- `version` and `help`
+
+pub of_about : (words : List (List ℕ)) (old new : Outside) (before after : ListenerView) (status : ℕ) (topic : Topic) → Asks words (About topic)
+    → IsAbout topic old.streams new.streams status → new.stores ≡ old.stores → after ≡ before → HasClauses words old new before after status
+of_about words old new before after status topic asks s same_stores same_listener = of_other words (About topic) old new before after status (record {
+  asks = asks;
+  other = tt;
+  statuses = said_statuses _ _ (topic_text topic) status s.said;
+  done = λ z. (inr (inr (inr (inr (inr (inr (inr (inr (inr (inr (inr (inr (inr (topic, asks, said_whole _ _ (topic_text topic) status s.said z))))))))))))), s.errors);
+  refused = λ z. absurd (never_else _ _ (topic_text topic) status s.said (inl z));
+  fault = λ z. inr (inl (said_failed _ _ (topic_text topic) status s.said z));
+  store_fault = λ z. absurd (never_else _ _ (topic_text topic) status s.said (inr z));
+  memory = λ z. (s.errors, said_nothing _ _ (topic_text topic) status s.said z);
+  same_listener = same_listener;
+  migrate_whole = λ db populated a. absurd (let e = words_ask_for_one words (Migrate db populated) (About topic) a asks in cc);
+  answers = (s, same_stores, same_listener);
+  later = record { streams = s.later; stores = unused old new same_stores };
+  quiet = λ z. record { streams = printed_quiet (topic_text topic) old.streams new.streams status s z; stores = ap (λ (t : Stores). t.faults) same_stores };
+})
+
+pub about_not_begun : (topic : Topic) (old new : Streams) (status : ℕ) → status ≡ 5 → new ≡ old → IsAbout topic old new status
+about_not_begun topic old new status five same = printed_not_begun (topic_text topic) old new status five same

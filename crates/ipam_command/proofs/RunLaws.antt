@@ -5,7 +5,7 @@ use Rattle.http_session.specs.declared.session.SessionEnd.TheVariants.{SourceFau
 use Rattle.command_words.specs.declared.asked.Store.{Store}
 use Rattle.command_words.specs.declared.asked.Serving.{Serving}
 use Rattle.command_words.specs.declared.asked.Command.{Command}
-use Rattle.command_words.specs.declared.asked.Command.TheVariants.{Free, Session, Serve, Mirror, Import, Export, Report, PrefixList, PrefixCheck, Reverse, ReverseRead, Migrate, Load}
+use Rattle.command_words.specs.declared.asked.Command.TheVariants.{Free, Session, Serve, Mirror, Import, Export, Report, PrefixList, PrefixCheck, Reverse, ReverseRead, Migrate, Load, About}
 use Rattle.command_words.specs.Asked.{Asks, IsNoCommand}
 use Rattle.command_words.proofs.Unique.{words_ask_for_one}
 use Rattle.command_streams.specs.Streams.{Streams, Told, Gains, Failed, NeverFalls}
@@ -29,7 +29,7 @@ use Rattle.ipam_command.proofs.Empty.{empty_opened}
 use Rattle.ipam_command.proofs.Apart.{free_apart, serve_not_free, serve_not_session, load_not_free, load_not_session, load_not_serve, same_serving, same_load, same_block, same_store, unused, lanes_kept, count_kept, nobody, answers_of, none_rose, quiet_beside, streams_same}
 use Rattle.ipam_command.proofs.OfficeLaws.{import_not_begun, export_not_begun, report_not_begun, tables_stay, none_fell, of_import, of_export, of_report}
 use Rattle.ipam_command.proofs.MirrorLaws.{of_mirror, not_begun as none_mirrored}
-use Rattle.ipam_command.proofs.OtherLaws.{of_prefix_list, of_prefix_check, of_reverse, of_reverse_read, of_migrate, list_not_begun, check_not_begun, reverse_not_begun, read_not_begun, migrate_not_begun}
+use Rattle.ipam_command.proofs.OtherLaws.{of_prefix_list, of_prefix_check, of_reverse, of_reverse_read, of_migrate, of_about, list_not_begun, check_not_begun, reverse_not_begun, read_not_begun, migrate_not_begun, about_not_begun}
 use Rattle.command_session.proofs.Refused.{not_begun}
 use Rattle.command_serve.proofs.Unserved.{not_begun as none_served}
 
@@ -387,6 +387,8 @@ not_begun_of (Reverse prefix store) old new before after status five same same_l
 not_begun_of ReverseRead old new before after status five same same_listener =
     (read_not_begun old.streams new.streams status five (ap (λ (t : Outside). t.streams) same), ap (λ (t : Outside). t.stores) same, same_listener)
 not_begun_of (Migrate db populated) old new before after status five same same_listener = (migrate_not_begun db populated old new status five same, same_listener)
+not_begun_of (About topic) old new before after status five same same_listener =
+    (about_not_begun topic old.streams new.streams status five (ap (λ (t : Outside). t.streams) same), ap (λ (t : Outside). t.stores) same, same_listener)
 not_begun_of (Load count workers) old new before after status five same same_listener = (
   unprinted count workers old.streams.output new.streams.output status five (ap (λ (t : Outside). t.streams.output) same),
   ap (λ (t : Outside). t.streams.input) same,
@@ -455,5 +457,6 @@ runs_have_clauses words old new before after status (inl (Reverse prefix store, 
 runs_have_clauses words old new before after status (inl (ReverseRead, asks, s)) = of_reverse_read words old new before after status asks s.0 s.1 s.2
 runs_have_clauses words old new before after status (inl (Migrate db populated, asks, s)) = of_migrate words old new before after status db populated asks s.0 s.1
 runs_have_clauses words old new before after status (inl (Load count workers, asks, s)) = of_load words old new before after status count workers asks s.0 s.1 s.2 s.3 s.4
+runs_have_clauses words old new before after status (inl (About topic, asks, s)) = of_about words old new before after status topic asks s.0 s.1 s.2
 runs_have_clauses words old new before after status (inr (inl (none, u))) = of_none words old new before after status none u
 runs_have_clauses words old new before after status (inr (inr (five, same, same_listener))) = of_memory words old new before after status five same same_listener

@@ -1,17 +1,18 @@
--- What the one relation of a run gives: each promise of the program as a clause of its own.
+-- What the one relation of a run gives: each promise of the program as its own clause.
 use Rattle.std.specs.Prelude.{◌≡◌, ℕ, ◌+◌, ◌≤◌, ◌⊎◌, Bool, List, length, None, IfSome}
 use Rattle.inet_num.specs.Net.{Cidr}
 use Rattle.http_session.specs.declared.session.SessionEnd.TheVariants.{SourceFault, Memory}
 use Rattle.ipam_data.specs.State.{State, empty_state}
 use Rattle.rest_ipam.specs.Answered.{answers_kept, answers_plainly, fresh, opened}
 use Rattle.command_words.specs.declared.asked.Command.{Command}
-use Rattle.command_words.specs.declared.asked.Command.TheVariants.{Free, Session, Serve, Mirror, Import, Export, Report, PrefixList, PrefixCheck, Reverse, ReverseRead, Migrate, Load}
+use Rattle.command_words.specs.declared.asked.Command.TheVariants.{Free, Session, Serve, Mirror, Import, Export, Report, PrefixList, PrefixCheck, Reverse, ReverseRead, Migrate, Load, About}
 use Rattle.command_words.specs.declared.asked.KindName.{KindName}
 use Rattle.command_words.specs.declared.asked.Report.{Report as ReportName}
 use Rattle.command_words.specs.declared.asked.Store.{Store}
 use Rattle.command_words.specs.declared.asked.Serving.{Serving}
 use Rattle.command_words.specs.declared.asked.Mirroring.{Mirroring}
 use Rattle.command_words.specs.declared.asked.ListAsked.{ListAsked}
+use Rattle.command_words.specs.declared.asked.Topic.{Topic}
 use Rattle.command_words.specs.Asked.{Asks, IsNoCommand}
 use Rattle.command_streams.specs.Streams.{Gains, Failed, NeverRises, usage_text}
 use Rattle.command_free.specs.declared.free.LineFault.{LineFault}
@@ -34,61 +35,66 @@ use Rattle.command_lists.specs.PrefixCheck.{PrintsDifference, NamesInput}
 use Rattle.command_migrate.specs.Migrate.{PrintsMigrated, NamesUnfit, NamesUnwritten as NamesUnwrittenFile, IsWhole}
 use Rattle.command_zones.specs.Reverse.{PrintsZone, NamesZoneRefusal}
 use Rattle.command_zones.specs.Pairs.{PrintsPairs, NamesRead}
+use Rattle.ipam_command.specs.About.{topic_text}
 use Rattle.ipam_command.specs.Runs.{Answers, Runs}
 
--- the words ask for what a block leaves
+-- the arguments ask for what a block leaves
 abbrev pub AsksFree : List (List ℕ) → Cidr → Type 0
 AsksFree words within = Asks words (Free within)
 
--- the words ask for a session in memory with this setting
+-- the arguments ask for a session in memory with this setting
 abbrev pub AsksSession : List (List ℕ) → Bool → Type 0
 AsksSession words unique = Asks words (Session (record { db = None; global_unique = unique }))
 
--- the words ask for a session over this store
+-- the arguments ask for a session over this store
 abbrev pub AsksStore : List (List ℕ) → Store → Type 0
 AsksStore words store = Asks words (Session store)
 
--- the words ask for all that connect to be served
+-- the arguments ask for all that connect to be served
 abbrev pub AsksServe : List (List ℕ) → Serving → Type 0
 AsksServe words serving = Asks words (Serve serving)
 
--- the words ask for an operator to be served, beside readers
+-- the arguments ask for an operator to be served, next to readers
 abbrev pub AsksMirror : List (List ℕ) → Mirroring → Type 0
 AsksMirror words mirroring = Asks words (Mirror mirroring)
 
--- the words ask for so many claims by so many workers
+-- the arguments ask for so many claims by so many workers
 abbrev pub AsksLoad : List (List ℕ) → ℕ → ℕ → Type 0
 AsksLoad words count workers = Asks words (Load count workers)
 
--- the words ask for the rows of a file into the register of this store
+-- the arguments ask for the rows of a file into the register of this store
 abbrev pub AsksImport : List (List ℕ) → KindName → Store → Type 0
 AsksImport words kind store = Asks words (Import kind store)
 
--- the words ask for the records of a kind out of the register of this store
+-- the arguments ask for the records of a kind out of the register of this store
 abbrev pub AsksExport : List (List ℕ) → KindName → Store → Type 0
 AsksExport words kind store = Asks words (Export kind store)
 
--- the words ask for a text about the register of this store
+-- the arguments ask for a text about the register of this store
 abbrev pub AsksReport : List (List ℕ) → ReportName → Store → Type 0
 AsksReport words report store = Asks words (Report report store)
 
--- the words ask for the prefixes of a table as a list for a router, or for such a list to be compared with them
+-- the arguments ask for the prefixes of a table as a list for a router, or for such a list to be compared with them
 abbrev pub AsksPrefixList : List (List ℕ) → ListAsked → Type 0
 AsksPrefixList words asked = Asks words (PrefixList asked)
 
 abbrev pub AsksPrefixCheck : List (List ℕ) → ListAsked → Type 0
 AsksPrefixCheck words asked = Asks words (PrefixCheck asked)
 
--- the words ask for the names in a prefix of the register of this store, or for the pairs of a zone
+-- the arguments ask for the names in a prefix of the register of this store, or for the pairs of a zone
 abbrev pub AsksReverse : List (List ℕ) → ℕ → Store → Type 0
 AsksReverse words prefix store = Asks words (Reverse prefix store)
 
 abbrev pub AsksReverseRead : List (List ℕ) → Type 0
 AsksReverseRead words = Asks words ReverseRead
 
--- the words ask for a file of version 1 to be migrated
+-- the arguments ask for a file of version 1 to be migrated
 abbrev pub AsksMigrate : List (List ℕ) → List ℕ → Bool → Type 0
 AsksMigrate words db populated = Asks words (Migrate db populated)
+
+-- the arguments ask for a text about the program
+abbrev pub AsksAbout : List (List ℕ) → Topic → Type 0
+AsksAbout words topic = Asks words (About topic)
 
 -- they ask for a command that opens a register of a store and has the store written at most by requests
 abbrev pub AsksRegister : List (List ℕ) → Type 0
@@ -113,13 +119,14 @@ ListenerFailed (Reverse prefix store) before after = ⊥
 ListenerFailed ReverseRead before after = ⊥
 ListenerFailed (Migrate db populated) before after = ⊥
 ListenerFailed (Load count workers) before after = ⊥
+ListenerFailed (About topic) before after = ⊥
 
 -- the answers of the register that was loaded are on the output
 abbrev pub IsServed : Store → Outside → Outside → Type 0
 IsServed store old new = (state : State) × IsLoaded store old state × Prints answers_kept (fresh state) old new
     × ((¬ StoreFailed old new) → Prints answers_plainly (opened state) old new)
 
--- what the words ask for is on the output; of `serve` that is the count of the changes, once all that connect were served; of `mirror` the
+-- what the arguments ask for is on the output; of `serve` that is the count of the changes, once all that connect were served; of `mirror` the
 -- operator's answers, once all that connect to its readers were served too, from its published changes
 abbrev pub IsDone : List (List ℕ) → Outside → Outside → ListenerView → ListenerView → Type 0
 IsDone words old new before after =
@@ -136,6 +143,7 @@ IsDone words old new before after =
     ⊎ (AsksReverseRead words × PrintsPairs old.streams new.streams)
     ⊎ ((db : List ℕ) × (populated : Bool) × AsksMigrate words db populated × PrintsMigrated db populated old new)
     ⊎ ((mirroring : Mirroring) × AsksMirror words mirroring × Finishes mirroring old new before after)
+    ⊎ ((topic : Topic) × AsksAbout words topic × Gains old.streams.output new.streams.output (topic_text topic))
 
 -- a line of the input is refused, or the tables of the store have a fault; the messages say which, and the output was left alone
 abbrev pub IsNamed : List (List ℕ) → Outside → Outside → Type 0
@@ -153,14 +161,14 @@ IsNamed words old new =
     ⊎ ((db : List ℕ) × (populated : Bool) × AsksMigrate words db populated × NamesUnfit db old new)
     ⊎ ((mirroring : Mirroring) × AsksMirror words mirroring × NamesFault mirroring.store old new)
 
--- the status says whether a line of these bytes is refused: 1 where one is, 0 where none is, and 5 for lack of memory
+-- the status says whether a line of these bytes is refused: 1 if one is, 0 if none is, and 5 for lack of memory
 abbrev pub IsExact : Cidr → ℕ → List ℕ → Type 0
 IsExact within status bytes =
     (status ≡ 5)
     ⊎ ((status ≡ 1) × ((number : ℕ) × (fault : LineFault) × IsRefusedLine within bytes number fault))
     ⊎ ((status ≡ 0) × ((number : ℕ) (fault : LineFault) → ¬ IsRefusedLine within bytes number fault))
 
--- no count of faults rose; but after a `session` that of the opener may have, where a call was answered by a failed keeper
+-- no count of faults rose; but after a `session` that of the opener may have, if a call was answered by a failed keeper
 pub record IsQuiet (words : List (List ℕ)) (old new : Outside) (before after : ListenerView) : Type 0 where
   pub streams : NeverRises old.streams new.streams
   pub stores : (new.stores.faults ≡ old.stores.faults) ⊎ ((store : Store) × AsksStore words store × HasFailedCall store old new Memory)
@@ -170,15 +178,15 @@ pub record IsQuiet (words : List (List ℕ)) (old new : Outside) (before after :
 pub record HasClauses (words : List (List ℕ)) (old new : Outside) (before after : ListenerView) (status : ℕ) : Type 0 where
   -- the status is one of these
   pub status_ : status ≤ 5
-  -- 0: what the words ask for is on the output, whole, and the messages were left alone
+  -- 0: what the arguments ask for is on the output, whole, and the messages were left alone
   pub done : status ≡ 0 → IsDone words old new before after × (new.streams.errors ≡ old.streams.errors)
-  -- 1: the words ask for `free` and a line is refused, or for an import and its file or its rows are, or for a report on a prefix that is
+  -- 1: the arguments ask for `free` and a line is refused, or for an import and its file or its rows are, or for a report on a prefix that is
   -- not there, or for a register of a store whose tables have a fault, or for a file to be migrated whose tables can't be; the messages
   -- gained exactly the text that names it, and the output was left alone
   pub refused : status ≡ 1 → IsNamed words old new
-  -- 2: the words ask for no command, and the usage line is on the messages
+  -- 2: the arguments ask for no command, and the usage line is on the messages
   pub usage : status ≡ 2 → IsNoCommand words × Gains old.streams.errors new.streams.errors usage_text
-  -- where the words ask for no command nothing but the messages is used, and the status is 2, or 3 where they failed, or 5 where
+  -- if the arguments ask for no command nothing but the messages is used, and the status is 2, or 3 if they failed, or 5 if
   -- memory ran out to read the words and nothing was said
   pub usage_first : IsNoCommand words → (new.streams.input ≡ old.streams.input) × (new.streams.output ≡ old.streams.output) × (new.stores ≡ old.stores) × (after ≡ before)
       × ((status ≡ 2) ⊎ ((status ≡ 3) × Failed old.streams.errors new.streams.errors) ⊎ ((status ≡ 5) × (new.streams.errors ≡ old.streams.errors)))
@@ -188,11 +196,11 @@ pub record HasClauses (words : List (List ℕ)) (old new : Outside) (before afte
   -- 3, for `free`: the object that failed, with what was written
   pub free_fault : (within : Cidr) → AsksFree words within → status ≡ 3
       → FailsToRead old.streams new.streams ⊎ FailsToPrint within old.streams new.streams ⊎ FailsToSay within old.streams new.streams
-  -- 3, for `session`: where neither the output nor the messages failed, the input did, and every answer was written
+  -- 3, for `session`: if neither the output nor the messages failed, the input did, and every answer was written
   pub starved : (store : Store) → AsksStore words store → status ≡ 3 → ¬ Failed old.streams.output new.streams.output → ¬ Failed old.streams.errors new.streams.errors
       → Failed old.streams.input new.streams.input × Serves store old new SourceFault
-  -- 4: the words ask for a register of a store, the opener failed, which was said, and nothing else was used; or for an import or for a
-  -- file to be migrated, and the store could not be read or not be written, which was said, and told tables are as they were
+  -- 4: the arguments ask for a register of a store, the opener failed, which was said, and nothing else was used; or for an import or for a
+  -- file to be migrated, and the store could not be read or not be written, which was said, and known tables are unchanged
   pub store_fault : status ≡ 4 → NobodyCame before after
       × ((AsksRegister words × NamesFailure old new) ⊎ ((kind : KindName) × (store : Store) × AsksImport words kind store × (NamesUnread old new ⊎ NamesUnwritten (kind_named kind) store old new))
       ⊎ ((db : List ℕ) × (populated : Bool) × AsksMigrate words db populated × (NamesFailure old new ⊎ NamesUnwrittenFile db old new)))
@@ -202,7 +210,7 @@ pub record HasClauses (words : List (List ℕ)) (old new : Outside) (before afte
   -- `free` has nothing on the output unless the status is 0 or a write of it failed
   pub nothing_else : (within : Cidr) → AsksFree words within
       → (status ≡ 0) ⊎ (new.streams.output ≡ old.streams.output) ⊎ Failed old.streams.output new.streams.output
-  -- `free`: where a line of a told input is refused, the status is 1, or 3 or 5 for their causes
+  -- `free`: if a line of a known input is refused, the status is 1, or 3 or 5 for their causes
   pub refuses : (within : Cidr) (number : ℕ) (fault : LineFault) → AsksFree words within
       → IfSome old.streams.input.bytes (λ bytes. IsRefusedLine within bytes number fault → (status ≡ 1) ⊎ (status ≡ 3) ⊎ (status ≡ 5))
   -- `free` uses no store
@@ -213,44 +221,44 @@ pub record HasClauses (words : List (List ℕ)) (old new : Outside) (before afte
   pub lanes_back : length after.returned + before.lanes ≡ length before.returned + after.lanes
   -- `session`: with each status, which requests were answered, in order, how, what the output gained, and what the store holds
   pub session : (store : Store) → AsksStore words store → IsSession store old new status
-  -- `serve`: with each status, what was served, behind which history, what was printed, and what the store holds
+  -- `serve`: with each status, what was served, after which history, what was printed, and what the store holds
   pub serve : (serving : Serving) → AsksServe words serving → IsServe serving old new before after status
   -- `mirror`: with each status, what the operator was answered, what its readers were answered from, and what the store holds
   pub mirror : (mirroring : Mirroring) → AsksMirror words mirroring → IsMirror mirroring old new before after status
   -- `import`: with each status, what was read, printed and said, and what the store holds
   pub import : (kind : KindName) (store : Store) → AsksImport words kind store → IsImport (kind_named kind) store old new status × (after ≡ before)
-  -- and with each status told tables are as they were, or those of the state after the whole import; they are as they were unless the
+  -- and with each status known tables are unchanged, or those of the state after the whole import; they are unchanged unless the
   -- status is 0, or the output failed
   pub import_whole : (kind : KindName) (store : Store) → AsksImport words kind store
       → (AreSame old.stores.stored new.stores.stored × ¬ (status ≡ 0))
       ⊎ (IsStored (kind_named kind) store old new × ((status ≡ 0) ⊎ ((status ≡ 3) × Failed old.streams.output new.streams.output)))
   -- `export`: with each status, what was printed and said
   pub export : (kind : KindName) (store : Store) → AsksExport words kind store → IsExport (kind_named kind) store old new status × (after ≡ before)
-  -- and with each status told tables are as they were
+  -- and with each status known tables are unchanged
   pub export_keeps : (kind : KindName) (store : Store) → AsksExport words kind store → AreSame old.stores.stored new.stores.stored
   -- `report`: with each status, what was printed and said
   pub report : (report : ReportName) (store : Store) → AsksReport words report store → IsReport report store old new status × (after ≡ before)
-  -- and with each status told tables are as they were
+  -- and with each status known tables are unchanged
   pub report_keeps : (report : ReportName) (store : Store) → AsksReport words report store → AreSame old.stores.stored new.stores.stored
   -- `load`: with each status, what was printed, which is a text of the number of claims alone; nothing else is used
   pub load : (count workers : ℕ) → AsksLoad words count workers → IsLoad count workers old.streams.output new.streams.output status
       × (new.streams.input ≡ old.streams.input) × (new.streams.errors ≡ old.streams.errors) × (new.stores ≡ old.stores) × (after ≡ before)
-  -- `migrate`: with each status told tables are as they were, or those that the migration gives; they are as they were unless the status
+  -- `migrate`: with each status known tables are unchanged, or those that the migration gives; they are unchanged unless the status
   -- is 0, or the output failed
   pub migrate_whole : (db : List ℕ) (populated : Bool) → AsksMigrate words db populated → IsWhole db populated old new status
   -- of each command its record: with each status, what was read, printed and said, and what the store holds
   pub answers : (command : Command) → Asks words command → Answers command old new before after status
-  -- `session` without a file, where the opener did not fail: the answers are those of an empty register
+  -- `session` without a file, if the opener did not fail: the answers are those of an empty register
   pub empty : (unique : Bool) → AsksSession words unique → (¬ StoreFailed old new) → status ≡ 0 → Prints answers_plainly (opened (empty_state unique)) old new
-  -- a command ends by itself where nothing fails: done, refused, or for lack of memory
+  -- a command ends by itself if nothing fails: done, refused, or for lack of memory
   pub complete : (command : Command) → Asks words command → (¬ AnyFailed old new) → (¬ ListenerFailed command before after)
       → (status ≡ 0) ⊎ (status ≡ 1) ⊎ (status ≡ 5)
-  -- `free`: over a told input, where nothing fails, the status is 1 exactly where a line is refused, memory apart
+  -- `free`: over a known input, if nothing fails, the status is 1 exactly if a line is refused, memory apart
   pub exact : (within : Cidr) → AsksFree words within → (¬ AnyFailed old new) → IfSome old.streams.input.bytes (IsExact within status)
   -- no count of faults falls
   pub later : NoCountFalls old new
   pub listener_later : before.faults ≤ after.faults
-  -- 5: none rose, but as said of `session`; or the words ask for a mirror that ran, whose record says for which lack of memory it ended
+  -- 5: none rose, but as said of `session`; or the arguments ask for a mirror that ran, whose record says for which lack of memory it ended
   pub quiet : status ≡ 5 → IsQuiet words old new before after ⊎ ((mirroring : Mirroring) × AsksMirror words mirroring × Exhausts mirroring old new before after)
 
 -- a run has all of these

@@ -1,4 +1,4 @@
--- The way back from a cause to status 1: where a told input or told tables are refused and nothing fails, a run ends with 1, or for lack of
+-- The way back from a cause to status 1: if a known input or known tables are refused and nothing fails, a run ends with 1, or for lack of
 -- memory with 5. (The way from status 1 to its cause is `refused` of the clauses of a run; that of `free` is `exact` there.)
 use Rattle.std.specs.Prelude.{◌≡◌, ℕ, ◌⊎◌, Bool, List, Option, Some, Ok, Err}
 use Rattle.ipam_data.specs.declared.kinds.Kind.{Kind}
@@ -29,7 +29,7 @@ use Rattle.command_migrate.specs.Migrate.{tables_of_file}
 use Rattle.ipam_command.specs.Runs.{Runs}
 use Rattle.ipam_command.specs.Clauses.{AsksStore, AsksServe, AsksMirror, AsksImport, AsksExport, AsksReport, AsksPrefixList, AsksPrefixCheck, AsksReverse, AsksMigrate, ListenerFailed}
 
--- the words ask for a command that opens the register of this store
+-- the arguments ask for a command that opens the register of this store
 abbrev pub Opens : List (List ℕ) → Store → Type 0
 Opens words store =
     AsksStore words store ⊎ ((serving : Serving) × AsksServe words serving × (serving.store ≡ store)) ⊎ ((kind : KindName) × AsksImport words kind store)
@@ -37,7 +37,7 @@ Opens words store =
     ⊎ ((asked : ListAsked) × (AsksPrefixList words asked ⊎ AsksPrefixCheck words asked) × (asked.store ≡ store)) ⊎ ((prefix : ℕ) × AsksReverse words prefix store)
     ⊎ ((mirroring : Mirroring) × AsksMirror words mirroring × (mirroring.store ≡ store))
 
--- the tables that the store tells have a fault
+-- the known tables of the store have a fault
 pub record HasBadTables (store : Store) (old : Outside) : Type 0 where
   pub tables : Tables
   pub told : found_tables store old ≡ Some tables
@@ -45,20 +45,20 @@ pub record HasBadTables (store : Store) (old : Outside) : Type 0 where
   pub of_tables : IsOfTables fault
   pub refused : IsRefused tables store.global_unique fault
 
--- the state is the one for which the tables stand that the store tells
+-- the state is the one that the known tables of the store represent
 pub record IsToldState (store : Store) (old : Outside) (state : State) : Type 0 where
   pub tables : Tables
   pub told : found_tables store old ≡ Some tables
   pub opening : IsOpening tables store.global_unique state
 
--- the input tells a file that is refused
+-- the input is known to be a file that is refused
 pub record HasBadFile (kind : Kind) (old : Outside) : Type 0 where
   pub bytes : List ℕ
   pub told : old.streams.input.bytes ≡ Some bytes
   pub refusal : Refusal
   pub file : IsFileOf kind bytes (Err refusal)
 
--- the input tells a file of rows that are refused beside the state of the store
+-- the input is known to be a file of rows that are refused given the state of the store
 pub record HasBadRows (kind : Kind) (store : Store) (old : Outside) : Type 0 where
   pub bytes : List ℕ
   pub told : old.streams.input.bytes ≡ Some bytes
@@ -76,7 +76,7 @@ pub record LacksPrefix (report : ReportName) (store : Store) (old : Outside) : T
   pub refusal : Refusal
   pub absent : IsAbsentIn state report refusal
 
--- the tables that the file tells can't be migrated
+-- the known tables of the file can't be migrated
 pub record HasUnmigrated (db : List ℕ) (old : Outside) : Type 0 where
   pub tables : Tables
   pub told : tables_of_file db old.stores ≡ Some tables
@@ -91,7 +91,7 @@ HasCause words old =
     ⊎ ((report : ReportName) × (store : Store) × AsksReport words report store × LacksPrefix report store old)
     ⊎ ((db : List ℕ) × (populated : Bool) × AsksMigrate words db populated × HasUnmigrated db old)
 
--- where nothing fails, a cause of status 1 gives it, memory apart
+-- if nothing fails, a cause of status 1 gives it, memory apart
 abbrev pub RunsAreExact : Type 0
 RunsAreExact = (words : List (List ℕ)) (old new : Outside) (before after : ListenerView) (status : ℕ) → Runs words old new before after status
     → (¬ AnyFailed old new) → ((command : Command) → Asks words command → ¬ ListenerFailed command before after)

@@ -11,7 +11,7 @@ use Rattle.command_words.specs.Asked.{Asks}
 use Rattle.command_store.specs.Outside.{IsUnused, Outside}
 use Rattle.ipam_headline.specs.Headline.{Alone, Mirrored, Served}
 
--- no reader was answered: the lanes that came back report no connection
+-- no reader was answered: the lanes that were given back report no connection
 abbrev pub NobodyRead : ListenerView → ListenerView → Type 0
 NobodyRead before after = (back : List Returned) × (after.returned ≡ before.returned ++ back) × All (λ r. IfSome r.told (λ connections. connections ≡ [])) back
 
@@ -29,6 +29,6 @@ HasHeadline (Mirror mirroring) old new before after status = (status ≡ 0 → M
     × (Mirrored mirroring.store old new before after ⊎ (IsUnused old new × NobodyRead before after))
 HasHeadline command old new before after status = Unit {0}
 
--- of the command that the words ask for
+-- of the command that the arguments ask for
 abbrev pub HasHeadlines : List (List ℕ) → Outside → Outside → ListenerView → ListenerView → ℕ → Type 0
 HasHeadlines words old new before after status = (command : Command) → Asks words command → HasHeadline command old new before after status

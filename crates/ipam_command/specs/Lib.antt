@@ -5,3 +5,4 @@ pub mod Program
 pub mod Exact
 pub mod Opened
 pub mod Headlines
+pub mod About

@@ -1,5 +1,5 @@
 -- The limits of the program, each with its number. The definitions of calls, files, heads and words cite them by names, and most of the names
--- stand for constants of the code; so a constant that is another number is refused here.
+-- represent constants of the code; so a constant that is another number is refused here.
 use Rattle.std.specs.Prelude.{◌≡◌, ℕ, ◌<◌, ◌≤◌, true, List, length, take, Ok, Err}
 use Rattle.std.specs.Str.Parse.{digits_value}
 use Rattle.httparse.specs.Grammar.{RequestHead, ReadsRequest, print_request}

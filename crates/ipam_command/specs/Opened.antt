@@ -1,4 +1,4 @@
--- Tables that open: they have no fault, and they stand for one state.
+-- Tables that open: they have no fault, and they represent one state.
 use Rattle.std.specs.Prelude.{◌≡◌, Bool}
 use Rattle.ipam_data.specs.State.{State}
 use Rattle.stored_tables.specs.declared.tables.Tables.{Tables}

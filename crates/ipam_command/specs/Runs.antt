@@ -1,7 +1,7 @@
--- What a run of the program promises: by what its words ask for, one relation for each command.
+-- What a run of the program promises: by what its arguments ask for, one relation for each command.
 use Rattle.std.specs.Prelude.{◌≡◌, ℕ, ◌⊎◌, ◌++◌, List, [], ◌∷◌, codes}
 use Rattle.command_words.specs.declared.asked.Command.{Command}
-use Rattle.command_words.specs.declared.asked.Command.TheVariants.{Free, Session, Serve, Mirror, Import, Export, Report, PrefixList, PrefixCheck, Reverse, ReverseRead, Migrate, Load}
+use Rattle.command_words.specs.declared.asked.Command.TheVariants.{Free, Session, Serve, Mirror, Import, Export, Report, PrefixList, PrefixCheck, Reverse, ReverseRead, Migrate, Load, About}
 use Rattle.command_words.specs.Asked.{Asks, IsNoCommand}
 use Rattle.command_streams.specs.Streams.{Streams, IsUsage}
 use Rattle.command_free.specs.Run.{IsFree}
@@ -20,8 +20,9 @@ use Rattle.command_lists.specs.PrefixCheck.{IsPrefixCheck}
 use Rattle.command_migrate.specs.Migrate.{IsMigrate}
 use Rattle.command_zones.specs.Reverse.{IsReverse}
 use Rattle.command_zones.specs.Pairs.{IsReverseRead}
+use Rattle.ipam_command.specs.About.{IsAbout}
 
--- what a run of the command leaves, with its status: `before` and `after` are what the listener tells
+-- what a run of the command leaves, with its status: `before` and `after` are what is known of the listener
 abbrev pub Answers : Command → Outside → Outside → ListenerView → ListenerView → ℕ → Type 0
 Answers (Free within) old new before after status = IsFree within old.streams new.streams status × (new.stores ≡ old.stores) × (after ≡ before)
 Answers (Session store) old new before after status = IsSession store old new status × (after ≡ before)
@@ -35,6 +36,7 @@ Answers (PrefixCheck asked) old new before after status = IsPrefixCheck asked ol
 Answers (Reverse prefix store) old new before after status = IsReverse prefix store old new status × (after ≡ before)
 Answers ReverseRead old new before after status = IsReverseRead old.streams new.streams status × (new.stores ≡ old.stores) × (after ≡ before)
 Answers (Migrate db populated) old new before after status = IsMigrate db populated old new status × (after ≡ before)
+Answers (About topic) old new before after status = IsAbout topic old.streams new.streams status × (new.stores ≡ old.stores) × (after ≡ before)
 Answers (Load count workers) old new before after status =
     IsLoad count workers old.streams.output new.streams.output status × (new.streams.input ≡ old.streams.input) × (new.streams.errors ≡ old.streams.errors) × (new.stores ≡ old.stores) × (after ≡ before)
 
@@ -42,7 +44,7 @@ Answers (Load count workers) old new before after status =
 abbrev pub SaysUsage : Outside → Outside → ListenerView → ListenerView → ℕ → Type 0
 SaysUsage old new before after status = IsUsage old.streams new.streams status × (new.stores ≡ old.stores) × (after ≡ before)
 
--- a run of the program: the words ask for a command, which was run; or they ask for none; or memory ran out to
+-- a run of the program: the arguments ask for a command, which was run; or they ask for none; or memory ran out to
 -- read them, and nothing was used
 abbrev pub Runs : List (List ℕ) → Outside → Outside → ListenerView → ListenerView → ℕ → Type 0
 Runs words old new before after status =

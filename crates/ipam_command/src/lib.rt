@@ -1,4 +1,4 @@
-//! The commands of the program: what its words ask for is run over its input, output and messages.
+//! The commands of the program: what its arguments ask for is run over its input, output and standard error.
 #![tactic(auto)]
 
 ghost use Rattle.std.specs.Prelude.{List, map, ℕ};
@@ -10,10 +10,12 @@ ghost use Rattle.command_store.specs.Outside.{Stores, outside, stores};
 ghost use Rattle.machine_serving.specs.Views.{listener_view};
 ghost use Rattle.ipam_command.specs.Runs.{Answers, Runs};
 
+mod about;
 mod entry;
 mod exact;
 mod limits;
 
+use about::run_about;
 use command_files::{kind_named, run_export, run_import, run_report};
 use command_free::run_free;
 use command_lists::{run_prefix_check, run_prefix_list};
@@ -94,6 +96,7 @@ fn run_command<
         Command::Migrate { db, populated } => {
             run_migrate(alloc, db, *populated, output, errors, opener)
         }
+        Command::About(topic) => run_about(*topic, output),
         Command::Load { count, workers } => run_load(rt, alloc, *count, *workers, output),
         Command::Report(report, store) => {
             run_report(alloc, *report, store, output, errors, opener)
@@ -101,7 +104,7 @@ fn run_command<
     }
 }
 
-/// Runs the command that the words ask for.
+/// Runs the command that the arguments ask for.
 fn run_read<R: Threads + Wait + Sync, So: Source, Si: Sink, Se: Sink, L: Listener, O: KeeperOpener>(
     rt: &R,
     alloc: Global,
@@ -126,7 +129,7 @@ fn run_read<R: Threads + Wait + Sync, So: Source, Si: Sink, Se: Sink, L: Listene
     }
 }
 
-/// Runs the program: the words behind its name, the input, the output, where messages go, a listener, and what opens stores. It
+/// Runs the program: the arguments after its name, the input, the output, where messages go, a listener, and what opens stores. It
 /// gives the status: 0 done, 1 the input or a store breaks a stated rule, 2 the words
 /// are no command, 3 the input, the output, the messages or the listener failed, 4 the store failed, 5 out of memory. Callers that were
 /// served had one register, with one history.

@@ -58,7 +58,7 @@ is_container Deprecated = false
 abbrev pub sees_all : Prefix → Bool
 sees_all row = is_container row.status && same_table (table_of row.vrf) Global
 
--- the other prefix counts for this one: it lies strictly inside, in its table, or in any where all count
+-- the other prefix counts for this one: it lies strictly inside, in its table, or in any if all count
 abbrev pub is_child_prefix : Prefix → Prefix → Bool
 is_child_prefix row other = (sees_all row || in_one_table row other) && is_strictly_inside other.block row.block
 
@@ -66,7 +66,7 @@ is_child_prefix row other = (sees_all row || in_one_table row other) && is_stric
 abbrev pub child_blocks : List Prefix → Prefix → List Cidr
 child_blocks rows row = map (λ r. r.block) (filter (is_child_prefix row) rows)
 
--- the address counts for the prefix: its host is in the block, in the prefix's table, or in any where all count
+-- the address counts for the prefix: its host is in the block, in the prefix's table, or in any if all count
 abbrev pub is_child_address : Prefix → IpAddress → Bool
 is_child_address row other = (sees_all row || same_table (table_of other.vrf) (table_of row.vrf)) && block_holds row.block other.host.addr
 
@@ -166,7 +166,7 @@ HasAddrItemBounds item = IsDnsText item.dns_name × IsDescription item.descripti
 abbrev pub most_items : ℕ
 most_items = MOST_ITEMS
 
--- refused where fewer items get something than were wanted: it carries the first that gets nothing
+-- refused if fewer items get something than were wanted: it carries the first that gets nothing
 abbrev pub no_space : ℕ → ℕ → Option Refusal
 no_space wanted got = if nat_lt got wanted then Some (NoSpace got) else None
 
@@ -177,7 +177,7 @@ served AsOne [] = MadeMany []
 served AsList views = MadeMany views
 
 module _ {T : Type 0} (rules : KindRules T) where
-  -- a claim of so many items: what is told of them, then whether each gets something, then the place; and the rows that they get
+  -- a claim of so many items: what is said of them, then whether each gets something, then the place; and the rows that they get
   abbrev pub claim : State → List (Option Refusal) → ℕ → Answered → List T → Plan
   claim s told wanted answered rows = record {
     checks = too_many Claims most_items wanted ∷ told ++ no_space wanted (length rows) ∷ no_place rules s wanted;
@@ -203,7 +203,7 @@ claimed_prefixes row next (item ∷ items) (block ∷ blocks) =
 abbrev pub lengths_of : List BlockItem → List ℕ
 lengths_of items = map (λ item. item.len) items
 
--- each item gets the lowest free block of its length, beside the child prefixes and those of the items before it
+-- each item gets the lowest free block of its length, given the child prefixes and those of the items before it
 abbrev pub claim_blocks_of : State → Answered → List BlockItem → Prefix → Plan
 claim_blocks_of s answered items row =
     claim prefix_rules s (flat_map (told_of_block s row) items) (length items) answered

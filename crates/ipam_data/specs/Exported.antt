@@ -30,7 +30,7 @@ abbrev pub name_or_none : Option Rir → List ℕ
 name_or_none None = []
 name_or_none (Some row) = row.name
 
--- in a lawful state each RIR that is named is there
+-- in a lawful state each RIR that is named exists
 abbrev pub rir_name : List Rir → ℕ → List ℕ
 rir_name rows n = name_or_none (row_at rir_id rows n)
 

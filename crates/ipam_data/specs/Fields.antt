@@ -106,7 +106,7 @@ kind_of_draft draft = by_view (drafted 0 draft) (λ T rules row. rules.kind)
 abbrev pub next_for : State → Draft → ℕ
 next_for s draft = by_view (drafted 0 draft) (λ T rules row. (rules.row_list s).next)
 
--- what is told of a draft, beside its row
+-- what is said of a draft, besides its row
 abbrev pub told_of_draft : Draft → List (Option Rule)
 told_of_draft (RangeDraft start end vrf status role mark_utilized mark_populated description) = range_told start end
 told_of_draft draft = []
@@ -178,7 +178,7 @@ kind_of_edit (PrefixEdit block vrf status role is_pool mark_utilized description
 kind_of_edit (RangeEdit start end vrf status role mark_utilized mark_populated description) = Ranges
 kind_of_edit (AddressEdit host vrf status role dns_name description) = Addresses
 
--- the row that an edit leaves of an old one: a field that is not given stays, and so does the row where the edit is of another kind
+-- the row that an edit leaves of an old one: a field that is not given stays, and so does the row if the edit is of another kind
 abbrev pub edited_vrf : Edit → Vrf → Vrf
 edited_vrf (VrfEdit name rd enforce_unique description) old = record {
   id = old.id;
@@ -231,7 +231,7 @@ edited_prefix (PrefixEdit block vrf status role is_pool mark_utilized descriptio
 }
 edited_prefix edit old = old
 
--- what is told of the ends of a range of which some are changed; one that is not given keeps the row's mask
+-- what is said of the ends of a range of which some are changed; one that is not given keeps the row's mask
 abbrev pub told_of_change : Edit → IpRange → List (Option Rule)
 told_of_change (RangeEdit start end vrf status role mark_utilized mark_populated description) old = range_told (edited start (start_of old)) (edited end (end_of old))
 told_of_change edit old = []
@@ -264,7 +264,7 @@ edited_address edit old = old
 
 -- ---- what drafts and edits keep by their types: blocks are ones, masks fit, texts are in their bounds
 
--- a distinguisher, where there is one
+-- a distinguisher, if there is one
 abbrev pub IsDistinguisherToo : Option (List ℕ) → Type 0
 IsDistinguisherToo rd = (text : List ℕ) → rd ≡ Some text → IsDistinguisher text
 

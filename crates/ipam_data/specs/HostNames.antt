@@ -1,5 +1,5 @@
 -- Names of hosts (RFC 1035 2.3.1, with underscores and a star for the first label, RFC 4592): labels joined by periods; one more
--- period may stand last.
+-- period may come last.
 use Rattle.std.specs.Prelude.{ℕ, ◌==◌, ◌&&◌, ◌||◌, nat_le, Bool, List, [], ◌∷◌, reverse, length, codes, bytes_eq, if◌then◌else◌}
 use Rattle.std.specs.List.{list_all, slice_split}
 use Rattle.ipam_data.specs.Texts.{is_slug_char}
@@ -29,6 +29,6 @@ is_label text = nat_le 1 (length text) && list_all is_slug_char text
 abbrev pub are_labels : List ℕ → Bool
 are_labels text = list_all is_label (slice_split is_dot text)
 
--- the name of a host is empty, or a star, or labels; one more period may stand at its end
+-- the name of a host is empty, or a star, or labels; one more period may be at its end
 unfoldable pub is_dns_name : List ℕ → Bool
 is_dns_name text = length text == 0 || bytes_eq (bare text) (codes "*") || are_labels (after_star (bare text))

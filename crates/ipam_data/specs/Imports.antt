@@ -1,4 +1,4 @@
--- Imports: which rows make a record, why a row is refused, and what an import leaves. A row makes a record where, among the rows up
+-- Imports: which rows make a record, why a row is refused, and what an import leaves. A row makes a record if, among the rows up
 -- to it, more have its fields than records had before the import. Fields are compared as a record keeps them.
 use Rattle.std.specs.Prelude.{ℕ, ◌+◌, ◌-◌, ◌==◌, nat_lt, nat_le, Bool, true, false, List, [], ◌∷◌, ◌++◌, Option, Some, None, option_map, map, count_by, length, bytes_eq, if◌then◌else◌}
 use Rattle.inet_num.specs.Net.{IsBlock}
@@ -114,7 +114,7 @@ abbrev pub id_or_none : Option ℕ → ℕ
 id_or_none None = 0
 id_or_none (Some n) = n
 
--- the draft that a row stands for: its names are those of records of the state
+-- the draft that a row represents: its names are those of records of the state
 abbrev pub draft_of : State → ImportRow → Draft
 draft_of s (VrfRow name rd enforce_unique description) = VrfDraft name rd enforce_unique description
 draft_of s (RirRow name slug is_private description) = RirDraft name slug is_private description
@@ -154,7 +154,7 @@ value_rules (AddressRow host vrf status role dns_name description) = host_rules 
 
 -- ---- the import
 
--- how far an import has come: the state with the records that it made, the drafts of its rows so far as records keep them, the last one
+-- how far an import has got: the state with the records that it made, the drafts of its rows so far as records keep them, the last one
 -- first, and the records that it made
 pub record Progress : Type 0 where
   pub state : State
@@ -203,7 +203,7 @@ create_checks false s d = []
 abbrev pub kind_rule : Kind → ImportRow → Option Refusal
 kind_rule kind row = if same_kind (kind_of_row row) kind then None else Some (Field member.Row)
 
--- why a row is refused: its kind, its names, then its values, then what a creation beside the records so far checks
+-- why a row is refused: its kind, its names, then its values, then what a creation given the records so far checks
 abbrev pub row_checks : State → Kind → Progress → ImportRow → List (Option Refusal)
 row_checks old kind so row =
     kind_rule kind row ∷ map breaks (name_rules old row) ++ (map breaks (value_rules row)
@@ -212,7 +212,7 @@ row_checks old kind so row =
 abbrev pub row_verdict : State → Kind → Progress → ℕ → ImportRow → Option Refusal
 row_verdict old kind so n row = option_map (at_row n) (first (row_checks old kind so row))
 
--- the verdict of each row, beside what the rows before it made
+-- the verdict of each row besides what the rows before it made
 abbrev pub row_verdicts : State → Kind → Progress → ℕ → List ImportRow → List (Option Refusal)
 row_verdicts old kind so n [] = []
 row_verdicts old kind so n (row ∷ rows) = row_verdict old kind so n row ∷ row_verdicts old kind (after_row old kind so row) (n + 1) rows
@@ -222,7 +222,7 @@ abbrev pub items_of : List ImportRow → ℕ
 items_of [] = 1
 items_of (row ∷ rows) = length (row ∷ rows)
 
--- an import of rows of a kind: all of them, or none where one is refused
+-- an import of rows of a kind: all of them, or none if one is refused
 abbrev pub import_plan : State → Kind → List ImportRow → Plan
 import_plan s kind rows =
     let done = after_rows s kind (begun s) rows in record {

@@ -28,10 +28,10 @@ with_mark populated row = record row { mark_populated = populated }
 abbrev pub marked : Bool → State → State
 marked populated s = record s { ranges = mapped (with_mark populated) s.ranges }
 
--- where every range is populated, each prefix gives out what it gave out before
+-- if every range is populated, each prefix gives out what it gave out before
 abbrev pub MarksKeepPrefixes : Type 0
 MarksKeepPrefixes = (s : State) (row : Prefix) → usable_in (marked true s) row ≡ once_usable_in s row
 
--- where none is, each range does
+-- if none is, each range does
 abbrev pub NoMarksKeepRanges : Type 0
 NoMarksKeepRanges = (s : State) (row : IpRange) → usable_of_range (marked false s) (with_mark false row) ≡ once_usable_of_range s row

@@ -67,7 +67,7 @@ module _ {T : Type 0} (id : T → ℕ) where
   AllBelow high [] = Unit {0}
   AllBelow high (x ∷ xs) = (id x < high) × AllBelow high xs
 
-  -- a row may be put: one of its id is there, or its id is above all
+  -- a row may be put: one of its id exists, or its id is above all
   abbrev pub IsFitting : List T → T → Type 0
   IsFitting rows row = IsSome (row_at rows (id row)) ⊎ AllBelow (id row) rows
 
@@ -99,7 +99,7 @@ mapped f row_list = record { rows = map f row_list.rows; next = row_list.next }
 abbrev pub AllAre : {T : Type 0} → (T → Type 0) → List T → Type 0
 AllAre {T} Is rows = (x : T) → Contains rows x → Is x
 
--- each row that a row names is there
+-- each row that a row names exists
 abbrev pub AllAreThere : {T U : Type 0} → (T → Option ℕ) → List T → (ℕ → Option U) → Type 0
 AllAreThere {T} names rows at = (x : T) (n : ℕ) → Contains rows x → names x ≡ Some n → IsSome (at n)
 

@@ -29,7 +29,7 @@ survey_place row =
 abbrev pub surveyed : List Prefix → List Prefix
 surveyed rows = fold (placed survey_place) [] rows
 
--- what is told of a prefix
+-- what is said of a prefix
 abbrev pub line_of : State → Prefix → PrefixLine
 line_of s row = record {
   table = table_of row.vrf;
@@ -42,7 +42,7 @@ line_of s row = record {
 abbrev pub survey_of : State → List PrefixLine
 survey_of s = map (line_of s) (surveyed s.prefixes.rows)
 
--- each prefix stands once, and their places rise
+-- each prefix occurs once, and their places rise
 pub record IsSurveyed (rows : List Prefix) : Type 0 where
   pub all : IsPermutation rows (surveyed rows)
   pub ordered : Rises survey_place 0 (surveyed rows)

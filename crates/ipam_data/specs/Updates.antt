@@ -1,4 +1,4 @@
--- What a plan leads to: the rows that come, those that go and the next ids, and the figures of the rows that are answered.
+-- What a plan leads to: the rows that are put, those that are removed and the next ids, and the figures of the rows that are answered.
 use Rattle.std.specs.Prelude.{ℕ, ◌+◌, ◌<◌, ◌≤◌, List, [], ◌∷◌, Some, None, fold, map}
 use Rattle.ipam_data.specs.declared.kinds.Kind.{Kind}
 use Rattle.ipam_data.specs.declared.update.Update.{Update}

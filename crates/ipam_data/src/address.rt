@@ -120,8 +120,8 @@ impl IpAddress {
         }
     }
 
-    /// The address that an edit leaves: a field that is not given stays, and an edit of another kind changes nothing. `Err` is
-    /// out of memory.
+    /// The address that an edit leaves: a field that is not given stays, and an edit of another kind changes nothing. `Err`
+    /// means out of memory.
     pub fn edited(&self, edit: &Edit) -> Result<IpAddress, AllocError>
         ensures { IfOk result (λ row. row ≡ edited_address edit.now self.now) }
     {

@@ -55,8 +55,8 @@ impl Aggregate {
         }
     }
 
-    /// The aggregate that an edit leaves: a field that is not given stays, and an edit of another kind changes nothing. `Err` is
-    /// out of memory.
+    /// The aggregate that an edit leaves: a field that is not given stays, and an edit of another kind changes nothing. `Err`
+    /// means out of memory.
     pub fn edited(&self, edit: &Edit) -> Result<Aggregate, AllocError>
         ensures { IfOk result (λ row. row ≡ edited_aggregate edit.now self.now) }
     {

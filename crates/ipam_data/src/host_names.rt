@@ -5,14 +5,14 @@ ghost use Rattle.std.specs.List.{list_all, slice_split};
 ghost use Rattle.ipam_data.specs.Texts.{is_slug_char};
 ghost use Rattle.ipam_data.specs.HostNames.{is_dot, after_dot, bare, after_star, is_label, are_labels, is_dns_name};
 
-/// Whether the byte may stand in a label.
+/// Whether the byte may be in a label.
 fn is_label_byte(byte: u8) -> bool
     ensures { result ≡ is_slug_char byte }
 {
     byte.is_ascii_alphanumeric() || byte == b'-' || byte == b'_'
 }
 
-/// Whether all bytes may stand in a label.
+/// Whether all bytes may be in a label.
 fn are_label_bytes(text: &[u8]) -> bool
     ensures { result ≡ list_all is_slug_char text.now }
 {
@@ -26,7 +26,7 @@ fn is_one_label(text: &[u8]) -> bool
     text.len() >= 1 && are_label_bytes(text)
 }
 
-/// Whether labels stand between the periods of the text.
+/// Whether labels are between the periods of the text.
 fn are_all_labels(text: &[u8]) -> bool
     ensures { result ≡ are_labels text.now }
 {
@@ -65,7 +65,7 @@ fn past_star(text: &[u8]) -> &[u8]
 }
 
 /// Whether the text is the name of a host: empty, or labels of ASCII letters, digits, hyphens and underscores joined by periods,
-/// the first of which may be a star; one more period may stand last (RFC 1035 2.3.1, RFC 4592).
+/// the first of which may be a star; one more period may come last (RFC 1035 2.3.1, RFC 4592).
 #[tactic(auto, unfolding(crate::specs::HostNames::is_dns_name))]
 pub fn is_dns_name(text: &[u8]) -> bool
     ensures { result ≡ is_dns_name text.now }

@@ -73,7 +73,7 @@ pub enum ImportRow {
 }
 
 impl ImportRow {
-    /// The kind of the record that the row stands for.
+    /// The kind of the record that the row represents.
     pub fn kind(&self) -> Kind
         ensures { result ≡ kind_of_row self.now }
     {

@@ -53,7 +53,7 @@ pub struct IpRange {
     pub description: Description,
 }
 
-/// The ends with the mask of the first, of which nothing is told.
+/// The ends with the mask of the first, of which nothing is said.
 fn ends(start: Host, end: Host) -> Ends
     requires { first (range_told start end) ≡ None }
     ensures { result ≡ ends_of start end }
@@ -74,8 +74,8 @@ impl IpRange {
         self.description.bounds();
     }
 
-    /// The range that a draft of one makes under an id, where its ends are of one family and have one mask. `Err` is want of
-    /// memory.
+    /// The range that a draft of one makes under an id, if its ends are of one family and have one mask. `Err` means out
+    /// of memory.
     pub fn drafted(id: u32, draft: &Draft) -> Result<IpRange, AllocError>
         requires kind { kind_of_draft draft.now ≡ Ranges }
         requires told { first (told_of_draft draft.now) ≡ None }
@@ -125,7 +125,7 @@ impl IpRange {
         }
     }
 
-    /// The range that an edit leaves, where its ends are of one family and have one mask: a field that is not given stays, an end
+    /// The range that an edit leaves, if its ends are of one family and have one mask: a field that is not given stays, an end
     /// that is not given keeps the row's mask, and an edit of another kind changes nothing. `Err` means out of memory.
     pub fn edited(&self, edit: &Edit) -> Result<IpRange, AllocError>
         requires { first (told_of_change edit.now self.now) ≡ None }

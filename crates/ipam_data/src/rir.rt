@@ -57,8 +57,8 @@ impl Rir {
         }
     }
 
-    /// The RIR that an edit leaves: a field that is not given stays, and an edit of another kind changes nothing. `Err` is
-    /// out of memory.
+    /// The RIR that an edit leaves: a field that is not given stays, and an edit of another kind changes nothing. `Err`
+    /// means out of memory.
     pub fn edited(&self, edit: &Edit) -> Result<Rir, AllocError>
         ensures { IfOk result (λ row. row ≡ edited_rir edit.now self.now) }
     {

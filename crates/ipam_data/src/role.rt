@@ -58,8 +58,8 @@ impl Role {
         }
     }
 
-    /// The role that an edit leaves: a field that is not given stays, and an edit of another kind changes nothing. `Err` is
-    /// out of memory.
+    /// The role that an edit leaves: a field that is not given stays, and an edit of another kind changes nothing. `Err`
+    /// means out of memory.
     pub fn edited(&self, edit: &Edit) -> Result<Role, AllocError>
         ensures { IfOk result (λ row. row ≡ edited_role edit.now self.now) }
     {

@@ -1,4 +1,4 @@
-//! What a report tells of the prefixes of a register, and in specs/ the lines of all of them in their order.
+//! What a report says of the prefixes of a register, and in specs/ the lines of all of them in their order.
 
 ghost use Rattle.std.specs.Prelude.{◌≡◌};
 

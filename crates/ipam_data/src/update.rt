@@ -54,7 +54,7 @@ impl Ids {
     }
 }
 
-/// What an accepted call does to the rows: those that come or are replaced, those that go, and next ids; and the log items that
+/// What an accepted call does to the rows: those that are put or replaced, those that are removed, and next ids; and the log items that
 /// it spends. The figures of the views say nothing here.
 #[derive(Debug, Drop)]
 pub struct Update {

@@ -1,7 +1,7 @@
 -- What an object's count of faults does in a call.
 use Rattle.std.specs.Prelude.{◌≡◌, ◌<◌, ◌≤◌, ◌⊎◌, ◌-◌, ◌^◌, ℕ, Result, IsOk, IsErr}
 
--- the count rose, or it stands at the last value of a u64, which it cannot pass
+-- the count rose, or it is at the last value of a u64, which it cannot pass
 abbrev pub Rose : ℕ → ℕ → Type 0
 Rose old new = (old < new) ⊎ (2 ^ 64 - 1 ≤ new)
 

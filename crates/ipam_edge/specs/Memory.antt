@@ -28,7 +28,7 @@ pub record KeepsSource (old new : BytesSource) : Type 0 where
   pub fails : source_fails new ≡ source_fails old
   pub piece : source_piece new ≡ source_piece old
 
--- a read: the next call has the next number, it fails exactly where its own number is among those given, and what it gives is taken off
+-- a read: the next call has the next number, it fails exactly if its own number is among those given, and what it gives is taken off
 pub record IsSourceRead (old : BytesSource) (given : Option (List ℕ)) (new : BytesSource) : Type 0 where
   pub number : source_calls new ≡ min (source_calls old + 1) (2 ^ 64 - 1)
   pub fails : IsNone given ↔ Contains (source_fails old) (source_calls old)

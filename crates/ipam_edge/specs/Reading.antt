@@ -1,7 +1,7 @@
 -- What the reads of a source gave, one after another.
 use Rattle.std.specs.Prelude.{◌≡◌, ◌<◌, ℕ, List, [], ◌∷◌, ◌++◌, length, take, Option, Some, None, Result, Ok, Err}
 
--- what a read gave: bytes, none of them at the end of the input, or nothing where it failed
+-- what a read gave: bytes, none of them at the end of the input, or nothing if it failed
 abbrev pub given : {E : Type 0} → Result ℕ E → List ℕ → Option (List ℕ)
 given (Ok n) into = Some (take n into)
 given (Err e) into = None
@@ -10,7 +10,7 @@ given (Err e) into = None
 abbrev pub Step : Type 0 → Type 1
 Step S = S → Option (List ℕ) → S → Type 0
 
--- what the last of some reads said beside bytes: nothing, that the input has ended, or that it failed
+-- what the last of some reads said besides bytes: nothing, that the input has ended, or that it failed
 pub data Last : Type 0 where
   Open : Last
   Told : Last

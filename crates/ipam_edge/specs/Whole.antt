@@ -6,6 +6,6 @@ pub record IsWhole (most : ℕ) (left_old left_new : Option (List ℕ)) (bytes :
   pub told : IfSome left_old (λ left. (left ≡ bytes) × (left_new ≡ Some []))
   pub few : length bytes ≤ most
 
--- the input, where it tells its bytes, has more than so many
+-- the input, if its bytes are known, has more than so many
 abbrev pub IsTooLong : ℕ → Option (List ℕ) → Type 0
 IsTooLong most left_old = IfSome left_old (λ left. most < length left)

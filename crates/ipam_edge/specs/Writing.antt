@@ -1,4 +1,4 @@
--- What a sink gained where a text was written in several calls.
+-- What a sink gained if a text was written in several calls.
 use Rattle.std.specs.Prelude.{◌≡◌, ◌<◌, ℕ, List, [], ◌∷◌, ◌++◌, length, take, Option, Some, None, Result, Ok, Err, MatchResult}
 use Rattle.std.specs.Io.KnownBytes.{Appends}
 use Rattle.ipam_edge.specs.Reading.{Step}
@@ -7,11 +7,11 @@ use Rattle.ipam_edge.specs.Reading.{Step}
 abbrev pub IsFrontOf : List ℕ → List ℕ → Type 0
 IsFrontOf front text = (rest : List ℕ) × (text ≡ front ++ rest)
 
--- a front of the text was written, and no more
+-- a prefix of the text was written, and no more
 abbrev pub AppendsFront : Option (List ℕ) → Option (List ℕ) → List ℕ → Type 0
 AppendsFront old new text = (front : List ℕ) × IsFrontOf front text × Appends old new front
 
--- a front of the text was written that is shorter than the text
+-- a prefix of the text was written that is shorter than the text
 pub record AppendsLess (old new : Option (List ℕ)) (text : List ℕ) : Type 0 where
   pub front : List ℕ
   pub rest : List ℕ
@@ -19,11 +19,11 @@ pub record AppendsLess (old new : Option (List ℕ)) (text : List ℕ) : Type 0 
   pub some : 0 < length rest
   pub appended : Appends old new front
 
--- the whole text was written at `Ok`, and a front of it at `Err`
+-- the whole text was written at `Ok`, and a prefix of it at `Err`
 abbrev pub WritesAll : {E : Type 0} → Option (List ℕ) → Option (List ℕ) → Result (Unit {0}) E → List ℕ → Type 0
 WritesAll old new result text = MatchResult result (λ _. Appends old new text) (λ _. AppendsFront old new text)
 
--- what a write took: bytes from the front of the piece, or nothing where it failed
+-- what a write took: bytes from the start of the piece, or nothing if it failed
 abbrev pub taken : {E : Type 0} → Result ℕ E → List ℕ → Option (List ℕ)
 taken (Ok n) from = Some (take n from)
 taken (Err e) from = None

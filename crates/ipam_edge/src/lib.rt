@@ -24,20 +24,20 @@ pub struct Failed;
 
 /// What bytes are read from.
 pub trait Source {
-    /// The bytes that reads will give from here on, where the object tells them. An object that
-    /// tells them goes on telling them.
+    /// The bytes that reads will give from here on, if they are known. Once known, they
+    /// stay known.
     ghost left: { Self → Option (List ℕ) };
 
-    /// How often it has failed so far: a count that never falls, and rises only where a call fails.
+    /// How often it has failed so far: a count that never falls, and rises only if a call fails.
     ghost faults: { Self → ℕ };
 
-    /// Which reads the object admits: from one state, with the bytes that are given (`None` where it
-    /// fails), to the next. So what stands on a source can say how often it reads, and when.
+    /// Which reads the object admits: from one state, with the bytes that are given (`None` if it
+    /// fails), to the next. So what is built on a source can say how often it reads, and when.
     ghost reads: { Self → Option (List ℕ) → Self → Type 0 } = { λ _ _ _. Unit {0} };
 
-    /// Reads the next bytes into the front of the piece, and says how many. Into a piece that is
-    /// not empty, 0 says that the input has ended, and at the end of a told input the answer is 0.
-    /// After `Failed` no told byte is lost; what the piece holds then is open.
+    /// Reads the next bytes into the start of the piece, and says how many. Into a piece that is
+    /// not empty, 0 says that the input has ended, and at the end of a known input the answer is 0.
+    /// After `Failed` no known byte is lost; what the piece holds then is open.
     fn read(&mut self, into: &mut [u8]) -> Result<usize, Failed>
         ensures most { IfOk result (λ n. n ≤ length into.new) }
         ensures took { ReadConsumes (left self.old) (left self.new) result into.new }
@@ -47,19 +47,19 @@ pub trait Source {
 
 /// What bytes are written to.
 pub trait Sink {
-    /// The bytes that were written so far, where the object tells them. An object that tells them
-    /// goes on telling them.
+    /// The bytes that were written so far, if they are known. Once known, they stay
+    /// known.
     ghost written: { Self → Option (List ℕ) };
 
-    /// How often it has failed so far: a count that never falls, and rises only where a call fails.
+    /// How often it has failed so far: a count that never falls, and rises only if a call fails.
     ghost faults: { Self → ℕ };
 
-    /// Which writes the object admits: from one state, with the bytes that are taken (`None` where it
-    /// fails), to the next. So what stands on a sink can say when it writes.
+    /// Which writes the object admits: from one state, with the bytes that are taken (`None` if it
+    /// fails), to the next. So what is built on a sink can say when it writes.
     ghost writes: { Self → Option (List ℕ) → Self → Type 0 } = { λ _ _ _. Unit {0} };
 
-    /// Writes bytes from the front of the piece, and says how many: at least one, where the piece
-    /// is not empty. `Failed` wrote nothing.
+    /// Writes bytes from the start of the piece, and says how many: at least one, if the piece is
+    /// not empty. `Failed` wrote nothing.
     fn write(&mut self, from: &[u8]) -> Result<usize, Failed>
         ensures most { IfOk result (λ n. n ≤ length from.now) }
         ensures some { IfOk result (λ n. 0 < length from.now → 0 < n) }
@@ -68,7 +68,7 @@ pub trait Sink {
         ensures cause { HasCause (faults self.old) (faults self.new) result };
 }
 
-/// Writes all of the bytes. `Failed` comes where a write failed, and then a front of the bytes was
+/// Writes all of the bytes. `Failed` is returned if a write failed, and then a prefix of the bytes was
 /// written, which may be empty and is never the whole.
 pub fn write_all<S: Sink>(sink: &mut S, bytes: &[u8]) -> Result<(), Failed>
     ensures told { WritesAll (S.written sink.old) (S.written sink.new) result bytes.now }

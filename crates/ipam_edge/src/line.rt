@@ -1,4 +1,4 @@
-//! A source and a sink in one object: what stands on it can say which of its reads came before which of its writes.
+//! A source and a sink in one object: what is built on it can say which of its reads were before which of its writes.
 ghost use Rattle.std.specs.Prelude.{◌≡◌, ℕ, List, Option};
 
 use crate::{Failed, Sink, Source};

@@ -1,4 +1,4 @@
-//! A source and a sink in memory, whose failing calls are chosen: for tests of what stands on them.
+//! A source and a sink in memory, whose failing calls are chosen: for tests of what is built on them.
 ghost use Rattle.std.specs.Prelude.{◌≡◌, ◌<◌, ◌≤◌, ◌+◌, ◌-◌, ◌++◌, ◌↔◌, ◌⊎◌, min, Some, Contains, IsTrue, IsErr, IfOk, OnErr, [], drop, take, length, is_err, if◌then◌else◌, vec_len, vec_capacity};
 ghost use Rattle.std.specs.Io.KnownBytes.{ReadConsumes, WriteAppends};
 ghost use Rattle.ipam_edge.specs.Faults.{HasCause};
@@ -13,7 +13,7 @@ fn is_among(numbers: &[u32], call: u64) -> bool
     numbers.iter().any(|number| u64::from(*number) == call)
 }
 
-/// Bytes in memory as a source. It tells its bytes and its faults.
+/// Bytes in memory as a source. Its bytes and its faults are known.
 #[derive(Drop)]
 pub struct BytesSource {
     bytes: Vec<u8>,
@@ -80,7 +80,7 @@ impl Source for BytesSource {
         ensures step { IsSourceRead self.old (given result into.new) self.new }
         ensures cause { HasCause (source_faults self.old) (source_faults self.new) result }
 
-        // The call fails exactly where its number is one of those given.
+        // The call fails exactly if its number is one of those given.
         ensures fails { IsErr result ↔ Contains (source_fails self.old) (source_calls self.old) }
         ensures exact { IfOk result (λ n. n ≡ min (length into.new) (min (source_piece self.old) (length (source_left self.old)))) }
         ensures counted { source_faults self.new ≡ (if is_err result then min (source_faults self.old + 1) u64.MAX else source_faults self.old) }
@@ -100,7 +100,7 @@ impl Source for BytesSource {
     }
 }
 
-/// Memory as a sink, with room for some bytes. It tells its bytes and its faults.
+/// Memory as a sink, with room for some bytes. Its bytes and its faults are known.
 #[derive(Drop)]
 pub struct BytesSink {
     bytes: Vec<u8>,
@@ -191,7 +191,7 @@ impl Sink for BytesSink {
         ensures step { Unit {0} }
         ensures cause { HasCause (sink_faults self.old) (sink_faults self.new) result }
 
-        // The call fails exactly where its number is one of those given, or where the sink is full.
+        // The call fails exactly if its number is one of those given, or if the sink is full.
         ensures fails { IsErr result ↔ (Contains (sink_fails self.old) (sink_calls self.old) ⊎ ((0 < length from.now) × (sink_room self.old ≤ length (sink_bytes self.old)))) }
         ensures exact { IfOk result (λ n. n ≡ min (length from.now) (min (sink_piece self.old) (sink_room self.old - length (sink_bytes self.old)))) }
         ensures counted { sink_faults self.new ≡ (if is_err result then min (sink_faults self.old + 1) u64.MAX else sink_faults self.old) }

@@ -1,5 +1,5 @@
-//! Streams, as the standard ones. They count their faults, and tell what the stream itself tells:
-//! the standard streams tell nothing.
+//! Streams, as the standard ones. They count their faults, and show what the stream itself shows:
+//! the standard streams show nothing.
 ghost use Rattle.std.specs.Prelude.{◌≡◌, ◌<◌, ◌≤◌, ◌+◌, min, IfOk, None, is_err, if◌then◌else◌, length};
 ghost use Rattle.std.specs.Io.KnownBytes.{ReadConsumes, WriteAppends};
 ghost use Rattle.ipam_edge.specs.Faults.{HasCause};
@@ -39,7 +39,7 @@ impl<R: Read> Source for StdSource<R> {
         ensures step { Unit {0} }
         ensures cause { HasCause self.old.faults self.new.faults result }
 
-        // The count rises exactly where the call fails.
+        // The count rises exactly if the call fails.
         ensures counted { self.new.faults ≡ (if is_err result then min (self.old.faults + 1) u64.MAX else self.old.faults) }
     {
         match self.stream.read(into) {
@@ -84,7 +84,7 @@ impl<W: Write> Sink for StdSink<W> {
         ensures step { Unit {0} }
         ensures cause { HasCause self.old.faults self.new.faults result }
 
-        // The count rises exactly where the call fails.
+        // The count rises exactly if the call fails.
         ensures counted { self.new.faults ≡ (if is_err result then min (self.old.faults + 1) u64.MAX else self.old.faults) }
     {
         if from.is_empty() {
@@ -100,7 +100,7 @@ impl<W: Write> Sink for StdSink<W> {
     }
 }
 
-/// Standard input, as the runtime gives it. It has failed never so far, and does not tell what is left.
+/// Standard input, as the runtime gives it. It has failed never so far, and does not show what is left.
 pub fn standard_input(rt: &HostRuntime) -> StdSource<StdinLock<'static>>
     ensures faults { source_stream_faults result ≡ 0 }
     ensures left { ⟦<StdSource<StdinLock<'static>> as Source>⟧.left result ≡ None }
@@ -108,7 +108,7 @@ pub fn standard_input(rt: &HostRuntime) -> StdSource<StdinLock<'static>>
     StdSource::new(rt.reader())
 }
 
-/// Standard output, as the runtime gives it. It has failed never so far, and does not tell what was
+/// Standard output, as the runtime gives it. It has failed never so far, and does not show what was
 /// written.
 pub fn standard_output<P: Print>(rt: &P) -> StdSink<Printer<'_, P>>
     ensures faults { sink_stream_faults result ≡ 0 }
@@ -117,7 +117,7 @@ pub fn standard_output<P: Print>(rt: &P) -> StdSink<Printer<'_, P>>
     StdSink::new(io::writer(rt))
 }
 
-/// Standard error, as the runtime gives it. It has failed never so far, and does not tell what was
+/// Standard error, as the runtime gives it. It has failed never so far, and does not show what was
 /// written.
 pub fn standard_error(rt: &HostRuntime) -> StdSink<Stderr>
     ensures faults { sink_stream_faults result ≡ 0 }

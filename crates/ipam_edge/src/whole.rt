@@ -33,8 +33,8 @@ impl From<AllocError> for Unread {
     }
 }
 
-/// Reads an input to its end, and gives its bytes, of which there may be at most `most`. `Err` is `Failed` only where the input's count
-/// of faults rose, which it does in no other case, `TooLong` only where it has more bytes, of which then at most a piece was read beyond
+/// Reads an input to its end, and gives its bytes, of which there may be at most `most`. `Err` is `Failed` only if the input's count
+/// of faults rose, which it does in no other case, `TooLong` only if it has more bytes, of which then at most a piece was read beyond
 /// the limit, and else `Memory`.
 pub fn read_whole<So: Source>(alloc: Global, input: &mut So, most: usize) -> Result<Vec<u8>, Unread>
     ensures whole { IfOk result (λ v. IsWhole most (So.left input.old) (So.left input.new) v.items) }

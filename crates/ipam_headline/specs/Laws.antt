@@ -17,6 +17,6 @@ pub record HeadlinesHold : Type 0 where
       → (served : Served serving.store old new before after) × (entries ≡ length served.kept.history)
   -- a session over a store, however it ended
   pub session : (store : Store) (old new : Outside) (how : SessionEnd) → Serves store old new how → Alone store old new
-  -- an operator beside readers
+  -- an operator next to readers
   pub mirror : (asked : Mirroring) (old new : Outside) (before after : ListenerView) (how : SessionEnd) → Mirrors asked old new before after how
       → Mirrored asked.store old new before after

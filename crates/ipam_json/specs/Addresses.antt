@@ -38,7 +38,7 @@ address_edit host d =
     then (read_given Description description_of d) λ description.
     Ok (AddressEdit host vrf status role dns_name description)
 
--- the role of an address, or null where it has none
+-- the role of an address, or null if it has none
 abbrev pub address_role_data : Option AddressRole → Data
 address_role_data None = null
 address_role_data (Some role) = choice_data (address_role_label role) (address_role_value role)

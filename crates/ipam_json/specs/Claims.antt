@@ -1,4 +1,4 @@
--- What the body of a claim asks for: its items, and whether it came as one object or as a list of objects; or the refusal that is
+-- What the body of a claim asks for: its items, and whether it was given as one object or as a list of objects; or the refusal that is
 -- answered. The body is one JSON text, as that of a Create.
 use Rattle.std.specs.Prelude.{◌≡◌, ◌⊎◌, ℕ, ◌≤◌, Bool, List, [], ◌∷◌, Option, Some, None, Result, Ok, Err, IsUtf8, is_some, if◌then◌else◌}
 use Rattle.std.specs.List.{list_all}
@@ -64,7 +64,7 @@ abbrev pub IsClaimOf : {A : Type 0} → (Data → Result A Refusal) → List ℕ
 IsClaimOf read_item body answer =
     ((d : Data) × IsJsonText body d × (claim_of read_item d ≡ answer)) ⊎ (IsNoJsonText body × (answer ≡ Err BadJson))
 
--- a claim has an item, and exactly one where it came as one object
+-- a claim has an item, and exactly one if it was given as one object
 abbrev pub HasItems : Answered → ℕ → Type 0
 HasItems AsOne n = n ≡ 1
 HasItems AsList n = 1 ≤ n

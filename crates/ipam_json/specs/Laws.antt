@@ -51,11 +51,11 @@ abbrev pub ordered : List Named → Members
 ordered [] = no_members
 ordered (m ∷ ms) = put m.0 m.1 (ordered ms)
 
--- the members stand in the byte order of their names, and no two have one name
+-- the members are in the byte order of their names, and no two have one name
 abbrev pub AreOrdered : List Named → Type 0
 AreOrdered row = ordered row ≡ members row
 
--- the members of a row stand in the byte order of their names, and no two have one name
+-- the members of a row are in the byte order of their names, and no two have one name
 pub record RowsAreInOrder : Type 0 where
   pub vrfs : (row : Vrf) → AreOrdered (vrf_members row)
   pub rirs : (row : Rir) → AreOrdered (rir_members row)

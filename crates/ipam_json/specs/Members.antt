@@ -1,4 +1,4 @@
--- Members of the object that a body is: which field each of them gives. `None` is a member that is malformed, or absent where
+-- Members of the object that a body is: which field each of them gives. `None` is a member that is malformed, or absent if
 -- it is required. A member is looked up by `get` of serde_json, which knows the last of two with one name, and no order.
 use Rattle.std.specs.Prelude.{ℕ, nat_le, Bool, not, ◌&&◌, ◌==◌, List, [], length, chars, Option, Some, None, option_map, option_and_then, is_some, if◌then◌else◌}
 use Rattle.std.specs.List.{list_any, list_all}

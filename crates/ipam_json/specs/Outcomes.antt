@@ -7,7 +7,7 @@ use Rattle.ipam_data.specs.Answers.{field_text}
 use Rattle.serde_json.specs.Data.{Data}
 use Rattle.serde_json.specs.Find.{get}
 
--- what comes next of a good value; a refusal stands
+-- what comes next of a good value; a refusal stays
 abbrev pub then : {A B : Type 0} → Result A Refusal → (A → Result B Refusal) → Result B Refusal
 then (Ok a) next = next a
 then (Err refusal) next = Err refusal
@@ -16,7 +16,7 @@ then (Err refusal) next = Err refusal
 abbrev pub field : {A : Type 0} → FieldName → Option A → Result A Refusal
 field name value = ok_or value (Field name)
 
--- the value of a member of an object, where it has one
+-- the value of a member of an object, if it has one
 abbrev pub value_of : FieldName → Data → Option Data
 value_of name d = get (field_text name) d
 
@@ -35,7 +35,7 @@ IsGiven IsRight (Ok None) = ⊥
 IsGiven IsRight (Ok (Some a)) = IsRight (Ok a)
 IsGiven IsRight (Err refusal) = IsRight (Err refusal)
 
--- the member of an edit: an absent one leaves the field, every other one is read as that of a draft, so that null clears where it
+-- the member of an edit: an absent one leaves the field, every other one is read as that of a draft, so that null clears if it
 -- is none
 abbrev pub given_member : {A : Type 0} → FieldName → (Option Data → Option A) → Option Data → Result (Option A) Refusal
 given_member key read None = Ok None

@@ -1,4 +1,4 @@
--- The JSON of a reply: which value stands for each row, page and refusal, with the members of each object in the byte order of
+-- The JSON of a reply: which value represents each row, page and refusal, with the members of each object in the byte order of
 -- their names, and its text, which is compact as serde_json writes it.
 use Rattle.std.specs.Prelude.{ℕ, List, [], ◌∷◌, codes, length, map, Option, Some, None}
 use Rattle.inet_num.specs.Net.{Address, Cidr}
@@ -61,7 +61,7 @@ addr_data vrf len addr = object (members (
     ∷ family_named addr.family
     ∷ reference_named VrfField vrf ∷ []))
 
--- what an import did: how many rows made a record, and how many were there already
+-- what an import did: how many rows made a record, and how many existed already
 abbrev pub imported_data : ℕ → ℕ → Data
 imported_data created present = object (members (
     (codes "created", number_data created)
@@ -96,7 +96,7 @@ reply_data (Rows rows) links = Some (length_data (codes "rows") (length rows))
 reply_data (Lines lines) links = Some (length_data (codes "lines") (length lines))
 reply_data (Refused refusal) links = Some (refusal_data refusal)
 
--- the text of a value, and none where there is no value
+-- the text of a value, and none if there is no value
 abbrev pub text_of_value : Option Data → List ℕ
 text_of_value None = []
 text_of_value (Some d) = compact_text d

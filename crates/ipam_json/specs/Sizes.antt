@@ -8,7 +8,7 @@ use Rattle.ipam_data.specs.Ranges.{most_of_range}
 abbrev pub shown_count : ℕ → ℕ
 shown_count count = if nat_le count most_of_range then count else most_of_range
 
--- how many addresses there are from start to end: none where the families differ or the end is below the start
+-- how many addresses there are from start to end: none if the families differ or the end is below the start
 abbrev pub range_size : RangeEnds → ℕ
 range_size ends =
     if same_family ends.start.family ends.end.family && nat_le ends.start.value ends.end.value

@@ -17,12 +17,12 @@ members (m ∷ ms) = member m.0 m.1 (members ms)
 abbrev pub number_data : ℕ → Data
 number_data n = number (unsigned n)
 
--- a number, or null where there is none
+-- a number, or null if there is none
 abbrev pub id_data : Option ℕ → Data
 id_data None = null
 id_data (Some n) = number_data n
 
--- a text, or null where there is none
+-- a text, or null if there is none
 abbrev pub text_data : Option (List ℕ) → Data
 text_data None = null
 text_data (Some text) = string text

@@ -6,7 +6,7 @@ use Rattle.json.specs.Written.{Written}
 use Rattle.serde_json.specs.Data.{Data}
 use Rattle.serde_json.specs.Written.{outline}
 
--- these pieces were appended; after out of memory some of them may have been, and what stood before stays in both cases
+-- these pieces were appended; after out of memory some of them may have been, and what was before stays in both cases
 pub record Puts {E : Type 0} (r : Result (Unit {0}) E) (old new : Written) (more : List Token) : Type 0 where
   pub before : new.before ≡ old.before
   pub tokens : OnOk r (new.tokens ≡ old.tokens ++ more)

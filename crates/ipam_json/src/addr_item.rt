@@ -71,10 +71,10 @@ fn claim_by_one(alloc: Global, body: &Value) -> Result<(Answered, AddrItems), Re
     Ok((Answered::AsOne, AddrItems::of(items)))
 }
 
-/// What the body of a claim of addresses asks for: its items in order, and whether it came as one object or as a list. `BadJson` comes
-/// where the body is no JSON text (RFC 8259), or neither an object nor a list of objects; `Field` with `Body` where the list is
+/// What the body of a claim of addresses asks for: its items in order, and whether it was given as one object or as a list. `BadJson` is
+/// returned if the body is no JSON text (RFC 8259), or neither an object nor a list of objects; `Field` with `Body` if the list is
 /// empty; `Field` with the first member that is malformed, or required and absent, item by item, in the order `status`, `role`, `dns_name`, `description`
-/// of an item; and `Memory` may come in place of any answer.
+/// of an item; and `Memory` may be returned in place of any answer.
 pub fn read_addr_claim(alloc: Global, body: &[u8]) -> Result<(Answered, AddrItems), Refusal>
     ensures claim { OrMemory (IsAddrClaim body.now) result }
     ensures items { IfOk result (λ claim. HasItems claim.0 (length claim.1)) }

@@ -31,9 +31,9 @@ fn read_object(alloc: Global, body: &[u8]) -> Result<Value, Refusal>
     }
 }
 
-/// What the body of a Create asks for: a draft of the kind. `BadJson` comes where the body is no JSON text (RFC 8259) or no
-/// object; `Field` where a member is malformed, or required and absent, and names the first such member in the order of the
-/// kind; `HostBits` in the same order for a prefix text with host bits set; and `Memory` may come in place of any answer.
+/// What the body of a Create asks for: a draft of the kind. `BadJson` is returned if the body is no JSON text (RFC 8259) or no
+/// object; `Field` if a member is malformed, or required and absent, and names the first such member in the order of the
+/// kind; `HostBits` in the same order for a prefix text with host bits set; and `Memory` may be returned in place of any answer.
 pub fn read_body(alloc: Global, kind: Kind, body: &[u8]) -> Result<Draft, Refusal>
     ensures { OrMemory (IsBodyOf kind body.now) result }
 {
@@ -49,7 +49,7 @@ pub fn read_body(alloc: Global, kind: Kind, body: &[u8]) -> Result<Draft, Refusa
     }
 }
 
-/// What the body of a Change asks for: an edit of the kind, in which an absent member leaves its field, and null clears it where
+/// What the body of a Change asks for: an edit of the kind, in which an absent member leaves its field, and null clears it if
 /// it may be absent. It is refused as the body of a Create is, but no member is required.
 pub fn read_edit(alloc: Global, kind: Kind, body: &[u8]) -> Result<Edit, Refusal>
     ensures { OrMemory (IsEditOf kind body.now) result }

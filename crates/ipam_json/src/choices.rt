@@ -39,7 +39,7 @@ pub(crate) fn prefix_status(body: &Value) -> Result<PrefixStatus, Refusal>
     }
 }
 
-/// The status of a prefix, where it is given.
+/// The status of a prefix, if it is given.
 pub(crate) fn given_prefix_status(body: &Value) -> Result<Option<PrefixStatus>, Refusal>
     ensures { read_given StatusField prefix_status_of (view body.now) ≡ result }
 {
@@ -75,7 +75,7 @@ pub(crate) fn range_status(body: &Value) -> Result<RangeStatus, Refusal>
     }
 }
 
-/// The status of a range, where it is given.
+/// The status of a range, if it is given.
 pub(crate) fn given_range_status(body: &Value) -> Result<Option<RangeStatus>, Refusal>
     ensures { read_given StatusField range_status_of (view body.now) ≡ result }
 {
@@ -111,7 +111,7 @@ pub(crate) fn address_status(body: &Value) -> Result<AddressStatus, Refusal>
     }
 }
 
-/// The status of an address, where it is given.
+/// The status of an address, if it is given.
 pub(crate) fn given_address_status(body: &Value) -> Result<Option<AddressStatus>, Refusal>
     ensures { read_given StatusField address_status_of (view body.now) ≡ result }
 {
@@ -124,7 +124,7 @@ pub(crate) fn given_address_status(body: &Value) -> Result<Option<AddressStatus>
     }
 }
 
-/// The role of an address that a text names: none where it is empty.
+/// The role of an address that a text names: none if it is empty.
 fn role_of_text(text: &str) -> Option<Option<AddressRole>>
     ensures { result ≡ address_role_in text.now }
 {
@@ -148,7 +148,7 @@ fn address_role_in_value(value: &Value) -> Option<Option<AddressRole>>
     role_of_text(text)
 }
 
-/// The role of an address, where it has one.
+/// The role of an address, if it has one.
 pub(crate) fn address_role(body: &Value) -> Result<Option<AddressRole>, Refusal>
     ensures { read_member RoleField address_role_of (view body.now) ≡ result }
 {
@@ -161,7 +161,7 @@ pub(crate) fn address_role(body: &Value) -> Result<Option<AddressRole>, Refusal>
     }
 }
 
-/// The role of an address, where it is given; an inner `None` clears it.
+/// The role of an address, if it is given; an inner `None` clears it.
 pub(crate) fn given_address_role(body: &Value) -> Result<Option<Option<AddressRole>>, Refusal>
     ensures { read_given RoleField address_role_of (view body.now) ≡ result }
 {

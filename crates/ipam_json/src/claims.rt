@@ -1,4 +1,4 @@
-//! The bodies of claims: one object, or a list of objects. What an object gives stands with its kind of item.
+//! The bodies of claims: one object, or a list of objects. What an object gives is with its kind of item.
 
 ghost use Rattle.std.specs.Prelude.{◌≡◌, ◌⊎◌, IfOk, IfErr, map};
 ghost use Rattle.std.specs.List.{list_all};

@@ -22,7 +22,7 @@ pub fn bounds_are_those()
     ensures { BoundsAreThose }
 {}
 
-/// The members of a row stand in the byte order of their names.
+/// The members of a row are in the byte order of their names.
 pub fn rows_are_in_order()
     ensures { RowsAreInOrder }
 {}

@@ -15,7 +15,7 @@ use ipam_words::field_name;
 use serde_json::Value;
 use std::alloc::Global;
 
-/// The value of a member, where the object has it.
+/// The value of a member, if the object has it.
 pub(crate) fn member(body: &Value, name: FieldName) -> Option<&Value>
     ensures { option_map (λ v. view v.now) result ≡ value_of name (view body.now) }
 {
@@ -47,7 +47,7 @@ pub(crate) fn name(alloc: Global, body: &Value) -> Result<Name, Refusal>
     }
 }
 
-/// The name, where it is given.
+/// The name, if it is given.
 pub(crate) fn given_name(alloc: Global, body: &Value) -> Result<Option<Name>, Refusal>
     ensures { OrMemory (λ r. read_given NameField name_of (view body.now) ≡ r) result }
 {
@@ -71,7 +71,7 @@ pub(crate) fn slug(alloc: Global, body: &Value) -> Result<Slug, Refusal>
     }
 }
 
-/// The slug, where it is given.
+/// The slug, if it is given.
 pub(crate) fn given_slug(alloc: Global, body: &Value) -> Result<Option<Slug>, Refusal>
     ensures { OrMemory (λ r. read_given SlugField slug_of (view body.now) ≡ r) result }
 {
@@ -106,7 +106,7 @@ pub(crate) fn description(alloc: Global, body: &Value) -> Result<Description, Re
     }
 }
 
-/// The description, where it is given.
+/// The description, if it is given.
 pub(crate) fn given_description(alloc: Global, body: &Value) -> Result<Option<Description>, Refusal>
     ensures { OrMemory (λ r. read_given DescriptionField description_of (view body.now) ≡ r) result }
 {
@@ -140,7 +140,7 @@ pub(crate) fn dns_name(alloc: Global, body: &Value) -> Result<DnsText, Refusal>
     }
 }
 
-/// The name of a host, where it is given.
+/// The name of a host, if it is given.
 pub(crate) fn given_dns_name(alloc: Global, body: &Value) -> Result<Option<DnsText>, Refusal>
     ensures { OrMemory (λ r. read_given DnsNameField dns_name_of (view body.now) ≡ r) result }
 {
@@ -150,7 +150,7 @@ pub(crate) fn given_dns_name(alloc: Global, body: &Value) -> Result<Option<DnsTe
     Ok(Some(dns_name(alloc, body)?))
 }
 
-/// The route distinguisher of a text: none where it is empty.
+/// The route distinguisher of a text: none if it is empty.
 fn distinguisher(alloc: Global, text: &str) -> Result<Option<Distinguisher>, Refusal>
     ensures { OrMemory (λ r. field RdField (distinguisher_of text.now) ≡ r) result }
 {
@@ -164,7 +164,7 @@ fn distinguisher(alloc: Global, text: &str) -> Result<Option<Distinguisher>, Ref
     }
 }
 
-/// The route distinguisher of a VRF, where it has one.
+/// The route distinguisher of a VRF, if it has one.
 pub(crate) fn rd(alloc: Global, body: &Value) -> Result<Option<Distinguisher>, Refusal>
     ensures { OrMemory (λ r. read_member RdField rd_of (view body.now) ≡ r) result }
 {
@@ -180,7 +180,7 @@ pub(crate) fn rd(alloc: Global, body: &Value) -> Result<Option<Distinguisher>, R
     }
 }
 
-/// The route distinguisher, where it is given; an inner `None` clears it.
+/// The route distinguisher, if it is given; an inner `None` clears it.
 pub(crate) fn given_rd(
     alloc: Global,
     body: &Value,
@@ -206,7 +206,7 @@ pub(crate) fn flag(body: &Value, name: FieldName, default: bool) -> Result<bool,
     }
 }
 
-/// A truth value, where it is given.
+/// A truth value, if it is given.
 pub(crate) fn given_flag(body: &Value, name: FieldName) -> Result<Option<bool>, Refusal>
     ensures { read_given name (flag_of false) (view body.now) ≡ result }
 {

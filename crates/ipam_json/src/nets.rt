@@ -38,7 +38,7 @@ pub(crate) fn block(body: &Value) -> Result<Block, Refusal>
     }
 }
 
-/// The block of a prefix or an aggregate, where it is given.
+/// The block of a prefix or an aggregate, if it is given.
 pub(crate) fn given_block(body: &Value) -> Result<Option<Block>, Refusal>
     ensures { IsBlockEdit (value_of PrefixField (view body.now)) result }
 {
@@ -54,7 +54,7 @@ pub(crate) fn given_block(body: &Value) -> Result<Option<Block>, Refusal>
     }
 }
 
-/// The host that a text is: an address, whose mask is its width where the text has none.
+/// The host that a text is: an address, whose mask is its width if the text has none.
 fn host_of(text: &str, name: FieldName) -> Result<Host, Refusal>
     ensures { IsHostReading name text.now result }
 {
@@ -77,7 +77,7 @@ pub(crate) fn host(body: &Value, name: FieldName) -> Result<Host, Refusal>
     host_of(text, name)
 }
 
-/// A host, where it is given.
+/// A host, if it is given.
 pub(crate) fn given_host(body: &Value, name: FieldName) -> Result<Option<Host>, Refusal>
     ensures { IsHostEdit name (value_of name (view body.now)) result }
 {

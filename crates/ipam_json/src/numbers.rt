@@ -46,7 +46,7 @@ pub(crate) fn id(body: &Value, name: FieldName) -> Result<Option<u32>, Refusal>
     }
 }
 
-/// The id of another row, where it is given; an inner `None` clears it.
+/// The id of another row, if it is given; an inner `None` clears it.
 pub(crate) fn given_id(body: &Value, name: FieldName) -> Result<Option<Option<u32>>, Refusal>
     ensures { read_given name id_of (view body.now) ≡ result }
 {
@@ -80,7 +80,7 @@ pub(crate) fn row_id(body: &Value, name: FieldName) -> Result<u32, Refusal>
     }
 }
 
-/// The id of another row, where it is given.
+/// The id of another row, if it is given.
 pub(crate) fn given_row_id(body: &Value, name: FieldName) -> Result<Option<u32>, Refusal>
     ensures { read_given name row_id_of (view body.now) ≡ result }
 {
@@ -162,7 +162,7 @@ pub(crate) fn weight(body: &Value) -> Result<Weight, Refusal>
     }
 }
 
-/// The weight of a role, where it is given.
+/// The weight of a role, if it is given.
 pub(crate) fn given_weight(body: &Value) -> Result<Option<Weight>, Refusal>
     ensures { read_given WeightField weight_of (view body.now) ≡ result }
 {

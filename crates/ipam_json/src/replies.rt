@@ -15,7 +15,7 @@ use json::Writer;
 use std::alloc::{AllocError, Global};
 use std::marker::Model;
 
-/// The targets of the pages after and before a page, where there are such pages.
+/// The targets of the pages after and before a page, if there are such pages.
 #[derive(Debug, Drop)]
 pub struct Links {
     pub next: Option<Text>,
@@ -104,7 +104,7 @@ fn put_refusal_with(writer: &mut Writer, refusal: &Refusal, detail: &str) -> Res
 /// Bytes of room for the text of a record, so that it is not moved while it grows.
 pub const RECORD_ROOM: usize = 512;
 
-/// Writes a reply, and nothing where it has no value.
+/// Writes a reply, and nothing if it has no value.
 fn put_reply(
     alloc: Global,
     writer: &mut Writer,
@@ -130,8 +130,8 @@ fn put_reply(
     }
 }
 
-/// The JSON text of a reply: compact, with the members of each object in the byte order of their names, and no text where a
-/// row is gone. The links are those of a page; no other reply has any. `Err` means out of memory.
+/// The JSON text of a reply: compact, with the members of each object in the byte order of their names, and no text if a row
+/// is gone. The links are those of a page; no other reply has any. `Err` means out of memory.
 pub fn reply_bytes(alloc: Global, reply: &Reply, links: &Links) -> Result<Vec<u8>, AllocError>
     ensures { IfOk result (λ v. v.items ≡ reply_text reply.now links.now) }
 {

@@ -11,11 +11,11 @@ pub record Held : Type 0 where
   pub calls : ℕ
   pub faults : ℕ
 
--- the next call fails: its number, counted from 0, stands in the list
+-- the next call fails: its number, counted from 0, is in the list
 abbrev pub is_failing : Held → Bool
 is_failing held = list_any (λ n. n == held.calls) held.fails
 
--- one call more was counted, as far as the count goes, and one fault more where the call fails
+-- one call more was counted, as far as the count goes, and one fault more if the call fails
 abbrev pub counted : Held → Held
 counted held = record {
   tables = held.tables;

@@ -29,13 +29,13 @@ impl From<AllocError> for KeepFault {
 
 /// What keeps stored tables.
 pub trait Keeper {
-    /// The tables that it keeps, where it tells them.
+    /// The tables that it keeps, if they are known.
     ghost told: { Self → Option StoredTables };
 
     /// How often it has failed. The count never falls, and rises in calls that fail alone.
     ghost faults: { Self → ℕ };
 
-    /// The tables that it keeps, in order. It leaves them. `Err` is `Failed` only where the count rose, which it does
+    /// The tables that it keeps, in order. It leaves them. `Err` is `Failed` only if the count rose, which it does
     /// in no other case.
     fn load(&mut self) -> Result<Tables, KeepFault>
         ensures told { IfOk result (λ tables. IsTold (told self.old) tables) }
@@ -45,7 +45,7 @@ pub trait Keeper {
         ensures failed { IsErrOf result KeepFault.Failed → Rose (faults self.old) (faults self.new) }
         ensures still { IsErrOf result KeepFault.Failed ⊎ (faults self.new ≡ faults self.old) };
 
-    /// Makes a change, whole or not at all. `Err` is `Failed` only where the count rose, which it does in no other case, and
+    /// Makes a change, whole or not at all. `Err` is `Failed` only if the count rose, which it does in no other case, and
     /// leaves the tables.
     fn apply(&mut self, change: &Change) -> Result<(), KeepFault>
         ensures ok { OnOk result (told self.new ≡ option_map (changed change.now) (told self.old)) }
@@ -56,7 +56,7 @@ pub trait Keeper {
 
     /// Puts these tables, which are of the register's version and in order, in the place of those that it keeps, whole or not at all.
     /// They are what those become that it keeps, which are of an older version: all but the rows of ranges and the version are the same.
-    /// `Err` is `Failed` only where the count rose, which it does in no other case, and leaves the tables.
+    /// `Err` is `Failed` only if the count rose, which it does in no other case, and leaves the tables.
     fn upgrade(&mut self, tables: &Tables) -> Result<(), KeepFault>
         requires version { tables.now.version ≡ stored_version }
         requires order { AreTables tables.now }
@@ -67,21 +67,21 @@ pub trait Keeper {
         ensures still { IsErrOf result KeepFault.Failed ⊎ (faults self.new ≡ faults self.old) };
 }
 
-/// What starts keepers, one at a time: over the tables of a path, or over empty tables of their own.
+/// What starts keepers, one at a time: over the tables of a path, or over their own empty tables.
 pub trait KeeperOpener {
     type Kept: Keeper + Drop + Send;
 
-    /// The tables under each path, where it knows them.
+    /// The tables under each path, if they are known.
     ghost stored: { Self → Option (List (List ℕ × StoredTables)) };
 
-    /// The path of the keeper that was started last and is not back, where one is out; one may have no path.
+    /// The path of the keeper that was started last and is not back, if one is out; one may have no path.
     ghost lent: { Self → Option (Option (List ℕ)) };
 
-    /// How often it or a keeper that came back has failed. The count never falls, and rises where one of them failed alone.
+    /// How often it or a keeper that was given back has failed. The count never falls, and rises if one of them failed alone.
     ghost faults: { Self → ℕ };
 
-    /// A keeper over the tables of this path, which are the empty ones where none stand there; without a path over empty tables. It
-    /// has not failed. No path is changed, also where it is refused. `Err` is `Failed` only where the count rose, which it does in no
+    /// A keeper over the tables of this path, which are the empty ones if it has none; without a path over empty tables. It
+    /// has not failed. No path is changed, also if it is refused. `Err` is `Failed` only if the count rose, which it does in no
     /// other case, and leaves out what was out.
     fn start(&mut self, path: Option<&Text>) -> Result<Self::Kept, KeepFault>
         ensures told { IfOk result (λ kept. Self.Kept.told kept ≡ started (stored self.old) (option_copied path.entry)) }

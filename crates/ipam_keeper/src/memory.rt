@@ -1,4 +1,4 @@
-//! A keeper in memory, whose calls fail where its maker says so.
+//! A keeper in memory, whose calls fail if its maker says so.
 
 ghost use Rattle.std.specs.Prelude.{◌≡◌, ◌↔◌, ℕ, ◌+◌, ◌<◌, ◌≤◌, ◌==◌, ◌⊎◌, Some, option_map, IfOk, OnOk, OnErr, IsTrue, IsErrOf, MatchResult, fold, vec_len, vec_capacity};
 ghost use Rattle.std.specs.List.{list_any};
@@ -16,7 +16,7 @@ use std::alloc::{AllocError, Global};
 use std::marker::Model;
 use stored_tables::tables::{Change, Row, Rows, Tables};
 
-/// A keeper in memory. It tells its tables. Its calls are counted from 0, and those whose numbers it was given fail.
+/// A keeper in memory. Its tables are known. Its calls are counted from 0, and those whose numbers it was given fail.
 ///
 /// A contract sees the tables, the numbers of the calls that fail, how many calls there were, and how many of them failed.
 #[derive(Drop)]
@@ -42,7 +42,7 @@ impl Model for MemoryKeeper {
     ghost invariant = { λ k. Rises next_place 0 k.next.items × Rises row_place 0 k.rows.items × (k.faults ≤ k.calls) };
 }
 
-/// Whether a call of this number stands among those that fail.
+/// Whether a call of this number is among those that fail.
 fn is_listed(fails: &[u32], call: u64) -> bool
     ensures listed { result ≡ list_any (λ n. n == call) fails.now }
     ensures low { IsTrue result → call < 4294967296 }
@@ -118,7 +118,7 @@ impl MemoryKeeper {
         fails
     }
 
-    /// Keeps these tables in the place of its own. `Err` means out of memory, and leaves its own.
+    /// Keeps these tables in place of its own. `Err` means out of memory, and leaves its own.
     fn keep(&mut self, tables: &Tables) -> Result<(), AllocError>
         requires { AreTables tables.now }
         ensures ok { OnOk result (self.new ≡ holding self.old tables.now) }
@@ -152,7 +152,7 @@ impl Keeper for MemoryKeeper {
 
     ghost faults = { λ k. k.faults };
 
-    /// The tables that it keeps. `Failed` comes exactly where the call's number was given, and the count rises in those calls
+    /// The tables that it keeps. `Failed` is returned exactly if the call's number was given, and the count rises in those calls
     /// alone, by one.
     fn load(&mut self) -> Result<Tables, KeepFault>
         ensures told { IfOk result (λ tables. self.old.tables ≡ tables) }
@@ -174,7 +174,7 @@ impl Keeper for MemoryKeeper {
         })
     }
 
-    /// Makes a change, whole or not at all. `Failed` comes exactly where the call's number was given, and the count rises in those
+    /// Makes a change, whole or not at all. `Failed` is returned exactly if the call's number was given, and the count rises in those
     /// calls alone, by one.
     fn apply(&mut self, change: &Change) -> Result<(), KeepFault>
         ensures ok { OnOk result (Some self.new.tables ≡ Some (changed change.now self.old.tables)) }
@@ -192,7 +192,7 @@ impl Keeper for MemoryKeeper {
         Ok(())
     }
 
-    /// Keeps these tables in the place of its own, whole or not at all. `Failed` comes exactly where the call's number was given, and
+    /// Keeps these tables in place of its own, whole or not at all. `Failed` is returned exactly if the call's number was given, and
     /// the count rises in those calls alone, by one.
     fn upgrade(&mut self, tables: &Tables) -> Result<(), KeepFault>
         requires version { tables.now.version ≡ stored_version }

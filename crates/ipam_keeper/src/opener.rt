@@ -13,10 +13,10 @@ use std::alloc::{AllocError, Global};
 use std::marker::Model;
 use stored_tables::tables::{Tables, Text};
 
-/// An opener of keepers in memory. It tells the tables under each path. Of two entries with one path the first counts.
+/// An opener of keepers in memory. The tables under each path are known. Of two entries with one path the first counts.
 ///
 /// A contract sees the tables, the numbers of the calls of each keeper that fail, the path of the keeper that is out, and how many
-/// calls of the keepers that came back had failed.
+/// calls of the keepers that were given back had failed.
 #[derive(Drop)]
 pub struct MemoryOpener {
     stored: Vec<(Text, Tables)>,
@@ -57,7 +57,7 @@ fn copy_under(alloc: Global, stored: &[(Text, Tables)], path: &Text) -> Result<T
     }
 }
 
-/// Puts tables under a path, in the place of its first entry or else behind all. It takes no memory.
+/// Puts tables under a path, in the place of its first entry or else after all. It takes no memory.
 fn keep_at(stored: &mut Vec<(Text, Tables)>, path: Text, tables: Tables)
     requires ordered { AllTables stored.old.items }
     requires tables { AreTables tables }
@@ -87,7 +87,7 @@ impl MemoryOpener {
         }
     }
 
-    /// How many calls of the keepers that came back had failed, as far as the count goes.
+    /// How many calls of the keepers that were given back had failed, as far as the count goes.
     pub fn faults(&self) -> u64
         ensures { result ≡ self.now.faults }
     {

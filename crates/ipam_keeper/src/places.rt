@@ -1,4 +1,4 @@
-//! Lists that stand in the order of a number that each element has: rows by kind and id, next ids by kind.
+//! Lists that are in the order of a number that each element has: rows by kind and id, next ids by kind.
 
 ghost use Rattle.std.specs.Prelude.{◌≡◌, ℕ, ◌+◌, ◌*◌, ◌<◌, ◌≤◌, None, IfOk, IfErr, fold, vec_len, vec_capacity};
 ghost use Rattle.ipam_data.specs.RowList.{Rises, placed, without, row_at};
@@ -8,7 +8,7 @@ ghost use Rattle.placed_book.specs.RowBook.{place, IsAt};
 use ipam_data::kinds::Kind;
 use stored_tables::tables::Row;
 
-/// What stands in a list by a number from 1: its place, by which the list rises.
+/// What is in a list by a number from 1: its place, by which the list rises.
 pub trait HasPlace {
     ghost number: { Self → ℕ };
 
@@ -18,7 +18,7 @@ pub trait HasPlace {
         ensures low { 1 ≤ number self.now };
 }
 
-/// Where a row of this kind and id stands among all rows: kinds in their order, ids rising within each.
+/// Where a row of this kind and id is among all rows: kinds in their order, ids rising within each.
 pub fn place_among(kind: Kind, id: u32) -> u64
     ensures is { result ≡ place_of kind id }
     ensures low { 1 ≤ place_of kind id }
@@ -43,7 +43,7 @@ impl HasPlace for (Kind, u32) {
     }
 }
 
-/// The index of the element of this place, or that at which it would come, by halving.
+/// The index of the element of this place, or that at which it would be, by halving.
 fn search<T: HasPlace>(items: &[T], here: u64) -> Result<usize, usize>
     requires { Rises T.number 0 items.now }
     ensures found { IfOk result (λ k. IsAt T.number items.now here k) }
@@ -52,7 +52,7 @@ fn search<T: HasPlace>(items: &[T], here: u64) -> Result<usize, usize>
     items.binary_search_by_key(&here, |item| item.place())
 }
 
-/// Puts an element in its place, which is given, or in the place of the one that stands there. It takes no memory.
+/// Puts an element in its place, which is given, or in the place of the one that it replaces. It takes no memory.
 pub fn put<T: HasPlace + Drop>(items: &mut Vec<T>, here: u64, item: T)
     requires ordered { Rises T.number 0 items.old.items }
     requires room { vec_len items.old < vec_capacity items.old }

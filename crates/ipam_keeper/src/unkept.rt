@@ -7,7 +7,7 @@ use crate::keeper::{KeepFault, Keeper};
 use std::alloc::Global;
 use stored_tables::tables::{Change, Tables};
 
-/// A keeper that keeps nothing and tells nothing. It never fails.
+/// A keeper that keeps nothing, and of which nothing is known. It never fails.
 #[derive(Drop)]
 pub struct Unkept {
     alloc: Global,

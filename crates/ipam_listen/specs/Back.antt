@@ -1,4 +1,4 @@
--- Lanes that came back, however they are read.
+-- Lanes that were given back, however they are read.
 use Rattle.std.proofs.Common.{ℕ, ◌≤◌, List, length, map, sym, subst}
 use Rattle.std.proofs.lemmas.List.{length-map}
 

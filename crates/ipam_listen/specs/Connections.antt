@@ -1,7 +1,7 @@
--- What a lane and a listener tell of the connections that went through them.
+-- What is known of the connections that went through a lane and a listener.
 use Rattle.std.specs.Prelude.{option_map, ◌≡◌, ◌<◌, ◌⊎◌, ◌-◌, ◌^◌, ◌≤◌, ℕ, List, [], ◌∷◌, ◌++◌, Option, Some, None, Result, Ok, Err}
 
--- both ends of a connection at one time: the bytes that are left to read and those that were written, where they are told, and how
+-- both ends of a connection at one time: the bytes that are left to read and those that were written, if they are known, and how
 -- often each end has failed
 pub record Ends : Type 0 where
   pub left : Option (List ℕ)
@@ -39,13 +39,13 @@ IsLastOut [] = ⊥
 IsLastOut (c ∷ []) = c.after ≡ None
 IsLastOut (c ∷ d ∷ cs) = IsLastOut (d ∷ cs)
 
--- the connections that a lane tells after an accept: one more at the end where it handed one out, and else the same
+-- the known connections of the lane after an accept: one more at the end if it handed one out, and else the same
 abbrev pub told_after_accept : {In Out E : Type 0} → (In → Out → Ends) → Option (List Connection) → Result (Option (In × Out)) E → Option (List Connection)
 told_after_accept seen told (Ok (Some pair)) = option_map (λ cs. cs ++ handed_out (seen pair.0 pair.1) ∷ []) told
 told_after_accept seen told (Ok None) = told
 told_after_accept seen told (Err e) = told
 
--- an accept answers None exactly where none was left
+-- an accept answers None exactly if none was left
 abbrev pub IsNoneExactly : {P E : Type 0} → ℕ → Result (Option P) E → Type 0
 IsNoneExactly accepts (Ok None) = accepts ≡ 0
 IsNoneExactly accepts (Ok (Some pair)) = 0 < accepts
@@ -60,12 +60,12 @@ pub record Binding : Type 0 where
 abbrev pub binding : List ℕ → ℕ → Binding
 binding place connections = record { place = place; connections = connections }
 
--- a lane that was given back: the connections that it tells, and the accepts that it had left
+-- a lane that was given back: the known connections of the lane, and the accepts that it had left
 pub record Returned : Type 0 where
   pub told : Option (List Connection)
   pub accepts : ℕ
 
--- a count that rises exactly where something failed, and stays at the last value of a u64
+-- a count that rises exactly if something failed, and stays at the last value of a u64
 pub record RisesExactly (failed : Type 0) (old new : ℕ) : Type 0 where
   pub later : old ≤ new
   pub rose : failed → (old < new) ⊎ (2 ^ 64 - 1 ≤ new)

@@ -1,4 +1,4 @@
--- What a connection over TCP counts of a request, how long it waits for it, and what a listener over TCP tells of a lane.
+-- What a connection over TCP counts of a request, how long it waits for it, and what is known of a lane.
 use Rattle.std.specs.Prelude.{◌≡◌, ◌<◌, ◌≤◌, ◌+◌, ◌-◌, ◌*◌, ◌^◌, ◌⊎◌, ◌↔◌, ℕ, min, Option, Some, None, IfSome, IsSome}
 use Rattle.std.specs.Duration.{as_nanos}
 use Rattle.std.specs.declared.time.Duration.{Duration}
@@ -6,7 +6,7 @@ use Rattle.ipam_listen.specs.Connections.{Returned}
 use Rattle.ipam_listen.specs.Patience.{allowed_nanos}
 use Rattle.ipam_listen.specs.declared.tcp.TcpIn.{TcpIn}
 
--- the clock of a request: when it began, in nanoseconds from the beginning of the connection, and how many bytes of it came
+-- the clock of a request: when it began, in nanoseconds from the beginning of the connection, and how many bytes of it were read
 pub record RequestClock : Type 0 where
   pub since : ℕ
   pub bytes : ℕ
@@ -15,7 +15,7 @@ pub record RequestClock : Type 0 where
 abbrev pub request_clock : {R S : Type 0} → TcpIn R S → RequestClock
 request_clock s = record { since = as_nanos s.since; bytes = s.bytes }
 
--- where the client was answered at this time, its next request begins then, and no byte of it came
+-- if the client was answered at this time, its next request begins then, and no byte of it was read
 abbrev pub begun : {R S : Type 0} → Option Duration → TcpIn R S → TcpIn R S
 begun None s = s
 begun (Some at) s = record s { since = at; bytes = 0 }
@@ -24,7 +24,7 @@ begun (Some at) s = record s { since = at; bytes = 0 }
 abbrev pub Begins : RequestClock → RequestClock → Type 0
 Begins old from = (from ≡ old) ⊎ (from.bytes ≡ 0)
 
--- so many bytes came of the request that goes on or begins; the count stays at the last value of a u64
+-- so many bytes were read of the request that goes on or begins; the count stays at the last value of a u64
 pub record CountsOn (old new : RequestClock) (n : ℕ) : Type 0 where
   pub from : RequestClock
   pub begins : Begins old from
@@ -51,6 +51,6 @@ pub record WaitsInTime (base : ℕ) (clock : RequestClock) (timeout : Option ℕ
   pub is_set : timeout ≡ Some seconds
   pub longer : IsLonger left seconds
 
--- a lane with so many accepts left, which tells nothing of its connections
+-- a lane with so many accepts left, of whose connections nothing is known
 abbrev pub returned_door : ℕ → Returned
 returned_door accepts = record { told = None; accepts = accepts }

@@ -13,8 +13,8 @@ pub trait Lane {
     /// What its answers are written to.
     type Out: Sink + Send;
 
-    /// The connections that it handed out, in order, each with what was told of its ends then and, once it is finished, as it was
-    /// taken back; where the lane tells them. A lane that tells them goes on telling them.
+    /// The connections that it handed out, in order, each with what was said of its ends then and, once it is finished, as it was
+    /// taken back; if they are known. Once known, they stay known.
     ghost told: { Self → Option (List Connection) };
 
     /// How many accepts are left.
@@ -23,8 +23,8 @@ pub trait Lane {
     /// How often it has failed so far: a count that never falls.
     ghost faults: { Self → ℕ };
 
-    /// Waits for the next connection. None exactly where no accept is left; each other accept, failed or not, spends one. The count of
-    /// faults rises exactly where it fails.
+    /// Waits for the next connection. None exactly if no accept is left; each other accept, failed or not, spends one. The count of
+    /// faults rises exactly if it fails.
     fn accept(&mut self) -> Result<Option<(Self::In, Self::Out)>, Failed>
         ensures none { IsNoneExactly (accepts self.old) result }
         ensures spends { accepts self.new ≡ accepts self.old - 1 }

@@ -1,5 +1,5 @@
 //! Where connections come from: a listener is bound to a place and hands out lanes, a lane hands out connections one after another
-//! and takes them back, and a gate stands before and behind each session.
+//! and takes them back, and a gate is before and after each session.
 #![tactic(auto)]
 
 mod gate;

@@ -1,4 +1,4 @@
-//! A lane in memory, over a list of connections: for tests of what stands on it.
+//! A lane in memory, over a list of connections: for tests of what is built on it.
 ghost use Rattle.std.specs.Prelude.{◌≡◌, ◌<◌, ◌≤◌, ◌+◌, ◌-◌, ◌^◌, ◌++◌, ◌↔◌, ◌⊎◌, min, Contains, IsTrue, IsErr, IfOk, IfSome, Some, [], map, is_err, if◌then◌else◌, option_copied, option_map, vec_len, vec_capacity};
 ghost use Rattle.ipam_listen.specs.Connections.{IsLastOut, IsNoneExactly, RisesExactly, last_finished, told_after_accept};
 
@@ -21,7 +21,7 @@ pub struct Handed {
     is: Option<(BytesSource, BytesSink)>,
 }
 
-/// A lane over a list of connections in memory. It tells all.
+/// A lane over a list of connections in memory. All of it is known.
 #[derive(Drop)]
 pub struct ListLane {
     waiting: Vec<(BytesSource, BytesSink)>,
@@ -109,7 +109,7 @@ impl ListLane {
 impl Handed {
     ghost use Rattle.ipam_listen.specs.ListLanes.{connection_of, ends_of_pair};
 
-    /// The connection as it was taken back, where it was.
+    /// The connection as it was taken back, if it was.
     pub fn finished(&self) -> Option<&(BytesSource, BytesSink)>
         ensures { option_map ends_of_pair (option_copied result) ≡ (connection_of self.now).after }
     {
@@ -139,7 +139,7 @@ impl Lane for ListLane {
         // The first of the pairs that wait is handed out; an accept that fails keeps it for the next one.
         ensures waiting { lane_waiting self.old ≡ handed_by result ++ lane_waiting self.new }
 
-        // Where an accept is left, it fails exactly where its number is one of those given, or no pair waits.
+        // If an accept is left, it fails exactly if its number is one of those given, or no pair waits.
         ensures fails { IsErr result ↔ ((0 < lane_accepts self.old) × (Contains (lane_fails self.old) (lane_calls self.old) ⊎ (lane_waiting self.old ≡ []))) }
         ensures counted { lane_faults self.new ≡ (if is_err result then min (lane_faults self.old + 1) u64.MAX else lane_faults self.old) }
         ensures numbered { lane_calls self.new ≡ min (lane_calls self.old + 1) u64.MAX }

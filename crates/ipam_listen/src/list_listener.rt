@@ -1,4 +1,4 @@
-//! A listener in memory, over a list of lanes: for tests of what stands on it.
+//! A listener in memory, over a list of lanes: for tests of what is built on it.
 ghost use Rattle.std.specs.Prelude.{◌≡◌, true, false, ◌<◌, ◌≤◌, ◌+◌, ◌++◌, ◌∷◌, ◌↔◌, min, nat_lt, All, IfOk, IfSome, IsErr, MatchResult, OnErr, [], is_err, if◌then◌else◌, length, map, vec_len, vec_capacity};
 ghost use Rattle.ipam_listen.specs.Connections.{RisesExactly, binding};
 ghost use Rattle.ipam_listen.specs.ListLanes.{lane_told};
@@ -8,7 +8,7 @@ use crate::listener::Listener;
 use ipam_edge::Failed;
 use std::alloc::{AllocError, Global};
 
-/// A listener over a list of lanes in memory. It tells all.
+/// A listener over a list of lanes in memory. All of it is known.
 #[derive(Drop)]
 pub struct ListListener {
     waiting: Vec<ListLane>,
@@ -102,7 +102,7 @@ impl Listener for ListListener {
         ensures returned { map returned_lane (listener_returned self.new) ≡ map returned_lane (listener_returned self.old) }
         ensures cause { RisesExactly (IsErr result) (listener_faults self.old) (listener_faults self.new) }
 
-        // It fails exactly where it is one that has no place.
+        // It fails exactly if it is one that has no place.
         ensures fails { IsErr result ↔ (self.old.has_no_place ≡ true) }
         ensures waiting { listener_waiting self.new ≡ listener_waiting self.old }
         ensures kept { listener_returned self.new ≡ listener_returned self.old }
@@ -124,7 +124,7 @@ impl Listener for ListListener {
         ensures returned { map returned_lane (listener_returned self.new) ≡ map returned_lane (listener_returned self.old) }
         ensures cause { RisesExactly (IsErr result) (listener_faults self.old) (listener_faults self.new) }
 
-        // It fails exactly where no lane waits, and else hands out the first of those that wait.
+        // It fails exactly if no lane waits, and else hands out the first of those that wait.
         ensures fails { IsErr result ↔ (listener_waiting self.old ≡ []) }
         ensures handed { IfOk result (λ lane. IsHandedLane self.old self.new lane) }
         ensures waiting { OnErr result (listener_waiting self.new ≡ listener_waiting self.old) }
@@ -150,7 +150,7 @@ impl Listener for ListListener {
         ensures bound { listener_binding self.new ≡ listener_binding self.old }
         ensures cause { RisesExactly (0 < lane_faults lane) (listener_faults self.old) (listener_faults self.new) }
 
-        // The lane itself stands last among those that came back.
+        // The lane itself comes last among those that were given back.
         ensures back { listener_returned self.new ≡ listener_returned self.old ++ lane ∷ [] }
         ensures waiting { listener_waiting self.new ≡ listener_waiting self.old }
         ensures counted { listener_faults self.new ≡ (if nat_lt 0 (lane_faults lane) then min (listener_faults self.old + 1) u64.MAX else listener_faults self.old) }

@@ -6,7 +6,7 @@ use crate::lane::Lane;
 use ipam_edge::Failed;
 use std::marker::Send;
 
-/// What is bound to a place, hands out lanes for the connections that come there, and takes the lanes back.
+/// What is bound to a place, hands out lanes for the connections to it, and takes the lanes back.
 pub trait Listener {
     /// What one worker takes its connections from.
     type Door: Lane + Send;
@@ -23,7 +23,7 @@ pub trait Listener {
     /// How often it has failed so far: a count that never falls.
     ghost faults: { Self → ℕ };
 
-    /// Binds it to a place, a text `HOST:PORT`; each lane from now on accepts so many connections. The count of faults rises exactly where
+    /// Binds it to a place, a text `HOST:PORT`; each lane from now on accepts so many connections. The count of faults rises exactly if
     /// it fails.
     fn bind(&mut self, at: Vec<u8>, connections: u32) -> Result<(), Failed>
         ensures bound { MatchResult result (λ _. bound self.new ≡ binding at.items connections) (λ _. bound self.new ≡ bound self.old) }
@@ -31,7 +31,7 @@ pub trait Listener {
         ensures returned { returned self.new ≡ returned self.old }
         ensures cause { RisesExactly (IsErr result) (faults self.old) (faults self.new) };
 
-    /// Hands out a lane, which has handed out no connection yet. The count of faults rises exactly where it fails.
+    /// Hands out a lane, which has handed out no connection yet. The count of faults rises exactly if it fails.
     fn lane(&mut self) -> Result<Self::Door, Failed>
         ensures fresh { IfOk result (λ lane. (Self.Door.accepts lane ≡ (bound self.old).connections) × IfSome (Self.Door.told lane) (λ connections. connections ≡ [])) }
         ensures lanes { MatchResult result (λ _. lanes self.new ≡ lanes self.old + 1) (λ _. lanes self.new ≡ lanes self.old) }
@@ -39,7 +39,7 @@ pub trait Listener {
         ensures returned { returned self.new ≡ returned self.old }
         ensures cause { RisesExactly (IsErr result) (faults self.old) (faults self.new) };
 
-    /// Takes a lane back. It takes no memory. The count of faults rises exactly where the lane failed.
+    /// Takes a lane back. It takes no memory. The count of faults rises exactly if the lane failed.
     fn give_back(&mut self, lane: Self::Door)
         requires out { length (returned self.old) < lanes self.old }
         ensures returned { returned self.new ≡ returned self.old ++ record { told = Self.Door.told lane; accepts = Self.Door.accepts lane } ∷ [] }
@@ -47,6 +47,6 @@ pub trait Listener {
         ensures bound { bound self.new ≡ bound self.old }
         ensures cause { RisesExactly (0 < Self.Door.faults lane) (faults self.old) (faults self.new) };
 
-    /// No more lanes came back than were handed out.
+    /// No more lanes were given back than were handed out.
     ghost no_more_back: { (x : Self) → length (returned x) ≤ lanes x };
 }

@@ -7,7 +7,7 @@ use std::sync::Arc;
 use std::sync::atomic::{AtomicU64, Ordering};
 use std::time::Duration;
 
-/// What a mark holds where nothing was written since the last read.
+/// What a mark holds if nothing was written since the last read.
 const UNSET: u64 = u64::MAX;
 
 /// Shows that a mark was set, or was found set. Only this module makes one.

@@ -1,4 +1,4 @@
-//! How long a client may take, so that none holds a worker for ever.
+//! How long a client may take, so that it cannot hold a worker for ever.
 ghost use Rattle.std.specs.Prelude.{◌≡◌, ◌<◌, ◌≤◌, ◌+◌, ◌-◌, ◌*◌, ◌^◌, ◌↔◌, IfSome, IsSome};
 ghost use Rattle.std.specs.Duration.{as_nanos};
 ghost use Rattle.ipam_listen.specs.Patience.{allowed_nanos};
@@ -9,7 +9,7 @@ use std::time::Duration;
 const BYTES_A_SECOND: u64 = 500;
 
 /// How long a read may wait for a client that sent so many bytes and took so much time: what is left of the base time and a second
-/// for every 500 bytes, or none where nothing is left.
+/// for every 500 bytes, or none if nothing is left.
 pub(crate) fn patience_left(base: Duration, bytes: u64, taken: Duration) -> Option<Duration>
     ensures some { IfSome result (λ left. as_nanos left + as_nanos taken ≡ allowed_nanos (as_nanos base) bytes) }
     ensures variant { IsSome result ↔ (as_nanos taken < allowed_nanos (as_nanos base) bytes) }

@@ -1,4 +1,4 @@
-//! Connections over TCP. They tell nothing of content, and keep their counts.
+//! Connections over TCP. Nothing is known of their content; they keep their counts.
 ghost use Rattle.std.specs.Prelude.{◌≡◌, ◌<◌, ◌≤◌, ◌+◌, ◌^◌, IfOk, IfSome, MatchResult, None, Some, [], map, length, vec_len, vec_capacity};
 ghost use Rattle.std.specs.Io.KnownBytes.{ReadConsumes};
 ghost use Rattle.std.specs.Duration.{as_nanos};
@@ -28,8 +28,8 @@ const LAST_SECONDS: u64 = 1;
 /// How many milliseconds a lane waits after an accept that failed, so that a socket that fails for ever costs no processor.
 const MOMENT: u64 = 20;
 
-/// What a client sends. It has a base time for each request to come whole, counted from the beginning of the connection or from the first
-/// write behind the last read, and a second more for every 500 bytes of the request.
+/// What a client sends. It has a base time for each request to be received whole, counted from the beginning of the connection or from the first
+/// write after the last read, and a second more for every 500 bytes of the request.
 #[derive(Drop)]
 pub struct TcpIn<'a, R, S> {
     clock: &'a R,
@@ -39,7 +39,7 @@ pub struct TcpIn<'a, R, S> {
     base: Duration,
     /// When this request began, from the beginning of the connection.
     since: Duration,
-    /// How many bytes of it came.
+    /// How many bytes of it were read.
     bytes: u64,
     /// For how many seconds a read waits at most, once that is set.
     timeout: Option<u64>,
@@ -47,7 +47,7 @@ pub struct TcpIn<'a, R, S> {
 }
 
 impl<'a, R: Clock, S: Read + OpenStream> TcpIn<'a, R, S> {
-    /// Where the client was answered since the last read, its next request begins as it was.
+    /// If the client was answered since the last read, its next request begins as it was.
     fn begin_request(&mut self, answered: Option<Duration>)
         ensures { self.new ≡ begun answered self.old }
     {
@@ -134,7 +134,7 @@ impl<'a, R: Clock, S: Read + OpenStream> Source for TcpIn<'a, R, S> {
         ensures step { Unit {0} }
         ensures cause { HasCause self.old.faults self.new.faults result }
 
-        // The bytes of the request grow by as many as it gives; where the client was answered since the last read they are counted from 0.
+        // The bytes of the request grow by as many as it gives; if the client was answered since the last read they are counted from 0.
         ensures counted { MatchResult result (CountsOn (request_clock self.old) (request_clock self.new)) (λ _. Begins (request_clock self.old) (request_clock self.new)) }
 
         // It waits for what this request has left, or for a second more at most.
@@ -155,7 +155,7 @@ impl<'a, R: Clock, S: Read + OpenStream> Source for TcpIn<'a, R, S> {
     }
 }
 
-/// What a client is answered. The first write behind the last read is noted for the end that reads.
+/// What a client is answered. The first write after the last read is noted for the end that reads.
 #[derive(Drop)]
 pub struct TcpOut<'a, R> {
     clock: &'a R,
@@ -165,7 +165,7 @@ pub struct TcpOut<'a, R> {
 }
 
 impl<'a, R: Clock> TcpOut<'a, R> {
-    /// Notes when the client was answered, unless that is noted since the last read. Where the clock fails nothing is noted: the next read
+    /// Notes when the client was answered, unless that is noted since the last read. If the clock fails nothing is noted: the next read
     /// meets the same clock.
     fn note(&self) -> io::Result<Noted> {
         if let Some(noted) = self.answered.noted() {
@@ -175,7 +175,7 @@ impl<'a, R: Clock> TcpOut<'a, R> {
         Ok(self.answered.set(at))
     }
 
-    /// Writes to a client of whom it is noted that it is answered, or whose clock failed: by its type no write comes before that.
+    /// Writes to a client of whom it is noted that it is answered, or whose clock failed: by its type no write is before that.
     fn send(&mut self, _noted: io::Result<Noted>, from: &[u8]) -> Result<usize, Failed>
         ensures most { IfOk result (λ n. n ≤ length from.now) }
         ensures some { IfOk result (λ n. 0 < length from.now → 0 < n) }
@@ -208,7 +208,7 @@ pub struct TcpDoor<'a, R> {
 }
 
 impl<'a, R: Clock> TcpDoor<'a, R> {
-    /// The next connection, which sends what it is given at once. One mark serves all connections of the lane, which come one after another.
+    /// The next connection, which sends what it is given at once. One mark serves all connections of the lane, one after another.
     fn next_connection(&self) -> io::Result<(TcpIn<'a, R, TcpStream>, TcpOut<'a, R>)> {
         let (stream, _) = self.listener.accept()?;
         let began = Instant::now(self.clock)?;
@@ -308,7 +308,7 @@ impl<'a, R: Net<Listener = TcpListener, Stream = TcpStream> + Clock> TcpDoors<'a
         }
     }
 
-    /// The port that it is bound to, where it is and the system tells it.
+    /// The port that it is bound to, if it is and the system says it.
     pub fn port(&self) -> Option<u16> {
         let at = self.socket.as_ref()?.local_addr().ok()?;
         Some(at.port())
@@ -320,7 +320,7 @@ impl<'a, R: Net<Listener = TcpListener, Stream = TcpStream> + Clock> TcpDoors<'a
         TcpListener::bind(self.rt, at).ok()
     }
 
-    /// A lane, and room for it to come back.
+    /// A lane, and room for it to be given back.
     fn door(&mut self) -> Option<TcpDoor<'a, R>>
         ensures fresh { IfSome result (λ d. d.accepts ≡ self.old.bound) }
         ensures room { IfSome result (λ d. (self.old.lanes < 2 ^ 40) × (self.old.lanes < vec_capacity self.new.back)) }

@@ -1,4 +1,4 @@
--- The texts of reports, which are ASCII. A text that is longer than its places stands as it is.
+-- The texts of reports, which are ASCII. A text that is longer than its places is written as it is.
 use Rattle.std.specs.Prelude.{ℕ, ◌+◌, ◌-◌, ◌*◌, Bool, true, not, List, [], ◌∷◌, ◌++◌, Option, Some, None, length, replicate, codes, decimal, if◌then◌else◌}
 use Rattle.std.specs.List.{flat_map}
 use Rattle.inet_num.specs.Net.{Cidr, size_of}
@@ -27,7 +27,7 @@ table_name (Of n) = codes "vrf " ++ decimal n
 
 -- ---- the tree
 
--- a prefix stands two spaces further in than what contains it, and two behind its table's name
+-- a prefix is two spaces further in than what contains it, and two further than its table's name
 abbrev pub tree_line : PrefixLine → List ℕ
 tree_line line = spaces (2 * line.depth + 2) ++ block_text_of line.block ++ 32 ∷ [] ++ prefix_status_value line.status ++ 10 ∷ []
 

@@ -74,7 +74,7 @@ fn line_of_tree(alloc: Global, line: &PrefixLine) -> Result<Vec<u8>, AllocError>
     Ok(text)
 }
 
-/// Whether the name of a table stands before a line: it is not that of the line before.
+/// Whether the name of a table is before a line: it is not that of the line before.
 fn begins_table(before: Option<Table>, table: Table) -> bool
     ensures { result ≡ is_headed before table }
 {
@@ -84,7 +84,7 @@ fn begins_table(before: Option<Table>, table: Table) -> bool
     }
 }
 
-/// The name of a table on a line of its own, where it begins.
+/// The name of a table on its own line, at its begin.
 fn heading_of(alloc: Global, before: Option<Table>, table: Table) -> Result<String, AllocError>
     ensures { IfOk result (λ s. string_bytes s ≡ heading before table) }
 {
@@ -111,7 +111,7 @@ fn text_of_tree(alloc: Global, lines: &[PrefixLine]) -> Result<Vec<u8>, AllocErr
     Ok(text)
 }
 
-/// Puts the tree behind what the output has: each table's name, and its prefixes under it.
+/// Puts the tree after what the output has: each table's name, and its prefixes under it.
 pub fn tree(alloc: Global, lines: &[PrefixLine], out: &mut Vec<u8>) -> Result<(), AllocError>
     ensures ok { OnOk result (out.new.items ≡ out.old.items ++ tree_text lines.now) }
     ensures err { OnErr result (out.new.items ≡ out.old.items) }
@@ -152,7 +152,7 @@ fn text_of_table(alloc: Global, lines: &[PrefixLine]) -> Result<Vec<u8>, AllocEr
     Ok(text)
 }
 
-/// Puts the table behind what the output has: a line for each prefix.
+/// Puts the table after what the output has: a line for each prefix.
 pub fn table(alloc: Global, lines: &[PrefixLine], out: &mut Vec<u8>) -> Result<(), AllocError>
     ensures ok { OnOk result (out.new.items ≡ out.old.items ++ table_text lines.now) }
     ensures err { OnErr result (out.new.items ≡ out.old.items) }
@@ -163,7 +163,7 @@ pub fn table(alloc: Global, lines: &[PrefixLine], out: &mut Vec<u8>) -> Result<(
 
 // ---- free blocks
 
-/// The number of a block's addresses, also where no integer of the program holds it.
+/// The number of a block's addresses, also if no integer of the program holds it.
 fn size_text(alloc: Global, block: &Block) -> Result<String, AllocError>
     ensures { IfOk result (λ s. string_bytes s ≡ decimal (size_of block.now)) }
 {
@@ -202,7 +202,7 @@ fn text_of_free(alloc: Global, blocks: &[Block]) -> Result<Vec<u8>, AllocError>
     Ok(text)
 }
 
-/// Puts free blocks behind what the output has, each with the number of its addresses.
+/// Puts free blocks after what the output has, each with the number of its addresses.
 pub fn free(alloc: Global, blocks: &[Block], out: &mut Vec<u8>) -> Result<(), AllocError>
     ensures ok { OnOk result (out.new.items ≡ out.old.items ++ free_text blocks.now) }
     ensures err { OnErr result (out.new.items ≡ out.old.items) }

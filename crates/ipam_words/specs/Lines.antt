@@ -47,7 +47,7 @@ row_mark Keeper = []
 row_mark Memory = []
 row_mark (Row n why) = codes "row " ++ decimal n ++ codes ": "
 
--- a refusal on a line: its row where it has one, its code and its detail
+-- a refusal on a line: its row if it has one, its code and its detail
 abbrev pub refusal_line : Refusal → List ℕ
 refusal_line refusal = row_mark refusal ++ code_of refusal ++ codes ": " ++ detail_of refusal
 

@@ -1,5 +1,5 @@
 //! The printed words of the service: names of kinds, members, limits, statuses and roles, and the code, the detail and the status
-//! of each refusal. Each text stands here once, for bodies, queries, files and commands.
+//! of each refusal. Each text is here once, for bodies, queries, files and commands.
 #![tactic(auto)]
 
 mod choices;

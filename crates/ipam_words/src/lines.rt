@@ -23,7 +23,7 @@ fn row_mark(alloc: Global, refusal: &Refusal) -> Result<String, AllocError>
     }
 }
 
-/// A refusal on a line: the row of the file where it names one, its code and its detail.
+/// A refusal on a line: the row of the file if it names one, its code and its detail.
 pub fn refusal_line(alloc: Global, refusal: &Refusal) -> Result<String, AllocError>
     ensures { IfOk result (λ s. string_bytes s ≡ spec.refusal_line refusal.now) }
 {

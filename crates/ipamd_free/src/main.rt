@@ -1,4 +1,4 @@
-//! `ipamd free` as a program of its own, which is built in minutes: the same answers and statuses as `ipamd` has for `free`, and for
+//! `ipamd free` as its own program, which is built in minutes: the same answers and statuses as `ipamd` has for `free`, and for
 //! words that ask for nothing. It has no other command.
 #![tactic(auto)]
 
@@ -46,6 +46,7 @@ fn run_command<So: Source, Si: Sink, Se: Sink>(
         Command::PrefixCheck(_) => say_usage(errors),
         Command::Reverse(_, _) => say_usage(errors),
         Command::ReverseRead => say_usage(errors),
+        Command::About(_) => say_usage(errors),
         Command::Migrate { .. } => say_usage(errors),
         Command::Load {
             count: _,
@@ -54,7 +55,7 @@ fn run_command<So: Source, Si: Sink, Se: Sink>(
     }
 }
 
-/// Runs the command that the words ask for; where they ask for none it says the usage line.
+/// Runs the command that the arguments ask for; if they ask for none it says the usage line.
 fn run<So: Source, Si: Sink, Se: Sink>(
     alloc: Global,
     words: &[&str],

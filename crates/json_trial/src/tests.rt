@@ -19,8 +19,8 @@ use std::alloc::{AllocError, Global};
 use std::process::Abort;
 use std::test::Fail;
 
-/// What bodies ask for, told by the draft or the refusal: a line `= TEXT`, and below it the bodies that are told this, each
-/// behind the letter of its kind.
+/// What bodies ask for, each with its draft or refusal: a line `= TEXT`, and below it the bodies that give this, each
+/// after the letter of its kind.
 const BODIES: &[u8] = b"= Vrf { name: \"red\", rd: None, enforce_unique: true, description: \"\" }
 v{\"name\":\"red\"}
 v { \"name\" : \"red\" , \"x\" : [1.5, {}] } 
@@ -192,7 +192,7 @@ fn kind_of(letter: u8) -> Kind {
     }
 }
 
-/// What the body of a line asks for: a draft behind a small letter, an edit behind a capital one.
+/// What the body of a line asks for: a draft after a small letter, an edit after a capital one.
 fn line_told(alloc: Global, line: &[u8]) -> Result<Vec<u8>, AllocError> {
     match line {
         [letter @ b'A'..=b'Z', body @ ..] => {
@@ -203,7 +203,7 @@ fn line_told(alloc: Global, line: &[u8]) -> Result<Vec<u8>, AllocError> {
     }
 }
 
-/// Sees that the body of a line is told this.
+/// Checks that the body of a line gives this.
 fn check(rt: &impl Abort, alloc: Global, line: &[u8], want: &[u8]) -> Result<(), AllocError> {
     let text = line_told(alloc, line)?;
     assert_eq!(rt; text.as_slice(), want);

@@ -28,7 +28,7 @@ abbrev pub AreByKind : ℕ → List Shelf → Type 0
 AreByKind n [] = Unit {0}
 AreByKind n (shelf ∷ shelves) = AllOfKind n shelf.items × AreByKind (n + 1) shelves
 
--- a list for each of the seven kinds, and all rows stand in the order of kind and id
+-- a list for each of the seven kinds, and all rows are in the order of kind and id
 pub record AreShelves (shelves : List Shelf) : Type 0 where
   pub seven : length shelves ≡ 7
   pub kinds : AreByKind 1 shelves

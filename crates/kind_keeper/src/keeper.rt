@@ -14,7 +14,7 @@ use std::alloc::{AllocError, Global};
 use std::marker::Model;
 use stored_tables::tables::{Change, Row, Tables};
 
-/// A keeper in memory, which tells its tables and never fails. A row that comes moves those of its own kind that stand behind it.
+/// A keeper in memory whose tables are known, and which never fails. A row that is put moves those of its own kind after it.
 ///
 /// A contract sees the tables.
 #[derive(Drop)]
@@ -50,7 +50,7 @@ impl KindKeeper {
         })
     }
 
-    /// Keeps these tables in the place of its own. `Err` means out of memory, and leaves its own.
+    /// Keeps these tables in place of its own. `Err` means out of memory, and leaves its own.
     fn keep(&mut self, tables: &Tables) -> Result<(), AllocError>
         requires { AreTables tables.now }
         ensures ok { OnOk result (self.new ≡ tables.now) }
@@ -106,7 +106,7 @@ impl Keeper for KindKeeper {
         Ok(())
     }
 
-    /// Keeps these tables in the place of its own, whole or not at all. `Err` means out of memory alone, and leaves its own.
+    /// Keeps these tables in place of its own, whole or not at all. `Err` means out of memory alone, and leaves its own.
     fn upgrade(&mut self, tables: &Tables) -> Result<(), KeepFault> {
         self.keep(tables)?;
         Ok(())

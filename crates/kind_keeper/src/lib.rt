@@ -1,4 +1,4 @@
-//! A keeper in memory that has a list for each kind, so that what comes of one kind moves no row of another.
+//! A keeper in memory that has a list for each kind, so that a new row of one kind moves no row of another.
 #![tactic(auto)]
 
 mod keeper;

@@ -58,7 +58,7 @@ pub(crate) fn reserve(shelves: &mut Vec<Vec<Row>>, puts: &[Row]) -> Result<(), A
     Ok(())
 }
 
-/// Puts a row in its place among those of its kind, where there is room. It takes no memory.
+/// Puts a row in its place among those of its kind, if there is room. It takes no memory.
 fn put_row(shelves: &mut Vec<Vec<Row>>, row: Row)
     requires shelves { AreShelves shelves.old.items }
     requires room { HaveRoom (row ∷ []) shelves.old.items }
@@ -106,7 +106,7 @@ pub(crate) fn cut_rows(shelves: &mut Vec<Vec<Row>>, cuts: &[(Kind, u32)])
     }
 }
 
-/// The same rows again, behind those of the list.
+/// The same rows again, after those of the list.
 fn copy_onto(items: &mut Vec<Row>, rows: &[Row]) -> Result<(), AllocError>
     ensures { OnOk result (items.new.items ≡ items.old.items ++ rows.now) }
 {

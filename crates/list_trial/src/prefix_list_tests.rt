@@ -10,7 +10,7 @@ use prefix_list::{ListFault, Style, fewest, read_list, uncovered, write_list};
 use std::alloc::{AllocError, Global};
 use std::test::Fail;
 
-/// A case to a line: a call, a style, a family, a name, one list, another list, and what has to come. In lists `;` is a line feed and `~` a carriage
+/// A case to a line: a call, a style, a family, a name, one list, another list, and what is expected. In lists `;` is a line feed and `~` a carriage
 /// return. `fewest` and `uncovered` have plain lists, `write` a plain one and its text, `read` a text and its plain list, or the line that is refused.
 const CASES: &str =
     "fewest||4||10.0.0.0/24;10.0.1.0/24;10.0.1.128/25;10.0.2.0/24||10.0.0.0/23;10.0.2.0/24;
@@ -172,7 +172,7 @@ fn read_text(
     }
 }
 
-/// Whether the case's answer comes.
+/// Whether the case's answer is given.
 fn is_met(alloc: Global, case: &str) -> Result<bool, Fail> {
     let mut columns = case.split('|');
     let call = columns.next().unwrap_or("");

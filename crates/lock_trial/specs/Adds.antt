@@ -18,7 +18,7 @@ kind_of (Value n) = plain
 kind_of Fault = fault
 kind_of NoMemory = memory
 
--- the reply tells an accepted change
+-- the reply reports an accepted change
 abbrev pub is_accepted : Reply → Bool
 is_accepted (Added n) = true
 is_accepted (Value n) = false

@@ -24,7 +24,7 @@ marking_kind_of Marked = accepted
 marking_kind_of Failed = fault
 marking_kind_of NoMemory = memory
 
--- the reply tells that the mark was made
+-- the reply reports that the mark was made
 abbrev pub is_marked : Marking → Bool
 is_marked Marked = true
 is_marked Failed = false

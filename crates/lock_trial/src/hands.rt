@@ -14,7 +14,7 @@ struct Hand<K: Keeper> {
     mark: u64,
 }
 
-/// Says that it came, and marks.
+/// Says that it has called, and marks.
 fn mark<R: Wait, K: Keeper>(rt: &R, lock: &Shared<Marker<K>>, came: &AtomicU64, hand: &mut Hand<K>)
     requires { IsSeated lock.now hand.old.seat }
     ensures { IsSeated lock.now hand.new.seat }
@@ -38,7 +38,7 @@ fn seat_of<K: Keeper>(hand: Hand<K>) -> Seat<Marker<K>>
     }
 }
 
-/// Each hand marks, in a thread of its own.
+/// Each hand marks, in its own thread.
 fn each_marks<R: Threads + Wait + Sync, K: Keeper + Send>(
     rt: &R,
     lock: &Shared<Marker<K>>,

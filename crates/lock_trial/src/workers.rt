@@ -1,4 +1,4 @@
-//! Threads that call one tally, each by a seat of its own.
+//! Threads that call one tally, each by its own seat.
 ghost use Rattle.std.specs.Prelude.{◌≡◌, ◌≤◌, ◌<◌, ◌+◌, ℕ, All, length, vec_len, vec_capacity, IfSome, Some, Contains, [], ◌∷◌, ◌++◌, map, take};
 ghost use mathlib.Core.List.{IsPrefix};
 ghost use Rattle.history_lock.specs.Machines.{Reaches};
@@ -40,7 +40,7 @@ fn ask<R: Wait>(
     seat
 }
 
-/// Makes these calls in order. Stops early where memory for the notes runs out.
+/// Makes these calls in order. Stops early if memory for the notes runs out.
 fn talk<R: Wait>(
     rt: &R,
     lock: &Shared<Tally>,
@@ -74,7 +74,7 @@ fn serve<R: Wait>(rt: &R, lock: &Shared<Tally>, worker: &mut Worker)
     worker.seat = Some(talk(rt, lock, seat, worker.calls.as_slice(), &mut worker.notes));
 }
 
-/// All workers at once, each in a thread of its own.
+/// All workers at once, each in its own thread.
 fn each_works<R: Threads + Wait + Sync>(rt: &R, lock: &Shared<Tally>, workers: &mut [Worker])
     requires { All (IsHired lock.now) workers.old }
     ensures ready { All (IsReady lock.now) workers.new }
@@ -160,7 +160,7 @@ fn hire(
     seat
 }
 
-/// Gives each list of calls to a thread of its own, and comes back with the tally and the workers when all have ended. None for lack of memory.
+/// Gives each list of calls to its own thread, and returns with the tally and the workers when all have ended. None for lack of memory.
 pub fn run<R: Threads + Wait + Sync>(
     rt: &R,
     alloc: Global,
@@ -175,7 +175,7 @@ pub fn run<R: Threads + Wait + Sync>(
     ensures legal { IfSome result (λ r. All (IsServed r.0.log.items) r.1.items) }
     // Each entry of the history is some worker's.
     ensures nobody_else { IfSome result (λ r. All (λ e. Contains (map (λ w. w.number) r.1.items) e.0) r.0.log.items) }
-    // As many faults as the workers were told of are counted by the tally, until its count stands at the last value of a u64.
+    // As many faults as the workers met are counted by the tally, until its count is at the last value of a u64.
     ensures faults { IfSome result (λ r. Reaches (tally.faults + all_faults_of r.1.items) r.0.faults) }
     ensures all { IfSome result (λ r. vec_len r.1 ≡ vec_len lists) }
 {

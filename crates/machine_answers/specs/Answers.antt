@@ -17,7 +17,7 @@ pub record Told (C R : Type 0) : Type 0 where
   pub reply : R
   pub place : ℕ
 
--- a request of a connection, or bytes in the place of one; its answer; and what the machine was asked for it and told, if anything
+-- a request of a connection, or bytes in the place of one; its answer; and what the machine was asked for it and answered, if anything
 pub record Exchange (C R : Type 0) : Type 0 where
   pub item : Item
   pub answer : Answer
@@ -53,7 +53,7 @@ items_of exchanges = map (λ x. x.item) exchanges
 abbrev pub text_of_all : {C R : Type 0} → List (Exchange C R) → List ℕ
 text_of_all exchanges = texts (items_of exchanges) (map (λ x. x.answer) exchanges)
 
--- the answers were written: all of them, or all but the last and a front of that one
+-- the answers were written: all of them, or all but the last and a prefix of that one
 abbrev pub AreWritten : {C R : Type 0} → Option (List ℕ) → Option (List ℕ) → List (Exchange C R) → Type 0
 AreWritten {C} {R} old new exchanges = Appends old new (text_of_all exchanges)
     ⊎ ((before : List (Exchange C R)) × (last : Exchange C R) × (mid : Option (List ℕ)) × (exchanges ≡ before ++ last ∷ [])
@@ -77,7 +77,7 @@ abbrev pub with_told : {T : Type 0} → Option T → List T → List T
 with_told None more = more
 with_told (Some one) more = one ∷ more
 
--- what the machine told it, in order
+-- what the machine answered it, in order
 abbrev pub told_in : {C R : Type 0} → List (Exchange C R) → List (Told C R)
 told_in [] = []
 told_in (x ∷ xs) = with_told x.told (told_in xs)
@@ -86,7 +86,7 @@ abbrev pub told_to : {C R : Type 0} → List (Talk C R) → List (Told C R)
 told_to [] = []
 told_to (talk ∷ talks) = told_in talk.exchanges ++ told_to talks
 
--- places never fall, from this one on, and an accepted change is before all that is told after it
+-- places never fall, from this one on, and an accepted change is before all that is answered after it
 abbrev pub AreInOrder : {C R : Type 0} → (R → ReplyKind) → ℕ → List (Told C R) → Type 0
 AreInOrder kind place [] = Unit {0}
 AreInOrder kind place (one ∷ more) = (place ≤ one.place) × AreInOrder kind (one.place + rise_of (kind one.reply)) more
@@ -110,7 +110,7 @@ pub record IsAnswered {S C A R W E : Type 0} (P : Protocol S C A R W E) (opening
   pub right : All (λ talk. All (λ x. IsRight P opening history caller.number x.item x.answer x.told) talk.exchanges) caller.talks
   -- a later answer is after no fewer changes, and after all of its own
   pub in_order : AreInOrder P.kind 0 (told_to caller.talks)
-  -- the history has for its number exactly the changes that it was told were accepted, in order
+  -- the history has for its number exactly the changes that were answered as accepted, in order
   pub changes : own_entries caller.number history ≡ changes_in P.kind caller.number (told_to caller.talks)
 
 -- ---- all callers
@@ -126,7 +126,7 @@ pub record AreCallers {S C A R W E : Type 0} (P : Protocol S C A R W E) (opening
   pub numbered : (first : ℕ) × AreNumbered first callers
   pub nobody_else : All (λ entry. Contains (map (λ caller. caller.number) callers) entry.0) history
 
--- a lane that was given back tells the connections of this caller, if it tells any
+-- a lane that was given back has the connections of this caller, if any are known
 abbrev pub IsLaneOf : {C R : Type 0} → Returned → Caller C R → Type 0
 IsLaneOf returned caller = IfSome returned.told (λ all. all ≡ map (λ talk. talk.connection) caller.talks)
 

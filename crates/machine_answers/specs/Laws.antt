@@ -10,7 +10,7 @@ use Rattle.machine_server.specs.History.{IsHistoryOf, Shift}
 use Rattle.machine_server.specs.History as server
 use Rattle.machine_answers.specs.Answers.{AreCallers, AreLanesOf, Caller, IsChange}
 
--- a history that was served to lanes has callers, whose connections the lanes tell
+-- a history that was served to lanes has callers, whose connections are known of the lanes
 pub record HasCallers {S C A R W E : Type 0} (P : Protocol S C A R W E) (opening : S) (history : List (ℕ × C)) (back : List Returned) : Type 0 where
   pub callers : List (Caller C R)
   pub are : AreCallers P opening history callers

@@ -5,9 +5,9 @@ use Rattle.machine_command.specs.Outside.{Stored, Stores}
 
 -- Q is what a command asks for, T the tables of a store, S a state of the machine, F why an opening is refused
 pub record OpenerMeaning (Q T S F : Type 0) : Type 1 where
-  -- the state is one for which the tables stand that were asked for
+  -- the state is one that the tables represent that were asked for
   pub loads : Q → Stored T → S → Type 0
-  -- first the one was stored, and then the other, which holds this state where it was asked for
+  -- first the one was stored, and then the other, which holds this state if it was asked for
   pub holds : Q → Stored T → Stored T → S → Type 0
   -- an opening is refused for this ..
   pub refuses : Q → Stores T → Stores T → F → Type 0

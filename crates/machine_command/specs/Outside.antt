@@ -5,16 +5,16 @@ use Rattle.ipam_edge.specs.Faults.{Rose}
 use Rattle.history_lock.specs.Machines.{last_count}
 use Rattle.command_streams.specs.Streams.{NeverFalls, Streams}
 
--- the tables under each path, where they are known
+-- the tables under each path, if they are known
 abbrev pub Stored : Type 0 → Type 0
 Stored T = Option (List (List ℕ × T))
 
--- the tables that an opener tells, and its count of faults
+-- the known tables of an opener, and its count of faults
 pub record Stores (T : Type 0) : Type 0 where
   pub stored : Stored T
   pub faults : ℕ
 
--- what an opener tells, by the members of its trait
+-- what is known of the opener, by the members of its trait
 abbrev pub stores : {O T : Type 0} → (O → Stored T) → (O → ℕ) → O → Stores T
 stores stored faults opener = record { stored = stored opener; faults = faults opener }
 

@@ -1,4 +1,4 @@
--- What a run of the command `session` promises: one connection over the input and the output, with a machine of its own.
+-- What a run of the command `session` promises: one connection over the input and the output, with its own machine.
 use Rattle.std.specs.Prelude.{◌≡◌, ◌≤◌, ◌⊎◌, ◌+◌, ℕ, List, [], IfSome}
 use Rattle.history_lock.specs.Machines.{Reaches}
 use Rattle.history_lock.specs.Replay.{replay}
@@ -26,14 +26,14 @@ pub record Serves {S C A B W E Q T F : Type 0} (P : Protocol S C A B W E) (U : O
   pub needed : IsReadAsNeeded bytes
   -- how many calls were answered by a fault
   pub told : ℕ
-  -- the answers are the plain machine's, one after another, but where it failed, which raised its count, or memory ran out in it ..
+  -- the answers are the plain machine's, one after another, but if it failed, which raised its count, or memory ran out in it ..
   pub ends : IsEnd (answers_counted P) (counted first 0) (counted last told) old.streams.output.bytes new.streams.output.bytes bytes new.streams.input.bytes end
   -- .. the opener's count rose by the machine's, as far as it goes ..
   pub counted : IsRaised old.stores.faults last.faults new.stores.faults
-  -- .. which is by the faults told at least, and by nothing else ..
+  -- .. which is by the reported faults at least, and by nothing else ..
   pub bounded : Reaches (old.stores.faults + told) new.stores.faults
   pub still : told ≡ 0 → new.stores.faults ≡ old.stores.faults
-  -- .. and where it did not rise they are all the plain machine's, out of memory aside
+  -- .. and if it did not rise they are all the plain machine's, out of memory aside
   pub certain : (¬ StoreFailed old new)
       → IsEnd (answers_certainly P) (plain_of_owned P.step first) (plain_of_owned P.step last) old.streams.output.bytes new.streams.output.bytes bytes new.streams.input.bytes end
   -- the store has the state after these changes
@@ -48,7 +48,7 @@ end_status SourceFault = 3
 end_status SinkFault = 3
 end_status Memory = 5
 
--- a fault of an end comes only where its count rose, which it does with no other end
+-- a fault of an end is returned only if its count rose, which it does with no other end
 pub record HasCause {T : Type 0} (old new : Outside T) (end : SessionEnd) : Type 0 where
   pub source : end ≡ SourceFault → Failed old.streams.input new.streams.input
   pub source_kept : (end ≡ SourceFault) ⊎ (new.streams.input.faults ≡ old.streams.input.faults)
@@ -85,5 +85,5 @@ pub record IsSession {S C A B W E Q T F : Type 0} (P : Protocol S C A B W E) (U 
   pub run : IsRun P U asked old new status
   -- no count of faults falls
   pub later : NoCountFalls old new
-  -- 5: the count of no stream rose, and the opener's only where a call was answered by a fault
+  -- 5: the count of no stream rose, and the opener's only if a call was answered by a fault
   pub quiet : status ≡ 5 → NeverRises old.streams new.streams × ((new.stores.faults ≡ old.stores.faults) ⊎ HasFailedCall P U asked old new Memory)

@@ -21,24 +21,24 @@ pub trait MachineOpener<M: Machine> {
 
     ghost asked: { Self → Asked };
 
-    /// The names of what is lent to it, as contracts see them: one value where nothing is.
+    /// The names of what is lent to it, as contracts see them: one value if nothing is.
     ghost Loan: { Type 0 };
 
     ghost loan: { Self → Loan };
 
-    /// The tables under each path, where they are known.
+    /// The tables under each path, if they are known.
     ghost stored: { Self → Stored Tables };
 
-    /// How often it, or a machine that came back, has failed. The count never falls.
+    /// How often it, or a machine that was given back, has failed. The count never falls.
     ghost faults: { Self → ℕ };
 
     /// A machine is out, and when it was opened this was stored.
     ghost lends: { Self → Stored Tables → Type 0 };
 
-    /// The state is one for which the tables stand that were asked for.
+    /// The state is one that the tables represent that were asked for.
     ghost loads: { Asked → Stored Tables → M.State → Type 0 };
 
-    /// First the one was stored, and then the other, which holds this state where it was asked for.
+    /// First the one was stored, and then the other, which holds this state if it was asked for.
     ghost holds: { Asked → Stored Tables → Stored Tables → M.State → Type 0 };
 
     /// An opening is refused for this, with what is seen of the stores before and after.
@@ -50,7 +50,7 @@ pub trait MachineOpener<M: Machine> {
     /// What the messages have before and after the fault is said, and the status of the command.
     ghost says: { Self.Fault → Told → Told → ℕ → Type 0 };
 
-    /// Opens a machine that has accepted nothing yet and has not failed, in a state for which the tables stand. The count of faults rises
+    /// Opens a machine that has accepted nothing yet and has not failed, in a state that the tables represent. The count of faults rises
     /// only with a fault that says so.
     fn open(&mut self, alloc: Global) -> Result<M, Self::Fault>
         ensures fresh { IfOk result (λ m. (M.log m ≡ []) × (M.faults m ≡ 0)) }
@@ -70,7 +70,7 @@ pub trait MachineOpener<M: Machine> {
         ensures asked { asked self.new ≡ asked self.old }
         ensures loan { loan self.new ≡ loan self.old };
 
-    /// Says why an opening was refused, and gives the status of that, which is 5 where memory ran out: then nothing failed.
+    /// Says why an opening was refused, and gives the status of that, which is 5 if memory ran out: then nothing failed.
     fn say<Se: Sink>(alloc: Global, fault: Self::Fault, errors: &mut Se) -> u8
         ensures said { says fault (told Se.written Se.faults errors.old) (told Se.written Se.faults errors.new) result }
         ensures quiet { result ≡ 5 → (¬ fails fault) × (Se.faults errors.new ≡ Se.faults errors.old) }

@@ -15,7 +15,7 @@ use ipam_edge::{Sink, Source};
 use machine_session::{NoFollower, Service, serve_own};
 use std::alloc::Global;
 
-/// The status of the command by the end of its session: 0 where all requests were answered, 3 where the input or the output failed, 5 where
+/// The status of the command by the end of its session: 0 if all requests were answered, 3 if the input or the output failed, 5 if
 /// memory ran out.
 pub fn status_of(end: SessionEnd) -> u8
     ensures { result ≡ end_status end }

@@ -31,7 +31,7 @@ pub record IsFresh {S C L : Type 0} (told : L → Option (List Connection)) (had
   pub no_faults : seat.faults ≡ 0
   pub none_told : IfSome (told lane) (λ all. all ≡ [])
 
--- the seats of hired workers have numbers one behind the other, the greatest first
+-- the seats of hired workers have numbers one after the other, the greatest first
 abbrev pub AreNumberedDown : {S C X : Type 0} → (X → Option (SeatView S C)) → ℕ → List X → Type 0
 AreNumberedDown seat top [] = Unit {0}
 AreNumberedDown seat top (w ∷ ws) = IfSome (seat w) (λ v. v.number ≡ top) × AreNumberedDown seat (top - 1) ws
@@ -50,7 +50,7 @@ pub record AreFresh {S C A B W E L X : Type 0} (P : Protocol S C A B W E) (told 
   pub hired : AreHired P told opening base z seat lane workers
   pub fresh : All (λ w. IsFresh told (seat w) (lane w)) workers
 
--- some workers were dismissed, whose lanes are these: the seat that is left knows what they did; where no worker's lane had an accept
+-- some workers were dismissed, whose lanes are these: the seat that is left knows what they did; if no worker's lane had an accept
 -- left, which is the fact `none_left`, none of these has
 pub record HasDismissed {S C A B W E L : Type 0} (P : Protocol S C A B W E) (told : L → Option (List Connection)) (accepts : L → ℕ) (none_left : Type 0) (first : ℕ) (opening : S) (seat : SeatView S C) (lanes : List L) : Type 0 where
   pub shifts : List (Shift C)

@@ -7,7 +7,7 @@ use Rattle.machine_session.specs.Protocols.{Protocol}
 use Rattle.machine_session.specs.Told.{Standing, answers_in, newcomer}
 use Rattle.http_lanes.specs.Served.{AreServed}
 
--- what one worker did: the number of its seat, the connections that it served, one after another, and what their answers came to
+-- what one worker did: the number of its seat, the connections that it served, one after another, and what their answers led to
 pub record Shift (C : Type 0) : Type 0 where
   pub number : ℕ
   pub connections : List Connection
@@ -21,7 +21,7 @@ IsShift P opening history shift = AreServed (answers_in P opening history shift.
 abbrev pub HasItsChanges : {C : Type 0} → List (ℕ × C) → Shift C → Type 0
 HasItsChanges history shift = own_entries shift.number history ≡ shift.reached.made
 
--- they have numbers one behind the other
+-- they have numbers one after the other
 abbrev pub AreNumberedFrom : {C : Type 0} → ℕ → List (Shift C) → Type 0
 AreNumberedFrom n [] = Unit {0}
 AreNumberedFrom n (shift ∷ shifts) = (shift.number ≡ n) × AreNumberedFrom (n + 1) shifts
@@ -37,11 +37,11 @@ pub record IsHistoryOf {S C A B W E : Type 0} (P : Protocol S C A B W E) (openin
 abbrev pub ended_of : {C : Type 0} → Shift C → ℕ × List (ℕ × C)
 ended_of shift = (shift.number, shift.reached.made)
 
--- how many answers told a fault
+-- how many answers reported a fault
 abbrev pub all_faults_of : {C : Type 0} → List (Shift C) → ℕ
 all_faults_of shifts = sum_by (λ shift. shift.reached.faults) shifts
 
--- a lane that was given back tells the connections of this worker, where it tells them
+-- a lane that was given back has the connections of this worker, if they are known
 abbrev pub IsLaneOf : {C : Type 0} → Returned → Shift C → Type 0
 IsLaneOf returned shift = IfSome returned.told (λ all. all ≡ shift.connections)
 
@@ -52,17 +52,17 @@ AreLanesOf (r ∷ rs) (s ∷ ss) = IsLaneOf r s × AreLanesOf rs ss
 AreLanesOf [] (s ∷ ss) = ⊥
 AreLanesOf (r ∷ rs) [] = ⊥
 
--- a machine that was opened so was served: it has this history, and the lanes that the listener got back tell what the workers did;
+-- a machine that was opened so was served: it has this history, and the lanes that the listener got back show what the workers did;
 -- `none_left` is the fact that none of the workers' lanes had an accept left
 pub record IsServedBy {S C A B W E : Type 0} (P : Protocol S C A B W E) (opening : S) (faults_old faults_new : ℕ) (old new : List Returned) (none_left : Type 0) (history : List (ℕ × C)) : Type 0 where
   pub shifts : List (Shift C)
   pub back : List Returned
-  -- the lanes that came back tell the connections that the workers served
+  -- the lanes that were given back report the connections that the workers served
   pub returned : new ≡ old ++ back
   pub lanes : AreLanesOf back shifts
   -- all answers are out of one history, which has their changes and no others
   pub one_history : IsHistoryOf P opening history shifts
-  -- no more answers tell a fault than were counted
+  -- no more answers report a fault than were counted
   pub faults : Reaches (faults_old + all_faults_of shifts) faults_new
-  -- where no lane had an accept left, none that came back has
+  -- if no lane had an accept left, none that was given back has
   pub spent : none_left → All (λ r. r.accepts ≡ 0) back

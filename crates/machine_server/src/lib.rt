@@ -1,4 +1,4 @@
-//! A shared machine, served to the connections that come to a listener: its workers are hired, and dismissed again, and all that they
+//! A shared machine, served to the connections of a listener: its workers are hired, and dismissed again, and all that they
 //! answered is out of one history.
 #![tactic(auto)]
 

@@ -14,7 +14,7 @@ use ipam_listen::Listener;
 use machine_session::Service;
 use machine_workers::Worker;
 
-/// Takes so many lanes of a listener, and hires a worker for each. Stops early where the listener has no lane. There is room for both: it
+/// Takes so many lanes of a listener, and hires a worker for each. Stops early if the listener has no lane. There is room for both: it
 /// takes no memory.
 pub fn open_all<M: Machine, V: Service<M>, L: Listener>(
     shared: &Shared<M>,
@@ -46,7 +46,7 @@ pub fn open_all<M: Machine, V: Service<M>, L: Listener>(
     (seat, came)
 }
 
-/// Dismisses the workers, gives their lanes back, and closes the lock. The listening broke where an accept failed. There is room for the
+/// Dismisses the workers, gives their lanes back, and closes the lock. The listening broke if an accept failed. There is room for the
 /// lanes: it takes no memory.
 pub fn close_all<M: Machine, V: Service<M>, L: Listener>(
     shared: Shared<M>,

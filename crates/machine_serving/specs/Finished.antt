@@ -1,4 +1,4 @@
--- What stands behind the workers' end.
+-- What follows the workers' end.
 use Rattle.std.specs.Prelude.{◌≡◌, ◌+◌, ◌≤◌, ◌⊎◌, ℕ, List, length}
 use Rattle.ipam_edge.specs.Faults.{Rose}
 use Rattle.history_lock.specs.Replay.{replay}
@@ -25,6 +25,6 @@ pub record IsFinished {S C A B W E Q T F : Type 0} (P : Protocol S C A B W E) (U
   pub lanes : after.lanes ≡ before.lanes
   pub bound : after.bound ≡ before.bound
   pub later : before.faults ≤ after.faults
-  -- the listening was whole where all lanes came and none failed
+  -- the listening was whole if all lanes were handed out and none failed
   pub whole : served.listening ≡ Whole → (came ≡ Whole) × (after.faults ≡ before.faults)
   pub broken : served.listening ≡ Broken → (came ≡ Broken) ⊎ Rose before.faults after.faults

@@ -13,7 +13,7 @@ use Rattle.machine_command.specs.Openers.{OpenerMeaning}
 use Rattle.machine_command.specs.Session.{IsRefused}
 use Rattle.machine_serving.specs.Views.{ListenerView, ListeningFailed, NobodyCame, NoneFailed}
 
--- what the words ask for: where to listen, by how many workers, for how many connections of each
+-- what the arguments ask for: where to listen, by how many workers, for how many connections of each
 pub record Serving : Type 0 where
   pub place : List ℕ
   pub workers : ℕ
@@ -22,7 +22,7 @@ pub record Serving : Type 0 where
 abbrev pub serving : List ℕ → ℕ → ℕ → Serving
 serving place workers connections = record { place = place; workers = workers; connections = connections }
 
--- as many lanes came as workers were asked for
+-- as many lanes were handed out as workers were asked for
 abbrev pub AllCame : Serving → ListenerView → ListenerView → Type 0
 AllCame s before after = after.lanes ≡ before.lanes + s.workers
 
@@ -34,27 +34,27 @@ IsBoundBy s after = after.bound ≡ binding s.place s.connections
 abbrev pub entries_line : ℕ → List ℕ
 entries_line entries = codes "entries " ++ decimal entries ++ 10 ∷ []
 
--- the status of a listening that ended so, where nothing else fails
+-- the status of a listening that ended so, if nothing else fails
 abbrev pub listening_status : Listening → ℕ
 listening_status Whole = 0
 listening_status Broken = 3
 
--- the machine was served at the place of the words: behind all that the lanes tell is one history of so many changes
+-- the machine was served at the place of the words: all that is known of the lanes is out of one history of so many changes
 pub record ServesStore {S C A B W E Q T F : Type 0} (P : Protocol S C A B W E) (U : OpenerMeaning Q T S F) (asked : Q) (s : Serving) (old new : Outside T) (before after : ListenerView) (entries : ℕ) : Type 0 where
   pub bound : IsBoundBy s after
   pub opening : S
   pub loaded : U.loads asked old.stores.stored opening
   pub history : List (ℕ × C)
-  -- all answers of all connections are out of the one history, which has their changes, in order, and no others; each lane that came back
-  -- tells the connections that were served; where all lanes came none has an accept left; and no more answers tell a fault than the
+  -- all answers of all connections are out of the one history, which has their changes, in order, and no others; each lane that was given
+  -- back reports the connections that were served; if all lanes were handed out none has an accept left; and no more answers report a fault than the
   -- opener's count rose, as far as that goes
   pub served : IsServedBy P opening old.stores.faults new.stores.faults before.returned after.returned (AllCame s before after) history
   pub entries_are : entries ≡ length history
   -- the store has the history's replay
   pub holds : U.holds asked old.stores.stored new.stores.stored (replay P.step opening history)
 
--- all that came were served, and the count of the changes was printed, as far as that could be: with status 0 where as many lanes came as were
--- wanted and none failed, else with status 3. Nothing is said
+-- all that were handed out were served, and the count of the changes was printed, as far as that could be: with status 0 if as many lanes were
+-- handed out as were wanted and none failed, else with status 3. Nothing is said
 pub record IsServed {S C A B W E Q T F : Type 0} (P : Protocol S C A B W E) (U : OpenerMeaning Q T S F) (asked : Q) (s : Serving) (old new : Outside T) (before after : ListenerView) (status : ℕ) : Type 0 where
   pub entries : ℕ
   pub serves : ServesStore P U asked s old new before after entries
@@ -63,7 +63,7 @@ pub record IsServed {S C A B W E Q T F : Type 0} (P : Protocol S C A B W E) (U :
   pub said : EndsWith old.streams.output new.streams.output (entries_line entries) (listening_status listening) status
   pub silent : new.streams.errors ≡ old.streams.errors
 
--- the store was left: no machine was opened, or one went back as it was
+-- the store was left: no machine was opened, or one was given back unchanged
 abbrev pub IsLeft : {Q T S F : Type 0} → OpenerMeaning Q T S F → Q → Stored T → Stored T → Type 0
 IsLeft {S = S} U asked old new = (new ≡ old) ⊎ ((state : S) × U.loads asked old state × U.holds asked old new state)
 
@@ -82,7 +82,7 @@ pub record LacksPlace {Q T S F : Type 0} (U : OpenerMeaning Q T S F) (asked : Q)
   pub failed : ListeningFailed before after
   pub nobody : NobodyCame before after
 
--- what came of it: all that came were served; or the opening was refused, and the listener not used; or there was no memory; or no place
+-- the outcome: all that were handed out were served; or the opening was refused, and the listener not used; or there was no memory; or no place
 abbrev pub IsServeRun : {S C A B W E Q T F : Type 0} → Protocol S C A B W E → OpenerMeaning Q T S F → Q → Serving → Outside T → Outside T → ListenerView → ListenerView → ℕ → Type 0
 IsServeRun P U asked s old new before after status =
     IsServed P U asked s old new before after status ⊎ (IsRefused U asked old new status × (after ≡ before))
@@ -95,7 +95,7 @@ pub record IsServe {S C A B W E Q T F : Type 0} (P : Protocol S C A B W E) (U : 
   pub unread : new.streams.input ≡ old.streams.input
   -- every lane that was handed out was given back
   pub lanes_back : length after.returned + before.lanes ≡ length before.returned + after.lanes
-  -- where a lane came, the listener was bound to the place of the words, with their number of connections
+  -- if a lane was handed out, the listener was bound to the place of the words, with their number of connections
   pub bound : before.lanes < after.lanes → IsBoundBy s after
   -- no count of faults falls
   pub later : NoCountFalls old new

@@ -11,7 +11,7 @@ pub record ListenerView : Type 0 where
   pub returned : List Returned
   pub faults : ℕ
 
--- what a listener tells, by the members of its trait
+-- what is known of the listener, by the members of its trait
 abbrev pub listener_view : {L : Type 0} → (L → Binding) → (L → ℕ) → (L → List Returned) → (L → ℕ) → L → ListenerView
 listener_view bound lanes returned faults listener =
     record { bound = bound listener; lanes = lanes listener; returned = returned listener; faults = faults listener }
@@ -24,7 +24,7 @@ ListeningFailed before after = Rose before.faults after.faults
 abbrev pub NoneFailed : ListenerView → ListenerView → Type 0
 NoneFailed before after = after.faults ≡ before.faults
 
--- no lane was handed out, and none came back
+-- no lane was handed out, and none was given back
 pub record NobodyCame (before after : ListenerView) : Type 0 where
   pub lanes : after.lanes ≡ before.lanes
   pub returned : after.returned ≡ before.returned

@@ -61,7 +61,7 @@ fn share<M: Machine, D>(
     }
 }
 
-/// Binds a listener, and hires a worker for each lane that comes, up to so many. Where it can't be bound the lock is closed: `Err` has the
+/// Binds a listener, and hires a worker for each lane that is handed out, up to so many. If it can't be bound the lock is closed: `Err` has the
 /// machine.
 fn hire<M: Machine, V: Service<M>, L: Listener>(
     place: Vec<u8>,
@@ -110,7 +110,7 @@ fn hire<M: Machine, V: Service<M>, L: Listener>(
     }
 }
 
-/// Opens a machine, shares it, binds the listener to the place, and hires so many workers. Where that fails the machine goes back to its
+/// Opens a machine, shares it, binds the listener to the place, and hires so many workers. If that fails the machine goes back to its
 /// opener, if it was opened, and nobody was served: `Err` says why. The memory is taken before the listener is used.
 pub fn begin_serve<M: Machine, V: Service<M>, O: MachineOpener<M>, L: Listener>(
     alloc: Global,

@@ -23,7 +23,7 @@ fn entries_line(entries: u64) -> ArrayVec<u8, LINE>
     line
 }
 
-/// The status of a listening that ended so, where nothing else fails.
+/// The status of a listening that ended so, if nothing else fails.
 fn status_of(listening: Listening) -> u8
     ensures { result ≡ listening_status listening }
 {

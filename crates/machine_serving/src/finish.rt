@@ -17,7 +17,7 @@ use machine_command::MachineOpener;
 use machine_server::close_all;
 use machine_session::Service;
 
-/// Dismisses the workers behind their work, closes the lock, and gives the machine back to its opener. It takes no memory.
+/// Dismisses the workers after their work, closes the lock, and gives the machine back to its opener. It takes no memory.
 pub fn finish_serve<M: Machine, V: Service<M>, O: MachineOpener<M>, L: Listener>(
     begun: Begun<M, L::Door>,
     opener: &mut O,

@@ -1,5 +1,5 @@
-//! The command `serve` of a program that serves a machine, whatever the machine is and whatever opens it: what stands before its workers
-//! start and behind their end, and what is printed and said. The workers' threads are started by the program itself, between the two.
+//! The command `serve` of a program that serves a machine, whatever the machine is and whatever opens it: what is before its workers
+//! start and after their end, and what is printed and said. The workers' threads are started by the program itself, between the two.
 #![tactic(auto)]
 
 mod begin;

@@ -1,4 +1,4 @@
-//! What is said where nobody was served.
+//! What is said if nobody was served.
 
 ghost use Rattle.std.specs.Prelude.{◌≡◌, ◌≤◌};
 ghost use Rattle.command_streams.specs.Streams.{told};
@@ -11,8 +11,8 @@ use ipam_edge::Sink;
 use machine_command::MachineOpener;
 use std::alloc::Global;
 
-/// Says why nobody was served, and gives the status of that: of a refused opening its own, 5 where memory ran out, and 3 where the place could
-/// not be had. Of these two nothing is said.
+/// Says why nobody was served, and gives the status of that: of a refused opening its own, 5 if memory ran out, and 3 if it could not
+/// bind. Of these two nothing is said.
 pub fn say_unserved<M: Machine, O: MachineOpener<M>, Se: Sink>(
     alloc: Global,
     why: Unserved<O::Fault>,

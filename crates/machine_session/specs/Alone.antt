@@ -19,7 +19,7 @@ state_after fault old new = old
 state_after memory old new = old
 state_after plain old new = old
 
--- the reply to a call of the caller with this number is the plain step's, or tells a fault where that one is fallible, or want of memory;
+-- the reply to a call of the caller with this number is the plain step's, or reports a fault if that one is fallible, or out of memory;
 -- and what is kept then
 pub record IsReplied {S C A : Type 0} (step : S → C → S × A) (fallible : A → Bool) (number : ℕ) (old new : Plain S C) (call : C) (answer : A) (kind : ReplyKind) : Type 0 where
   pub right : AnswersAs fallible kind answer (step old.state call).1

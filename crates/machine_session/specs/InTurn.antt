@@ -21,7 +21,7 @@ answers_in_turn {C = C} {W = W} {E = E} P =
       refuses = P.misread;
     }
 
--- a call was made through the seat; its answer is this, or is lost for want of memory
+-- a call was made through the seat; its answer is this, or is lost for lack of memory
 abbrev pub IsAsked : {S C A R W E F : Type 0} → Protocol S C A R W E → SeatView S C → C → W → Result Written F → SeatView S C → Type 0
 IsAsked {R = R} P v call shown result w =
     (reply : R) × (place : ℕ) × IsCall P.step P.fallible v w call (P.answer reply) (P.kind reply) place × IfOk result (λ answer. answer_of answer ≡ P.tells call reply shown place)

@@ -35,7 +35,7 @@ IsBehind {C} holds log = (before : List (ℕ × C)) × (entry : ℕ × C) × (lo
 pub record IsOwnCall {S C A : Type 0} (step : S → C → S × A) (fallible : A → Bool) (v w : Owned S C) (call : C) (answer : A) (kind : ReplyKind) : Type 0 where
   pub opening : w.opening ≡ v.opening
   pub replied : IsReplied step fallible 0 (plain_of_owned step v) (plain_of_owned step w) call answer kind
-  -- the count of faults never falls, and rises where the reply tells a fault, as far as it goes, and with no other reply
+  -- the count of faults never falls, and rises if the reply reports a fault, as far as it goes, and with no other reply
   pub later : v.faults ≤ w.faults
   pub counted : Reaches (v.faults + failures_of kind) w.faults
   pub still : (kind ≡ fault) ⊎ (w.faults ≡ v.faults)
@@ -54,7 +54,7 @@ answers_alone {C = C} {W = W} {E = E} P =
       refuses = P.misread;
     }
 
--- the same answers beside something that stays as it is
+-- the same answers next to something that stays as it is
 abbrev pub tagged : {S T : Type 0} → May S → May (S × T)
 tagged may = record { answers = λ s request answer t. may.answers s.0 request answer t.0 × (t.1 ≡ s.1); refuses = may.refuses }
 
@@ -66,14 +66,14 @@ pub record Counted (S C : Type 0) : Type 0 where
 abbrev pub counted : {S C : Type 0} → Owned S C → ℕ → Counted S C
 counted now told = record { now = now; told = told }
 
--- the answer to what a request asks for, and the count of those that tell a fault
+-- the answer to what a request asks for, and the count of those that report a fault
 abbrev pub IsCountedAnswer : {S C A R W E : Type 0} → Protocol S C A R W E → Counted S C → Framed → Result (C × W) E → Answer → Counted S C → Type 0
 IsCountedAnswer {R = R} P old request (Ok asked) answer new =
     (reply : R) × IsOwnCall P.step P.fallible old.now new.now asked.0 (P.answer reply) (P.kind reply) × (answer ≡ P.tells asked.0 reply asked.1 (length old.now.log))
     × (new.told ≡ old.told + failures_of (P.kind reply))
 IsCountedAnswer P old request (Err why) answer new = P.refuses request why answer × (new ≡ old)
 
--- what a request may be answered, and how many answers tell a fault
+-- what a request may be answered, and how many answers report a fault
 abbrev pub answers_counted : {S C A R W E : Type 0} → Protocol S C A R W E → May (Counted S C)
 answers_counted {C = C} {W = W} {E = E} P =
     record {
@@ -92,7 +92,7 @@ IsCertainAnswer {R = R} P old request (Ok asked) answer new =
     (reply : R) × (P.kind reply ≢ fault) × IsReplied P.step P.fallible 0 old new asked.0 (P.answer reply) (P.kind reply) × (answer ≡ P.tells asked.0 reply asked.1 (length old.log))
 IsCertainAnswer P old request (Err why) answer new = P.refuses request why answer × (new ≡ old)
 
--- a request is answered as a plain machine would that does not fail: only that memory ran out may be told instead
+-- a request is answered as a plain machine would that does not fail: only that memory ran out may be reported instead
 abbrev pub answers_certainly : {S C A R W E : Type 0} → Protocol S C A R W E → May (Plain S C)
 answers_certainly {C = C} {W = W} {E = E} P =
     record {

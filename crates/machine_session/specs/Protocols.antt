@@ -1,22 +1,22 @@
--- What a machine and its service are to contracts, as one value: which requests ask for which calls, and which answers tell which replies.
+-- What a machine and its service are to contracts, as one value: which requests ask for which calls, and which answers give which replies.
 use Rattle.std.specs.Prelude.{◌≡◌, ℕ, Bool, Result}
 use Rattle.history_lock.specs.Replies.{ReplyKind}
 use Rattle.http_session.specs.Requests.{Framed}
 use Rattle.http_session.specs.Talk.{Answer}
 use Rattle.http_session.specs.declared.request.Fault.{Fault}
 
--- S is a state of the machine, C a call, A an answer of the plain step, R a reply, W what an answer shows beside the reply and its place,
+-- S is a state of the machine, C a call, A an answer of the plain step, R a reply, W what an answer shows besides the reply and its place,
 -- E why a request is refused without the machine
 pub record Protocol (S C A R W E : Type 0) : Type 1 where
   -- of the machine: its plain step, a reply as the plain step gives it, which kind each reply has, and in place of which plain answers a
-  -- fault may be told
+  -- fault may be reported
   pub step : S → C → S × A
   pub answer : R → A
   pub kind : R → ReplyKind
   pub fallible : A → Bool
   -- of the service: what a request asks for, ..
   pub asks : Framed → Result (C × W) E → Type 0
-  -- .. the answer that tells a reply to a call, which has a place in the history, ..
+  -- .. the answer that gives a reply to a call, which has a place in the history, ..
   pub tells : C → R → W → ℕ → Answer
   -- .. the answer to a request that is refused, and to bytes that are refused in the place of one
   pub refuses : Framed → E → Answer → Type 0

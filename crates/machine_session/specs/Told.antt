@@ -9,9 +9,9 @@ use Rattle.http_session.specs.Requests.{Framed}
 use Rattle.http_session.specs.Talk.{Answer, May}
 use Rattle.machine_session.specs.Protocols.{Protocol}
 
--- what a caller's answers came to so far; a call is of type C
+-- what a caller's answers led to so far; a call is of type C
 pub record Standing (C : Type 0) : Type 0 where
-  -- no later answer stands before this place
+  -- no later answer is before this place
   pub place : ℕ
   -- its accepted changes, in order
   pub made : List (ℕ × C)
@@ -22,22 +22,22 @@ pub record Standing (C : Type 0) : Type 0 where
 abbrev pub newcomer : {C : Type 0} → Standing C
 newcomer = record { place = 0; made = []; faults = 0 }
 
--- a seat between two calls: its next answer stands behind all that it has seen
+-- a seat between two calls: its next answer is after all that it has seen
 abbrev pub standing_of : {S C : Type 0} → SeatView S C → Standing C
 standing_of v = record { place = length v.seen; made = own_entries v.number v.seen; faults = v.faults }
 
 -- one call that was answered, in a history from this opening state, of the caller with this number
 pub record IsTold {S C A : Type 0} (step : S → C → S × A) (fallible : A → Bool) (opening : S) (history : List (ℕ × C)) (number : ℕ) (before after : Standing C) (call : C) (answer : A) (kind : ReplyKind) (place : ℕ) : Type 0 where
-  -- the reply is the plain machine's after the entries before its place, and an accepted change is the entry there; or it tells a
-  -- fault where that reply is fallible, or want of memory
+  -- the reply is the plain machine's after the entries before its place, and an accepted change is the entry there; or it reports
+  -- a fault if that reply is fallible, or out of memory
   pub legal : IsLegalAt step fallible opening history number call answer kind place
   -- places never fall ..
   pub in_order : before.place ≤ place
-  -- .. and that of the next answer is behind an accepted change
+  -- .. and that of the next answer is after an accepted change
   pub place_after : after.place ≡ place + rise_of kind
-  -- the caller's accepted changes are those before, and this call where it was accepted
+  -- the caller's accepted changes are those before, and this call if it was accepted
   pub made : after.made ≡ grown kind (number, call) before.made
-  -- its faults are those before, and one where the reply tells one
+  -- its faults are those before, and one if the reply reports one
   pub faults : after.faults ≡ before.faults + failures_of kind
 
 -- the answer to what a request asks for

@@ -1,4 +1,4 @@
-//! What is done behind each change that a machine of one's own accepts.
+//! What is done after each change that one's own machine accepts.
 
 ghost use Rattle.std.specs.Prelude.{◌≡◌, ℕ, Bool, true, List, OnOk};
 ghost use Rattle.history_lock.specs.Replay.{replay};
@@ -7,7 +7,7 @@ ghost use Rattle.machine_session.specs.Owned.{IsBehind};
 use history_lock::Machine;
 use std::alloc::{AllocError, Global};
 
-/// What follows a machine: behind each accepted change, and before the change is answered, it does something of its own, such as showing
+/// What follows a machine: after each accepted change, and before the change is answered, it does something of its own, such as showing
 /// the change to readers.
 pub trait Follower<M: Machine> {
     /// What it keeps to while the machine, opened in this state, has accepted these changes.
@@ -21,7 +21,7 @@ pub trait Follower<M: Machine> {
     /// Whether it could follow every change so far.
     ghost whole: { Self → Bool };
 
-    /// That it keeps to this is a fact, with one proof at most.
+    /// It is a fact, with one proof at most, that it keeps to this.
     ghost keeps_is_fact: { (f : Self) → (opening : M.State) → (log : List (ℕ × M.Said)) → IsProp (keeps f opening log) };
 
     /// Follows the change that the machine accepted last. The one error means out of memory: the change stays, and its answer is lost.

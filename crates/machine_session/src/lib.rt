@@ -1,5 +1,5 @@
 //! Sessions over a machine, one that many connections share or one of their own. What a request asks of the machine, and the answer that
-//! tells its reply, come by a service: so nothing here knows what the machine is.
+//! gives its reply, are defined by a service: so nothing here knows what the machine is.
 #![tactic(auto)]
 
 mod follower;

@@ -21,7 +21,7 @@ use std::marker::PhantomData;
 /// The number under which the one caller's changes are noted.
 const CALLER: u32 = 0;
 
-/// A machine, in a box so that no request moves it, and what follows it.
+/// A machine, in a box so that it never moves, and what follows it.
 pub struct OwnSeat<M: Machine, F: Follower<M>> {
     machine: Box<M>,
     follower: F,
@@ -109,8 +109,8 @@ impl<'a, M: Machine, V: Service<M>, F: Follower<M>> Desk for OwnMachine<'a, M, V
     }
 }
 
-/// Serves one connection with a machine of its own, from its first byte to its end, and notes its changes under the number 0. What follows
-/// the machine does so behind each accepted change. The ends are those of `serve_session`, and `Memory` also where memory ran out for the
+/// Serves one connection with its own machine, from its first byte to its end, and notes its changes under the number 0. What follows
+/// the machine does so after each accepted change. The ends are those of `serve_session`, and `Memory` also if memory ran out for the
 /// box that the machine is put into, with nothing read, or for what follows: with any other end the follower could follow every change. The
 /// table is lent.
 pub fn serve_own_by<M: Machine, V: Service<M>, F: Follower<M>, So: Source, Si: Sink>(
@@ -156,7 +156,7 @@ pub fn serve_own_by<M: Machine, V: Service<M>, F: Follower<M>, So: Source, Si: S
     }
 }
 
-/// The same with a table of its own, which is made before the first read: where memory runs out for it, the session ends
+/// The same with its own table, which is made before the first read: if memory runs out for it, the session ends
 /// as `Memory` with nothing read.
 pub fn serve_own<M: Machine, V: Service<M>, F: Follower<M>, So: Source, Si: Sink>(
     alloc: Global,

@@ -1,4 +1,4 @@
-//! What stands between a machine and the requests of its connections.
+//! What is between a machine and the requests of its connections.
 
 ghost use Rattle.std.specs.Prelude.{◌≡◌, ℕ, Result, IfOk};
 ghost use Rattle.http_session.specs.Requests.{Framed};
@@ -14,13 +14,13 @@ use std::alloc::{AllocError, Global};
 
 /// What a request asks for.
 pub enum Wanted<C, G> {
-    /// A call of the machine, and what its answer is written with beside the reply.
+    /// A call of the machine, and what its answer is written with besides the reply.
     Call(C, G),
     /// Nothing of the machine: this is its answer.
     Refused(Reply),
 }
 
-/// A machine as a web service: which call a request asks for, and which answer tells a reply.
+/// A machine as a web service: which call a request asks for, and which answer gives a reply.
 ///
 /// A service is a type without values of its own: what it reads requests by is made anew in each thread, so it need not cross any.
 pub trait Service<M: Machine> {
@@ -30,16 +30,16 @@ pub trait Service<M: Machine> {
     /// What is kept of a request until its answer is written.
     type Along;
 
-    /// What an answer says beside the reply and its place, as contracts see it.
+    /// What an answer says besides the reply and its place, as contracts see it.
     ghost Shown: { Type 0 };
 
     /// Why a request is refused without the machine, as contracts see it.
     ghost Refused: { Type 0 };
 
-    /// What a request asks for: a call, with what its answer shows beside the reply; or it is refused for this.
+    /// What a request asks for: a call, with what its answer shows besides the reply; or it is refused for this.
     ghost asks: { Framed → Result (M.Said × Shown) Refused → Type 0 };
 
-    /// The answer that tells this reply to a call, which has this place.
+    /// The answer that gives this reply to a call, which has this place.
     ghost tells: { M.Said → M.Reply → Shown → ℕ → Answer };
 
     /// The answer to a request that is refused.
@@ -62,7 +62,7 @@ pub trait Service<M: Machine> {
     ) -> Result<Wanted<M::Call, Self::Along>, AllocError>
         ensures { IfOk result (IsWanted M.takes M.said asks refuses shows (framed request.now)) };
 
-    /// Writes the answer that tells a reply. The one error means out of memory.
+    /// Writes the answer that gives a reply. The one error means out of memory.
     fn write(
         alloc: Global,
         reply: M::Reply,
@@ -79,7 +79,7 @@ pub trait Service<M: Machine> {
     fn close(table: Self::Table);
 }
 
-/// Reads what a request asks for by the table, or where there is none yet by one that is made and stays. The one error means out of memory.
+/// Reads what a request asks for by the table, or if there is none yet by one that is made and stays. The one error means out of memory.
 pub(crate) fn read_by<M: Machine, V: Service<M>>(
     alloc: Global,
     table: Option<V::Table>,
@@ -101,7 +101,7 @@ pub(crate) fn read_by<M: Machine, V: Service<M>>(
     (Some(table), wanted)
 }
 
-/// Lets a table go, where there is one.
+/// Lets a table go, if there is one.
 pub(crate) fn end_table<M: Machine, V: Service<M>>(table: Option<V::Table>) {
     match table {
         Some(table) => V::close(table),

@@ -18,7 +18,7 @@ use std::alloc::{AllocError, Global};
 use std::marker::PhantomData;
 use std::sync::Wait;
 
-/// A seat, with the machine that it belongs to and what its requests are read by: a table that is made for the first of them and stays. Where
+/// A seat, with the machine that it belongs to and what its requests are read by: a table that is made for the first of them and stays. If
 /// memory runs out for it, that request's session ends as `Memory`, and the next request tries again.
 pub struct Sitting<'a, R: Wait + 'a, M: Machine + 'a, V: Service<M>> {
     rt: &'a R,
@@ -165,8 +165,8 @@ impl<'a, R: Wait + 'a, M: Machine + 'a, V: Service<M>> Desk for SharedMachine<'a
 
 /// Serves one connection over the shared machine, from its first byte to its end, and notes its changes under the seat's number.
 ///
-/// `Closed` comes with all requests answered; `SourceFault` where a read failed, with all requests that lay whole in the bytes read
-/// answered; `SinkFault` where a write failed, with a shorter front of the last answer written; `Memory` where memory ran out before
+/// `Closed` comes with all requests answered; `SourceFault` if a read failed, with all requests that lay whole in the bytes read
+/// answered; `SinkFault` if a write failed, with a shorter prefix of the last answer written; `Memory` if memory ran out before
 /// a call reached the machine, or for the text of a reply.
 pub fn serve_session<R: Wait, M: Machine, V: Service<M>, So: Source, Si: Sink>(
     rt: &R,

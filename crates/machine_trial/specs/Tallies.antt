@@ -11,7 +11,7 @@ use Rattle.lock_trial.specs.declared.calls.Reply.{Reply}
 use Rattle.lock_trial.specs.declared.calls.Reply.TheVariants.{Added, Value, Fault, NoMemory}
 use Rattle.machine_session.specs.Protocols.{Protocol}
 
--- a call, with nothing that its answer shows beside the reply; or the request is refused
+-- a call, with nothing that its answer shows besides the reply; or the request is refused
 abbrev pub Asked : Type 0
 Asked = Result (Call × Unit {0}) (Unit {0})
 

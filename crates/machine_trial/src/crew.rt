@@ -19,7 +19,7 @@ use std::marker::{Send, Sync};
 use std::sync::Wait;
 use std::thread::{Threads, for_each_mut};
 
-/// Serves the connections of all workers' lanes, each worker in a thread of its own.
+/// Serves the connections of all workers' lanes, each worker in its own thread.
 pub fn serve_workers<R: Threads + Wait + Sync, A: Lane + Send, G: Gate + Sync>(
     rt: &R,
     alloc: Global,

@@ -1,4 +1,4 @@
-//! What stands between a tally and the requests of its connections.
+//! What is between a tally and the requests of its connections.
 
 ghost use Rattle.std.specs.Prelude.{◌≡◌, ◌≤◌, ◌++◌, ℕ, Option, IfOk, codes, decimal, length};
 ghost use Rattle.arrayvec.specs.ArrayVec.{array_vec_len};
@@ -29,7 +29,7 @@ fn call_of(method: &[u8], body: &[u8]) -> Option<Call>
     None
 }
 
-/// The field that tells the place of an answer.
+/// The field with the place of an answer.
 fn place_at(place: u64) -> NumberField
     ensures name { result.name.now ≡ codes "Place" }
     ensures number { result.number ≡ place }
@@ -40,7 +40,7 @@ fn place_at(place: u64) -> NumberField
     }
 }
 
-/// An answer with a field, where there is one, and a short body.
+/// An answer with a field, if there is one, and a short body.
 pub(crate) fn answer_with(status: StatusCode, field: Option<NumberField>, text: &[u8]) -> Answer
     requires { length text.now ≤ 128 }
     ensures { answer_of result ≡ answer_with status field text.now }

@@ -7,14 +7,14 @@ use Rattle.http_lanes.specs.Served.{AreServed}
 use Rattle.machine_session.specs.Protocols.{Protocol}
 use Rattle.machine_session.specs.Told.{IsLater, answers_in, standing_of}
 
--- the seat was v and is w, and it served all connections that the lane tells: their answers are a talk in what it has seen now
+-- the seat was v and is w, and it served all known connections of the lane: their answers are a talk in what it has seen now
 pub record HasServedSeat {S C A B W E : Type 0} (P : Protocol S C A B W E) (v w : SeatView S C) (told : Option (List Connection)) : Type 0 where
   pub connections : List Connection
   pub told_are : IfSome told (λ all. all ≡ connections)
   pub later : IsLater v w
   pub served : AreServed (answers_in P w.opening w.seen w.number) connections (standing_of v) (standing_of w)
 
--- a worker with a seat of the lock z, whose lane has handed out no connection yet, where it tells them
+-- a worker with a seat of the lock z, whose lane has handed out no connection yet, if they are known
 pub record IsReady {S C L : Type 0} (told : L → Option (List Connection)) (z : TableId) (seat : Option (SeatView S C)) (lane : L) : Type 0 where
   pub now : SeatView S C
   pub has : seat ≡ Some now

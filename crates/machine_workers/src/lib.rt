@@ -1,4 +1,4 @@
-//! Workers that serve connections over one shared machine, each with a lane and a seat of its own.
+//! Workers that serve connections over one shared machine, each with a lane and its own seat.
 #![tactic(auto)]
 
 mod workers;

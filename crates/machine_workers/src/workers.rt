@@ -40,8 +40,8 @@ fn serve_seat<R: Wait, M: Machine, V: Service<M>, A: Lane, G: Gate>(
     sitting.into_seat()
 }
 
-/// One worker's work, in a thread of its own: it serves the connections of its lane until no accept is left, and reads their requests by one
-/// table of its own.
+/// One worker's work, in its own thread: it serves the connections of its lane until no accept is left, and reads their requests by its
+/// own table.
 ///
 /// A program starts its workers itself, by a closure over its own machine that calls this: the prover covers no closure over a machine that is
 /// a type parameter.

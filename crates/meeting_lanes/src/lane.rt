@@ -16,7 +16,7 @@ enum Comes {
     Not,
 }
 
-/// Bytes whose reads come to a meeting. It tells a proof nothing of them.
+/// Bytes whose reads come to a meeting. A proof knows nothing of them.
 #[derive(Drop)]
 pub struct MeetingSource<'a> {
     source: BytesSource,
@@ -43,7 +43,7 @@ impl<'a> MeetingSource<'a> {
         }
     }
 
-    /// Comes, where it is time to, before a read.
+    /// Comes, if it is time to, before a read.
     fn come(&mut self)
         ensures { self.new.source ≡ self.old.source }
     {
@@ -75,7 +75,7 @@ impl<'a> Source for MeetingSource<'a> {
     }
 }
 
-/// A lane with one connection. It tells a proof nothing of it.
+/// A lane with one connection. A proof knows nothing of it.
 #[derive(Drop)]
 pub struct MeetingLane<'a> {
     pub(crate) waits: Option<(MeetingSource<'a>, BytesSink)>,

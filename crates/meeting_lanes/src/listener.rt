@@ -68,7 +68,7 @@ impl<'a> MeetingListener<'a> {
         })
     }
 
-    /// What was written to the connections of the lanes that came back.
+    /// What was written to the connections of the lanes that were given back.
     pub fn answers(&self) -> &[BytesSink] {
         self.answers.as_slice()
     }
@@ -127,7 +127,7 @@ impl<'a> Listener for MeetingListener<'a> {
         } = lane;
         drop(waits);
         if let Some(sink) = answers {
-            // Where memory is out the test finds one answer too few.
+            // If memory is out the test finds one answer too few.
             let _ = self.answers.push(sink);
         }
     }

@@ -66,7 +66,7 @@ fn listener_of(alloc: Global) -> Result<ListListener, AllocError> {
     ListListener::new(alloc, lanes)
 }
 
-/// Puts what was written to the connections of the lanes that came back at the end of a text.
+/// Puts what was written to the connections of the lanes that were given back at the end of a text.
 fn tell(listener: &ListListener, told: &mut String) -> Result<(), AllocError> {
     for lane in listener.returned() {
         for handed in lane.handed() {
@@ -78,7 +78,7 @@ fn tell(listener: &ListListener, told: &mut String) -> Result<(), AllocError> {
     Ok(())
 }
 
-/// How often a part stands in a text.
+/// How often a part occurs in a text.
 fn times<'a>(text: &'a str, part: &'a str) -> usize {
     text.split(part).count().saturating_sub(1)
 }

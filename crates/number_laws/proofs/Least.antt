@@ -25,10 +25,10 @@ use Rattle.number_pools.specs.Steps.{Check, claim_checks, claim_step, claimed, i
 use Rattle.number_pools.proofs.Lists.{none_passes}
 use Rattle.claim_laws.proofs.LeastAddresses.{ups_above, ups_places}
 use Rattle.claim_laws.proofs.Lemmas.{not_that, rising}
-use Rattle.claim_laws.proofs.Lists.{any_false, contains_place, filter_has, filtered, place_contains}
-use Rattle.claim_laws.proofs.Withstand.{id_under, with_stays}
+use Rattle.claim_laws.proofs.Lists.{any_false, filter_has, filtered, place_contains}
 use Rattle.number_laws.specs.Claims.{AreTheLeast, ClaimsAreNew, GotNumbers, HaveNewIds, IsFreeIn, IsOfPool}
 use Rattle.number_laws.proofs.Meetings.{asn_pool}
+use Rattle.number_laws.proofs.Made.{made_each, made_new, made_stored, many_made, one, row_at_place, row_of}
 
 is_equal : (a b : ℕ) → (a == b) ≡ true → a ≡ b
 is_equal a b t = grind (arith, nat_tests, t)
@@ -59,7 +59,7 @@ are_between from (suc many) n c = elim (contains_cases from n (numbers_from (fro
 -- ---- which members share a pool with a range, and which of its numbers are free
 
 module _ (s : Pools) (r : NumberRange) (h : IsLawfulPools s) (there : row_at range_id s.ranges.rows r.id ≡ Some r) where
-  one_pool : (m : Member) → IsOfPool s r m → pool_at s.ranges.rows m ≡ pool_of r
+  pub one_pool : (m : Member) → IsOfPool s r m → pool_at s.ranges.rows m ≡ pool_of r
   one_pool m (inl own) = ap (λ (n : ℕ). pool_found (row_at range_id s.ranges.rows n) n) own ∙ ap (λ (o : Option NumberRange). pool_found o r.id) there
   one_pool m (inr asns) = asn_pool s m asns.1 ∙ sym (ap (λ (k : PoolKind). pool_by k r.id) asns.0)
 
@@ -122,38 +122,7 @@ untaken next range [] (name ∷ names) = refl
 untaken next range (n ∷ ns) [] = refl
 untaken next range (n ∷ ns) (name ∷ names) = ap (λ (rest : List Member). record { id = next; range = range; number = n; name = name } ∷ rest) (untaken (next + 1) range ns names)
 
--- member k has number k, name k and the id k past the first
-record IsRow (range next : ℕ) (ns : List ℕ) (names : List (List ℕ)) (k : ℕ) (x : Member) : Type 0 where
-  number : ℕ
-  picked : slice_get ns k ≡ Some number
-  has : x.number ≡ number
-  name : List ℕ
-  named : slice_get names k ≡ Some name
-  says : x.name ≡ name
-  own : x.range ≡ range
-  id_is : x.id ≡ next + k
-
 module _ (range : ℕ) where
-  abbrev one : ℕ → ℕ → List ℕ → Member
-  one next n name = record { id = next; range = range; number = n; name = name }
-
-  row_of : (next : ℕ) (ns : List ℕ) (names : List (List ℕ)) (k : ℕ) (x : Member) → slice_get (made_members next range ns names) k ≡ Some x → IsRow range next ns names k x
-  row_of next [] names k x q = cc
-  row_of next (n ∷ ns) [] k x q = cc
-  row_of next (n ∷ ns) (name ∷ names) zero x q =
-      let e : one next n name ≡ x = cc in
-      subst (IsRow range next (n ∷ ns) (name ∷ names) zero) e (record { number = n; picked = refl; has = refl; name = name; named = refl; says = refl; own = refl; id_is = omega arith })
-  row_of next (n ∷ ns) (name ∷ names) (suc k) x q =
-      let r = row_of (next + 1) ns names k x q in
-      let i = r.id_is in
-      record { number = r.number; picked = r.picked; has = r.has; name = r.name; named = r.named; says = r.says; own = r.own; id_is = omega arith }
-
-  many_made : (next : ℕ) (ns : List ℕ) (names : List (List ℕ)) → length names ≤ length ns → length (made_members next range ns names) ≡ length names
-  many_made next [] [] l = refl
-  many_made next [] (name ∷ names) l = absurd (omega arith)
-  many_made next (n ∷ ns) [] l = refl
-  many_made next (n ∷ ns) (name ∷ names) l = ap suc (many_made (next + 1) ns names (omega arith))
-
   abbrev Has : List Member → ℕ → Type 0
   Has rows n = (y : Member) × Contains rows y × (y.number ≡ n)
 
@@ -162,60 +131,23 @@ module _ (range : ℕ) where
   none_skipped next low [] names x n u c d l = let k = c.1 in absurd (omega arith)
   none_skipped next low (m ∷ ns) [] x n u c d l = let k = c.1 in absurd (omega arith)
   none_skipped next low (m ∷ ns) (name ∷ names) x n u c d l =
-      go (contains_cases (one next m name) x (made_members (next + 1) range ns names) c) (contains_cases m n ns d) (λ p q. none_skipped (next + 1) (m + 1) ns names x n u.1 p q l)
+      go (contains_cases (one range next m name) x (made_members (next + 1) range ns names) c) (contains_cases m n ns d) (λ p q. none_skipped (next + 1) (m + 1) ns names x n u.1 p q l)
     where
-      go : (one next m name ≡ x) ⊎ Contains (made_members (next + 1) range ns names) x → (m ≡ n) ⊎ Contains ns n
-          → (Contains (made_members (next + 1) range ns names) x → Contains ns n → Has (made_members (next + 1) range ns names) n) → Has (one next m name ∷ made_members (next + 1) range ns names) n
-      go p (inl b) ih = (one next m name, contains_head (one next m name) (made_members (next + 1) range ns names), b)
+      go : (one range next m name ≡ x) ⊎ Contains (made_members (next + 1) range ns names) x → (m ≡ n) ⊎ Contains ns n
+          → (Contains (made_members (next + 1) range ns names) x → Contains ns n → Has (made_members (next + 1) range ns names) n) → Has (one range next m name ∷ made_members (next + 1) range ns names) n
+      go p (inl b) ih = (one range next m name, contains_head (one range next m name) (made_members (next + 1) range ns names), b)
       go (inl p) (inr b) ih = let v = ap (λ (y : Member). y.number) p in let k = ups_above (m + 1) ns n u.1 b in absurd (omega arith)
-      go (inr p) (inr b) ih = let f = ih p b in (f.0, contains_rest (one next m name) f.0 (made_members (next + 1) range ns names) f.1, f.2)
-
-  -- ---- they are stored
-
-  put_there : (xs : List Member) (m : Member) → Contains (with_row member_id xs m) m
-  put_there [] m = contains_head m []
-  put_there (x ∷ xs) m = go (x.id == m.id) (put_there xs m)
-    where
-      go : (t : Bool) → Contains (with_row member_id xs m) m → Contains (if t then m ∷ xs else x ∷ with_row member_id xs m) m
-      go true ih = contains_head m xs
-      go false ih = contains_rest x m (with_row member_id xs m) ih
-
-  old_stay : (kept : RowList Member) (next : ℕ) (ns : List ℕ) (names : List (List ℕ)) (x : Member) → x.id < next → Contains kept.rows x
-      → Contains (fold (appended member_id) kept (made_members next range ns names)).rows x
-  old_stay kept next [] names x l c = c
-  old_stay kept next (n ∷ ns) [] x l c = c
-  old_stay kept next (n ∷ ns) (name ∷ names) x l c =
-      old_stay (appended member_id kept (one next n name)) (next + 1) ns names x (omega arith) (with_stays member_id kept.rows (one next n name) x c (eq_false next x.id (λ q. omega arith)))
-
-  new_are : (kept : RowList Member) (next : ℕ) (ns : List ℕ) (names : List (List ℕ)) (x : Member) → Contains (made_members next range ns names) x
-      → Contains (fold (appended member_id) kept (made_members next range ns names)).rows x
-  new_are kept next [] names x c = let l = c.1 in absurd (omega arith)
-  new_are kept next (n ∷ ns) [] x c = let l = c.1 in absurd (omega arith)
-  new_are kept next (n ∷ ns) (name ∷ names) x c = elim (contains_cases (one next n name) x (made_members (next + 1) range ns names) c) [
-    | inl e ↦ subst (λ (y : Member). Contains (fold (appended member_id) (appended member_id kept (one next n name)) (made_members (next + 1) range ns names)).rows y) e
-        (old_stay (appended member_id kept (one next n name)) (next + 1) ns names (one next n name) (omega arith) (put_there kept.rows (one next n name)))
-    | inr d ↦ new_are (appended member_id kept (one next n name)) (next + 1) ns names x d
-  ]
-
-are_these : (kept : RowList Member) (rows : List Member) (x : Member) → Contains (fold (appended member_id) kept rows).rows x → Contains kept.rows x ⊎ Contains rows x
-are_these kept [] x c = inl c
-are_these kept (m ∷ ms) x c = elim (are_these (appended member_id kept m) ms x c) [
-  | inl d ↦ elim (contains_with member_id kept.rows m x d) [ inl e ↦ inr (0, omega arith, e) | inr b ↦ inl b ]
-  | inr d ↦ inr (contains_rest m x ms d)
-]
+      go (inr p) (inr b) ih = let f = ih p b in (f.0, contains_rest (one range next m name) f.0 (made_members (next + 1) range ns names) f.1, f.2)
 
 -- ---- a claim
 
 module _ (s : Pools) (kind : PoolKind) (id : ℕ) (names : List (List ℕ)) (r : NumberRange) (h : IsLawfulPools s) (there : row_at range_id s.ranges.rows r.id ≡ Some r) where
-  abbrev made : List Member
-  made = made_members s.members.next r.id (free_numbers s r) names
+  abbrev given : List Member
+  given = made_members s.members.next r.id (free_numbers s r) names
 
-  row_at_place : (x : Member) → Contains made x → (k : ℕ) × IsRow r.id s.members.next (free_numbers s r) names k x
-  row_at_place x c = let p = contains_place made x c in (p.0, row_of r.id s.members.next (free_numbers s r) names p.0 x p.1)
-
-  made_least : AreTheLeast s r made
+  made_least : AreTheLeast s r given
   made_least = record {
-    free = λ x c. (let w = row_at_place x c in
+    free = λ x c. (let w = row_at_place s r.id (free_numbers s r) names h x c in
         among_is s r h there x.number (subst (λ (n : ℕ). Contains (free_numbers s r) n) (sym w.1.has) (place_contains (free_numbers s r) w.0 w.1.number w.1.picked)));
     rise = λ i j x y p q l. (
         let a = row_of r.id s.members.next (free_numbers s r) names i x p in
@@ -226,32 +158,6 @@ module _ (s : Pools) (kind : PoolKind) (id : ℕ) (names : List (List ℕ)) (r :
     none_passed = λ x n c f l. none_skipped r.id s.members.next r.first (free_numbers s r) names x n (they_rise s r h there) c (is_among s r h there n f) l;
   }
 
-  made_new : HaveNewIds s made
-  made_new = record {
-    next = λ x c. (let w = row_at_place x c in let i = w.1.id_is in omega arith);
-    above = λ y c. id_under member_id s.members.next s.members.rows y h.members.below c;
-    rise = λ i j x y p q l. (
-        let a = (row_of r.id s.members.next (free_numbers s r) names i x p).id_is in
-        let b = (row_of r.id s.members.next (free_numbers s r) names j y q).id_is in
-        omega arith);
-  }
-
-  made_each : (k : ℕ) (name : List ℕ) (x : Member) → slice_get names k ≡ Some name → slice_get made k ≡ Some x → (x.name ≡ name) × (x.range ≡ r.id)
-  made_each k name x p q =
-      let w = row_of r.id s.members.next (free_numbers s r) names k x q in
-      let e : Some w.name ≡ Some name = sym w.named ∙ p in
-      let same : w.name ≡ name = cc in
-      (w.says ∙ same, w.own)
-
-  made_stored : (x : Member) → Contains (fold (appended member_id) s.members made).rows x ↔ (Contains s.members.rows x ⊎ Contains made x)
-  made_stored x = (
-    are_these s.members made x,
-    (λ c. elim c [
-      | inl d ↦ old_stay r.id s.members s.members.next (free_numbers s r) names x (id_under member_id s.members.next s.members.rows x h.members.below d) d
-      | inr d ↦ new_are r.id s.members s.members.next (free_numbers s r) names x d
-    ]),
-  )
-
   got_numbers : row_at range_id s.ranges.rows id ≡ Some r → r.kind ≡ kind → r.id ≡ id → length names ≤ length (free_numbers s r)
       → GotNumbers s kind id names (with_claim s r names, Claimed (claimed s r names))
   got_numbers at k own enough = record {
@@ -260,14 +166,14 @@ module _ (s : Pools) (kind : PoolKind) (id : ℕ) (names : List (List ℕ)) (r :
     is_of = k;
     rows = claimed s r names;
     told = refl;
-    stored = subst (λ (rows : List Member). (x : Member) → Contains (fold (appended member_id) s.members rows).rows x ↔ (Contains s.members.rows x ⊎ Contains rows x)) same made_stored;
+    stored = subst (λ (rows : List Member). (x : Member) → Contains (fold (appended member_id) s.members rows).rows x ↔ (Contains s.members.rows x ⊎ Contains rows x)) same (made_stored s r.id (free_numbers s r) names h);
     many = ap length (sym same) ∙ many_made r.id s.members.next (free_numbers s r) names enough;
-    each = λ n name x p q. (let w = made_each n name x p (subst (λ (rows : List Member). slice_get rows n ≡ Some x) (sym same) q) in (w.0, w.1 ∙ own));
+    each = λ n name x p q. (let w = made_each s r.id (free_numbers s r) names h n name x p (subst (λ (rows : List Member). slice_get rows n ≡ Some x) (sym same) q) in (w.0, w.1 ∙ own));
     least = subst (AreTheLeast s r) same made_least;
-    ids = subst (HaveNewIds s) same made_new;
+    ids = subst (HaveNewIds s) same (made_new s r.id (free_numbers s r) names h);
   }
     where
-      same : made ≡ claimed s r names
+      same : given ≡ claimed s r names
       same = sym (untaken s.members.next r.id (free_numbers s r) names)
 
 -- ---- the range that is named
@@ -278,7 +184,7 @@ one_kind Asn Vlan e = cc
 one_kind Vlan Asn e = cc
 one_kind Vlan Vlan e = refl
 
-found : (o : Option NumberRange) (kind : PoolKind) (r : NumberRange) → of_kind kind o ≡ Some r → (o ≡ Some r) × (r.kind ≡ kind)
+pub found : (o : Option NumberRange) (kind : PoolKind) (r : NumberRange) → of_kind kind o ≡ Some r → (o ≡ Some r) × (r.kind ≡ kind)
 found None kind r e = cc
 found (Some x) kind r e = go (same_kind x.kind kind) refl e
   where

@@ -1,3 +1,5 @@
 pub mod Stays
 pub mod Meetings
+pub mod Made
 pub mod Least
+pub mod Recorded

@@ -6,6 +6,7 @@ use Rattle.ipam_data.specs.RowList.{RowList, appended, row_at, least}
 use Rattle.ipam_data.proofs.RowLists.{eq_false, eq_true, find_none, id_below}
 use Rattle.ipam_data.proofs.Kept.{none_from_map}
 use Rattle.ipam_data.proofs.Verdicts.{none_head}
+use Rattle.number_pools.specs.declared.calls.Chosen.{Chosen}
 use Rattle.number_pools.specs.declared.calls.PoolCall.{PoolCall}
 use Rattle.number_pools.specs.declared.calls.PoolCall.TheVariants as call
 use Rattle.number_pools.specs.declared.calls.PoolRefusal.TheVariants.{InUse}
@@ -17,7 +18,7 @@ use Rattle.number_pools.specs.declared.rows.Member.{Member}
 use Rattle.number_pools.specs.Rows.{Pools, member_id, range_id}
 use Rattle.number_pools.specs.Free.{free_numbers}
 use Rattle.number_pools.specs.Lawful.{IsLawfulPools}
-use Rattle.number_pools.specs.Steps.{Check, add_checks, claim_checks, claimed, cut_member_checks, cut_range_checks, cut_range_step, cut_member_step, members_step, available_step, claim_step, is_in_use, is_of_range, made_members, made_range, member_at, no_log, plain_pool_step, range_at, unless, with_claim, with_range, without_member, without_range}
+use Rattle.number_pools.specs.Steps.{Check, add_checks, claim_checks, claimed, cut_member_checks, cut_range_checks, cut_range_step, cut_member_step, members_step, available_step, claim_step, is_in_use, is_of_range, made_members, made_range, member_at, names_of, no_log, numbers_of, plain_pool_step, range_at, record_checks, record_step, recorded, unless, with_claim, with_range, with_record, without_member, without_range}
 use Rattle.number_pools.proofs.Lists.{row_at_else, row_at_beside}
 use Rattle.claim_laws.proofs.Withstand.{with_stays, without_stays, id_under}
 
@@ -65,6 +66,13 @@ module _ (x : Member) (r : NumberRange) where
     range = p.range;
   })
 
+  record_made : (s : Pools) (id : ℕ) (items : List Chosen) (found : Option NumberRange) → IsLawfulPools s → IsThere s → IsThere (record_step s id items found).0
+  record_made s id items None h p = p
+  record_made s id items (Some range) h p = either (first_of (record_checks s range items)) s (with_record s range items) (Claimed (recorded s range items)) p (λ e. record {
+    member = claim_stays s.members s.members.next range.id (numbers_of items) (names_of items) (id_under member_id s.members.next s.members.rows x h.members.below p.member) p.member;
+    range = p.range;
+  })
+
   members_stay : (s : Pools) (id : ℕ) (found : Option NumberRange) → IsThere s → IsThere (members_step s id found).0
   members_stay s id None p = p
   members_stay s id (Some range) p = p
@@ -96,3 +104,4 @@ module _ (x : Member) (r : NumberRange) where
   ]
   stays s (call.Available kind id limit) h p = inl (available_stays s id limit (range_at s.ranges.rows kind id) p)
   stays s (call.Claim kind id list names) h p = inl (claim_made s id names (range_at s.ranges.rows kind id) h p)
+  stays s (call.Record kind id list items) h p = inl (record_made s id items (range_at s.ranges.rows kind id) h p)

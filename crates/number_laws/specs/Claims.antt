@@ -1,4 +1,4 @@
--- What claims of numbers owe: a claim gets the least free numbers of its range, and ids that no member had.
+-- What claims of numbers owe: a claim returns the least free numbers of its range, and ids that no member had.
 use Rattle.std.specs.Prelude.{◌≡◌, ◌≢◌, ◌⊎◌, ◌↔◌, ℕ, ◌<◌, ◌≤◌, Bool, Contains, List, Some, length, slice_get}
 use Rattle.ipam_data.specs.RowList.{row_at}
 use Rattle.number_pools.specs.declared.calls.PoolCall.TheVariants.{Claim}
@@ -30,7 +30,7 @@ pub record AreTheLeast (s : Pools) (r : NumberRange) (rows : List Member) : Type
   pub rise : (i j : ℕ) (x y : Member) → slice_get rows i ≡ Some x → slice_get rows j ≡ Some y → i < j → x.number < y.number
   pub none_passed : (x : Member) (n : ℕ) → Contains rows x → IsFreeIn s r n → n < x.number → (y : Member) × Contains rows y × (y.number ≡ n)
 
--- their ids rise, from the next one on, which is above those of all members that are there
+-- their ids rise, from the next one on, which is above those of all existing members
 pub record HaveNewIds (s : Pools) (rows : List Member) : Type 0 where
   pub next : (x : Member) → Contains rows x → s.members.next ≤ x.id
   pub above : (y : Member) → Contains s.members.rows y → y.id < s.members.next
@@ -41,7 +41,7 @@ pub record GotNumbers (s : Pools) (kind : PoolKind) (id : ℕ) (names : List (Li
   pub range : NumberRange
   pub there : row_at range_id s.ranges.rows id ≡ Some range
   pub is_of : range.kind ≡ kind
-  -- these members are told, and there are no others that were not there before
+  -- these members are answered, and there are no other new ones
   pub rows : List Member
   pub told : done.1 ≡ Claimed rows
   pub stored : (x : Member) → Contains done.0.members.rows x ↔ (Contains s.members.rows x ⊎ Contains rows x)

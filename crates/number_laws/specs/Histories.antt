@@ -1,4 +1,5 @@
--- Numbers over a history of calls: no claim gets a number that an earlier claim got, unless a call between gave it back.
+-- Numbers over a history of calls: no call gives out or records a number that an earlier call gave out or recorded, unless a call between gave
+-- it back.
 use Rattle.std.specs.Prelude.{◌≡◌, ◌≢◌, ◌⊎◌, ℕ, ◌<◌, Contains, List, [], ◌∷◌, Some, take, slice_get}
 use Rattle.ipam_data.specs.RowList.{row_at}
 use Rattle.number_pools.specs.declared.calls.PoolCall.{PoolCall}
@@ -17,7 +18,7 @@ abbrev pub replay : Pools → List PoolCall → Pools
 replay s [] = s
 replay s (call ∷ calls) = replay (plain_pool_step s call).0 calls
 
--- the member is there after the call, and none with its id was there before
+-- the member exists after the call, and none with its id existed before: a claim gave its number out, or the number was chosen and recorded
 abbrev pub IsGiven : Pools → PoolCall → Member → Type 0
 IsGiven s call x = Contains (plain_pool_step s call).0.members.rows x × ((y : Member) → Contains s.members.rows y → y.id ≢ x.id)
 
@@ -34,7 +35,7 @@ pub record IsGivenBack (s : Pools) (history : List PoolCall) (i j n : ℕ) : Typ
   pub there : slice_get history place ≡ Some (CutMember kind n)
   pub accepted : (plain_pool_step (replay s (take place history)) (CutMember kind n)).1 ≡ Gone
 
--- a number that a call of a history gave out, and one that a later call gave out, are two numbers, if both are of one range (as a group of
+-- a number that a call of a history gave out or recorded, and one that a later call did, are two numbers, if both are of one range (as a group of
 -- VLANs is), or of any two ranges of ASNs, unless a call between the two gave the first one back
 abbrev pub NumbersNeverMeet : Type 0
 NumbersNeverMeet = (s : Pools) (history : List PoolCall) (i j : ℕ) (one other : PoolCall) (x y : Member) → IsLawfulPools s

@@ -1,12 +1,12 @@
 -- A conversation with pools, worked out by evaluation.
-use Rattle.std.proofs.Common.{◌≡◌, List, [], ◌∷◌, true, false, refl}
+use Rattle.std.proofs.Common.{◌≡◌, List, [], ◌∷◌, ◌++◌, true, false, refl}
 use Rattle.inet_num.specs.Count.{numbers_from}
 use Rattle.number_pools.specs.declared.rows.PoolKind.TheVariants.{Asn, Vlan}
 use Rattle.number_pools.specs.declared.calls.PoolCall.{PoolCall}
 use Rattle.number_pools.specs.declared.calls.PoolCall.TheVariants as call
 use Rattle.number_pools.specs.declared.calls.PoolReply.{PoolReply}
 use Rattle.number_pools.specs.declared.calls.PoolReply.TheVariants.{Made, Claimed, Members, Numbers, Refused}
-use Rattle.number_pools.specs.declared.calls.PoolRefusal.TheVariants.{Absent, NameTaken, Bounds, InUse, NoSpace}
+use Rattle.number_pools.specs.declared.calls.PoolRefusal.TheVariants.{Absent, NameTaken, Bounds, InUse, NoSpace, Outside, Taken, Repeated}
 use Rattle.number_pools.specs.Rows.{Pools, empty_pools}
 use Rattle.number_pools.specs.Steps.{plain_pool_step}
 
@@ -86,3 +86,31 @@ again : answer (call.AddRange Asn (97 ∷ []) 64512 64514 ∷ call.Claim Asn 1 t
     ≡ Claimed (record { id = 3; range = 1; number = 64512; name = [] } ∷ [])
 unfolding numbers_from
 again = refl
+
+-- a chosen number is recorded, with its name, and a claim does not get it
+abbrev recorded : List PoolCall
+recorded = call.AddRange Asn (97 ∷ []) 64512 64514 ∷ call.Record Asn 1 false (record { number = 64512; name = 98 ∷ [] } ∷ []) ∷ []
+
+chosen : answer (call.AddRange Asn (97 ∷ []) 64512 64514 ∷ []) (call.Record Asn 1 false (record { number = 64512; name = 98 ∷ [] } ∷ []))
+    ≡ Claimed (record { id = 1; range = 1; number = 64512; name = 98 ∷ [] } ∷ [])
+unfolding numbers_from
+chosen = refl
+
+claimed_past : answer recorded (call.Claim Asn 1 false ([] ∷ [])) ≡ Claimed (record { id = 2; range = 1; number = 64513; name = [] } ∷ [])
+unfolding numbers_from
+claimed_past = refl
+
+-- a number that is none of the range comes before one that is taken, as the items have them; and none is recorded
+in_order : answer recorded (call.Record Asn 1 true (record { number = 64513; name = [] } ∷ record { number = 64515; name = [] } ∷ record { number = 64512; name = [] } ∷ [])) ≡ Refused (Outside 64515)
+unfolding numbers_from
+in_order = refl
+
+-- a number that a member holds, by whatever range of ASNs
+is_taken : answer (recorded ++ call.AddRange Asn (98 ∷ []) 64510 64515 ∷ []) (call.Record Asn 2 false (record { number = 64512; name = [] } ∷ [])) ≡ Refused (Taken 64512 1)
+unfolding numbers_from
+is_taken = refl
+
+-- one number for two items
+twice : answer recorded (call.Record Asn 1 true (record { number = 64513; name = [] } ∷ record { number = 64513; name = [] } ∷ [])) ≡ Refused (Repeated 64513)
+unfolding numbers_from
+twice = refl

@@ -1,4 +1,5 @@
 pub mod Bounds
+pub mod Fits
 pub mod Examples
 pub mod Frees
 pub mod Given

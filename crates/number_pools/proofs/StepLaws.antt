@@ -1,6 +1,7 @@
 -- Whatever is asked of lawful pools, they stay lawful.
 use Rattle.std.proofs.Common.{◌≡◌, ◌≢◌, ℕ, ◌+◌, ◌-◌, ◌<◌, ◌≤◌, ◌&&◌, Bool, true, false, nat_le, List, [], ◌∷◌, length, take, find, Option, Some, None, refl, ap, sym, ◌∙◌, arith, if◌then◌else◌, Contains}
 use Rattle.std.proofs.lemmas.Bool.Decides.{nat_tests}
+use Rattle.std.proofs.lemmas.List.{length-map}
 use Rattle.std.proofs.lemmas.Slice.Eq.{bytes_eq-Decides}
 use Rattle.ipam_data.specs.declared.kinds.TheConstants.{LAST_ID}
 use Rattle.ipam_data.specs.Checks.{first as first_of, most_spent}
@@ -12,9 +13,10 @@ use Rattle.number_pools.specs.declared.rows.PoolKind.{PoolKind}
 use Rattle.number_pools.specs.declared.rows.PoolKind.TheVariants.{Asn, Vlan}
 use Rattle.number_pools.specs.declared.rows.NumberRange.{NumberRange}
 use Rattle.number_pools.specs.declared.rows.Member.{Member}
+use Rattle.number_pools.specs.declared.calls.Chosen.{Chosen}
 use Rattle.number_pools.specs.declared.calls.Quantity.TheVariants.{Log, Ids}
 use Rattle.number_pools.specs.declared.calls.TheConstants.{MOST_RANGES, MOST_MEMBERS, MOST_CLAIMED}
-use Rattle.number_pools.specs.declared.calls.Quantity.TheVariants.{Claims, Ranges as RangeCount, Members as MemberCount}
+use Rattle.number_pools.specs.declared.calls.Quantity.TheVariants.{Claims, Items, Ranges as RangeCount, Members as MemberCount}
 use Rattle.number_pools.specs.declared.calls.PoolRefusal.TheVariants.{NameTaken, InUse, Limit, Bounds}
 use Rattle.number_pools.specs.declared.calls.PoolCall.TheVariants as call
 use Rattle.number_pools.specs.declared.calls.PoolReply.{PoolReply}
@@ -24,8 +26,9 @@ use Rattle.number_pools.specs.Free.{free_numbers, pool_at, pool_found}
 use Rattle.number_pools.specs.Lawful.{HaveOneName, HoldOneNumber, IsInBounds, IsInRange, IsLawfulPools}
 use Rattle.number_pools.specs.Laws.{EmptyIsLawful, StepsKeepLawful}
 use Rattle.number_pools.proofs.Lists.{numbered-appended, numbered-cleared, row_at_else, row_at_beside}
-use Rattle.number_pools.proofs.Given.{AreMembers, AreFree, all_given, free_from, some_free}
-use Rattle.number_pools.specs.Steps.{Check, add_checks, claim_checks, claimed, cut_member_checks, cut_range_checks, cut_range_step, cut_member_step, members_step, available_step, claim_step, has_name, in_bounds, is_in_use, is_name_taken, is_of_range, is_out_of_bounds, is_short, made_range, member_at, no_ids, no_log, plain_pool_step, range_at, of_kind, same_kind, too_many, unless, with_claim, with_range, without_member, without_range}
+use Rattle.number_pools.proofs.Given.{AreMembers, AreFree, all_given, free_from, free_open, some_free}
+use Rattle.number_pools.proofs.Fits.{are_open}
+use Rattle.number_pools.specs.Steps.{Check, add_checks, claim_checks, claimed, cut_member_checks, cut_range_checks, cut_range_step, cut_member_step, members_step, available_step, claim_step, record_checks, record_step, recorded, names_of, numbers_of, unfit, with_record, has_name, in_bounds, is_in_use, is_name_taken, is_of_range, is_out_of_bounds, is_short, made_range, member_at, no_ids, no_log, plain_pool_step, range_at, of_kind, same_kind, too_many, unless, with_claim, with_range, without_member, without_range}
 
 -- ---- what it says that no check refuses
 
@@ -135,7 +138,16 @@ claim_made s range names h there ids log =
     let order = b.1 in
     let free : AreFree s.ranges.rows s.members.rows range range.first (take (length names) (free_numbers s range)) =
     some_free s.ranges.rows s.members.rows range (length names) range.first (free_numbers s range) (free_from s.ranges.rows s.members.rows range (range.last + 1 - range.first) range.first (omega arith)) in
-    let made = all_given s.ranges.rows s.members range (take (length names) (free_numbers s range)) names range.first members there ids (omega arith) free in
+    let each_free = free_open s.ranges.rows s.members.rows range range.first (take (length names) (free_numbers s range)) (omega arith) free in
+    let made = all_given s.ranges.rows s.members range (take (length names) (free_numbers s range)) names members there ids each_free in
+    record { ranges = h.ranges; members = made.numbered; names = h.names; bounds = h.bounds; within = made.within; numbers = made.numbers; spent = log }
+
+record_made : (s : Pools) (range : NumberRange) (items : List Chosen) → IsLawfulPools s → row_at range_id s.ranges.rows range.id ≡ Some range → s.members.next + length items ≤ last_next
+    → s.spent + length items ≤ most_spent → unfit s range [] (numbers_of items) ≡ None → IsLawfulPools (with_record s range items)
+record_made s range items h there ids log fit =
+    let members : AreMembers s.ranges.rows s.members = record { numbered = h.members; within = h.within; numbers = h.numbers } in
+    let many : length (names_of items) ≡ length items = length-map items (λ (c : Chosen). c.name) in
+    let made = all_given s.ranges.rows s.members range (numbers_of items) (names_of items) members there (omega arith) (are_open s range [] (numbers_of items) fit).0 in
     record { ranges = h.ranges; members = made.numbered; names = h.names; bounds = h.bounds; within = made.within; numbers = made.numbers; spent = log }
 
 -- ---- the steps
@@ -227,6 +239,25 @@ claim_lawful s kind id list names h = go (range_at s.ranges.rows kind id) refl
         claim_made s range names h (found_range s kind id range o) (ids_fit s.members.next (length names) (none_head ids (log ∷ []) e3))
         (log_fits s (length names) (none_head log [] (none_rest ids (log ∷ []) e3))))
 
+record_lawful : (s : Pools) (kind : PoolKind) (id : ℕ) (list : Bool) (items : List Chosen) → IsLawfulPools s → IsLawfulPools (plain_pool_step s (call.Record kind id list items)).0
+record_lawful s kind id list items h = go (range_at s.ranges.rows kind id) refl
+  where
+    go : (o : Option NumberRange) → range_at s.ranges.rows kind id ≡ o → IsLawfulPools (record_step s id items o).0
+    go None o = h
+    go (Some range) o =
+        let n = length items in
+        let large = too_many Items MOST_CLAIMED n in
+        let fit = unfit s range [] (numbers_of items) in
+        let many = too_many MemberCount MOST_MEMBERS (length s.members.rows + n) in
+        let ids = no_ids s.members.next n in
+        let log = no_log s n in
+        either (first_of (record_checks s range items)) s (with_record s range items) (Claimed (recorded s range items)) h (λ e.
+        let e1 = none_rest large (fit ∷ many ∷ ids ∷ log ∷ []) e in
+        let e2 = none_rest fit (many ∷ ids ∷ log ∷ []) e1 in
+        let e3 = none_rest many (ids ∷ log ∷ []) e2 in
+        record_made s range items h (found_range s kind id range o) (ids_fit s.members.next n (none_head ids (log ∷ []) e3))
+        (log_fits s n (none_head log [] (none_rest ids (log ∷ []) e3))) (none_head fit (many ∷ ids ∷ log ∷ []) e1))
+
 pub steps_keep : StepsKeepLawful
 steps_keep s (call.AddRange kind name first last) h = add_lawful s kind name first last h
 steps_keep s (call.CutRange kind id) h = cut_range_lawful s kind id h
@@ -235,6 +266,7 @@ steps_keep s (call.Members kind id) h = members_lawful s kind id h
 steps_keep s (call.CutMember kind id) h = cut_member_lawful s kind id h
 steps_keep s (call.Available kind id limit) h = available_lawful s kind id limit h
 steps_keep s (call.Claim kind id list names) h = claim_lawful s kind id list names h
+steps_keep s (call.Record kind id list items) h = record_lawful s kind id list items h
 
 pub empty : EmptyIsLawful
 empty = record {

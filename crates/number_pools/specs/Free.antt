@@ -26,9 +26,13 @@ pool_found None id = id
 abbrev pub pool_at : List NumberRange → Member → ℕ
 pool_at ranges member = pool_found (row_at range_id ranges member.range) member.range
 
--- some member holds this number of this pool
+-- the member holds this number of this pool
+abbrev pub holds : List NumberRange → ℕ → ℕ → Member → Bool
+holds ranges pool n m = pool_at ranges m == pool && m.number == n
+
+-- some member holds it
 abbrev pub is_held : List NumberRange → List Member → ℕ → ℕ → Bool
-is_held ranges members pool n = list_any (λ m. pool_at ranges m == pool && m.number == n) members
+is_held ranges members pool n = list_any (holds ranges pool n) members
 
 -- the numbers of a range, in order
 abbrev pub numbers_in : NumberRange → List ℕ

@@ -7,7 +7,7 @@ use Rattle.number_pools.specs.declared.rows.Member.{Member}
 use Rattle.number_pools.specs.Rows.{Pools, member_id, most_of, range_id}
 use Rattle.number_pools.specs.Free.{pool_at}
 
--- ids are from 1, in order and below the next one, which is at least 1 also where there are no rows, and at most the last one
+-- ids are from 1, in order and below the next one, which is at least 1 also if there are no rows, and at most the last one
 pub record AreNumbered {T : Type 0} (id : T → ℕ) (row_list : RowList T) : Type 0 where
   pub ordered : Rises id 0 row_list.rows
   pub below : AllBelow id row_list.next row_list.rows
@@ -22,7 +22,7 @@ HaveOneName x y = (x.kind ≡ y.kind) × (x.name ≡ y.name)
 abbrev pub IsInBounds : NumberRange → Type 0
 IsInBounds r = (1 ≤ r.first) × (r.first ≤ r.last) × (r.last ≤ most_of r.kind)
 
--- the member's number is one of its range, which is there
+-- the member's number is one of its range, which exists
 abbrev pub IsInRange : List NumberRange → Member → Type 0
 IsInRange ranges m = (r : NumberRange) × (row_at range_id ranges m.range ≡ Some r) × (r.first ≤ m.number) × (m.number ≤ r.last)
 

@@ -2,7 +2,7 @@
 use Rattle.std.specs.Prelude.{◌≤◌, length}
 use Rattle.history_lock.specs.Replies.{ReplyKind, accepted, fault, memory, plain}
 use Rattle.number_pools.specs.declared.calls.PoolRefusal.{PoolRefusal}
-use Rattle.number_pools.specs.declared.calls.PoolRefusal.TheVariants.{Absent, NameTaken, Bounds, InUse, NoSpace, Limit, Keeper, Memory}
+use Rattle.number_pools.specs.declared.calls.PoolRefusal.TheVariants.{Absent, NameTaken, Bounds, InUse, NoSpace, Outside, Taken, Repeated, Limit, Keeper, Memory}
 use Rattle.number_pools.specs.declared.calls.PoolCall.{PoolCall}
 use Rattle.number_pools.specs.declared.calls.PoolCall.TheVariants as call
 use Rattle.number_pools.specs.declared.calls.PoolReply.{PoolReply}
@@ -14,6 +14,9 @@ refusal_kind (NameTaken id) = plain
 refusal_kind Bounds = plain
 refusal_kind (InUse id) = plain
 refusal_kind (NoSpace n) = plain
+refusal_kind (Outside n) = plain
+refusal_kind (Taken n id) = plain
+refusal_kind (Repeated n) = plain
 refusal_kind (Limit which n) = plain
 refusal_kind Keeper = fault
 refusal_kind Memory = memory
@@ -27,7 +30,7 @@ kind_of (Members rows) = plain
 kind_of (Numbers numbers) = plain
 kind_of (Refused why) = refusal_kind why
 
--- the calls that pools take: a claim has at least one item
+-- the calls that pools take: a claim has at least one item, and so has a call that records
 abbrev pub IsTaken : PoolCall → Type 0
 IsTaken (call.AddRange kind name first last) = Unit {0}
 IsTaken (call.CutRange kind id) = Unit {0}
@@ -36,3 +39,4 @@ IsTaken (call.Members kind id) = Unit {0}
 IsTaken (call.CutMember kind id) = Unit {0}
 IsTaken (call.Available kind id limit) = Unit {0}
 IsTaken (call.Claim kind id list names) = 1 ≤ length names
+IsTaken (call.Record kind id list items) = 1 ≤ length items

@@ -1,6 +1,7 @@
--- The plain pools: what a call comes to, on plain lists. A check is a refusal or nothing; of the checks of a call, in their order, the
+-- The plain pools: what a call leads to, on plain lists. A check is a refusal or nothing; of the checks of a call, in their order, the
 -- first that refuses is answered, and the state stays.
-use Rattle.std.specs.Prelude.{ℕ, ◌+◌, ◌==◌, ◌&&◌, Bool, true, false, nat_le, List, [], ◌∷◌, filter, fold, is_some, take, length, Option, Some, None, option_map, bytes_eq, if◌then◌else◌}
+use Rattle.std.specs.Prelude.{ℕ, ◌+◌, ◌==◌, ◌&&◌, Bool, true, false, nat_le, List, [], ◌∷◌, ◌++◌, filter, fold, is_some, map, take, length, Option, Some, None, option_map, bytes_eq, if◌then◌else◌}
+use Rattle.std.specs.List.{list_any}
 use Rattle.ipam_data.specs.declared.kinds.TheConstants.{LAST_ID}
 use Rattle.ipam_data.specs.Checks.{first as first_of, most_spent}
 use Rattle.ipam_data.specs.RowList.{appended, cleared_of, last_next, least, row_at}
@@ -9,16 +10,17 @@ use Rattle.number_pools.specs.declared.rows.PoolKind.TheVariants.{Asn, Vlan}
 use Rattle.number_pools.specs.declared.rows.NumberRange.{NumberRange}
 use Rattle.number_pools.specs.declared.rows.Member.{Member}
 use Rattle.number_pools.specs.declared.calls.TheConstants.{MOST_RANGES, MOST_MEMBERS, MOST_CLAIMED}
+use Rattle.number_pools.specs.declared.calls.Chosen.{Chosen}
 use Rattle.number_pools.specs.declared.calls.Quantity.{Quantity}
-use Rattle.number_pools.specs.declared.calls.Quantity.TheVariants.{Claims, Ranges as RangeCount, Members as MemberCount, Ids, Log}
+use Rattle.number_pools.specs.declared.calls.Quantity.TheVariants.{Claims, Items, Ranges as RangeCount, Members as MemberCount, Ids, Log}
 use Rattle.number_pools.specs.declared.calls.PoolRefusal.{PoolRefusal}
-use Rattle.number_pools.specs.declared.calls.PoolRefusal.TheVariants.{Absent, NameTaken, Bounds, InUse, NoSpace, Limit}
+use Rattle.number_pools.specs.declared.calls.PoolRefusal.TheVariants.{Absent, NameTaken, Bounds, InUse, NoSpace, Outside, Taken, Repeated, Limit}
 use Rattle.number_pools.specs.declared.calls.PoolCall.{PoolCall}
 use Rattle.number_pools.specs.declared.calls.PoolCall.TheVariants as call
 use Rattle.number_pools.specs.declared.calls.PoolReply.{PoolReply}
 use Rattle.number_pools.specs.declared.calls.PoolReply.TheVariants.{Made, Gone, Claimed, Ranges, Members, Numbers, Refused}
 use Rattle.number_pools.specs.Rows.{Pools, member_id, most_of, range_id}
-use Rattle.number_pools.specs.Free.{free_numbers}
+use Rattle.number_pools.specs.Free.{free_numbers, holds, pool_of}
 
 -- ---- which rows are meant
 
@@ -52,7 +54,7 @@ is_of_range id m = m.range == id
 abbrev pub members_of : List Member → ℕ → List Member
 members_of members id = filter (is_of_range id) members
 
--- the member with this id, where its range is of the kind
+-- the member with this id, if its range is of the kind
 abbrev pub of_kind_of : List NumberRange → PoolKind → Option Member → Option Member
 of_kind_of ranges kind None = None
 of_kind_of ranges kind (Some m) = if is_some (range_at ranges kind m.range) then Some m else None
@@ -65,15 +67,15 @@ member_at s kind id = of_kind_of s.ranges.rows kind (row_at member_id s.members.
 abbrev pub Check : Type 0
 Check = Option PoolRefusal
 
--- refused where there would be more than may be
+-- refused if there would be more than may be
 abbrev pub too_many : Quantity → ℕ → ℕ → Check
 too_many which most count = if nat_le count most then None else Some (Limit which most)
 
--- refused where the next id and the number of new rows exceed the last next id; it carries the greatest id of a row
+-- refused if the next id and the number of new rows exceed the last next id; it carries the greatest id of a row
 abbrev pub no_ids : ℕ → ℕ → Check
 no_ids next more = if nat_le (next + more) last_next then None else Some (Limit Ids LAST_ID)
 
--- refused where the log has no room for so many more items
+-- refused if the log has no room for so many more items
 abbrev pub no_log : Pools → ℕ → Check
 no_log s more = too_many Log most_spent (s.spent + more)
 
@@ -95,6 +97,24 @@ is_in_use s id = option_map InUse (least member_id (is_of_range id) s.members.ro
 abbrev pub is_short : ℕ → ℕ → Check
 is_short free wanted = if nat_le wanted free then None else Some (NoSpace free)
 
+-- the number is none of the range
+abbrev pub is_outside : NumberRange → ℕ → Check
+is_outside range n = if nat_le range.first n && nat_le n range.last then None else Some (Outside n)
+
+-- a member of the range's pool holds the number: the one of the least id
+abbrev pub is_number_taken : Pools → NumberRange → ℕ → Check
+is_number_taken s range n = option_map (Taken n) (least member_id (holds s.ranges.rows (pool_of range) n) s.members.rows)
+
+-- the number is one of these, which earlier items have
+abbrev pub is_repeated : List ℕ → ℕ → Check
+is_repeated before n = if list_any (λ m. m == n) before then Some (Repeated n) else None
+
+-- the first of the chosen numbers that can't be recorded after these
+abbrev pub unfit : Pools → NumberRange → List ℕ → List ℕ → Check
+unfit s range before [] = None
+unfit s range before (n ∷ ns) =
+    first_of (is_outside range n ∷ is_number_taken s range n ∷ is_repeated before n ∷ unfit s range (before ++ n ∷ []) ns ∷ [])
+
 abbrev pub add_checks : Pools → PoolKind → List ℕ → ℕ → ℕ → List Check
 add_checks s kind name first last =
     is_name_taken s kind name ∷ is_out_of_bounds kind first last ∷ too_many RangeCount MOST_RANGES (length s.ranges.rows + 1)
@@ -106,10 +126,22 @@ cut_range_checks s id = is_in_use s id ∷ no_log s 1 ∷ []
 abbrev pub cut_member_checks : Pools → List Check
 cut_member_checks s = no_log s 1 ∷ []
 
+-- the last checks of a call that makes so many members
+abbrev pub member_limits : Pools → ℕ → List Check
+member_limits s n = too_many MemberCount MOST_MEMBERS (length s.members.rows + n) ∷ no_ids s.members.next n ∷ no_log s n ∷ []
+
 abbrev pub claim_checks : Pools → NumberRange → ℕ → List Check
-claim_checks s range n =
-    too_many Claims MOST_CLAIMED n ∷ is_short (length (free_numbers s range)) n ∷ too_many MemberCount MOST_MEMBERS (length s.members.rows + n)
-    ∷ no_ids s.members.next n ∷ no_log s n ∷ []
+claim_checks s range n = too_many Claims MOST_CLAIMED n ∷ is_short (length (free_numbers s range)) n ∷ member_limits s n
+
+-- the numbers of items, and their names
+abbrev pub numbers_of : List Chosen → List ℕ
+numbers_of items = map (λ c. c.number) items
+
+abbrev pub names_of : List Chosen → List (List ℕ)
+names_of items = map (λ c. c.name) items
+
+abbrev pub record_checks : Pools → NumberRange → List Chosen → List Check
+record_checks s range items = too_many Items MOST_CLAIMED (length items) ∷ unfit s range [] (numbers_of items) ∷ member_limits s (length items)
 
 -- ---- what a call that is not refused does
 
@@ -123,6 +155,10 @@ made_members id range (n ∷ ns) (name ∷ names) = record { id = id; range = ra
 abbrev pub claimed : Pools → NumberRange → List (List ℕ) → List Member
 claimed s range names = made_members s.members.next range.id (take (length names) (free_numbers s range)) names
 
+-- the members of a call that records: one for each item
+abbrev pub recorded : Pools → NumberRange → List Chosen → List Member
+recorded s range items = made_members s.members.next range.id (numbers_of items) (names_of items)
+
 -- the range that is made
 abbrev pub made_range : Pools → PoolKind → List ℕ → ℕ → ℕ → NumberRange
 made_range s kind name first last = record { id = s.ranges.next; kind = kind; name = name; first = first; last = last }
@@ -133,16 +169,23 @@ with_range s range = record { ranges = appended range_id s.ranges range; members
 abbrev pub without_range : Pools → ℕ → Pools
 without_range s id = record { ranges = cleared_of range_id s.ranges id; members = s.members; spent = s.spent + 1 }
 
--- a claim spends one item of the log for each of its own
+-- with these members after all others, and so many items more of the log spent
+abbrev pub with_made : Pools → List Member → ℕ → Pools
+with_made s made n = record { ranges = s.ranges; members = fold (appended member_id) s.members made; spent = s.spent + n }
+
+-- a claim spends one item of the log for each of its items, and so does a call that records
 abbrev pub with_claim : Pools → NumberRange → List (List ℕ) → Pools
-with_claim s range names = record { ranges = s.ranges; members = fold (appended member_id) s.members (claimed s range names); spent = s.spent + length names }
+with_claim s range names = with_made s (claimed s range names) (length names)
+
+abbrev pub with_record : Pools → NumberRange → List Chosen → Pools
+with_record s range items = with_made s (recorded s range items) (length items)
 
 abbrev pub without_member : Pools → ℕ → Pools
 without_member s id = record { ranges = s.ranges; members = cleared_of member_id s.members id; spent = s.spent + 1 }
 
 -- ---- the steps
 
--- refused, or with the state and the reply behind the change
+-- refused, or with the state and the reply after the change
 abbrev pub unless : Check → Pools → Pools → PoolReply → Pools × PoolReply
 unless (Some why) s new reply = (s, Refused why)
 unless None s new reply = (new, reply)
@@ -173,7 +216,11 @@ claim_step s id names None = (s, Refused (Absent id))
 claim_step s id names (Some range) =
     unless (first_of (claim_checks s range (length names))) s (with_claim s range names) (Claimed (claimed s range names))
 
--- the plain step. Whether a claim came as a list is told to whoever writes its answer, and changes nothing.
+abbrev pub record_step : Pools → ℕ → List Chosen → Option NumberRange → Pools × PoolReply
+record_step s id items None = (s, Refused (Absent id))
+record_step s id items (Some range) = unless (first_of (record_checks s range items)) s (with_record s range items) (Claimed (recorded s range items))
+
+-- the plain step. Whether a claim or chosen numbers were given as a list is given to whoever writes its answer, and changes nothing.
 abbrev pub plain_pool_step : Pools → PoolCall → Pools × PoolReply
 plain_pool_step s (call.AddRange kind name first last) = add_step s kind name first last
 plain_pool_step s (call.CutRange kind id) = cut_range_step s id (range_at s.ranges.rows kind id)
@@ -182,3 +229,4 @@ plain_pool_step s (call.Members kind id) = members_step s id (range_at s.ranges.
 plain_pool_step s (call.CutMember kind id) = cut_member_step s id (member_at s kind id)
 plain_pool_step s (call.Available kind id limit) = available_step s id limit (range_at s.ranges.rows kind id)
 plain_pool_step s (call.Claim kind id list names) = claim_step s id names (range_at s.ranges.rows kind id)
+plain_pool_step s (call.Record kind id list items) = record_step s id items (range_at s.ranges.rows kind id)

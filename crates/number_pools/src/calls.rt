@@ -10,7 +10,7 @@ pub const MOST_RANGES: u32 = 1000;
 /// How many members there may be, of both kinds together.
 pub const MOST_MEMBERS: u32 = 100_000;
 
-/// How many items a claim may have.
+/// How many items a claim may have, or a call that records chosen numbers.
 pub const MOST_CLAIMED: u32 = 1000;
 
 /// A list of what a reply carries. A contract sees its items.
@@ -57,6 +57,8 @@ impl<T> Listed<T> {
 pub enum Quantity {
     /// The items of a claim.
     Claims,
+    /// The items of a call that records chosen numbers.
+    Items,
     /// The ranges of both kinds.
     Ranges,
     /// The members of all ranges.
@@ -80,13 +82,26 @@ pub enum PoolRefusal {
     InUse(u32),
     /// Only so many numbers are free, and the claim has more items.
     NoSpace(u32),
-    /// There would be more of the quantity than this. A claim with too many items is refused before its numbers are looked for, all other
+    /// This number is not one of the range that is to have it.
+    Outside(u32),
+    /// This number is that of a member of the pool: of the one with this id.
+    Taken(u32, u32),
+    /// This number is that of an earlier item of the same call.
+    Repeated(u32),
+    /// There would be more of the quantity than this. A call with too many items is refused before its numbers are looked at, all other
     /// limits come last.
     Limit(Quantity, u32),
     /// The keeper failed.
     Keeper,
     /// Out of memory.
     Memory,
+}
+
+/// A number that a caller chose, and the name of the member that is to hold it.
+#[derive(Debug, Drop)]
+pub struct Chosen {
+    pub number: u32,
+    pub name: Text,
 }
 
 /// What pools are asked.
@@ -124,13 +139,20 @@ pub enum PoolCall {
         id: u32,
         limit: u32,
     },
-    /// Gives out the least free number of a range for each name, all or none. Whether the names came as a list changes nothing but how
+    /// Gives out the least free number of a range for each name, all or none. Whether the names were given as a list changes nothing but how
     /// the reply is written.
     Claim {
         kind: PoolKind,
         id: u32,
         list: bool,
         names: Texts,
+    },
+    /// Records chosen numbers of a range, all or none. Whether the items were given as a list changes nothing but how the reply is written.
+    Record {
+        kind: PoolKind,
+        id: u32,
+        list: bool,
+        items: Listed<Chosen>,
     },
 }
 
@@ -141,7 +163,7 @@ pub enum PoolReply {
     Made(NumberRange),
     /// The range or the member is gone.
     Gone,
-    /// The members that were made, in the order of the names.
+    /// The members that were made, in the order of the names or the items.
     Claimed(Listed<Member>),
     /// The ranges of the kind, in the order of their ids.
     Ranges(Listed<NumberRange>),

@@ -1,6 +1,6 @@
 //! The ids of the rows of some tables whose block lies in a block, or has a block around a given one: a few descents of the tables'
-//! trees, and a look-up of an id for each block that is found there. It gives up where many rows are looked for, or where a block
-//! stands more than once in its table: a pass over the rows is not dearer then.
+//! trees, and a look-up of an id for each block that is found there. It gives up if many rows are looked for, or if a block
+//! occurs more than once in its table: a pass over the rows costs no more then.
 #![tactic(auto)]
 
 ghost use Rattle.std.specs.Prelude.{IfOk, IfSome, map};
@@ -35,8 +35,8 @@ pub enum Area {
     Anywhere,
 }
 
-/// The ids of the rows that are in one of the tables and whose block is in the area, rising, each once. `None` where it gives up:
-/// more than `MOST_CANDIDATES` rows are there, or some block there stands more than once in its table. A table that is not there has
+/// The ids of the rows that are in one of the tables and whose block is in the area, rising, each once. `None` if it gives up:
+/// more than `MOST_CANDIDATES` rows exist, or some block there occurs more than once in its table. A table that is not there has
 /// no rows. The one error means out of memory.
 pub fn ids_in<T: Located + Drop>(
     alloc: Global,

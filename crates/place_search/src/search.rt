@@ -33,7 +33,7 @@ fn whole(family: Family) -> Block
     }
 }
 
-/// Whether more rows lie in the area than ids are looked up, those of all tables together. It is asked only where there are several
+/// Whether more rows lie in the area than ids are looked up, those of all tables together. It is asked only if there are several
 /// tables: of one its own space is asked.
 pub fn is_crowded<T: Located + Drop>(
     book: &PlacedBook<T, Tree>,
@@ -69,7 +69,7 @@ fn push_at<T: Located + Drop>(
     Ok(())
 }
 
-/// Appends the ids of the rows of a table with one of the blocks of a walk, each of which is to stand in the table once.
+/// Appends the ids of the rows of a table with one of the blocks of a walk, each of which is to occur in the table once.
 fn push_entries<T: Located + Drop>(
     ids: &mut Vec<u32>,
     alloc: Global,

@@ -5,7 +5,7 @@ use std::alloc::AllocError;
 /// Why no ids are gathered.
 #[derive(Clone, Copy, Debug)]
 pub enum Stop {
-    /// There are many rows, or a block stands more than once in its table.
+    /// There are many rows, or a block occurs more than once in its table.
     Many,
     /// Out of memory.
     Memory,

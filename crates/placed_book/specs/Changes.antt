@@ -29,7 +29,7 @@ pub record IsRoomier (n : ℕ) (old new : TableBlocks) : Type 0 where
   pub kept : old.spare ≤ new.spare
   pub room : n ≤ new.spare
 
--- a table whose blocks of one family are these, and whose other blocks are as they were
+-- a table whose blocks of one family are these, and whose other blocks are unchanged
 pub record IsSwapped (family : Family) (blocks : List Cidr) (old new : TableBlocks) : Type 0 where
   pub table : new.table ≡ old.table
   pub here : blocks_of_family new family ≡ blocks
@@ -40,12 +40,12 @@ pub record IsSpaceOf {S : Type 0} (family_of : S → Family) (held_by : S → Li
   pub family : family_of space ≡ own
   pub held : held_by space ≡ blocks
 
--- one table is as the relation says of it, and every other one is as it was
+-- one table is as the relation says of it, and every other one is unchanged
 pub record IsChangedAt (table : Table) (Changes : TableBlocks → TableBlocks → Type 0) (old new : List TableBlocks) : Type 0 where
   pub here : (t : TableBlocks) → table_at old table ≡ Some t → (u : TableBlocks) × (table_at new table ≡ Some u) × Changes t u
   pub others : (other : Table) → same_table other table ≡ false → table_at new other ≡ table_at old other
 
--- the table is there with room for so many rows, no table has less room, and the blocks of each are as they were
+-- the table exists with room for so many rows, no table has less room, and the blocks of each are as they were
 pub record IsReserved (table : Table) (n : ℕ) (old new : List TableBlocks) : Type 0 where
   pub there : is_there new table ≡ true
   pub room : n ≤ spare_of new table

@@ -52,7 +52,7 @@ table_blocks_code =
     code_by (Table × (ℕ × (List Cidr × List Cidr))) (coded× table_code (coded× coded_ℕ (coded× (coded_list block_code) (coded_list block_code))))
     (λ t. (t.table, (t.spare, (t.v4, t.v6)))) (λ p. record { table = p.0; spare = p.1.0; v4 = p.1.1.0; v6 = p.1.1.1 }) (λ _. refl)
 
--- books are numbered where their rows are
+-- books are numbered if their rows are
 abbrev pub book_code : {T : Type 0} → Coded T → Coded (TabledRows T)
 book_code {T} code =
     code_by (List T × (ℕ × (List TableBlocks × TableBlocks))) (coded× (coded_list code) (coded× coded_ℕ (coded× (coded_list table_blocks_code) table_blocks_code)))

@@ -18,7 +18,7 @@ is_at table block row = same_table (table_of row.vrf) table && same_block row.bl
 abbrev pub ids_at : List Placed → Table → Cidr → List ℕ
 ids_at rows table block = map placed_id (filter (is_at table block) rows)
 
--- the id, where it is one of them
+-- the id, if it is one of them
 abbrev pub one_if : Bool → ℕ → List ℕ
 one_if true id = id ∷ []
 one_if false id = []
@@ -34,7 +34,7 @@ spot_of table block = record { first = block.first; table = number_of table; wid
 abbrev pub same_spot : Spot → Spot → Bool
 same_spot a b = a.first == b.first && (a.table == b.table && (a.width == b.width && a.len == b.len))
 
--- the map has the least id of the rows at each place, and nothing where there is no row
+-- the map has the least id of the rows at each place, and nothing if there is no row
 abbrev pub HasFirsts : {S : Type 0} → List Placed → HashMap Spot ℕ S → Type 0
 HasFirsts rows m = (table : Table) (block : Cidr) → get same_spot m (spot_of table block) ≡ first_at rows table block
 

@@ -5,11 +5,11 @@ use Rattle.placed_book.specs.declared.indexed.Entry.{Entry}
 abbrev pub entry_id : Entry → ℕ
 entry_id e = e.id
 
--- the entry names the second slot where it named the first
+-- the entry names the second slot if it named the first
 abbrev pub settle : ℕ → ℕ → Entry → Entry
 settle from to e = if e.slot == from then record { id = e.id; slot = to } else e
 
--- each entry names the second slot where it named the first
+-- each entry names the second slot if it named the first
 abbrev pub resettled : ℕ → ℕ → List Entry → List Entry
 resettled from to [] = []
 resettled from to (e ∷ es) = settle from to e ∷ resettled from to es
@@ -20,7 +20,7 @@ IsOnlyFor n slot [] = Unit {0}
 IsOnlyFor n slot (e ∷ es) = (e.slot ≡ slot → e.id ≡ n) × IsOnlyFor n slot es
 
 module _ {T : Type 0} where
-  -- a row before others, where there is one
+  -- a row before others, if there is one
   abbrev pub onto : Option T → List T → List T
   onto None rows = rows
   onto (Some row) rows = row ∷ rows
@@ -37,7 +37,7 @@ module _ {T : Type 0} where
       pub there : slice_get slots e.slot ≡ Some row
       pub same : id row ≡ e.id
 
-    -- each entry's slot has the row of its id, so that no two entries name one slot
+    -- each entry's slot has the row of its id, so that two entries never name one slot
     abbrev pub AreKept : List T → List Entry → Type 0
     AreKept slots [] = Unit {0}
     AreKept slots (e ∷ es) = IsKept slots e × AreKept slots es

@@ -19,7 +19,7 @@ abbrev pub stays : Placed → Option Placed → Bool
 stays row None = false
 stays row (Some kept) = is_where row kept
 
--- how often a row meets itself: once, where it stays
+-- how often a row meets itself: once, if it stays
 abbrev pub own_times : Placed → Option Placed → ℕ
 own_times row kept = if stays row kept then 1 else 0
 
@@ -33,6 +33,6 @@ module _ {T : Type 0} (id : T → ℕ) (placed : T → Placed) where
   abbrev pub is_rival : T → T → Bool
   is_rival row other = not (id other == id row) && in_one_table (placed row) (placed other) && same_block (placed other).block (placed row).block
 
-  -- putting the row leaves the tables: the row of its id is there, in the row's table and with its block
+  -- putting the row leaves the tables: the row of its id exists, in the row's table and with its block
   abbrev pub stays_among : List T → T → Bool
   stays_among rows row = stays (placed row) (option_map placed (row_at id rows (id row)))

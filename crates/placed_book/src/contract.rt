@@ -37,7 +37,7 @@ pub trait Book: Sized {
     fn after(&self, id: u32) -> Option<&Self::Item>
         ensures { option_copied result ≡ row_after Self.Item.id_of (rows self.now) id };
 
-    /// Makes room for `n` more rows. `Err` means out of memory, and leaves the book as it was.
+    /// Makes room for `n` more rows. `Err` means out of memory, and does not change the book.
     fn reserve(&mut self, n: u32) -> Result<(), AllocError>
         requires { length (rows self.old) + n < 2 ^ 30 }
         ensures rows { rows self.new ≡ rows self.old }
@@ -45,7 +45,7 @@ pub trait Book: Sized {
         ensures kept { spare self.old ≤ spare self.new }
         ensures err { OnErr result (self.new ≡ self.old) };
 
-    /// Puts the row in the place of the one of its id, or else behind all: its id is then above all others. It takes no
+    /// Puts the row in the place of the one of its id, or else after all: its id is then above all others. It takes no
     /// memory, and uses up at most one row's room.
     fn put(&mut self, row: Self::Item)
         requires room { 1 ≤ spare self.old }
@@ -54,7 +54,7 @@ pub trait Book: Sized {
         ensures rows { rows self.new ≡ with_row Self.Item.id_of (rows self.old) row }
         ensures spare { spare self.old ≤ spare self.new + 1 };
 
-    /// Takes the row of this id out, and hands it out; `None` where there is none. It leaves the room.
+    /// Takes the row of this id out, and hands it out; `None` if there is none. It leaves the room.
     fn cut(&mut self, id: u32) -> Option<Self::Item>
         ensures row { result ≡ row_at Self.Item.id_of (rows self.old) id }
         ensures rows { rows self.new ≡ without Self.Item.id_of (rows self.old) id }

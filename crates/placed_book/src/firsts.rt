@@ -33,7 +33,7 @@ pub fn spot_at(table: Table, block: &Block) -> Spot
     }
 }
 
-/// Puts another id in the place of that of a key which is there, or takes the key out. It leaves the room.
+/// Puts another id in the place of that of a key which exists, or takes the key out. It leaves the room.
 pub fn settle_first(firsts: &mut Firsts, spot: Spot, id: Option<u32>)
     requires { IsSome (get same_spot firsts.old spot) }
     ensures set { IsSetAt spot id firsts.old firsts.new }
@@ -51,7 +51,7 @@ pub fn settle_first(firsts: &mut Firsts, spot: Spot, id: Option<u32>)
     }
 }
 
-/// Notes the id of one more row: it is the first one where it is less than the one that was. It takes no memory.
+/// Notes the id of one more row: it is the first one if it is less than the one that was. It takes no memory.
 pub fn note_first(firsts: &mut Firsts, spot: Spot, id: u32)
     requires { 1 ≤ spare firsts.old }
     ensures set { IsSetAt spot (Some (lesser id (get same_spot firsts.old spot))) firsts.old firsts.new }

@@ -1,4 +1,4 @@
-//! A book of rows for the kinds that have hundreds of thousands. The rows stand in slots in no order, and an index of ids and
+//! A book of rows for the kinds that have hundreds of thousands. The rows are in slots in no order, and an index of ids and
 //! slots, 8 bytes a row, is what moves when a row is taken out.
 
 ghost use Rattle.std.specs.Prelude.{◌≡◌, ℕ, [], option_copied, slice_get, vec_capacity};
@@ -33,7 +33,7 @@ fn item<T>(items: &[T], index: usize) -> Option<&T>
     items.get(index)
 }
 
-/// The entry of a row that moves from one slot to another names the other one from now on. The id is that of the row; where
+/// The entry of a row that moves from one slot to another names the other one from now on. The id is that of the row; if
 /// another slot has it, no entry names the first slot.
 fn resettle(index: &mut Vec<Entry>, id: u32, from: u32, to: u32)
     requires ordered { Rises entry_id 0 index.old.items }

@@ -1,8 +1,8 @@
-//! Rows that have a place: each is in a table and has a block there. The rows stand in the order of their ids. For each table the
-//! blocks of its rows stand in a space of each family, and the blocks of all rows in a space of each family too, so that what is
+//! Rows that have a place: each is in a table and has a block there. The rows are in the order of their ids. For each table the
+//! blocks of its rows are in a space of each family, and the blocks of all rows in a space of each family too, so that what is
 //! asked of a table, or of all, looks at few rows.
 //!
-//! A book is **in order** where each table that a row names is there, the spaces of each table have just the blocks of its rows,
+//! A book is **in order** if each table that a row names exists, the spaces of each table have just the blocks of its rows,
 //! and those of all tables the blocks of all rows, in any order. Each call that changes a book, or answers by the spaces, needs a
 //! book in order, and leaves it so; only the two swaps do neither. Only `reserve` and `reserve_table` take memory.
 #![tactic(auto)]
@@ -49,7 +49,7 @@ pub use tables::number as table_number;
 pub trait Located: HasId {
     ghost placed: { Self → Placed };
 
-    /// The VRF whose table the row is in; the global one where it names none.
+    /// The VRF whose table the row is in; the global one if it names none.
     fn vrf(&self) -> Option<u32>
         ensures { result ≡ (placed self.now).vrf };
 
@@ -61,8 +61,8 @@ pub trait Located: HasId {
     ghost same: { (x : Self) → (placed x).id ≡ Self.id_of x };
 }
 
-/// Takes the row of an id out of all that is told by the places of rows: its block out of its table and out of the blocks of all
-/// tables, and its id out of the first ids. Where there is no such row, nothing.
+/// Takes the row of an id out of all that is known by the places of rows: its block out of its table and out of the blocks of all
+/// tables, and its id out of the first ids. If there is no such row, nothing.
 fn forget<T: Located + Drop, S: Space + Drop>(
     rows: &IndexedBook<T>,
     tables: &mut Tables<S>,
@@ -90,8 +90,8 @@ fn forget<T: Located + Drop, S: Space + Drop>(
 
 /// Rows in the order of their ids, and the spaces of their tables.
 ///
-/// A contract sees the rows, the spare (how many more rows can be put without memory), the tables that are there, each with a
-/// spare of its own and its blocks, and the blocks of all tables together.
+/// A contract sees the rows, the spare (how many more rows can be put without memory), the existing tables, each with its
+/// own spare and its blocks, and the blocks of all tables together.
 #[derive(Drop)]
 pub struct PlacedBook<T: Located, S: Space> {
     rows: IndexedBook<T>,
@@ -117,7 +117,7 @@ impl<T: Located, S: Space> Model for PlacedBook<T, S> {
 }
 
 impl<T: Located + Drop, S: Space + Drop> PlacedBook<T, S> {
-    /// A book without rows and without room, in which the global table is there. It takes no memory.
+    /// A book without rows and without room, in which the global table exists. It takes no memory.
     pub fn new(alloc: Global) -> PlacedBook<T, S>
         ensures empty { result ≡ empty_book }
         ensures order { IsInOrder T.placed result }
@@ -169,7 +169,7 @@ impl<T: Located + Drop, S: Space + Drop> PlacedBook<T, S> {
         self.rows.after(id)
     }
 
-    /// Makes room for `n` more rows. `Err` means out of memory, and leaves the book as it was.
+    /// Makes room for `n` more rows. `Err` means out of memory, and does not change the book.
     pub fn reserve(&mut self, n: u32) -> Result<(), AllocError>
         requires order { IsInOrder T.placed self.old }
         requires few { length self.old.rows + n < 2 ^ 30 }
@@ -191,8 +191,8 @@ impl<T: Located + Drop, S: Space + Drop> PlacedBook<T, S> {
         Ok(())
     }
 
-    /// Makes the table where it is not there, and makes its room at least `n` rows of either family. `Err` means out of memory,
-    /// and leaves the book as it was.
+    /// Makes the table if it does not exist, and makes its room at least `n` rows of either family. `Err` means out of memory,
+    /// and does not change the book.
     pub fn reserve_table(&mut self, table: Table, n: u32) -> Result<(), AllocError>
         requires order { IsInOrder T.placed self.old }
         requires few { length self.old.rows + n < 2 ^ 30 }
@@ -210,8 +210,8 @@ impl<T: Located + Drop, S: Space + Drop> PlacedBook<T, S> {
         self.tables.reserve(table, n)
     }
 
-    /// Puts the row in the place of the one of its id, or else behind all: its id is then above all others. It takes no
-    /// memory, and uses up at most one row's room of the book and of the row's table. Where the row of its id is of its table
+    /// Puts the row in the place of the one of its id, or else after all: its id is then above all others. It takes no
+    /// memory, and uses up at most one row's room of the book and of the row's table. If the row of its id is of its table
     /// and has its block, the spaces stay as they are, and the table needs no room.
     pub fn put(&mut self, row: T)
         requires order { IsInOrder T.placed self.old }
@@ -250,7 +250,7 @@ impl<T: Located + Drop, S: Space + Drop> PlacedBook<T, S> {
         self.rows.put(row);
     }
 
-    /// Takes the row of this id out, and hands it out; `None` where there is none. It leaves all room.
+    /// Takes the row of this id out, and hands it out; `None` if there is none. It leaves all room.
     pub fn cut(&mut self, id: u32) -> Option<T>
         requires { IsInOrder T.placed self.old }
         ensures order { IsInOrder T.placed self.new }
@@ -271,7 +271,7 @@ impl<T: Located + Drop, S: Space + Drop> PlacedBook<T, S> {
     }
 
     /// How many rows of other ids are in the row's table with the row's block. It takes no memory, and asks the table's space once:
-    /// the table has the block so often, and once more where the row of the row's id accounts for it.
+    /// the table has the block so often, and once more if the row of the row's id accounts for it.
     pub fn count_rivals(&self, row: &T) -> u32
         requires { IsInOrder T.placed self.now }
         ensures { result ≡ count_by (is_rival T.id_of T.placed row.now) self.now.rows }
@@ -293,7 +293,7 @@ impl<T: Located + Drop, S: Space + Drop> PlacedBook<T, S> {
     }
 
     /// The least id of another row of the row's table with the row's block. It takes no memory, and is one look-up of the least id
-    /// there; only where that is the row's own, and the table has the block once more, it looks at the rows.
+    /// there; only if that is the row's own, and the table has the block once more, it looks at the rows.
     pub fn rival(&self, row: &T) -> Option<u32>
         requires { IsInOrder T.placed self.now }
         ensures { result ≡ least T.id_of (is_rival T.id_of T.placed row.now) self.now.rows }
@@ -301,7 +301,7 @@ impl<T: Located + Drop, S: Space + Drop> PlacedBook<T, S> {
         first_rival(&self.rows, &self.tables, &self.firsts, row)
     }
 
-    /// The ids of the rows of a table with this block, in their order. Where the table has the block once or never, that is one
+    /// The ids of the rows of a table with this block, in their order. If the table has the block once or never, that is one
     /// look-up of the least id there; else it looks at the rows. The one error means out of memory.
     pub fn ids_at(&self, alloc: Global, table: Table, block: Block) -> Result<Vec<u32>, AllocError>
         requires { IsInOrder T.placed self.now }
@@ -318,7 +318,7 @@ impl<T: Located + Drop, S: Space + Drop> PlacedBook<T, S> {
         ids_among(alloc, &self.rows, table, &block)
     }
 
-    /// The least ids of two rows of the table with one block, or `None` where it has each block once: the lesser id is the least
+    /// The least ids of two rows of the table with one block, or `None` if it has each block once: the lesser id is the least
     /// of one that has a later one like it.
     pub fn same_block_pair(&self, table: Table) -> Option<(u32, u32)>
         requires { IsInOrder T.placed self.now }
@@ -338,7 +338,7 @@ impl<T: Located + Drop, S: Space + Drop> PlacedBook<T, S> {
         None
     }
 
-    /// How many different blocks of a row's table contain its block strictly, whether or not the row is there. It asks the table's
+    /// How many different blocks of a row's table contain its block strictly, whether or not the row exists. It asks the table's
     /// space once.
     pub fn count_around(&self, row: &T) -> u32
         requires { IsInOrder T.placed self.now }
@@ -356,7 +356,7 @@ impl<T: Located + Drop, S: Space + Drop> PlacedBook<T, S> {
         }
     }
 
-    /// How many rows of a row's table lie strictly inside its block, whether or not the row is there.
+    /// How many rows of a row's table lie strictly inside its block, whether or not the row exists.
     pub fn count_inside(&self, row: &T) -> u32
         requires { IsInOrder T.placed self.now }
         ensures { result ≡ inside (map T.placed self.now.rows) (T.placed row.now) }
@@ -373,7 +373,7 @@ impl<T: Located + Drop, S: Space + Drop> PlacedBook<T, S> {
         }
     }
 
-    /// The space of a table's blocks of one family, or `None` exactly where the table is not there: it is not the global one,
+    /// The space of a table's blocks of one family, or `None` exactly if it does not exist: it is not the global one,
     /// and `reserve_table` has not made it.
     pub fn space(&self, table: Table, family: Family) -> Option<&S>
         requires { IsInOrder T.placed self.now }
@@ -398,8 +398,8 @@ impl<T: Located + Drop, S: Space + Drop> PlacedBook<T, S> {
         self.all.space(family)
     }
 
-    /// Puts another space in the place of that of a table and a family, and hands out the one that was there. The table is
-    /// there. The book need not be in order, and is so again when the space comes back with the same blocks.
+    /// Puts another space in the place of that of a table and a family, and hands out the one that existed. The table
+    /// exists. The book need not be in order, and is so again when the space is given back with the same blocks.
     pub fn swap(&mut self, table: Table, family: Family, other: S) -> S
         requires there { is_there self.old.tables table ≡ true }
         requires family { S.family_of other ≡ family }

@@ -30,7 +30,7 @@ fn is_another<T: Located>(row: &T, other: &T) -> bool
     other.id() != row.id() && is_here(other, Table::of(row.vrf()), &row.block())
 }
 
-/// Appends the id, where it is one of those that are looked for.
+/// Appends the id, if it is one of those that are looked for.
 fn push_if(ids: &mut Vec<u32>, is_one: bool, id: u32) -> Result<(), AllocError>
     ensures { OnOk result (ids.new.items ≡ ids.old.items ++ one_if is_one id) }
 {
@@ -69,7 +69,7 @@ pub fn is_in_place<T: Located + Drop>(rows: &IndexedBook<T>, row: &T) -> bool
     }
 }
 
-/// The id of the first rival from an index on. It looks at the rows only where the table's space says that there may be one: it has
+/// The id of the first rival from an index on. It looks at the rows only if the table's space says that there may be one: it has
 /// the block more often than the row meets itself.
 pub fn least_rival<T: Located + Drop, S: Space + Drop>(
     rows: &IndexedBook<T>,
@@ -95,7 +95,7 @@ pub fn least_rival<T: Located + Drop, S: Space + Drop>(
     None
 }
 
-/// The least id of a rival: the first one at the row's place, or, where that is the row's own, what a look at the rows finds.
+/// The least id of a rival: the first one at the row's place, or, if that is the row's own, what a look at the rows finds.
 pub fn first_rival<T: Located + Drop, S: Space + Drop>(
     rows: &IndexedBook<T>,
     tables: &Tables<S>,

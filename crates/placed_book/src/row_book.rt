@@ -86,7 +86,7 @@ impl<T: HasId> RowBook<T> {
     }
 }
 
-/// Each row is found by halving, and stands beside the next one.
+/// Each row is found by halving, and is next to the next one.
 impl<T: HasId + Drop> Book for RowBook<T> {
     type Item = T;
 

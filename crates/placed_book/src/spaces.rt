@@ -64,7 +64,7 @@ impl<S: Space> TableSpaces<S> {
         }
     }
 
-    /// Puts another space in the place of that of a family, and hands out the one that was there. Its room is not known until
+    /// Puts another space in the place of that of a family, and hands out the one that existed. Its room is not known until
     /// the next `reserve`.
     pub fn swap(&mut self, family: Family, other: S) -> S
         requires { S.family_of other ≡ family }
@@ -78,7 +78,7 @@ impl<S: Space> TableSpaces<S> {
         }
     }
 
-    /// Makes its room at least `n` blocks of either family. `Err` means out of memory, and leaves the table as it was.
+    /// Makes its room at least `n` blocks of either family. `Err` means out of memory, and does not change the table.
     pub fn reserve(&mut self, n: u32) -> Result<(), AllocError>
         requires { (family : Family) → length (blocks_of_family self.old family) + n < 2 ^ 30 }
         ensures ok { OnOk result (IsRoomier n self.old self.new) }
@@ -105,7 +105,7 @@ impl<S: Space> TableSpaces<S> {
         }
     }
 
-    /// One block fewer, of a block that is there. It leaves the room.
+    /// One block fewer, of an existing block. It leaves the room.
     pub fn remove(&mut self, block: Block)
         requires { 0 < times_of (blocks_of_family self.old block.family) block }
         ensures { IsOneLess block self.old self.new }

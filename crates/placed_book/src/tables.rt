@@ -1,4 +1,4 @@
-//! The tables of blocks that are there: the global one and those of VRFs, each with a space of each family.
+//! The existing tables of blocks: the global one and those of VRFs, each with a space of each family.
 
 ghost use Rattle.std.specs.Prelude.{◌≡◌, ℕ, ◌+◌, ◌^◌, ◌<◌, ◌≤◌, ◌∷◌, [], true, IfOk, IfErr, OnOk, OnErr, length, option_copied};
 ghost use Rattle.inet_num.specs.declared.Family.{Family};
@@ -17,7 +17,7 @@ use ipam_data::kinds::Table;
 use std::alloc::{AllocError, Global};
 use std::marker::Model;
 
-/// The number by which a table stands in its place.
+/// The number by which a table is in its place.
 pub fn number(table: Table) -> u64
     ensures { result ≡ number_of table }
 {
@@ -27,7 +27,7 @@ pub fn number(table: Table) -> u64
     }
 }
 
-/// The index of a table, by halving. `Err` is the place where it would stand.
+/// The index of a table, by halving. `Err` is the place where it would be.
 fn search<S: Space>(of_vrfs: &[TableSpaces<S>], table: Table) -> Result<usize, usize>
     requires { Rises key_of 0 of_vrfs.now }
     ensures at { IfOk result (λ k. IsAt key_of of_vrfs.now (number_of table) k) }
@@ -53,7 +53,7 @@ fn search<S: Space>(of_vrfs: &[TableSpaces<S>], table: Table) -> Result<usize, u
     Err(low)
 }
 
-/// The tables that are there: the global one, and those of VRFs in the order of the VRFs' ids.
+/// The existing tables: the global one, and those of VRFs in the order of the VRFs' ids.
 #[derive(Drop)]
 pub struct Tables<S: Space> {
     alloc: Global,
@@ -87,7 +87,7 @@ impl<S: Space + Drop> Tables<S> {
         }
     }
 
-    /// The table, where it is there.
+    /// The table, if it exists.
     pub fn at(&self, table: Table) -> Option<&TableSpaces<S>>
         ensures { option_copied result ≡ table_at self.now table }
     {
@@ -100,7 +100,7 @@ impl<S: Space + Drop> Tables<S> {
         }
     }
 
-    /// How often a table has a block: never, where the table is not there.
+    /// How often a table has a block: never, if it does not exist.
     pub fn times(&self, table: Table, block: Block) -> u32
         ensures { result ≡ times_of (blocks_at self.now table block.family) block }
     {
@@ -110,7 +110,7 @@ impl<S: Space + Drop> Tables<S> {
         }
     }
 
-    /// One more block of a table that is there and has room. It takes no memory.
+    /// One more block of a table that exists and has room. It takes no memory.
     pub fn insert(&mut self, table: Table, block: Block)
         requires room { 1 ≤ spare_of self.old table }
         requires few { length (blocks_at self.old table block.family) < 2 ^ 30 }
@@ -139,8 +139,8 @@ impl<S: Space + Drop> Tables<S> {
         }
     }
 
-    /// Puts another space in the place of that of a table and a family, and hands out the one that was there. The table is
-    /// there, and its room is not known until the next `reserve`.
+    /// Puts another space in the place of that of a table and a family, and hands out the one that existed. The table
+    /// exists, and its room is not known until the next `reserve`.
     pub fn swap(&mut self, table: Table, family: Family, other: S) -> S
         requires there { is_there self.old table ≡ true }
         requires family { S.family_of other ≡ family }
@@ -156,8 +156,8 @@ impl<S: Space + Drop> Tables<S> {
         }
     }
 
-    /// Makes the table where it is not there, and makes its room at least `n` blocks of either family. `Err` is want of
-    /// memory, and leaves the tables as they were.
+    /// Makes the table if it does not exist, and makes its room at least `n` blocks of either family. `Err` means out
+    /// of memory, and does not change the tables.
     pub fn reserve(&mut self, table: Table, n: u32) -> Result<(), AllocError>
         requires { (family : Family) → length (blocks_at self.old table family) + n < 2 ^ 30 }
         ensures ok { OnOk result (IsReserved table n self.old self.new) }

@@ -9,7 +9,7 @@ use Rattle.pool_register.specs.Opened.{IsOpened}
 use Rattle.pool_store.specs.Opening.{IsLoaded}
 use Rattle.pool_words.specs.Asked.{Asks}
 use Rattle.pool_words.specs.declared.asked.Command.{Command}
-use Rattle.pool_words.specs.declared.asked.Command.TheVariants.{Session, Serve}
+use Rattle.pool_words.specs.declared.asked.Command.TheVariants.{Session, Serve, About}
 use Rattle.pool_words.specs.declared.asked.Serving.{Serving}
 use Rattle.pool_words.proofs.Unique.{words_ask_for_one}
 use Rattle.pool_command.specs.Clauses.{Counts, IsDone, Opens}
@@ -35,9 +35,11 @@ not_done : (words : List (List ℕ)) (old new : PoolOutside) (before after : Lis
 not_done words old new before after path (inl asks) bad (inl d) =
     (let one = one_path d.0 path (words_ask_for_one words (Session d.0) (Session path) d.1 asks) in
     not_loaded path old d.2.first.opening bad (subst (λ (p : Option (List ℕ)). IsLoaded p old.stores.stored d.2.first.opening) one d.2.loaded))
-not_done words old new before after path (inl asks) bad (inr d) = (let wrong : Serve d.0 ≡ Session path = words_ask_for_one words (Serve d.0) (Session path) d.1 asks in cc)
+not_done words old new before after path (inl asks) bad (inr (inr d)) = (let wrong : About d.0 ≡ Session path = words_ask_for_one words (About d.0) (Session path) d.1 asks in cc)
+not_done words old new before after path (inl asks) bad (inr (inl d)) = (let wrong : Serve d.0 ≡ Session path = words_ask_for_one words (Serve d.0) (Session path) d.1 asks in cc)
 not_done words old new before after path (inr o) bad (inl d) = (let wrong : Session d.0 ≡ Serve o.0 = words_ask_for_one words (Session d.0) (Serve o.0) d.1 o.1 in cc)
-not_done words old new before after path (inr o) bad (inr d) =
+not_done words old new before after path (inr o) bad (inr (inr d)) = (let wrong : About d.0 ≡ Serve o.0 = words_ask_for_one words (About d.0) (Serve o.0) d.1 o.1 in cc)
+not_done words old new before after path (inr o) bad (inr (inl d)) =
     (let one = one_store d.0 o.0 (words_ask_for_one words (Serve d.0) (Serve o.0) d.1 o.1) in
     let c : Counts o.0 old new before after = subst (λ (s : Serving). Counts s old new before after) one d.2 in
     not_loaded path old c.serves.opening bad (subst (λ (p : Option (List ℕ)). IsLoaded p old.stores.stored c.serves.opening) o.2 c.serves.loaded))

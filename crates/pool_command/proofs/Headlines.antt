@@ -1,12 +1,12 @@
 -- A run of pools has the headline of its command.
-use Rattle.std.proofs.Common.{◌≡◌, ◌⊎◌, ◌<◌, ℕ, zero, suc, List, [], ◌∷◌, map, take, Option, Some, None, refl, sym, ap, ◌∙◌, subst, inl, inr, arith}
+use Rattle.std.proofs.Common.{◌≡◌, ◌⊎◌, ◌<◌, ℕ, zero, suc, List, [], ◌∷◌, map, take, Option, Some, None, length, refl, sym, ap, ◌∙◌, subst, inl, inr, arith}
 use Rattle.std.specs.List.{slice_get}
 use Rattle.history_lock.specs.Replay.{replay}
 use Rattle.history_lock.specs.Replies.{accepted}
 use Rattle.http_session.specs.declared.session.SessionEnd.{SessionEnd}
 use Rattle.http_session.specs.Ends.{IsEnd}
 use Rattle.ipam_listen.specs.Connections.{Ends, ends_of}
-use Rattle.command_streams.specs.Streams.{EndsWith, Streams, Told}
+use Rattle.command_streams.specs.Streams.{EndsWith, Gains, Streams, Told}
 use Rattle.machine_session.specs.Owned.{Owned, answers_counted, counted, owned}
 use Rattle.machine_answers.specs.Answers.{AreCallers, Caller, IsChange}
 use Rattle.machine_answers.specs.Laws.{HasCaller, HasCallers}
@@ -14,12 +14,13 @@ use Rattle.machine_answers.proofs.Alone.{alone as listed_alone}
 use Rattle.machine_answers.proofs.Entries.{entries}
 use Rattle.machine_answers.proofs.Flat.{served as listed_served}
 use Rattle.machine_command.specs.Session.{IsRefused, IsSession, Serves}
-use Rattle.machine_serving.specs.Serve.{IsLeft, IsServe, ServesStore}
+use Rattle.machine_serving.specs.Serve.{IsLeft, IsServe, IsServed, ServesStore, entries_line, listening_status}
+use Rattle.http_lanes.specs.declared.listening.Listening.{Listening}
 use Rattle.machine_serving.specs.Views.{ListenerView, NobodyCame}
 use Rattle.number_pools.specs.declared.calls.PoolCall.{PoolCall}
-use Rattle.number_pools.specs.declared.calls.PoolCall.TheVariants.{Claim}
+use Rattle.number_pools.specs.declared.calls.PoolCall.TheVariants.{Claim, Record}
 use Rattle.number_pools.specs.declared.calls.PoolRefusal.{PoolRefusal}
-use Rattle.number_pools.specs.declared.calls.PoolRefusal.TheVariants.{Absent, NameTaken, Bounds, InUse, NoSpace, Limit, Keeper as KeeperRefusal, Memory as MemoryRefusal}
+use Rattle.number_pools.specs.declared.calls.PoolRefusal.TheVariants.{Absent, NameTaken, Bounds, InUse, NoSpace, Outside, Taken, Repeated, Limit, Keeper as KeeperRefusal, Memory as MemoryRefusal}
 use Rattle.number_pools.specs.declared.calls.PoolReply.{PoolReply}
 use Rattle.number_pools.specs.Lawful.{IsLawfulPools}
 use Rattle.number_pools.specs.Laws.{StepsKeepLawful}
@@ -27,6 +28,7 @@ use Rattle.number_pools.specs.Machines.{kind_of, refusal_kind}
 use Rattle.number_pools.specs.Rows.{Pools}
 use Rattle.number_pools.specs.Steps.{plain_pool_step}
 use Rattle.number_laws.specs.Claims.{ClaimsAreNew}
+use Rattle.number_laws.specs.Records.{RecordsAreChosen}
 use Rattle.number_laws.specs.Histories.{IsGiven, IsOfAsns, NumbersNeverMeet}
 use Rattle.number_laws.specs.Histories as laws
 use Rattle.pool_keeper.specs.declared.tables.PoolTables.{PoolTables}
@@ -40,11 +42,11 @@ use Rattle.pool_store.specs.Opening.{AreSame, Holds, StoredPools}
 use Rattle.pool_store.proofs.Refused.{left_same}
 use Rattle.pool_words.specs.Asked.{Asks}
 use Rattle.pool_words.specs.declared.asked.Command.{Command}
-use Rattle.pool_words.specs.declared.asked.Command.TheVariants.{Session, Serve}
+use Rattle.pool_words.specs.declared.asked.Command.TheVariants.{Session, Serve, About}
 use Rattle.pool_words.specs.declared.asked.Serving.{Serving}
 use Rattle.pool_words.proofs.Unique.{words_ask_for_one}
 use Rattle.pool_command.specs.Clauses.{IsUnused, place_of}
-use Rattle.pool_command.specs.Headline.{Alone, GetsTheLeast, HasHeadline, HasHeadlines, Headline, NumbersApart, Served, pools_after}
+use Rattle.pool_command.specs.Headline.{Alone, GetsTheLeast, RecordsTheChosen, HasHeadline, HasHeadlines, Headline, NumbersApart, Served, ServedCounted, pools_after}
 use Rattle.pool_command.specs.Runs.{Answers, PoolOutside, Runs}
 
 -- ---- the two ways to say a history
@@ -75,6 +77,7 @@ call_there (f ∷ fs) (suc n) e q = call_there fs n e q
 pub record Laws : Type 0 where
   pub never : NumbersNeverMeet
   pub new : ClaimsAreNew
+  pub chosen : RecordsAreChosen
   pub steps : StepsKeepLawful
 
 lawful_at : StepsKeepLawful → (s : Seen) (history : List (ℕ × PoolCall)) (n : ℕ) → IsLawfulPools s.pools → IsLawfulPools (pools_after s history n)
@@ -89,6 +92,9 @@ no_refusal (NameTaken id) e = cc
 no_refusal Bounds e = cc
 no_refusal (InUse id) e = cc
 no_refusal (NoSpace n) e = cc
+no_refusal (Outside n) e = cc
+no_refusal (Taken n id) e = cc
+no_refusal (Repeated n) e = cc
 no_refusal (Limit which n) e = cc
 no_refusal KeeperRefusal e = cc
 no_refusal MemoryRefusal e = cc
@@ -100,6 +106,14 @@ gets_least new s call h a = tt
 least_at : ClaimsAreNew → (opening : Seen) (history : List (ℕ × PoolCall)) (n : ℕ) (call : PoolCall) → IsLawfulPools (pools_after opening history n)
     → IsChange pool_protocol opening (take n history) call → GetsTheLeast (pools_after opening history n) call
 least_at new opening history n call h change = gets_least new (pools_after opening history n) call h (sym (ap kind_of change.same) ∙ change.kind)
+
+records_chosen : RecordsAreChosen → (s : Pools) (call : PoolCall) → IsLawfulPools s → kind_of (plain_pool_step s call).1 ≡ accepted → RecordsTheChosen s call
+records_chosen law s (Record kind id list items) h a = law s kind id list items h (λ why e. no_refusal why (sym (ap kind_of e) ∙ a))
+records_chosen law s call h a = tt
+
+chosen_at : RecordsAreChosen → (opening : Seen) (history : List (ℕ × PoolCall)) (n : ℕ) (call : PoolCall) → IsLawfulPools (pools_after opening history n)
+    → IsChange pool_protocol opening (take n history) call → RecordsTheChosen (pools_after opening history n) call
+chosen_at law opening history n call h change = records_chosen law (pools_after opening history n) call h (sym (ap kind_of change.same) ∙ change.kind)
 
 numbers_apart : NumbersNeverMeet → (opening : Seen) (history : List (ℕ × PoolCall)) → IsLawfulPools opening.pools → NumbersApart opening history
 numbers_apart never opening history is i j one other x y l p q c d of =
@@ -123,30 +137,43 @@ headline laws_hold opening history callers h are =
       entries = changes;
       lawful = λ n. lawful_at laws_hold.steps opening history n h;
       least = λ n who call at. least_at laws_hold.new opening history n call (lawful_at laws_hold.steps opening history n h) (changes n who call at);
+      chosen = λ n who call at. chosen_at laws_hold.chosen opening history n call (lawful_at laws_hold.steps opening history n h) (changes n who call at);
       apart = numbers_apart laws_hold.never opening history h;
     }
 
 -- ---- the commands
 
 served : Laws → (s : Serving) (old new : PoolOutside) (before after : ListenerView) (entries : ℕ)
-    → ServesStore pool_protocol pool_opener s.db (place_of s) old new before after entries → Served s.db old new before after entries
+    → ServesStore pool_protocol pool_opener s.db (place_of s) old new before after entries → (of : Served s.db old new before after) × (entries ≡ length of.kept.history)
 served laws_hold s old new before after entries h =
     let of : HasCallers pool_protocol h.opening h.history h.served.back =
-    listed_served pool_protocol h.opening h.history h.served.back h.served.shifts h.served.one_history h.served.lanes in
-    record {
-      callers = of.callers;
-      kept = record {
-        opening = h.opening;
-        stood = h.loaded;
-        history = h.history;
-        headline = headline laws_hold h.opening h.history of.callers h.loaded.pools.lawful of.are;
-        holds = h.holds;
-      };
-      counted = h.entries_are;
-      back = h.served.back;
-      returned = h.served.returned;
-      lanes = of.lanes;
-    }
+    listed_served pool_protocol h.opening h.history h.served.back h.served.shifts h.served.one_history h.served.lanes in (
+      record {
+        callers = of.callers;
+        kept = record {
+          opening = h.opening;
+          stood = h.loaded;
+          history = h.history;
+          headline = headline laws_hold h.opening h.history of.callers h.loaded.pools.lawful of.are;
+          holds = h.holds;
+        };
+        back = h.served.back;
+        returned = h.served.returned;
+        lanes = of.lanes;
+      },
+      h.entries_are,
+    )
+
+-- with status 0 the line of the entries is on the output
+line_said : (listening : Listening) (old new : Told) (text : List ℕ) (status : ℕ) → EndsWith old new text (listening_status listening) status → status ≡ 0 → Gains old new text
+line_said listening old new text status (inl said) z = said.1
+line_said listening old new text status (inr failed) z = absurd (let e = failed.0 in omega arith)
+
+counted_line : Laws → (s : Serving) (old new : PoolOutside) (before after : ListenerView) (status : ℕ)
+    → IsServed pool_protocol pool_opener s.db (place_of s) old new before after status → status ≡ 0 → ServedCounted s.db old new before after
+counted_line laws_hold s old new before after status r z =
+    let all : (of : Served s.db old new before after) × (r.entries ≡ length of.kept.history) = served laws_hold s old new before after r.entries r.serves in
+    (all.0, subst (λ (n : ℕ). Gains old.streams.output new.streams.output (entries_line n)) all.1 (line_said r.listening _ _ _ status r.said z))
 
 -- pools that were opened have accepted nothing, and counted no fault
 opened : (first : Owned Seen PoolCall) → (first.log ≡ []) × (first.faults ≡ 0) → first ≡ owned first.opening [] 0
@@ -212,7 +239,7 @@ of_session laws_hold db old new before after status s = elim s.run [
 of_serve : Laws → (s : Serving) (old new : PoolOutside) (before after : ListenerView) (status : ℕ)
     → IsServe pool_protocol pool_opener s.db (place_of s) old new before after status → HasHeadline (Serve s) old new before after status
 of_serve laws_hold s old new before after status v = elim v.run [
-  | inl r ↦ (let all = served laws_hold s old new before after r.entries r.serves in ((λ z. (r.entries, all)), inl (r.entries, all)))
+  | inl r ↦ (counted_line laws_hold s old new before after status r, inl (served laws_hold s old new before after r.entries r.serves).0)
   | inr more ↦ elim more [
     | inl r ↦ ((λ z. absurd (never_done r.0.fault _ _ status r.0.said z)), inr (r.0.output, nobody_came before after r.1, r.0.refused.same))
     | inr rest ↦ elim rest [
@@ -226,6 +253,7 @@ of_command : Laws → (command : Command) (old new : PoolOutside) (before after 
     → HasHeadline command old new before after status
 of_command laws_hold (Session db) old new before after status k = of_session laws_hold db old new before after status k.0
 of_command laws_hold (Serve s) old new before after status k = of_serve laws_hold s old new before after status k
+of_command laws_hold (About topic) old new before after status k = tt
 
 -- memory ran out to read the words
 of_none : (command : Command) (old new : PoolOutside) (before after : ListenerView) (status : ℕ) → status ≡ 5 → new ≡ old → after ≡ before
@@ -236,6 +264,7 @@ of_none (Serve s) old new before after status five same idle = (
   (λ z. absurd (omega arith)),
   inr (ap (λ (t : PoolOutside). t.streams.output) same, nobody_came before after idle, subst (λ (t : PoolOutside). AreSame old.stores.stored t.stores.stored) (sym same) (same_stored old.stores.stored)),
 )
+of_none (About topic) old new before after status five same idle = tt
 
 pub headline_of_run : Laws → (words : List (List ℕ)) (old new : PoolOutside) (before after : ListenerView) (status : ℕ) → Runs words old new before after status
     → HasHeadlines words old new before after status

@@ -5,3 +5,4 @@ pub mod Parts
 pub mod RunLaws
 pub mod Sent
 pub mod Headlines
+pub mod AboutLaws

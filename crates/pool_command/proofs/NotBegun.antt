@@ -11,7 +11,9 @@ use Rattle.pool_service.specs.Protocol.{pool_protocol}
 use Rattle.pool_store.specs.Meaning.{pool_opener}
 use Rattle.pool_store.proofs.Refused.{unchanged, unopened_so}
 use Rattle.pool_words.specs.declared.asked.Command.{Command}
-use Rattle.pool_words.specs.declared.asked.Command.TheVariants.{Session, Serve}
+use Rattle.pool_words.specs.declared.asked.Command.TheVariants.{Session, Serve, About}
+use Rattle.program_entry.proofs.Printed.{printed_not_begun}
+use Rattle.pool_command.specs.About.{topic_text}
 use Rattle.pool_command.specs.Runs.{Answers, PoolOutside}
 
 -- streams that are as they were
@@ -64,3 +66,5 @@ pub no_command : (command : Command) (old new : PoolOutside) (before after : Lis
     → Answers command old new before after status
 no_command (Session db) old new before after status five same idle = (no_session db old new status five same, idle)
 no_command (Serve s) old new before after status five same idle = no_serve s.db _ old new before after status five same idle
+no_command (About topic) old new before after status five same idle =
+    (printed_not_begun (topic_text topic) old.streams new.streams status five (ap (λ (o : PoolOutside). o.streams) same), ap (λ (o : PoolOutside). o.stores) same, idle)

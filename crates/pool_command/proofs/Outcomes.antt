@@ -19,9 +19,12 @@ use Rattle.pool_store.specs.FaultWords.{IsSaid, fault_line}
 use Rattle.pool_store.specs.Meaning.{pool_opener}
 use Rattle.pool_store.specs.Opening.{IsRefusedOpening}
 use Rattle.pool_words.specs.Asked.{Asks}
-use Rattle.pool_words.specs.declared.asked.Command.TheVariants.{Session, Serve}
+use Rattle.pool_words.specs.declared.asked.Command.TheVariants.{Session, Serve, About}
+use Rattle.pool_words.specs.declared.asked.Topic.{Topic}
 use Rattle.pool_words.specs.declared.asked.Serving.{Serving}
-use Rattle.pool_command.specs.Clauses.{AsksServe, AsksSession, Counts, IsAnswered, IsDone, IsOfTables, IsUnused, NamesFailure, NamesFault, Opens, place_of}
+use Rattle.program_entry.specs.About.{IsPrinted}
+use Rattle.pool_command.specs.About.{topic_text}
+use Rattle.pool_command.specs.Clauses.{AsksAbout, AsksServe, AsksSession, Counts, IsAnswered, IsDone, IsOfTables, IsUnused, NamesFailure, NamesFault, Opens, place_of}
 use Rattle.pool_command.specs.Runs.{PoolOutside}
 
 -- a fault of the tables of the words was said
@@ -101,7 +104,7 @@ module _ (words : List (List ℕ)) (old new : PoolOutside) (before after : Liste
       → IsListening (AllCame (place_of s) before after × NoneFailed before after) (ListeningFailed before after) listening → new.streams.errors ≡ old.streams.errors
       → EndsWith old.streams.output new.streams.output (entries_line entries) (listening_status listening) status → Outcome words old new before after status
   served_by s entries Whole asks serves heard silent (inl said) =
-      inl (said.0, inr (s, asks, record { all_came = heard.0; none_failed = heard.1; entries = entries; serves = serves; said = said.1 }), silent)
+      inl (said.0, inr (inl (s, asks, record { all_came = heard.0; none_failed = heard.1; entries = entries; serves = serves; said = said.1 })), silent)
   served_by s entries Broken asks serves heard silent (inl said) = inr (inr (inl (said.0, inr (inr (inr (s, asks, heard))))))
   served_by s entries listening asks serves heard silent (inr said) = inr (inr (inl (said.0, inr (inl said.1))))
 
@@ -116,3 +119,15 @@ module _ (words : List (List ℕ)) (old new : PoolOutside) (before after : Liste
       ]
     ]
   ]
+
+  -- ---- `version` and `help`
+
+  printed_by : (topic : Topic) → AsksAbout words topic → new.streams.errors ≡ old.streams.errors
+      → EndsWith old.streams.output new.streams.output (topic_text topic) 0 status ⊎ ((status ≡ 5) × (new.streams.output ≡ old.streams.output))
+      → Outcome words old new before after status
+  printed_by topic asks silent (inl (inl said)) = inl (said.0, inr (inr (topic, asks, said.1)), silent)
+  printed_by topic asks silent (inl (inr failed)) = inr (inr (inl (failed.0, inr (inl failed.1))))
+  printed_by topic asks silent (inr none) = inr (inr (inr (inr (none.0, (silent, inr none.1)))))
+
+  pub of_about : (topic : Topic) → AsksAbout words topic → IsPrinted (topic_text topic) old.streams new.streams status → Outcome words old new before after status
+  of_about topic asks s = printed_by topic asks s.errors s.said

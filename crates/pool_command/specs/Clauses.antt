@@ -1,4 +1,4 @@
--- What the one relation of a run gives: each promise of the program as a clause of its own.
+-- What the one relation of a run gives: each promise of the program as its own clause.
 use Rattle.std.specs.Prelude.{◌≡◌, ℕ, ◌+◌, ◌≤◌, ◌⊎◌, List, length, Option, None, true, []}
 use Rattle.http_session.specs.declared.session.SessionEnd.TheVariants.{SourceFault, Memory as NoMemory}
 use Rattle.command_streams.specs.Streams.{Failed, Gains, NeverRises, SomeFailed, Streams}
@@ -21,23 +21,29 @@ use Rattle.pool_store.specs.Meaning.{pool_opener}
 use Rattle.pool_store.specs.Opening.{AreSame, IsLoaded}
 use Rattle.pool_words.specs.Asked.{Asks, IsNoCommand}
 use Rattle.pool_words.specs.declared.asked.Command.{Command}
-use Rattle.pool_words.specs.declared.asked.Command.TheVariants.{Session, Serve}
+use Rattle.pool_words.specs.declared.asked.Command.TheVariants.{Session, Serve, About}
+use Rattle.pool_words.specs.declared.asked.Topic.{Topic}
 use Rattle.pool_words.specs.declared.asked.Serving.{Serving}
+use Rattle.pool_command.specs.About.{topic_text}
 use Rattle.pool_command.specs.Runs.{Answers, PoolOutside, Runs, usage_text}
 
--- the words ask for a session over pools of this file, or of none
+-- the arguments ask for a session over pools of this file, or of none
 abbrev pub AsksSession : List (List ℕ) → Option (List ℕ) → Type 0
 AsksSession words db = Asks words (Session db)
 
--- the words ask for all that connect to be served
+-- the arguments ask for all that connect to be served
 abbrev pub AsksServe : List (List ℕ) → Serving → Type 0
 AsksServe words s = Asks words (Serve s)
+
+-- the arguments ask for a text about the program
+abbrev pub AsksAbout : List (List ℕ) → Topic → Type 0
+AsksAbout words topic = Asks words (About topic)
 
 -- what the words of `serve` say of the listener
 abbrev pub place_of : Serving → Place
 place_of s = serving s.bind s.workers s.connections
 
--- the words ask for pools of this file, or of none
+-- the arguments ask for pools of this file, or of none
 abbrev pub Opens : List (List ℕ) → Option (List ℕ) → Type 0
 Opens words path = AsksSession words path ⊎ ((s : Serving) × AsksServe words s × (s.db ≡ path))
 
@@ -49,8 +55,9 @@ AnyFailed old new = SomeFailed old.streams new.streams ⊎ StoreFailed old new
 abbrev pub ListenerFailed : Command → ListenerView → ListenerView → Type 0
 ListenerFailed (Session db) before after = ⊥
 ListenerFailed (Serve s) before after = ListeningFailed before after
+ListenerFailed (About topic) before after = ⊥
 
--- nothing was read and nothing printed, and told tables are as they were
+-- nothing was read and nothing printed, and known tables are unchanged
 pub record IsUnused (old new : PoolOutside) : Type 0 where
   pub input : new.streams.input ≡ old.streams.input
   pub output : new.streams.output ≡ old.streams.output
@@ -79,7 +86,7 @@ pub record NamesFailure (old new : PoolOutside) : Type 0 where
   pub unused : IsUnused old new
 
 -- all requests of the input are answered on the output by pools that were loaded from the tables of this path: as the plain pools answer, but
--- where a keeper failed, and where the opener's count did not rise exactly so, out of memory aside
+-- if a keeper failed, and if the opener's count did not rise exactly so, out of memory aside
 pub record IsAnswered (path : Option (List ℕ)) (old new : PoolOutside) : Type 0 where
   pub first : Owned Seen PoolCall
   pub loaded : IsLoaded path old.stores.stored first.opening
@@ -87,7 +94,7 @@ pub record IsAnswered (path : Option (List ℕ)) (old new : PoolOutside) : Type 
   pub prints : Prints (answers_counted pool_protocol) (counted first 0) old.streams new.streams
   pub certain : (¬ StoreFailed old new) → Prints (answers_certainly pool_protocol) (plain_of_owned seen_step first) old.streams new.streams
 
--- all lanes came and none failed, and the count of the changes of the one history is on the output
+-- all lanes were handed out and none failed, and the count of the changes of the one history is on the output
 pub record Counts (s : Serving) (old new : PoolOutside) (before after : ListenerView) : Type 0 where
   pub all_came : AllCame (place_of s) before after
   pub none_failed : NoneFailed before after
@@ -95,12 +102,13 @@ pub record Counts (s : Serving) (old new : PoolOutside) (before after : Listener
   pub serves : ServesStore pool_protocol pool_opener s.db (place_of s) old new before after entries
   pub said : Gains old.streams.output new.streams.output (entries_line entries)
 
--- what the words ask for is on the output; of `serve` that is the count of the changes, once all that connect were served
+-- what the arguments ask for is on the output; of `serve` that is the count of the changes, once all that connect were served
 abbrev pub IsDone : List (List ℕ) → PoolOutside → PoolOutside → ListenerView → ListenerView → Type 0
 IsDone words old new before after =
     ((db : Option (List ℕ)) × AsksSession words db × IsAnswered db old new) ⊎ ((s : Serving) × AsksServe words s × Counts s old new before after)
+    ⊎ ((topic : Topic) × AsksAbout words topic × Gains old.streams.output new.streams.output (topic_text topic))
 
--- no count of faults rose; but after a `session` that of the opener may have, where a call was answered by a failed keeper
+-- no count of faults rose; but after a `session` that of the opener may have, if a call was answered by a failed keeper
 pub record IsQuiet (words : List (List ℕ)) (old new : PoolOutside) (before after : ListenerView) : Type 0 where
   pub streams : NeverRises old.streams new.streams
   pub stores : (new.stores.faults ≡ old.stores.faults)
@@ -111,24 +119,24 @@ pub record IsQuiet (words : List (List ℕ)) (old new : PoolOutside) (before aft
 pub record HasClauses (words : List (List ℕ)) (old new : PoolOutside) (before after : ListenerView) (status : ℕ) : Type 0 where
   -- the status is one of these
   pub status_ : status ≤ 5
-  -- 0: what the words ask for is on the output, whole, and the messages were left alone
+  -- 0: what the arguments ask for is on the output, whole, and the messages were left alone
   pub done : status ≡ 0 → IsDone words old new before after × (new.streams.errors ≡ old.streams.errors)
   -- 1: the tables of the store that the words name have a fault; the messages gained exactly the text that names it, nothing was read and
-  -- nothing printed, nobody was served, and told tables are as they were
+  -- nothing printed, nobody was served, and known tables are unchanged
   pub refused : status ≡ 1 → ((path : Option (List ℕ)) × Opens words path × NamesFault path old new) × NobodyCame before after
-  -- 2: the words ask for no command, and the usage line is on the messages
+  -- 2: the arguments ask for no command, and the usage line is on the messages
   pub usage : status ≡ 2 → IsNoCommand words × Gains old.streams.errors new.streams.errors usage_text
-  -- where the words ask for no command nothing but the messages is used, and the status is 2, or 3 where they failed, or 5 where memory ran
+  -- if the arguments ask for no command nothing but the messages is used, and the status is 2, or 3 if they failed, or 5 if memory ran
   -- out to read the words and nothing was said
   pub usage_first : IsNoCommand words → (new.streams.input ≡ old.streams.input) × (new.streams.output ≡ old.streams.output) × (new.stores ≡ old.stores) × (after ≡ before)
       × ((status ≡ 2) ⊎ ((status ≡ 3) × Failed old.streams.errors new.streams.errors) ⊎ ((status ≡ 5) × (new.streams.errors ≡ old.streams.errors)))
   -- 3: the input, the output or the messages failed in this call, or, for `serve`, the listener did
   pub fault : status ≡ 3 → Failed old.streams.input new.streams.input ⊎ Failed old.streams.output new.streams.output ⊎ Failed old.streams.errors new.streams.errors
       ⊎ ((s : Serving) × AsksServe words s × ListeningFailed before after)
-  -- 3, for `session`: where neither the output nor the messages failed, the input did, and every answer was written
+  -- 3, for `session`: if neither the output nor the messages failed, the input did, and every answer was written
   pub starved : (db : Option (List ℕ)) → AsksSession words db → status ≡ 3 → ¬ Failed old.streams.output new.streams.output → ¬ Failed old.streams.errors new.streams.errors
       → Failed old.streams.input new.streams.input × Serves pool_protocol pool_opener db old new SourceFault
-  -- 4: the words ask for pools, the opener failed, which was said, and nothing else was used
+  -- 4: the arguments ask for pools, the opener failed, which was said, and nothing else was used
   pub store_fault : status ≡ 4 → NobodyCame before after × ((path : Option (List ℕ)) × Opens words path) × NamesFailure old new
   -- 5: out of memory. Nothing was said, and `serve` has nothing on the output
   pub memory : status ≡ 5 → (new.streams.errors ≡ old.streams.errors)
@@ -139,14 +147,14 @@ pub record HasClauses (words : List (List ℕ)) (old new : PoolOutside) (before 
   pub lanes_back : length after.returned + before.lanes ≡ length before.returned + after.lanes
   -- `session`: with each status, which requests were answered, in order, how, what the output gained, and what the store holds
   pub session : (db : Option (List ℕ)) → AsksSession words db → IsSession pool_protocol pool_opener db old new status
-  -- `serve`: with each status, what was served, behind which history, what was printed, and what the store holds
+  -- `serve`: with each status, what was served, after which history, what was printed, and what the store holds
   pub serve : (s : Serving) → AsksServe words s → IsServe pool_protocol pool_opener s.db (place_of s) old new before after status
   -- of each command its record
   pub answers : (command : Command) → Asks words command → Answers command old new before after status
-  -- `session` without a file, where the opener did not fail: the answers are those of empty pools
+  -- `session` without a file, if the opener did not fail: the answers are those of empty pools
   pub empty : AsksSession words None → (¬ StoreFailed old new) → status ≡ 0
       → Prints (answers_certainly pool_protocol) (plain_at seen_step (record { pools = empty_pools; tells = true }) []) old.streams new.streams
-  -- a command ends by itself where nothing fails: done, refused, or for lack of memory
+  -- a command ends by itself if nothing fails: done, refused, or for lack of memory
   pub complete : (command : Command) → Asks words command → (¬ AnyFailed old new) → (¬ ListenerFailed command before after)
       → (status ≡ 0) ⊎ (status ≡ 1) ⊎ (status ≡ 5)
   -- no count of faults falls

@@ -1,25 +1,28 @@
 -- What number pools promise to their callers: one history, out of which all are answered, and in it each claim got the least numbers that no
--- member of its pool held.
+-- member of its pool held, and each chosen number was recorded.
 use Rattle.std.specs.Prelude.{◌≡◌, ◌≢◌, ◌⊎◌, ◌++◌, ℕ, ◌<◌, List, [], ◌∷◌, Option, Some, length, map, take, slice_get}
 use Rattle.history_lock.specs.Replay.{replay}
 use Rattle.ipam_listen.specs.Connections.{Returned, ends_of, finished}
 use Rattle.machine_answers.specs.Answers.{AreCallers, AreLanesOf, Caller, IsChange}
+use Rattle.machine_serving.specs.Serve.{entries_line}
 use Rattle.machine_serving.specs.Views.{ListenerView, NobodyCame}
+use Rattle.command_streams.specs.Streams.{Gains}
 use Rattle.number_pools.specs.declared.calls.PoolCall.{PoolCall}
-use Rattle.number_pools.specs.declared.calls.PoolCall.TheVariants.{Claim}
+use Rattle.number_pools.specs.declared.calls.PoolCall.TheVariants.{Claim, Record}
 use Rattle.number_pools.specs.declared.calls.PoolReply.{PoolReply}
 use Rattle.number_pools.specs.declared.rows.Member.{Member}
 use Rattle.number_pools.specs.Lawful.{IsLawfulPools}
 use Rattle.number_pools.specs.Rows.{Pools}
 use Rattle.number_pools.specs.Steps.{plain_pool_step}
 use Rattle.number_laws.specs.Claims.{GotNumbers}
+use Rattle.number_laws.specs.Records.{RecordedNumbers}
 use Rattle.number_laws.specs.Histories.{IsGiven, IsGivenBack, IsOfAsns}
 use Rattle.pool_register.specs.Kept.{Seen, seen_step}
 use Rattle.pool_service.specs.Protocol.{pool_protocol}
 use Rattle.pool_store.specs.Opening.{AreSame, Holds, IsLoaded}
 use Rattle.pool_words.specs.Asked.{Asks}
 use Rattle.pool_words.specs.declared.asked.Command.{Command}
-use Rattle.pool_words.specs.declared.asked.Command.TheVariants.{Session, Serve}
+use Rattle.pool_words.specs.declared.asked.Command.TheVariants.{Session, Serve, About}
 use Rattle.pool_command.specs.Clauses.{IsUnused}
 use Rattle.pool_command.specs.Runs.{PoolOutside}
 
@@ -32,7 +35,12 @@ abbrev pub GetsTheLeast : Pools → PoolCall → Type 0
 GetsTheLeast s (Claim kind id list names) = GotNumbers s kind id names (plain_pool_step s (Claim kind id list names))
 GetsTheLeast s call = Unit {0}
 
--- the numbers that two entries gave out differ, if both are of one range (as a group of VLANs is), or of any two ranges of ASNs, unless an
+-- chosen numbers were recorded: numbers of their range that no member of its pool held
+abbrev pub RecordsTheChosen : Pools → PoolCall → Type 0
+RecordsTheChosen s (Record kind id list items) = RecordedNumbers s kind id items (plain_pool_step s (Record kind id list items))
+RecordsTheChosen s call = Unit {0}
+
+-- the numbers that two entries gave out or recorded differ, if both are of one range (as a group of VLANs is), or of any two ranges of ASNs, unless an
 -- entry between the two gave the first one back
 abbrev pub NumbersApart : Seen → List (ℕ × PoolCall) → Type 0
 NumbersApart opening history = (i j : ℕ) (one other : ℕ × PoolCall) (x y : Member) → i < j → slice_get history i ≡ Some one → slice_get history j ≡ Some other
@@ -48,8 +56,10 @@ pub record Headline (opening : Seen) (history : List (ℕ × PoolCall)) (callers
   pub entries : (n : ℕ) (who : ℕ) (call : PoolCall) → slice_get history n ≡ Some (who, call) → IsChange pool_protocol opening (take n history) call
   -- after each entry no two members of a pool hold one number, those of the opening too, and each holds one of its range
   pub lawful : (n : ℕ) → IsLawfulPools (pools_after opening history n)
-  -- a claim got the least that no member of its pool held; no two claims got one number, unless it was given back between
+  -- a claim got the least that no member of its pool held; a chosen number is one that no member held; and no two entries gave out or recorded
+  -- one number, unless it was given back between
   pub least : (n : ℕ) (who : ℕ) (call : PoolCall) → slice_get history n ≡ Some (who, call) → GetsTheLeast (pools_after opening history n) call
+  pub chosen : (n : ℕ) (who : ℕ) (call : PoolCall) → slice_get history n ≡ Some (who, call) → RecordsTheChosen (pools_after opening history n) call
   pub apart : NumbersApart opening history
 
 -- the pools of a store had these callers
@@ -60,14 +70,18 @@ pub record Kept (path : Option (List ℕ)) (old new : PoolOutside) (callers : Li
   pub headline : Headline opening history callers
   pub holds : Holds path old.stores.stored new.stores.stored (replay seen_step opening history)
 
--- `serve`: all that connected, with so many changes
-pub record Served (path : Option (List ℕ)) (old new : PoolOutside) (before after : ListenerView) (entries : ℕ) : Type 0 where
+-- `serve`: all that connected
+pub record Served (path : Option (List ℕ)) (old new : PoolOutside) (before after : ListenerView) : Type 0 where
   pub callers : List (Caller PoolCall PoolReply)
   pub kept : Kept path old new callers
-  pub counted : entries ≡ length kept.history
   pub back : List Returned
   pub returned : after.returned ≡ before.returned ++ back
   pub lanes : AreLanesOf back callers
+
+-- it holds of `serve`, whose line on the output says how many entries the history has
+abbrev pub ServedCounted : Option (List ℕ) → PoolOutside → PoolOutside → ListenerView → ListenerView → Type 0
+ServedCounted path old new before after = (served : Served path old new before after)
+    × Gains old.streams.output new.streams.output (entries_line (length served.kept.history))
 
 -- `session`: the input and the output are the one connection of the one caller
 pub record Alone (path : Option (List ℕ)) (old new : PoolOutside) : Type 0 where
@@ -77,12 +91,13 @@ pub record Alone (path : Option (List ℕ)) (old new : PoolOutside) : Type 0 whe
       ≡ finished (ends_of old.streams.input.bytes old.streams.output.bytes old.streams.input.faults old.streams.output.faults)
       (ends_of new.streams.input.bytes new.streams.output.bytes new.streams.input.faults new.streams.output.faults) ∷ []
 
--- with status 0 it holds, and with every other status it does or nobody was served and known tables are as they were
+-- with status 0 it holds, and with every other status it does or nobody was served and known tables are unchanged
 abbrev pub HasHeadline : Command → PoolOutside → PoolOutside → ListenerView → ListenerView → ℕ → Type 0
 HasHeadline (Session db) old new before after status = (status ≡ 0 → Alone db old new) × (Alone db old new ⊎ IsUnused old new)
-HasHeadline (Serve s) old new before after status = (status ≡ 0 → (entries : ℕ) × Served s.db old new before after entries)
-    × (((entries : ℕ) × Served s.db old new before after entries) ⊎ ((new.streams.output ≡ old.streams.output) × NobodyCame before after × AreSame old.stores.stored new.stores.stored))
+HasHeadline (Serve s) old new before after status = (status ≡ 0 → ServedCounted s.db old new before after)
+    × (Served s.db old new before after ⊎ ((new.streams.output ≡ old.streams.output) × NobodyCame before after × AreSame old.stores.stored new.stores.stored))
+HasHeadline (About topic) old new before after status = Unit {0}
 
--- of the command that the words ask for
+-- of the command that the arguments ask for
 abbrev pub HasHeadlines : List (List ℕ) → PoolOutside → PoolOutside → ListenerView → ListenerView → ℕ → Type 0
 HasHeadlines words old new before after status = (command : Command) → Asks words command → HasHeadline command old new before after status

@@ -1,3 +1,4 @@
+pub mod About
 pub mod Runs
 pub mod Clauses
 pub mod Exact

@@ -1,4 +1,4 @@
--- The limits of the program, each with its number. The definitions of calls and words cite them by names, and most of the names stand for
+-- The limits of the program, each with its number. The definitions of calls and words cite them by names, and most of the names represent
 -- constants of the code; so a constant that is another number is refused here.
 use Rattle.std.specs.Prelude.{◌≡◌}
 use Rattle.number_pools.specs.Limits.{HasPoolLimits}

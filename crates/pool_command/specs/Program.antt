@@ -15,6 +15,6 @@ abbrev pub RunsUsing : List (List ℕ) → Streams → Streams → Stores PoolTa
 RunsUsing words old new before after status = Runs words (outside old before.0) (outside new after.0) before.1 after.1 status
 
 -- what a process ends with that was given these arguments: the status of a run of their words, all but the program's name; or that of the usage
--- line, where one of them is no text; or that of out of memory, where the system had none to give them
+-- line, if one of them is no text; or that of out of memory, if the system had none to give them
 abbrev pub IsEnding : {Y Z : Type 0} → Result (IntoIter (String Y) Z) Error → Stores PoolTables → Stores PoolTables → ListenerView → ListenerView → ℕ → Type 0
 IsEnding given stores_before stores_after before after status = any.IsEnding RunsUsing IsUsage given (stores_before, before) (stores_after, after) status

@@ -1,4 +1,4 @@
--- What a run of the program promises: by what its words ask for, one relation for each command.
+-- What a run of the program promises: by what its arguments ask for, one relation for each command.
 use Rattle.std.specs.Prelude.{◌≡◌, ℕ, ◌⊎◌, ◌++◌, List, [], ◌∷◌, codes}
 use Rattle.command_streams.specs.Streams.{EndsWith, NeverFalls, Streams}
 use Rattle.machine_command.specs.Outside.{Outside}
@@ -9,19 +9,22 @@ use Rattle.pool_keeper.specs.declared.tables.PoolTables.{PoolTables}
 use Rattle.pool_service.specs.Protocol.{pool_protocol}
 use Rattle.pool_store.specs.Meaning.{pool_opener}
 use Rattle.pool_words.specs.Asked.{Asks, IsNoCommand}
+use Rattle.pool_command.specs.About.{topic_text}
+use Rattle.program_entry.specs.About.{IsPrinted}
 use Rattle.pool_words.specs.declared.asked.Command.{Command}
-use Rattle.pool_words.specs.declared.asked.Command.TheVariants.{Session, Serve}
+use Rattle.pool_words.specs.declared.asked.Command.TheVariants.{Session, Serve, About}
 
 -- what is seen of the objects that a command is given
 abbrev pub PoolOutside : Type 0
 PoolOutside = Outside PoolTables
 
--- what a run of the command leaves, with its status: `before` and `after` are what the listener tells
+-- what a run of the command leaves, with its status: `before` and `after` are what is known of the listener
 abbrev pub Answers : Command → PoolOutside → PoolOutside → ListenerView → ListenerView → ℕ → Type 0
 Answers (Session db) old new before after status = IsSession pool_protocol pool_opener db old new status × (after ≡ before)
 Answers (Serve s) old new before after status = IsServe pool_protocol pool_opener s.db (serving s.bind s.workers s.connections) old new before after status
+Answers (About topic) old new before after status = IsPrinted (topic_text topic) old.streams new.streams status × (new.stores ≡ old.stores) × (after ≡ before)
 
--- what is said where the words ask for no command
+-- what is said if the arguments ask for no command
 abbrev pub usage_text : List ℕ
 usage_text = codes "usage: poold COMMAND" ++ 10 ∷ []
 
@@ -36,7 +39,7 @@ pub record IsUsage (old new : Streams) (status : ℕ) : Type 0 where
 abbrev pub SaysUsage : PoolOutside → PoolOutside → ListenerView → ListenerView → ℕ → Type 0
 SaysUsage old new before after status = IsUsage old.streams new.streams status × (new.stores ≡ old.stores) × (after ≡ before)
 
--- a run of the program: the words ask for a command, which was run; or they ask for none; or memory ran out to read them, and nothing was used
+-- a run of the program: the arguments ask for a command, which was run; or they ask for none; or memory ran out to read them, and nothing was used
 abbrev pub Runs : List (List ℕ) → PoolOutside → PoolOutside → ListenerView → ListenerView → ℕ → Type 0
 Runs words old new before after status =
     ((command : Command) × Asks words command × Answers command old new before after status)

@@ -1,4 +1,4 @@
-//! The program: its real objects, and the words behind its name.
+//! The program: its real objects, and the arguments after its name.
 
 ghost use Rattle.std.specs.Prelude.{map};
 ghost use Rattle.std.specs.Process.{exit_status};
@@ -71,7 +71,7 @@ fn run_words<R: Threads + Wait + Sync, L: Listener, O: PoolOpener>(
 }
 
 /// Runs the program over its arguments, as `std::env::args` gives them, the standard streams, a listener and an opener of stores. The process is
-/// to end with the status of the run. Arguments that are no UTF-8 are no words of a command; where memory runs out to read them the status is
+/// to end with the status of the run. Arguments that are no UTF-8 are no arguments of a command; if memory runs out to read them the status is
 /// that of out of memory. `threads` is what workers are started by: the runtime once more, which only `main` may hand out as such.
 pub fn program<R: Threads + Wait + Sync, L: Listener, O: PoolOpener>(
     rt: &HostRuntime,

@@ -9,7 +9,7 @@ pub fn runs_have_clauses()
     ensures { RunsHaveClauses }
 {}
 
-/// Status 1 comes exactly for its cause: where nothing fails, told tables that have a fault give it, memory apart.
+/// Status 1 is returned exactly for its cause: if nothing fails, known tables that have a fault give it, memory apart.
 pub fn runs_are_exact()
     ensures { RunsAreExact }
 {}

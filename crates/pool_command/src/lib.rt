@@ -1,7 +1,8 @@
-//! The commands of `poold`: what its words ask for is run over its input, output and messages, a listener and an opener of stores. `serve` has
-//! its workers each in a thread of its own.
+//! The commands of `poold`: what its arguments ask for is run over its input, output and standard error, a listener and an opener of stores. `serve` has
+//! its workers each in its own thread.
 #![tactic(auto)]
 
+mod about;
 mod entry;
 mod laws;
 mod run;

@@ -8,11 +8,12 @@ ghost use Rattle.pool_words.specs.Asked.{Asks};
 ghost use Rattle.pool_command.specs.Headline.{HasHeadlines};
 ghost use Rattle.pool_command.specs.Runs.{Answers, IsUsage, Runs};
 
+use crate::about::run_about;
 use crate::session::{run_session, serve_words};
 use command_streams::{MEMORY, USAGE, end_with};
 use ipam_edge::{Sink, Source};
 use ipam_listen::Listener;
-use number_laws::{claims_are_new, numbers_never_meet};
+use number_laws::{claims_are_new, numbers_never_meet, records_are_chosen};
 use number_pools::laws::steps_keep_lawful;
 use pool_keeper::keeper::PoolOpener;
 use pool_words::{Command, read_words};
@@ -21,7 +22,7 @@ use std::marker::Sync;
 use std::sync::Wait;
 use std::thread::Threads;
 
-/// What is said where the words ask for no command.
+/// What is said if the arguments ask for no command.
 const USAGE_TEXT: &[u8] = b"usage: poold COMMAND\n";
 
 /// Says the usage line; nothing else is used.
@@ -56,6 +57,7 @@ fn run_command<
         (listener_view L.bound L.lanes L.returned L.faults listener.old) (listener_view L.bound L.lanes L.returned L.faults listener.new) result }
 {
     match command {
+        Command::About(topic) => run_about(*topic, output),
         Command::Session(db) => run_session(alloc, db, input, output, errors, opener),
         Command::Serve(serving) => {
             serve_words(rt, alloc, serving, output, errors, listener, opener)
@@ -63,7 +65,7 @@ fn run_command<
     }
 }
 
-/// Runs the command that the words ask for.
+/// Runs the command that the arguments ask for.
 fn run_read<R: Threads + Wait + Sync, So: Source, Si: Sink, Se: Sink, L: Listener, O: PoolOpener>(
     rt: &R,
     alloc: Global,
@@ -88,7 +90,7 @@ fn run_read<R: Threads + Wait + Sync, So: Source, Si: Sink, Se: Sink, L: Listene
     }
 }
 
-/// Runs the program: the words behind its name, the input, the output, where messages go, a listener, and what opens stores. It gives the
+/// Runs the program: the arguments after its name, the input, the output, where messages go, a listener, and what opens stores. It gives the
 /// status: 0 done, 1 a loaded table breaks a stated rule, 2 the words are no command, 3 the input, the output, the messages or the listener
 /// failed, 4 the store failed, 5 out of memory. Callers that were served had one history.
 pub fn run_pools<
@@ -119,6 +121,7 @@ pub fn run_pools<
 {
     numbers_never_meet();
     claims_are_new();
+    records_are_chosen();
     steps_keep_lawful();
     run_read(rt, alloc, words, input, output, errors, listener, opener)
 }

@@ -90,7 +90,7 @@ pub(crate) fn run_session<So: Source, Si: Sink, Se: Sink, O: PoolOpener>(
     }
 }
 
-/// Serves the pools of the store, as the words say. The store keeps the opener that is lent to it.
+/// Serves the pools of the store, as the arguments say. The store keeps the opener that is lent to it.
 fn serve_of<R: Threads + Wait + Sync, Si: Sink, Se: Sink, L: Listener, O: PoolOpener>(
     rt: &R,
     alloc: Global,

@@ -1,4 +1,4 @@
-//! Workers over pools, each in a thread of its own.
+//! Workers over pools, each in its own thread.
 
 ghost use Rattle.std.specs.Prelude.{◌≡◌, ℕ, All, length};
 ghost use Rattle.machine_server.specs.Hired.{AreFresh, AreHired};
@@ -17,7 +17,7 @@ use std::marker::{Send, Sync};
 use std::sync::Wait;
 use std::thread::{Threads, for_each_mut};
 
-/// Serves the connections of all workers' lanes, each worker in a thread of its own; where no thread can be had they run one after another.
+/// Serves the connections of all workers' lanes, each worker in its own thread; if no thread can be started they run one after another.
 /// Each worker has a seat again at the end, of the same number and weight, and its lane has no accept left. Each worker builds its table of
 /// routes in its own thread.
 pub fn serve_workers<
@@ -44,7 +44,7 @@ pub fn serve_workers<
     }
 }
 
-/// Where as many workers have come as were wanted, lets them work until no lane has an accept left.
+/// If as many workers were hired as were wanted, lets them work until no lane has an accept left.
 pub(crate) fn work_all<R: Threads + Wait + Sync, K: PoolKeeper + Send, A: Lane + Send>(
     rt: &R,
     alloc: Global,

@@ -11,7 +11,7 @@ use sqlite_std_file::File;
 use sqlite_store::FileStore;
 use stored_tables::tables::Text;
 
-/// A keeper of pools over a file of the host. It is here alone that the store of a real file is named: a type of its own, so that what is over
+/// A keeper of pools over a file of the host. It is here alone that the store of a real file is named: its own type, so that what is over
 /// keepers has no part of that name.
 #[derive(Drop)]
 pub struct HostPools {
@@ -63,7 +63,7 @@ impl<'a> ConnectsPools for HostPoolFiles<'a> {
 
     fn close(&mut self, kept: HostPools) {
         let HostPools { inner } = kept;
-        // Where the log can't be put into the file, what was committed stands in the log.
+        // If the log can't be put into the file, what was committed is in the log.
         let _ = inner.into_connection().close();
     }
 }

@@ -1,15 +1,15 @@
 -- What the body of a request of number pools asks for; or the refusal that is answered. The body is one JSON text (RFC 8259), read by
 -- the definition of serde_json: at most 127 levels deep, in UTF-8.
-use Rattle.std.specs.Prelude.{◌≡◌, ◌⊎◌, ℕ, nat_le, List, [], Option, Some, None, Result, Ok, Err, codes, option_and_then, if◌then◌else◌}
+use Rattle.std.specs.Prelude.{◌≡◌, ◌⊎◌, ◌==◌, ℕ, nat_le, List, [], length, Option, Some, None, Result, Ok, Err, codes, option_and_then, if◌then◌else◌}
 use Rattle.ipam_data.specs.declared.calls.Answered.{Answered}
 use Rattle.ipam_data.specs.declared.replies.FieldName.TheVariants.{Name}
 use Rattle.ipam_data.specs.declared.replies.Refusal.{Refusal}
 use Rattle.ipam_data.specs.declared.replies.Refusal.TheVariants.{BadJson, Memory}
 use Rattle.serde_json.specs.Data.{Data}
-use Rattle.serde_json.specs.Find.{as_number, as_u64, get}
+use Rattle.serde_json.specs.Find.{as_number, as_str, as_u64, get}
 use Rattle.ipam_json.specs.Bodies.{IsObjectText, IsNoObjectText}
 use Rattle.ipam_json.specs.Claims.{IsClaimOf}
-use Rattle.ipam_json.specs.Members.{name_of}
+use Rattle.ipam_json.specs.Members.{name_of, within}
 use Rattle.ipam_json.specs.Outcomes.{read_member}
 use Rattle.number_pools.specs.declared.rows.PoolKind.{PoolKind}
 use Rattle.number_pools.specs.declared.rows.PoolKind.TheVariants.{Asn, Vlan}
@@ -48,7 +48,16 @@ abbrev pub claim_item : PoolKind → Data → Result (List ℕ) Refusal
 claim_item Asn d = Ok []
 claim_item Vlan d = read_member Name name_of d
 
--- what the body of a claim asks for: a name for each number, and whether it came as one object or as a list
+-- the name of a chosen ASN in words: it may be empty
+abbrev pub asn_named : List ℕ → Option (List ℕ)
+asn_named text = if length text == 0 then Some text else within 1 100 text
+
+-- an absent one is empty
+abbrev pub asn_name_of : Option Data → Option (List ℕ)
+asn_name_of None = Some []
+asn_name_of (Some d) = option_and_then asn_named (as_str d)
+
+-- what the body of a claim asks for: a name for each number, and whether it was given as one object or as a list
 abbrev pub IsClaim : PoolKind → List ℕ → Result (Answered × List (List ℕ)) Refusal → Type 0
 IsClaim kind body answer = IsClaimOf (claim_item kind) body answer
 

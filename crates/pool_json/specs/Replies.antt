@@ -1,16 +1,17 @@
--- The JSON of a reply: which value stands for it, and its text, which is compact as serde_json writes it.
+-- The JSON of a reply: which value represents it, and its text, which is compact as serde_json writes it.
 use Rattle.std.specs.Prelude.{ℕ, Bool, true, false, List, [], ◌∷◌, codes, Option, Some, None}
 use Rattle.serde_json.specs.Data.{Data, object, string}
 use Rattle.serde_json.specs.Written.{compact_text}
 use Rattle.ipam_json.specs.Replies.{list_data, refusal_text, text_of_value}
 use Rattle.ipam_json.specs.Values.{members, number_data}
 use Rattle.number_pools.specs.declared.rows.PoolKind.{PoolKind}
+use Rattle.number_pools.specs.declared.rows.PoolKind.TheVariants.{Asn, Vlan}
 use Rattle.number_pools.specs.declared.rows.Member.{Member}
 use Rattle.number_pools.specs.declared.calls.PoolRefusal.{PoolRefusal}
 use Rattle.number_pools.specs.declared.calls.PoolReply.{PoolReply}
 use Rattle.number_pools.specs.declared.calls.PoolReply.TheVariants.{Made, Gone, Claimed, Ranges, Members, Numbers, Refused}
 use Rattle.pool_json.specs.declared.bodies.RequestRefusal.{RequestRefusal}
-use Rattle.pool_json.specs.declared.bodies.RequestRefusal.TheVariants.{Common, Start, End}
+use Rattle.pool_json.specs.declared.bodies.RequestRefusal.TheVariants.{Common, Start, End, Number}
 use Rattle.pool_json.specs.declared.replies.Shape.{Shape}
 use Rattle.pool_json.specs.Rows.{member_data, range_data}
 use Rattle.pool_json.specs.Words.{code_of, detail_of}
@@ -42,8 +43,14 @@ reply_data shape (Refused refusal) = Some (pool_refusal_data refusal)
 abbrev pub reply_text : Shape → PoolReply → List ℕ
 reply_text shape reply = text_of_value (reply_data shape reply)
 
+-- in words that the number of an item of a kind is missing or malformed
+abbrev pub number_words : PoolKind → List ℕ
+number_words Asn = codes "asn is missing or malformed"
+number_words Vlan = codes "vid is missing or malformed"
+
 -- the text of a refusal before the pools are asked
 abbrev pub request_refusal_text : RequestRefusal → List ℕ
 request_refusal_text (Common refusal) = refusal_text refusal
 request_refusal_text Start = compact_text (words_data (codes "field") (codes "start is missing or malformed"))
 request_refusal_text End = compact_text (words_data (codes "field") (codes "end is missing or malformed"))
+request_refusal_text (Number kind) = compact_text (words_data (codes "field") (number_words kind))

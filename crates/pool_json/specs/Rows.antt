@@ -1,5 +1,5 @@
 -- Rows of pools in JSON: an object has its members in the byte order of their names.
-use Rattle.std.specs.Prelude.{List, [], ◌∷◌, codes}
+use Rattle.std.specs.Prelude.{◌==◌, List, [], ◌∷◌, codes, length, if◌then◌else◌}
 use Rattle.serde_json.specs.Data.{Data, object, string}
 use Rattle.ipam_json.specs.Values.{Named, members, number_data, id_named}
 use Rattle.number_pools.specs.declared.rows.PoolKind.{PoolKind}
@@ -16,11 +16,23 @@ range_members row =
     ∷ (codes "start", number_data row.first) ∷ []
 
 -- the number of an autonomous system, and the range that it is of
-abbrev pub asn_members : Member → List Named
-asn_members row =
+abbrev pub bare_asn : Member → List Named
+bare_asn row =
     (codes "asn", number_data row.number)
     ∷ id_named row.id
     ∷ (codes "range", number_data row.range) ∷ []
+
+-- the same with its name
+abbrev pub named_asn : Member → List Named
+named_asn row =
+    (codes "asn", number_data row.number)
+    ∷ id_named row.id
+    ∷ (codes "name", string row.name)
+    ∷ (codes "range", number_data row.range) ∷ []
+
+-- the name is written only if there is one
+abbrev pub asn_members : Member → List Named
+asn_members row = if length row.name == 0 then bare_asn row else named_asn row
 
 -- a VLAN by its number, and the group that it is of
 abbrev pub vlan_members : Member → List Named

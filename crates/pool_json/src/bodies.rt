@@ -8,6 +8,7 @@ ghost use Rattle.pool_json.specs.Bodies.{IsRangeBody, OrWant, range_draft};
 
 use crate::members::{name, number};
 use ipam_data::replies::Refusal;
+use number_pools::PoolKind;
 use serde_json::Value;
 use std::alloc::Global;
 use stored_tables::tables::Text;
@@ -21,6 +22,8 @@ pub enum RequestRefusal {
     Start,
     /// The last number of a range is missing or malformed.
     End,
+    /// The number of an item of this kind is missing or malformed.
+    Number(PoolKind),
 }
 
 /// The range that a body asks for. Whether its numbers fit is a rule of the pools.
@@ -60,8 +63,8 @@ fn range_in(alloc: Global, object: &Value) -> Result<RangeDraft, RequestRefusal>
     Ok(RangeDraft { name, first, last })
 }
 
-/// What the body of a new range asks for. `BadJson` comes where the body is no JSON text (RFC 8259) or no object; then the first of
-/// `name`, `start` and `end` that is missing or malformed is answered; and `Memory` may come in place of any answer.
+/// What the body of a new range asks for. `BadJson` is returned if the body is no JSON text (RFC 8259) or no object; then the first of
+/// `name`, `start` and `end` that is missing or malformed is answered; and `Memory` may be returned in place of any answer.
 pub fn read_range(alloc: Global, body: &[u8]) -> Result<RangeDraft, RequestRefusal>
     ensures { OrWant (IsRangeBody body.now) result }
 {

@@ -17,7 +17,7 @@ use std::alloc::Global;
 use stored_tables::tables::{Text, Texts};
 
 /// The JSON value that a body is.
-fn read_value(alloc: Global, body: &[u8]) -> Result<Value, Refusal>
+pub(crate) fn read_value(alloc: Global, body: &[u8]) -> Result<Value, Refusal>
     ensures ok { IfOk result (λ v. IsJsonText body.now (view v)) }
     ensures err { IfErr result (λ e. (e ≡ Memory) ⊎ (IsNoJsonText body.now × (e ≡ BadJson))) }
 {
@@ -36,7 +36,7 @@ fn are_objects(list: &[Value]) -> bool
 }
 
 /// Sees that a list has objects alone, and one at least.
-fn check_list(list: &[Value]) -> Result<(), Refusal>
+pub(crate) fn check_list(list: &[Value]) -> Result<(), Refusal>
     ensures { list_checked (map view list.now) ≡ result }
 {
     if list.is_empty() {
@@ -113,9 +113,9 @@ fn claim_by_one(alloc: Global, kind: PoolKind, body: &Value) -> Result<(Answered
     Ok((Answered::AsOne, Texts::of(items)))
 }
 
-/// What the body of a claim asks for: a name for each number, and whether it came as one object or as a list. `BadJson` comes where the
-/// body is no JSON text (RFC 8259), or neither an object nor a list of objects; `Field` with `Body` where the list is empty; `Field`
-/// with `Name` where an object of a claim of VLANs has no name that is one; and `Memory` may come in place of any answer.
+/// What the body of a claim asks for: a name for each number, and whether it was given as one object or as a list. `BadJson` is returned if the
+/// body is no JSON text (RFC 8259), or neither an object nor a list of objects; `Field` with `Body` if the list is empty; `Field`
+/// with `Name` if an object of a claim of VLANs has no name that is one; and `Memory` may be returned in place of any answer.
 pub fn read_claim(alloc: Global, kind: PoolKind, body: &[u8]) -> Result<(Answered, Texts), Refusal>
     ensures claim { OrMemory (IsClaim kind body.now) result }
     ensures items { IfOk result (λ claim. HasItems claim.0 (length claim.1)) }

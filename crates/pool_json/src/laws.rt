@@ -1,6 +1,6 @@
 //! Laws of the definitions: each function is empty, and its contract is the law.
 
-ghost use Rattle.pool_json.specs.Laws.{ClaimIsOne, RangeBodyIsOne, RowsAreInOrder};
+ghost use Rattle.pool_json.specs.Laws.{ClaimIsOne, RangeBodyIsOne, RecordIsOne, RowsAreInOrder};
 
 /// The body of a range asks for one thing.
 pub fn range_body_is_one()
@@ -12,7 +12,12 @@ pub fn claim_is_one()
     ensures { ClaimIsOne }
 {}
 
-/// The members of a row stand in the byte order of their names.
+/// The body of a call that records asks for one thing.
+pub fn record_is_one()
+    ensures { RecordIsOne }
+{}
+
+/// The members of a row are in the byte order of their names.
 pub fn rows_are_in_order()
     ensures { RowsAreInOrder }
 {}

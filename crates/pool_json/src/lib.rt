@@ -6,11 +6,13 @@ mod claims;
 mod details;
 mod laws;
 mod members;
+mod records;
 mod replies;
 mod rows;
 
 pub use bodies::{RangeDraft, RequestRefusal, read_range};
 pub use claims::read_claim;
 pub use details::{code, detail, quantity_name};
-pub use laws::{claim_is_one, range_body_is_one, rows_are_in_order};
+pub use laws::{claim_is_one, range_body_is_one, record_is_one, rows_are_in_order};
+pub use records::read_record;
 pub use replies::{Shape, reply_bytes, request_refusal_bytes};

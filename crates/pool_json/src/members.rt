@@ -6,8 +6,8 @@ ghost use Rattle.serde_json.specs.View.{view};
 ghost use Rattle.ipam_data.specs.declared.replies.FieldName.TheVariants.{Name as NameField};
 ghost use Rattle.ipam_data.specs.declared.replies.Refusal.TheVariants.{Memory};
 ghost use Rattle.ipam_json.specs.Members.{is_plain, name_of};
-ghost use Rattle.ipam_json.specs.Outcomes.{OrMemory, read_member};
-ghost use Rattle.pool_json.specs.Bodies.{number_of, number_within};
+ghost use Rattle.ipam_json.specs.Outcomes.{OrMemory, field, read_member};
+ghost use Rattle.pool_json.specs.Bodies.{asn_name_of, asn_named, number_of, number_within};
 
 use ipam_data::replies::{FieldName, Refusal};
 use ipam_data::text::{NameBounds, Tested};
@@ -15,7 +15,7 @@ use serde_json::Value;
 use std::alloc::Global;
 use stored_tables::tables::Text;
 
-/// The value of a member, where the object has it.
+/// The value of a member, if the object has it.
 fn member<'a>(body: &'a Value, name: &str) -> Option<&'a Value>
     ensures { option_map (λ v. view v.now) result ≡ get name.now (view body.now) }
 {
@@ -53,6 +53,32 @@ pub(crate) fn name(alloc: Global, body: &Value) -> Result<Text, Refusal>
     Err(Refusal::Field(FieldName::Name))
 }
 
+/// The name of a chosen AS number, as a text gives it.
+fn asn_named(alloc: Global, text: &str) -> Result<Text, Refusal>
+    ensures { OrMemory (λ r. field NameField (asn_named text.now) ≡ r) result }
+{
+    if text.is_empty() {
+        return owned(alloc, text);
+    }
+    if is_name(text) {
+        return owned(alloc, text);
+    }
+    Err(Refusal::Field(FieldName::Name))
+}
+
+/// The name of a chosen AS number, which may be absent or empty.
+pub(crate) fn asn_name(alloc: Global, body: &Value) -> Result<Text, Refusal>
+    ensures { OrMemory (λ r. read_member NameField asn_name_of (view body.now) ≡ r) result }
+{
+    let Some(value) = member(body, "name") else {
+        return owned(alloc, "");
+    };
+    match value.as_str() {
+        Some(text) => asn_named(alloc, text),
+        None => Err(Refusal::Field(FieldName::Name)),
+    }
+}
+
 /// A number that a range may have as an end.
 fn within(number: u64) -> Option<u32>
     ensures { result ≡ number_within number }
@@ -71,7 +97,7 @@ fn number_in(value: &Value) -> Option<u32>
     within(number)
 }
 
-/// A number of a range, where the object has it.
+/// A number of a range, if the object has it.
 pub(crate) fn number(body: &Value, name: &str) -> Option<u32>
     ensures { result ≡ number_of (get name.now (view body.now)) }
 {

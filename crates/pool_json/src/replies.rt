@@ -3,7 +3,7 @@
 ghost use Rattle.std.specs.Prelude.{◌≡◌, IfOk};
 ghost use Rattle.serde_json.specs.Written.{compact_text};
 ghost use Rattle.ipam_json.specs.Written.{Puts, pieces_of, value_pieces};
-ghost use Rattle.pool_json.specs.Replies.{claimed_data, pool_refusal_data, reply_data, reply_text, request_refusal_text, words_data};
+ghost use Rattle.pool_json.specs.Replies.{claimed_data, number_words, pool_refusal_data, reply_data, reply_text, request_refusal_text, words_data};
 ghost use Rattle.pool_json.specs.Words.{detail_of};
 
 use crate::bodies::RequestRefusal;
@@ -14,7 +14,7 @@ use json::Writer;
 use number_pools::{Member, PoolKind, PoolRefusal, PoolReply};
 use std::alloc::{AllocError, Global};
 
-/// How the reply to a call is written: for which kind, and whether a claim came as a list and so is answered by one.
+/// How the reply to a call is written: for which kind, and whether a claim was given as a list and so is answered by one.
 #[derive(Clone, Copy, Debug)]
 pub struct Shape {
     pub kind: PoolKind,
@@ -68,7 +68,7 @@ fn put_claimed(writer: &mut Writer, shape: Shape, rows: &[Member]) -> Result<(),
     }
 }
 
-/// Writes a reply, and nothing where it has no value.
+/// Writes a reply, and nothing if it has no value.
 fn put_reply(
     alloc: Global,
     writer: &mut Writer,
@@ -89,7 +89,7 @@ fn put_reply(
 }
 
 /// The JSON text of a reply to a call of this shape: compact, with the members of each object in the byte order of their names, and
-/// no text where a row is gone. `Err` means out of memory.
+/// no text if a row is gone. `Err` means out of memory.
 pub fn reply_bytes(alloc: Global, shape: Shape, reply: &PoolReply) -> Result<Vec<u8>, AllocError>
     ensures { IfOk result (λ v. v.items ≡ reply_text shape reply.now) }
 {
@@ -107,6 +107,16 @@ fn words_bytes(alloc: Global, code: &str, detail: &str) -> Result<Vec<u8>, Alloc
     Ok(writer.into_inner())
 }
 
+/// In words that the number of an item of a kind is missing or malformed.
+fn number_words(kind: PoolKind) -> &'static str
+    ensures { result.now ≡ number_words kind }
+{
+    match kind {
+        PoolKind::Asn => "asn is missing or malformed",
+        PoolKind::Vlan => "vid is missing or malformed",
+    }
+}
+
 /// The JSON text of a refusal before the pools are asked. `Err` means out of memory.
 pub fn request_refusal_bytes(alloc: Global, refusal: &RequestRefusal) -> Result<Vec<u8>, AllocError>
     ensures { IfOk result (λ v. v.items ≡ request_refusal_text refusal.now) }
@@ -115,5 +125,6 @@ pub fn request_refusal_bytes(alloc: Global, refusal: &RequestRefusal) -> Result<
         RequestRefusal::Common(refusal) => refusal_bytes(alloc, refusal),
         RequestRefusal::Start => words_bytes(alloc, "field", "start is missing or malformed"),
         RequestRefusal::End => words_bytes(alloc, "field", "end is missing or malformed"),
+        RequestRefusal::Number(kind) => words_bytes(alloc, "field", number_words(*kind)),
     }
 }

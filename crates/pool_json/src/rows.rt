@@ -3,9 +3,10 @@
 ghost use Rattle.std.specs.Prelude.{◌∷◌, [], decimal};
 ghost use Rattle.json.specs.Token.{Token};
 ghost use Rattle.ipam_json.specs.Replies.{list_data};
-ghost use Rattle.ipam_json.specs.Values.{number_data};
+ghost use Rattle.serde_json.specs.Data.{object};
+ghost use Rattle.ipam_json.specs.Values.{members, number_data};
 ghost use Rattle.ipam_json.specs.Written.{Puts, pieces_of, rows_pieces};
-ghost use Rattle.pool_json.specs.Rows.{asn_data, member_data, range_data, vlan_data};
+ghost use Rattle.pool_json.specs.Rows.{asn_data, bare_asn, member_data, named_asn, range_data, vlan_data};
 
 use json::Writer;
 use number_pools::{Member, NumberRange, PoolKind};
@@ -39,15 +40,37 @@ pub(crate) fn put_range(writer: &mut Writer, row: &NumberRange) -> Result<(), Al
     writer.end_object()
 }
 
-/// Writes the number of an autonomous system that is given out.
-fn put_asn(writer: &mut Writer, row: &Member) -> Result<(), AllocError>
-    ensures { Puts result writer.old writer.new (pieces_of (asn_data row.now)) }
+/// Writes the number of an autonomous system without a name.
+fn put_bare_asn(writer: &mut Writer, row: &Member) -> Result<(), AllocError>
+    ensures { Puts result writer.old writer.new (pieces_of (object (members (bare_asn row.now)))) }
 {
     writer.begin_object()?;
     put_number(writer, "asn", row.number)?;
     put_number(writer, "id", row.id)?;
     put_number(writer, "range", row.range)?;
     writer.end_object()
+}
+
+/// Writes the number of an autonomous system with its name.
+fn put_named_asn(writer: &mut Writer, row: &Member) -> Result<(), AllocError>
+    ensures { Puts result writer.old writer.new (pieces_of (object (members (named_asn row.now)))) }
+{
+    writer.begin_object()?;
+    put_number(writer, "asn", row.number)?;
+    put_number(writer, "id", row.id)?;
+    put_text(writer, "name", row.name.as_str())?;
+    put_number(writer, "range", row.range)?;
+    writer.end_object()
+}
+
+/// Writes the number of an autonomous system that is given out: its name only if it has one.
+fn put_asn(writer: &mut Writer, row: &Member) -> Result<(), AllocError>
+    ensures { Puts result writer.old writer.new (pieces_of (asn_data row.now)) }
+{
+    if row.name.as_str().is_empty() {
+        return put_bare_asn(writer, row);
+    }
+    put_named_asn(writer, row)
 }
 
 /// Writes a VLAN that is given out.

@@ -4,19 +4,19 @@ use Rattle.pool_keeper.specs.declared.tables.PoolTables.{PoolTables}
 use Rattle.pool_keeper.specs.Keeping.{is_under}
 
 -- the tables under each path, the numbers of the calls of each keeper that fail, the path of the keeper that is out, if one is, and
--- how many calls of the keepers that came back had failed
+-- how many calls of the keepers that were given back had failed
 pub record Opened : Type 0 where
   pub stored : List (List ℕ × PoolTables)
   pub fails : List ℕ
   pub lent : Option (Option (List ℕ))
   pub faults : ℕ
 
--- with these tables under a path, in the place of its first entry or else behind all
+-- with these tables under a path, in the place of its first entry or else after all
 abbrev pub kept_at : List (List ℕ × PoolTables) → List ℕ → PoolTables → List (List ℕ × PoolTables)
 kept_at [] path tables = (path, tables) ∷ []
 kept_at (entry ∷ rest) path tables = if is_under path entry then (path, tables) ∷ rest else entry ∷ kept_at rest path tables
 
--- with the tables of the keeper that came back under its path, if it has one
+-- with the tables of the keeper that was given back under its path, if it has one
 abbrev pub returned : List (List ℕ × PoolTables) → Option (Option (List ℕ)) → PoolTables → List (List ℕ × PoolTables)
 returned stored None tables = stored
 returned stored (Some None) tables = stored

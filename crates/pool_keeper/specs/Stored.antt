@@ -1,4 +1,4 @@
--- Stored pools: the tables for which pools stand, and what a change does to tables.
+-- Stored pools: the tables that represent pools, and what a change does to tables.
 use Rattle.std.specs.Prelude.{◌≡◌, ℕ, ◌==◌, List, [], ◌∷◌, ◌++◌, Option, Some, None, if◌then◌else◌}
 use Rattle.number_pools.specs.Rows.{Pools, member_id, range_id}
 use Rattle.pool_keeper.specs.declared.tables.PoolTables.{PoolTables}
@@ -8,13 +8,13 @@ use Rattle.pool_keeper.specs.declared.tables.PoolChange.{PoolChange}
 abbrev pub empty_tables : PoolTables
 empty_tables = record { next_range = 1; next_member = 1; ranges = []; members = [] }
 
--- without the first row of the id, where there is an id and such a row
+-- without the first row of the id, if there is an id and such a row
 abbrev pub without_first : {T : Type 0} → (T → ℕ) → Option ℕ → List T → List T
 without_first id None rows = rows
 without_first id (Some n) [] = []
 without_first id (Some n) (x ∷ xs) = if id x == n then xs else x ∷ without_first id (Some n) xs
 
--- the tables after a change: the rows of its cuts go, its new rows stand behind all others, and its next ids are set
+-- the tables after a change: the rows of its cuts go, its new rows are after all others, and its next ids are set
 abbrev pub changed : PoolChange → PoolTables → PoolTables
 changed change tables = record {
   next_range = change.next_range;
@@ -23,11 +23,11 @@ changed change tables = record {
   members = without_first member_id change.cut_member tables.members ++ change.new_members;
 }
 
--- the tables for which pools stand; log items are not stored
+-- the tables that represent pools; log items are not stored
 abbrev pub tables_of : Pools → PoolTables
 tables_of s = record { next_range = s.ranges.next; next_member = s.members.next; ranges = s.ranges.rows; members = s.members.rows }
 
--- where tables are told, they are those of the pools
+-- if tables are known, they are those of the pools
 abbrev pub Tells : Option PoolTables → Pools → Type 0
 Tells None s = Unit {0}
 Tells (Some tables) s = tables ≡ tables_of s

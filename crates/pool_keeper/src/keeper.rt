@@ -12,13 +12,13 @@ use stored_tables::tables::Text;
 
 /// What keeps stored pools. Their rows may be any: whoever opens them looks whether they are lawful.
 pub trait PoolKeeper {
-    /// The tables that it keeps, where it tells them.
+    /// The tables that it keeps, if they are known.
     ghost told: { Self → Option StoredPools };
 
     /// How often it has failed. The count never falls, and rises in calls that fail alone.
     ghost faults: { Self → ℕ };
 
-    /// The tables that it keeps. It leaves them. `Err` is `Failed` only where the count rose, which it does
+    /// The tables that it keeps. It leaves them. `Err` is `Failed` only if the count rose, which it does
     /// in no other case.
     fn load(&mut self) -> Result<PoolTables, KeepFault>
         ensures told { IfOk result (λ tables. IsTold (told self.old) tables) }
@@ -27,7 +27,7 @@ pub trait PoolKeeper {
         ensures failed { IsErrOf result KeepFault.Failed → Rose (faults self.old) (faults self.new) }
         ensures still { IsErrOf result KeepFault.Failed ⊎ (faults self.new ≡ faults self.old) };
 
-    /// Makes a change, whole or not at all. `Err` is `Failed` only where the count rose, which it does in no other case, and
+    /// Makes a change, whole or not at all. `Err` is `Failed` only if the count rose, which it does in no other case, and
     /// leaves the tables.
     fn apply(&mut self, change: &PoolChange) -> Result<(), KeepFault>
         ensures ok { OnOk result (told self.new ≡ option_map (changed change.now) (told self.old)) }
@@ -37,21 +37,21 @@ pub trait PoolKeeper {
         ensures still { IsErrOf result KeepFault.Failed ⊎ (faults self.new ≡ faults self.old) };
 }
 
-/// What starts keepers of pools, one at a time: over the tables of a path, or over empty tables of their own.
+/// What starts keepers of pools, one at a time: over the tables of a path, or over their own empty tables.
 pub trait PoolOpener {
     type Kept: PoolKeeper + Drop + Send;
 
-    /// The tables under each path, where it knows them.
+    /// The tables under each path, if they are known.
     ghost stored: { Self → Option (List (List ℕ × StoredPools)) };
 
-    /// The path of the keeper that was started last and is not back, where one is out; one may have no path.
+    /// The path of the keeper that was started last and is not back, if one is out; one may have no path.
     ghost lent: { Self → Option (Option (List ℕ)) };
 
-    /// How often it or a keeper that came back has failed. The count never falls, and rises where one of them failed alone.
+    /// How often it or a keeper that was given back has failed. The count never falls, and rises if one of them failed alone.
     ghost faults: { Self → ℕ };
 
-    /// A keeper over the tables of this path, which are the empty ones where none stand there; without a path over empty tables. It
-    /// has not failed. No path is changed, also where it is refused. `Err` is `Failed` only where the count rose, which it does in no
+    /// A keeper over the tables of this path, which are the empty ones if it has none; without a path over empty tables. It
+    /// has not failed. No path is changed, also if it is refused. `Err` is `Failed` only if the count rose, which it does in no
     /// other case, and leaves out what was out.
     fn start(&mut self, path: Option<&Text>) -> Result<Self::Kept, KeepFault>
         ensures told { IfOk result (λ kept. Self.Kept.told kept ≡ started (stored self.old) (option_copied path.entry)) }

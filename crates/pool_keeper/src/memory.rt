@@ -1,4 +1,4 @@
-//! A keeper of pools in memory, whose calls fail where its maker says so.
+//! A keeper of pools in memory, whose calls fail if its maker says so.
 
 ghost use Rattle.std.specs.Prelude.{◌≡◌, ◌↔◌, ℕ, ◌+◌, ◌<◌, ◌≤◌, ◌==◌, ◌⊎◌, Some, option_map, IfOk, OnOk, OnErr, IsTrue, IsErrOf, MatchResult, vec_len, vec_capacity};
 ghost use Rattle.std.specs.List.{list_any};
@@ -15,7 +15,7 @@ use number_pools::{Listed, Member, NumberRange};
 use std::alloc::AllocError;
 use std::marker::Model;
 
-/// A keeper of pools in memory. It tells its tables. Its calls are counted from 0, and those whose numbers it was given fail.
+/// A keeper of pools in memory. Its tables are known. Its calls are counted from 0, and those whose numbers it was given fail.
 ///
 /// A contract sees the tables, the numbers of the calls that fail, how many calls there were, and how many of them failed.
 #[derive(Drop)]
@@ -40,7 +40,7 @@ impl Model for MemoryPools {
     ghost invariant = { λ k. k.faults ≤ k.calls };
 }
 
-/// Whether a call of this number stands among those that fail.
+/// Whether a call of this number is among those that fail.
 fn is_listed(fails: &[u32], call: u64) -> bool
     ensures listed { result ≡ list_any (λ n. n == call) fails.now }
     ensures low { IsTrue result → call < 4294967296 }
@@ -121,7 +121,7 @@ impl PoolKeeper for MemoryPools {
 
     ghost faults = { λ k. k.faults };
 
-    /// The tables that it keeps. `Failed` comes exactly where the call's number was given, and the count rises in those calls
+    /// The tables that it keeps. `Failed` is returned exactly if the call's number was given, and the count rises in those calls
     /// alone, by one.
     fn load(&mut self) -> Result<PoolTables, KeepFault>
         ensures told { IfOk result (λ tables. self.old.tables ≡ tables) }
@@ -144,7 +144,7 @@ impl PoolKeeper for MemoryPools {
         })
     }
 
-    /// Makes a change, whole or not at all. `Failed` comes exactly where the call's number was given, and the count rises in those
+    /// Makes a change, whole or not at all. `Failed` is returned exactly if the call's number was given, and the count rises in those
     /// calls alone, by one.
     fn apply(&mut self, change: &PoolChange) -> Result<(), KeepFault>
         ensures ok { OnOk result (Some self.new.tables ≡ Some (changed change.now self.old.tables)) }

@@ -55,7 +55,7 @@ pub(crate) fn cut_member(rows: &mut Vec<Member>, id: Option<u32>)
     }
 }
 
-/// Puts rows, for which there is room, behind all others.
+/// Puts rows, for which there is room, after all others.
 pub(crate) fn push_all<T: Drop>(rows: &mut Vec<T>, news: Vec<T>)
     requires { vec_len rows.old + vec_len news ≤ vec_capacity rows.old }
     ensures { rows.new.items ≡ rows.old.items ++ news.items }

@@ -6,7 +6,7 @@ ghost use Rattle.pool_keeper.specs.Stored.{empty_tables as no_rows};
 use number_pools::{Listed, Member, NumberRange};
 use std::alloc::{AllocError, Global};
 
-/// What a keeper of pools holds: the next ids, and the rows in the order in which they came.
+/// What a keeper of pools holds: the next ids, and the rows in the order in which they were given.
 #[derive(Debug, Drop)]
 pub struct PoolTables {
     /// The id of the range that is made next.
@@ -17,7 +17,7 @@ pub struct PoolTables {
     pub members: Listed<Member>,
 }
 
-/// An edit of stored pools: the row of each list that goes, those that come, and the next ids.
+/// An edit of stored pools: the row of each list that is removed, those that are put, and the next ids.
 #[derive(Debug, Drop)]
 pub struct PoolChange {
     /// The next range's id after the change.

@@ -1,4 +1,4 @@
--- Stored pools that are opened: what is wrong with them, if anything, and the pools for which they stand.
+-- Stored pools that are opened: what is wrong with them, if anything, and the pools that they represent.
 use Rattle.std.specs.Prelude.{◌≡◌, ℕ, ◌==◌, ◌||◌, ◌&&◌, nat_le, Bool, true, false, not, List, [], ◌∷◌, ◌++◌, fold, Option, Some, None, option_map, if◌then◌else◌}
 use Rattle.std.specs.List.{list_any}
 use Rattle.ipam_data.specs.Checks.{first}
@@ -12,7 +12,7 @@ use Rattle.pool_keeper.specs.declared.tables.PoolTables.{PoolTables}
 use Rattle.pool_opening.specs.declared.faults.PoolFault.{PoolFault}
 use Rattle.pool_opening.specs.declared.faults.PoolFault.TheVariants.{BadRange, BadMember, BadNext, Keeper, Memory}
 
--- ---- rows that break a rule beside those before them
+-- ---- rows that break a rule given those before them
 
 abbrev pub greater : ℕ → ℕ → ℕ
 greater top n = if nat_le n top then top else n
@@ -37,13 +37,13 @@ abbrev pub breaks_member : List NumberRange → List Member → Member → Bool
 breaks_member ranges before m =
     is_out_of_order member_id before m || is_outside (row_at range_id ranges m.range) m.number || is_held ranges before (pool_at ranges m) m.number
 
--- the lesser of the id and the least so far, where its row breaks a rule; else the least so far
+-- the lesser of the id and the least so far, if its row breaks a rule; else the least so far
 abbrev pub lesser_if : Bool → ℕ → Option ℕ → Option ℕ
 lesser_if false n found = found
 lesser_if true n None = Some n
 lesser_if true n (Some least) = Some (if nat_le least n then least else n)
 
--- the least id of a row that breaks a rule beside all those that stand before it
+-- the least id of a row that breaks a rule given all those that are before it
 abbrev pub least_broken : {T : Type 0} → (T → ℕ) → (List T → T → Bool) → List T → Option ℕ → List T → Option ℕ
 least_broken id breaks before found [] = found
 least_broken id breaks before found (x ∷ xs) = least_broken id breaks (before ++ x ∷ []) (lesser_if (breaks before x) (id x) found) xs
@@ -72,7 +72,7 @@ fault_of tables = first (
 abbrev pub loaded : PoolTables → Pools
 loaded tables = record { ranges = record { rows = tables.ranges; next = tables.next_range }; members = record { rows = tables.members; next = tables.next_member }; spent = 0 }
 
--- what a refusal says of the tables: nothing of a keeper that failed, and of want of memory
+-- what a refusal says of the tables: nothing of a keeper that failed, and of out of memory
 abbrev pub IsRefused : PoolTables → PoolFault → Type 0
 IsRefused tables Keeper = Unit {0}
 IsRefused tables Memory = Unit {0}

@@ -19,9 +19,9 @@ use std::alloc::{AllocError, Global};
 pub enum PoolFault {
     /// The keeper failed.
     Keeper,
-    /// A range breaks a rule beside those before it: the one of the least id that does.
+    /// A range breaks a rule given those before it: the one of the least id that does.
     BadRange(u32),
-    /// A member breaks a rule beside those before it: the one of the least id that does.
+    /// A member breaks a rule given those before it: the one of the least id that does.
     BadMember(u32),
     /// A next id is 0, or not above all ids.
     BadNext,
@@ -49,8 +49,8 @@ fn fault_of(alloc: Global, tables: &PoolTables) -> Result<Option<PoolFault>, All
     Ok(None)
 }
 
-/// The rows of the pools for which tables stand, which are lawful; or what is wrong with the tables. The tables of lawful pools are refused
-/// for lack of memory alone, or where they have more ranges or members than can be held: no others that do are opened.
+/// The rows of the pools that tables represent, which are lawful; or what is wrong with the tables. The tables of lawful pools are refused
+/// for lack of memory alone, or if they have more ranges or members than can be held: no others that do are opened.
 pub fn opened(alloc: Global, tables: PoolTables) -> Result<PoolRows, PoolFault>
     ensures faultless { IfOk result (λ r. fault_of tables ≡ None) }
     ensures pools { IfOk result (λ r. r.pools ≡ loaded tables) }
@@ -74,7 +74,7 @@ pub fn opened(alloc: Global, tables: PoolTables) -> Result<PoolRows, PoolFault>
     rows_of(alloc, tables)
 }
 
-/// The rows of the pools for which tables without a fault stand. `Err` is `Memory`.
+/// The rows of the pools that tables without a fault represent. `Err` is `Memory`.
 fn rows_of(alloc: Global, tables: PoolTables) -> Result<PoolRows, PoolFault>
     requires { fault_of tables ≡ None }
     ensures pools { IfOk result (λ r. r.pools ≡ loaded tables) }

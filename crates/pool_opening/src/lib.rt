@@ -1,4 +1,4 @@
-//! Stored pools that are opened: what is wrong with their tables, if anything, or the rows for which they stand.
+//! Stored pools that are opened: what is wrong with their tables, if anything, or the rows that they represent.
 #![tactic(auto)]
 
 mod faults;

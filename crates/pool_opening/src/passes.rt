@@ -14,7 +14,7 @@ use pool_keeper::tables::PoolTables;
 use radix_tree::Tree;
 use std::alloc::{AllocError, Global};
 
-/// The least id of a range that breaks a rule beside those before it.
+/// The least id of a range that breaks a rule given those before it.
 pub(crate) fn bad_range(ranges: &[NumberRange]) -> Option<u32>
     ensures { result ≡ least_broken range_id breaks_range [] None ranges.now }
 {
@@ -30,7 +30,7 @@ pub(crate) fn bad_range(ranges: &[NumberRange]) -> Option<u32>
     found
 }
 
-/// The least id of a member that breaks a rule beside those before it, by a tree that is empty at first.
+/// The least id of a member that breaks a rule given those before it, by a tree that is empty at first.
 fn pass_members(ranges: &[NumberRange], members: &[Member], taken: &mut Tree) -> Option<u32>
     requires empty { taken.old.blocks ≡ [] }
     requires family { taken.old.family ≡ V6 }
@@ -53,7 +53,7 @@ fn pass_members(ranges: &[NumberRange], members: &[Member], taken: &mut Tree) ->
     found
 }
 
-/// The least id of a member that breaks a rule beside those before it. `Err` means out of memory, or more members than can be held.
+/// The least id of a member that breaks a rule given those before it. `Err` means out of memory, or more members than can be held.
 pub(crate) fn bad_member(
     alloc: Global,
     ranges: &[NumberRange],

@@ -48,7 +48,7 @@ pub fn in_bounds(kind: PoolKind, first: u32, last: u32) -> bool
     1 <= first && first <= last && last <= kind.most()
 }
 
-/// The lesser of an id and the least so far, where its row breaks a rule; else the least so far.
+/// The lesser of an id and the least so far, if its row breaks a rule; else the least so far.
 pub(crate) fn lesser_if(broken: bool, id: u32, found: Option<u32>) -> Option<u32>
     ensures { result ≡ lesser_if broken id found }
 {
@@ -75,7 +75,7 @@ fn is_named(ranges: &[NumberRange], kind: PoolKind, name: &Text) -> bool
     ranges.iter().any(|range| has_name(kind, name, range))
 }
 
-/// Whether a range breaks a rule beside those before it, whose greatest id is given.
+/// Whether a range breaks a rule given those before it, whose greatest id is given.
 pub(crate) fn breaks_range(before: &[NumberRange], top: u32, range: &NumberRange) -> bool
     requires { top ≡ top_of range_id before.now }
     ensures { result ≡ breaks_range before.now range.now }
@@ -122,7 +122,7 @@ pub(crate) fn key_of_member(ranges: &[NumberRange], member: &Member) -> Block
     )
 }
 
-/// Whether a member breaks a rule beside those before it, whose greatest id is given and whose numbers the tree holds.
+/// Whether a member breaks a rule given those before it, whose greatest id is given and whose numbers the tree holds.
 pub(crate) fn breaks_by_tree(
     ranges: &[NumberRange],
     taken: &Tree,

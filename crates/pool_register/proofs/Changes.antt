@@ -1,11 +1,10 @@
 -- A change of stored pools leads from their tables to those of the pools behind the update.
-use Rattle.std.proofs.Common.{◌≡◌, ◌↔◌, ℕ, ◌+◌, ◌<◌, ◌≤◌, ◌==◌, Bool, true, false, not, cond, List, [], ◌∷◌, ◌++◌, append-nil, append_assoc, fold, length, Option, Some, None, option_map, IsSome, refl, ap, sym, ◌∙◌, subst, arith, if◌then◌else◌}
+use Rattle.std.proofs.Common.{◌≡◌, ◌↔◌, ℕ, ◌+◌, ◌==◌, Bool, true, false, not, cond, List, [], ◌∷◌, ◌++◌, append-nil, append_assoc, fold, length, Option, Some, None, option_map, IsSome, refl, ap, sym, ◌∙◌, subst, arith, if◌then◌else◌}
 use Rattle.std.proofs.lemmas.Bool.Decides.{nat_tests}
-use Rattle.ipam_data.specs.RowList.{AllBelow, Rises, RowList, appended, row_at, with_row, without}
+use Rattle.ipam_data.specs.RowList.{AllBelow, Rises, RowList, appended, with_row, without}
 use Rattle.ipam_data.proofs.Placed.{below_more, below_with, over_from_rises, without_over}
 use Rattle.ipam_data.proofs.Kept.{none_above}
 use Rattle.placed_book.proofs.RowPlaces.{with_row_new}
-use Rattle.number_pools.specs.declared.rows.NumberRange.{NumberRange}
 use Rattle.number_pools.specs.declared.rows.Member.{Member}
 use Rattle.number_pools.specs.Rows.{Pools, member_id, range_id}
 use Rattle.number_pools.specs.Lawful.{IsLawfulPools}

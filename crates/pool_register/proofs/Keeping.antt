@@ -1,26 +1,26 @@
 -- What an accepted change leaves of what holds of pools, and which answers the plain step never gives.
-use Rattle.std.proofs.Common.{◌≡◌, ◌≢◌, ℕ, ◌+◌, nat_le, Bool, true, false, List, [], ◌∷◌, ◌++◌, find, fold, length, Option, Some, None, Result, Ok, Err, IfOk, OnOk, option_map, is_some, refl, ap, sym, ◌∙◌, subst, if◌then◌else◌}
+use Rattle.std.proofs.Common.{◌≡◌, ◌≢◌, ℕ, ◌+◌, ◌==◌, ◌&&◌, nat_le, Bool, true, false, List, [], ◌∷◌, ◌++◌, length, Option, Some, None, Result, Ok, Err, IfOk, OnOk, option_map, refl, ap, sym, ◌∙◌, subst, if◌then◌else◌}
+use Rattle.std.specs.List.{list_any}
 use Rattle.history_lock.specs.Replies.{ReplyKind, accepted, fault, memory, plain, grown}
 use Rattle.ipam_data.specs.declared.kinds.TheConstants.{LAST_ID}
 use Rattle.ipam_data.specs.Checks.{first as first_of, most_spent}
 use Rattle.ipam_data.specs.RowList.{last_next, least}
-use Rattle.number_pools.specs.declared.rows.PoolKind.{PoolKind}
 use Rattle.number_pools.specs.declared.rows.NumberRange.{NumberRange}
 use Rattle.number_pools.specs.declared.rows.Member.{Member}
 use Rattle.number_pools.specs.declared.calls.Quantity.{Quantity}
-use Rattle.number_pools.specs.declared.calls.Quantity.TheVariants.{Claims, Ids, Log, Ranges as RangeCount, Members as MemberCount}
+use Rattle.number_pools.specs.declared.calls.Quantity.TheVariants.{Claims, Items, Ids, Log, Ranges as RangeCount, Members as MemberCount}
 use Rattle.number_pools.specs.declared.calls.TheConstants.{MOST_CLAIMED, MOST_MEMBERS, MOST_RANGES}
 use Rattle.number_pools.specs.declared.calls.PoolRefusal.{PoolRefusal}
-use Rattle.number_pools.specs.declared.calls.PoolRefusal.TheVariants.{Absent, NameTaken, Bounds, InUse, NoSpace, Limit, Keeper, Memory}
+use Rattle.number_pools.specs.declared.calls.PoolRefusal.TheVariants.{Absent, NameTaken, Bounds, InUse, NoSpace, Outside, Taken, Repeated, Limit, Keeper, Memory}
 use Rattle.number_pools.specs.declared.calls.PoolCall.{PoolCall}
 use Rattle.number_pools.specs.declared.calls.PoolCall.TheVariants as call
 use Rattle.number_pools.specs.declared.calls.PoolReply.{PoolReply}
 use Rattle.number_pools.specs.declared.calls.PoolReply.TheVariants.{Made, Gone, Claimed, Refused}
 use Rattle.number_pools.specs.Machines.{kind_of, refusal_kind}
 use Rattle.number_pools.specs.Rows.{Pools, member_id, range_id}
-use Rattle.number_pools.specs.Free.{free_numbers}
+use Rattle.number_pools.specs.Free.{free_numbers, holds, pool_of}
 use Rattle.number_pools.specs.Lawful.{IsLawfulPools}
-use Rattle.number_pools.specs.Steps.{Check, add_checks, available_step, claim_checks, claim_step, claimed, cut_member_checks, cut_member_step, cut_range_checks, cut_range_step, has_name, in_bounds, is_of_range, made_range, member_at, members_step, plain_pool_step, range_at, unless, with_claim, with_range, without_member, without_range}
+use Rattle.number_pools.specs.Steps.{Check, add_checks, available_step, claim_checks, claim_step, claimed, cut_member_checks, cut_member_step, cut_range_checks, cut_range_step, has_name, in_bounds, is_number_taken, is_of_range, is_outside, is_repeated, made_range, member_at, members_step, numbers_of, plain_pool_step, range_at, record_checks, record_step, recorded, unfit, unless, with_claim, with_range, with_record, without_member, without_range}
 use Rattle.pool_keeper.specs.declared.tables.PoolTables.{PoolTables}
 use Rattle.pool_keeper.specs.Stored.{Tells}
 use Rattle.pool_register.specs.declared.planned.Update.{Update}
@@ -61,6 +61,9 @@ refused_stays (NameTaken id) entry log = refl
 refused_stays Bounds entry log = refl
 refused_stays (InUse id) entry log = refl
 refused_stays (NoSpace n) entry log = refl
+refused_stays (Outside n) entry log = refl
+refused_stays (Taken n id) entry log = refl
+refused_stays (Repeated n) entry log = refl
 refused_stays (Limit which n) entry log = refl
 refused_stays Keeper entry log = refl
 refused_stays Memory entry log = refl
@@ -100,6 +103,26 @@ name_rule (Some n) = refl
 use_rule : (o : Option ℕ) → IsRule (option_map InUse o)
 use_rule None = tt
 use_rule (Some n) = refl
+
+outside_rule : (t : Bool) (n : ℕ) → IsRule (if t then None else Some (Outside n))
+outside_rule true n = tt
+outside_rule false n = refl
+
+taken_rule : (n : ℕ) (o : Option ℕ) → IsRule (option_map (Taken n) o)
+taken_rule n None = tt
+taken_rule n (Some id) = refl
+
+again_rule : (t : Bool) (n : ℕ) → IsRule (if t then Some (Repeated n) else None)
+again_rule true n = refl
+again_rule false n = tt
+
+unfit_rule : (s : Pools) (range : NumberRange) (before ns : List ℕ) → IsRule (unfit s range before ns)
+unfit_rule s range before [] = tt
+unfit_rule s range before (n ∷ ns) =
+    first_rule (is_outside range n ∷ is_number_taken s range n ∷ is_repeated before n ∷ unfit s range (before ++ n ∷ []) ns ∷ []) (
+      outside_rule (nat_le range.first n && nat_le n range.last) n,
+      (taken_rule n (least member_id (holds s.ranges.rows (pool_of range) n) s.members.rows), (again_rule (list_any (λ m. m == n) before) n, (unfit_rule s range (before ++ n ∷ []) ns, tt))),
+    )
 
 -- the kind of an answer that is no fault and not want of memory
 abbrev IsAnswer : ReplyKind → Type 0
@@ -145,6 +168,13 @@ step_answers s (call.Claim kind id list names) = go (range_at s.ranges.rows kind
     go (Some range) =
         unless_answer (first_of (claim_checks s range (length names))) s (with_claim s range names) (Claimed (claimed s range names))
         (first_rule (claim_checks s range (length names)) (limit_rule (nat_le (length names) MOST_CLAIMED) Claims MOST_CLAIMED, (short_rule (nat_le (length names) (length (free_numbers s range))) (length (free_numbers s range)), (limit_rule (nat_le (length s.members.rows + length names) MOST_MEMBERS) MemberCount MOST_MEMBERS, (limit_rule (nat_le (s.members.next + length names) last_next) Ids LAST_ID, (limit_rule (nat_le (s.spent + length names) most_spent) Log most_spent, tt)))))) refl
+step_answers s (call.Record kind id list items) = go (range_at s.ranges.rows kind id)
+  where
+    go : (o : Option NumberRange) → IsAnswer (kind_of (record_step s id items o).1)
+    go None = tt
+    go (Some range) =
+        unless_answer (first_of (record_checks s range items)) s (with_record s range items) (Claimed (recorded s range items))
+        (first_rule (record_checks s range items) (limit_rule (nat_le (length items) MOST_CLAIMED) Items MOST_CLAIMED, (unfit_rule s range [] (numbers_of items), (limit_rule (nat_le (length s.members.rows + length items) MOST_MEMBERS) MemberCount MOST_MEMBERS, (limit_rule (nat_le (s.members.next + length items) last_next) Ids LAST_ID, (limit_rule (nat_le (s.spent + length items) most_spent) Log most_spent, tt)))))) refl
 
 -- so it never answers that the keeper failed
 pub no_keeper : (s : Pools) (called : PoolCall) → (plain_pool_step s called).1 ≢ Refused Keeper

@@ -4,3 +4,4 @@ pub mod MachineFits
 pub mod Loads
 pub mod Plans
 pub mod Putting
+pub mod Records

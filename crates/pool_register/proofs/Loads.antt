@@ -1,5 +1,5 @@
 -- What was loaded is what the keeper tells.
-use Rattle.std.proofs.Common.{◌≡◌, Option, Some, None, Result, Ok, Err, ap, sym, ◌∙◌, subst}
+use Rattle.std.proofs.Common.{◌≡◌, Option, Some, None, ap, sym, ◌∙◌, subst}
 use Rattle.number_pools.specs.Lawful.{IsLawfulPools}
 use Rattle.number_pools.specs.Rows.{Pools}
 use Rattle.pool_keeper.specs.declared.tables.PoolTables.{PoolTables}

@@ -1,16 +1,16 @@
 -- A call of pools is one of a machine.
-use Rattle.std.proofs.Common.{◌≡◌, ◌≢◌, ◌↔◌, ℕ, Bool, true, false, List, [], ◌∷◌, Option, Some, None, IsSome, is_some, refl, ap, sym, ◌∙◌, subst}
+use Rattle.std.proofs.Common.{◌≡◌, ◌≢◌, ◌↔◌, ℕ, Bool, true, false, List, [], ◌∷◌, Option, Some, None, IsSome, is_some, refl, ap, sym}
 use Rattle.history_lock.specs.Replies.{accepted, fault, AnswersAs}
 use Rattle.history_lock.specs.Replay.{replay as machine_replay}
 use Rattle.number_pools.specs.declared.calls.PoolCall.{PoolCall}
 use Rattle.number_pools.specs.declared.calls.PoolRefusal.{PoolRefusal}
-use Rattle.number_pools.specs.declared.calls.PoolRefusal.TheVariants.{Absent, NameTaken, Bounds, InUse, NoSpace, Limit, Keeper, Memory}
+use Rattle.number_pools.specs.declared.calls.PoolRefusal.TheVariants.{Absent, NameTaken, Bounds, InUse, NoSpace, Outside, Taken, Repeated, Limit, Keeper, Memory}
 use Rattle.number_pools.specs.declared.calls.PoolReply.{PoolReply}
 use Rattle.number_pools.specs.declared.calls.PoolReply.TheVariants.{Made, Gone, Claimed, Ranges, Members, Numbers, Refused}
 use Rattle.number_pools.specs.Machines.{kind_of, refusal_kind}
 use Rattle.number_pools.specs.Rows.{Pools}
 use Rattle.number_pools.specs.Steps.{plain_pool_step}
-use Rattle.pool_register.specs.Kept.{Seen, is_change, replay, seen_step}
+use Rattle.pool_register.specs.Kept.{is_change, replay, seen_step}
 
 -- replay as a lock sees it is that of the pools
 pub seen_replay : (s : Pools) (tells : Bool) (log : List (ℕ × PoolCall))
@@ -39,6 +39,9 @@ change_of_kind (NameTaken id) e = cc
 change_of_kind Bounds e = cc
 change_of_kind (InUse id) e = cc
 change_of_kind (NoSpace n) e = cc
+change_of_kind (Outside n) e = cc
+change_of_kind (Taken n id) e = cc
+change_of_kind (Repeated n) e = cc
 change_of_kind (Limit which n) e = cc
 change_of_kind Keeper e = cc
 change_of_kind Memory e = cc
@@ -69,6 +72,9 @@ answers old new called (Refused (NameTaken id)) h asked = told_of old new called
 answers old new called (Refused Bounds) h asked = told_of old new called (Refused Bounds) h (λ e. cc) (λ e. cc)
 answers old new called (Refused (InUse id)) h asked = told_of old new called (Refused (InUse id)) h (λ e. cc) (λ e. cc)
 answers old new called (Refused (NoSpace n)) h asked = told_of old new called (Refused (NoSpace n)) h (λ e. cc) (λ e. cc)
+answers old new called (Refused (Outside n)) h asked = told_of old new called (Refused (Outside n)) h (λ e. cc) (λ e. cc)
+answers old new called (Refused (Taken n id)) h asked = told_of old new called (Refused (Taken n id)) h (λ e. cc) (λ e. cc)
+answers old new called (Refused (Repeated n)) h asked = told_of old new called (Refused (Repeated n)) h (λ e. cc) (λ e. cc)
 answers old new called (Refused (Limit which n)) h asked = told_of old new called (Refused (Limit which n)) h (λ e. cc) (λ e. cc)
 answers old new called (Refused Keeper) h asked = is_changed (plain_pool_step old called).1 (asked refl)
 answers old new called (Refused Memory) h asked = tt
@@ -79,6 +85,9 @@ keeper_of (NameTaken id) e = cc
 keeper_of Bounds e = cc
 keeper_of (InUse id) e = cc
 keeper_of (NoSpace n) e = cc
+keeper_of (Outside n) e = cc
+keeper_of (Taken n id) e = cc
+keeper_of (Repeated n) e = cc
 keeper_of (Limit which n) e = cc
 keeper_of Keeper e = refl
 keeper_of Memory e = cc

@@ -1,7 +1,6 @@
 -- What calls come to, by what their checks come to.
 use Rattle.std.proofs.Common.{◌≡◌, ◌≢◌, ℕ, zero, suc, ◌+◌, ◌≤◌, ◌<◌, nat_le, Bool, true, false, List, [], ◌∷◌, ◌++◌, find, get_or, is_some, length, take, Option, Some, None, refl, ap, sym, ◌∙◌, subst, arith, if◌then◌else◌, Contains}
 use Rattle.std.proofs.lemmas.Bool.Decides.{nat_tests}
-use Rattle.history_lock.specs.Replies.{plain}
 use Rattle.ipam_data.specs.declared.kinds.TheConstants.{LAST_ID}
 use Rattle.ipam_data.specs.Checks.{first as first_of, most_spent}
 use Rattle.ipam_data.specs.RowList.{row_at, least, last_next}
@@ -23,20 +22,20 @@ use Rattle.number_pools.specs.Claims.{IsClaimed}
 use Rattle.number_pools.specs.Rows.{Pools, member_id, range_id}
 use Rattle.number_pools.specs.Free.{free_numbers}
 use Rattle.number_pools.specs.Lawful.{IsInBounds, IsLawfulPools}
-use Rattle.number_pools.specs.Steps.{Check, add_checks, available_step, claim_checks, claim_step, claimed, cut_member_checks, cut_member_step, cut_range_checks, cut_range_step, is_in_use, is_name_taken, is_of_range, is_out_of_bounds, is_short, made_members, made_range, member_at, members_of, members_step, no_ids, no_log, of_kind, plain_pool_step, range_at, same_kind, too_many, unless, with_claim, with_range, without_member, without_range}
+use Rattle.number_pools.specs.Steps.{Check, add_checks, available_step, claim_checks, claim_step, claimed, cut_member_checks, cut_member_step, cut_range_checks, cut_range_step, is_in_use, is_name_taken, is_of_range, is_out_of_bounds, is_short, made_members, made_range, member_at, member_limits, members_of, members_step, no_ids, no_log, of_kind, plain_pool_step, range_at, same_kind, too_many, unless, with_claim, with_made, with_range, without_member, without_range}
 use Rattle.pool_register.specs.declared.planned.Update.TheVariants.{AddRange, CutRange, CutMember, Claim}
 use Rattle.pool_register.specs.declared.planned.Planned.TheVariants.{Change}
-use Rattle.pool_register.specs.Planned.{AreFrom, CanAddRange, CanClaim, CanCutRange, IsPlanned, IsPlannedAs, claim_limits, with_members}
+use Rattle.pool_register.specs.Planned.{AreFrom, CanAddRange, CanClaim, CanCutRange, IsPlanned, IsPlannedAs, with_members}
 
 -- ---- a check that refuses, and one that does not
 
-unless_some : (check : Check) (why : PoolRefusal) (s new : Pools) (reply : PoolReply) → check ≡ Some why → unless check s new reply ≡ (s, Refused why)
+pub unless_some : (check : Check) (why : PoolRefusal) (s new : Pools) (reply : PoolReply) → check ≡ Some why → unless check s new reply ≡ (s, Refused why)
 unless_some check why s new reply e = ap (λ (c : Check). unless c s new reply) e
 
-unless_none : (check : Check) (s new : Pools) (reply : PoolReply) → check ≡ None → unless check s new reply ≡ (new, reply)
+pub unless_none : (check : Check) (s new : Pools) (reply : PoolReply) → check ≡ None → unless check s new reply ≡ (new, reply)
 unless_none check s new reply e = ap (λ (c : Check). unless c s new reply) e
 
-no_more : (which : Quantity) (most count : ℕ) → too_many which most count ≡ None → count ≤ most
+pub no_more : (which : Quantity) (most count : ℕ) → too_many which most count ≡ None → count ≤ most
 no_more which most count e = let t = test_holds (nat_le count most) (Limit which most) e in grind (arith, nat_tests)
 
 ids_fit : (next more : ℕ) → no_ids next more ≡ None → next + more ≤ last_next
@@ -165,7 +164,7 @@ module _ (s : Pools) (range : NumberRange) (names : List (List ℕ)) where
   -- it has too many items
   pub claim_large : (why : PoolRefusal) → too_many Claims MOST_CLAIMED (length names) ≡ Some why → claim_step s range.id names (Some range) ≡ (s, Refused why)
   claim_large why e =
-      refused_by why (ap (λ (c : Check). first_of (c ∷ is_short (length (free_numbers s range)) (length names) ∷ claim_limits s (length names))) e)
+      refused_by why (ap (λ (c : Check). first_of (c ∷ is_short (length (free_numbers s range)) (length names) ∷ member_limits s (length names))) e)
 
   small : length names ≤ MOST_CLAIMED → too_many Claims MOST_CLAIMED (length names) ≡ None
   small h = let t : nat_le (length names) MOST_CLAIMED ≡ true = grind (arith, nat_tests) in ap (λ (b : Bool). let c : Check = if b then None else Some (Limit Claims MOST_CLAIMED) in c) t
@@ -176,19 +175,19 @@ module _ (s : Pools) (range : NumberRange) (names : List (List ℕ)) where
   claim_short free h e l =
       let t : nat_le (length names) (length (free_numbers s range)) ≡ false = grind (arith, nat_tests) in
       refused_by (NoSpace free) (
-      ap (λ (c : Check). first_of (c ∷ is_short (length (free_numbers s range)) (length names) ∷ claim_limits s (length names))) (small h)
-      ∙ ap (λ (b : Bool). first_of ((if b then None else Some (NoSpace (length (free_numbers s range)))) ∷ claim_limits s (length names))) t
+      ap (λ (c : Check). first_of (c ∷ is_short (length (free_numbers s range)) (length names) ∷ member_limits s (length names))) (small h)
+      ∙ ap (λ (b : Bool). first_of ((if b then None else Some (NoSpace (length (free_numbers s range)))) ∷ member_limits s (length names))) t
       ∙ ap (λ (n : ℕ). let c : Check = Some (NoSpace n) in c) (sym e))
 
   -- what is left where there are numbers
   limits_left : length names ≤ MOST_CLAIMED → length names ≤ length (free_numbers s range)
-      → first_of (claim_checks s range (length names)) ≡ first_of (claim_limits s (length names))
+      → first_of (claim_checks s range (length names)) ≡ first_of (member_limits s (length names))
   limits_left h l =
       let t : nat_le (length names) (length (free_numbers s range)) ≡ true = grind (arith, nat_tests) in
-      ap (λ (c : Check). first_of (c ∷ is_short (length (free_numbers s range)) (length names) ∷ claim_limits s (length names))) (small h)
-      ∙ ap (λ (b : Bool). first_of ((if b then None else Some (NoSpace (length (free_numbers s range)))) ∷ claim_limits s (length names))) t
+      ap (λ (c : Check). first_of (c ∷ is_short (length (free_numbers s range)) (length names) ∷ member_limits s (length names))) (small h)
+      ∙ ap (λ (b : Bool). first_of ((if b then None else Some (NoSpace (length (free_numbers s range)))) ∷ member_limits s (length names))) t
 
-  pub claim_limited : (why : PoolRefusal) → length names ≤ MOST_CLAIMED → length names ≤ length (free_numbers s range) → first_of (claim_limits s (length names)) ≡ Some why
+  pub claim_limited : (why : PoolRefusal) → length names ≤ MOST_CLAIMED → length names ≤ length (free_numbers s range) → first_of (member_limits s (length names)) ≡ Some why
       → claim_step s range.id names (Some range) ≡ (s, Refused why)
   claim_limited why h l e = refused_by why (limits_left h l ∙ e)
 
@@ -197,7 +196,7 @@ made_from id range [] names = tt
 made_from id range (n ∷ ns) [] = tt
 made_from id range (n ∷ ns) (name ∷ names) = (refl, made_from (id + 1) range ns names)
 
-made_length : (id range : ℕ) (numbers : List ℕ) (names : List (List ℕ)) → length numbers ≡ length names → length (made_members id range numbers names) ≡ length names
+pub made_length : (id range : ℕ) (numbers : List ℕ) (names : List (List ℕ)) → length numbers ≡ length names → length (made_members id range numbers names) ≡ length names
 made_length id range [] [] e = refl
 made_length id range [] (name ∷ names) e = absurd (omega arith)
 made_length id range (n ∷ ns) [] e = absurd (omega arith)
@@ -212,13 +211,12 @@ take_length (suc k) (x ∷ xs) l = (let h = take_length k xs (omega arith) in om
 pub took_all : (n : ℕ) (free got : List ℕ) → IsClaimed n free got → length got ≡ n
 took_all n free got h = ap length h.least ∙ take_length n free h.enough
 
-pub claim_made : (s : Pools) (range : NumberRange) (names : List (List ℕ)) (numbers : List ℕ) → length names ≤ MOST_CLAIMED → IsClaimed (length names) (free_numbers s range) numbers
-    → first_of (claim_limits s (length names)) ≡ None
-    → IsPlannedAs s (claim_step s range.id names (Some range)) (Change (Claim (made_members s.members.next range.id numbers names)))
-claim_made s range names numbers small h e =
+-- no limit refuses so many members: they can be made
+pub can_make : (s : Pools) (range : ℕ) (numbers : List ℕ) (names : List (List ℕ)) → length numbers ≡ length names → first_of (member_limits s (length names)) ≡ None
+    → CanClaim s (made_members s.members.next range numbers names)
+can_make s range numbers names same e =
     let n = length names in
-    let made = made_members s.members.next range.id numbers names in
-    let as_many = made_length s.members.next range.id numbers names (took_all n (free_numbers s range) numbers h) in
+    let as_many = made_length s.members.next range numbers names same in
     let many = too_many MemberCount MOST_MEMBERS (length s.members.rows + n) in
     let ids = no_ids s.members.next n in
     let log = no_log s n in
@@ -226,16 +224,28 @@ claim_made s range names numbers small h e =
     let l1 = no_more MemberCount MOST_MEMBERS (length s.members.rows + n) (none_head many (ids ∷ log ∷ []) e) in
     let l2 = ids_fit s.members.next n (none_head ids (log ∷ []) e1) in
     let l3 = no_more Log most_spent (s.spent + n) (none_head log [] (none_rest ids (log ∷ []) e1)) in
-    let can : CanClaim s made = record { id = made_from s.members.next range.id numbers names; few = omega arith; ids = omega arith; log = omega arith } in
+    record { id = made_from s.members.next range numbers names; few = omega arith; ids = omega arith; log = omega arith }
+
+-- each of them spends an item
+pub spent_each : (s : Pools) (made : List Member) (n : ℕ) → length made ≡ n → (let p : Pools × PoolReply = (with_made s made n, Claimed made) in p) ≡ (with_members s made, Claimed made)
+spent_each s made n e = ap (λ (k : ℕ). let p : Pools × PoolReply = (with_made s made k, Claimed made) in p) (sym e)
+
+pub claim_made : (s : Pools) (range : NumberRange) (names : List (List ℕ)) (numbers : List ℕ) → length names ≤ MOST_CLAIMED → IsClaimed (length names) (free_numbers s range) numbers
+    → first_of (member_limits s (length names)) ≡ None
+    → IsPlannedAs s (claim_step s range.id names (Some range)) (Change (Claim (made_members s.members.next range.id numbers names)))
+claim_made s range names numbers small h e =
+    let n = length names in
+    let made = made_members s.members.next range.id numbers names in
+    let took = took_all n (free_numbers s range) numbers h in
     let same : claimed s range names ≡ made = ap (λ (ns : List ℕ). made_members s.members.next range.id ns names) (sym h.least) in (
       unless_none (first_of (claim_checks s range n)) s (with_claim s range names) (Claimed (claimed s range names)) (limits_left s range names small h.enough ∙ e)
-          ∙ ap (λ (ms : List Member). let p : Pools × PoolReply = (record { ranges = s.ranges; members = (with_members s ms).members; spent = s.spent + n }, Claimed ms) in p) same
-          ∙ ap (λ (k : ℕ). let p : Pools × PoolReply = (record { ranges = s.ranges; members = (with_members s made).members; spent = s.spent + k }, Claimed made) in p) (sym as_many),
-      can,
+          ∙ ap (λ (ms : List Member). let p : Pools × PoolReply = (with_made s ms n, Claimed ms) in p) same
+          ∙ spent_each s made n (made_length s.members.next range.id numbers names took),
+      can_make s range.id numbers names took e,
     )
 
 pub claim_made_as : (s : Pools) (range : NumberRange) (names : List (List ℕ)) (numbers : List ℕ) (made : List Member) → length names ≤ MOST_CLAIMED → IsClaimed (length names) (free_numbers s range) numbers
-    → first_of (claim_limits s (length names)) ≡ None → made ≡ made_members s.members.next range.id numbers names → IsPlannedAs s (claim_step s range.id names (Some range)) (Change (Claim made))
+    → first_of (member_limits s (length names)) ≡ None → made ≡ made_members s.members.next range.id numbers names → IsPlannedAs s (claim_step s range.id names (Some range)) (Change (Claim made))
 claim_made_as s range names numbers made small h e m =
     subst (λ (ms : List Member). IsPlannedAs s (claim_step s range.id names (Some range)) (Change (Claim ms))) (sym m) (claim_made s range names numbers small h e)
 

@@ -1,7 +1,7 @@
 -- Members that are put one after another.
-use Rattle.std.proofs.Common.{◌≡◌, ℕ, ◌+◌, ◌≤◌, List, [], ◌∷◌, length, ap, sym, ◌∙◌, subst, arith}
+use Rattle.std.proofs.Common.{◌≡◌, ℕ, ◌+◌, ◌≤◌, List, ◌∷◌, length, ap, sym, ◌∙◌, subst, arith}
 use Rattle.ipam_data.specs.Checks.{most_spent}
-use Rattle.ipam_data.specs.RowList.{RowList, last_next}
+use Rattle.ipam_data.specs.RowList.{last_next}
 use Rattle.number_pools.specs.declared.rows.Member.{Member}
 use Rattle.number_pools.specs.Rows.{Pools, member_id}
 use Rattle.number_pools.specs.Lawful.{AreNumbered}

@@ -1,6 +1,6 @@
 -- What pools over a keeper keep, and how their list of accepted changes grows.
-use Rattle.std.specs.Prelude.{◌≡◌, ℕ, Bool, true, false, List, [], ◌∷◌, ◌++◌, fold, Option, is_some}
-use Rattle.history_lock.specs.Replies.{ReplyKind, grown}
+use Rattle.std.specs.Prelude.{◌≡◌, ℕ, Bool, true, false, List, fold, Option}
+use Rattle.history_lock.specs.Replies.{grown}
 use Rattle.number_pools.specs.declared.calls.PoolCall.{PoolCall}
 use Rattle.number_pools.specs.declared.calls.PoolReply.{PoolReply}
 use Rattle.number_pools.specs.declared.calls.PoolReply.TheVariants.{Made, Gone, Claimed, Ranges, Members, Numbers, Refused}
@@ -17,7 +17,7 @@ pub record Kept (K : Type 0) : Type 0 where
   pub log : List (ℕ × PoolCall)
   pub keeper : K
 
--- the pools behind calls, one after another
+-- the pools after calls, one after another
 abbrev pub replay : Pools → List (ℕ × PoolCall) → Pools
 replay s log = fold (λ p entry. (plain_pool_step p entry.1).0) s log
 
@@ -25,14 +25,14 @@ replay s log = fold (λ p entry. (plain_pool_step p entry.1).0) s log
 abbrev pub logged : List (ℕ × PoolCall) → ℕ × PoolCall → PoolReply → List (ℕ × PoolCall)
 logged log entry reply = grown (kind_of reply) entry log
 
--- the pools are what the accepted changes lead to, and told tables are theirs
+-- the pools are what the accepted changes lead to, and known tables are theirs
 pub record IsWhole (opening state : Pools) (log : List (ℕ × PoolCall)) (told : Option PoolTables) : Type 0 where
   pub replayed : state ≡ replay opening log
   pub tells : Tells told state
 
 -- ---- as a lock sees them
 
--- the pools, and whether their keeper tells its tables: a keeper that does goes on doing so
+-- the pools, and whether the tables of their keeper are known: once known, they stay known
 pub record Seen : Type 0 where
   pub pools : Pools
   pub tells : Bool
@@ -40,7 +40,7 @@ pub record Seen : Type 0 where
 abbrev pub seen_step : Seen → PoolCall → Seen × PoolReply
 seen_step s call = (record { pools = (plain_pool_step s.pools call).0; tells = s.tells }, (plain_pool_step s.pools call).1)
 
--- the plain answers in whose place a fault may be told: the accepted changes, which a keeper has to store
+-- the plain answers in whose place a fault may be reported: the accepted changes, which a keeper has to store
 abbrev pub is_change : PoolReply → Bool
 is_change (Made range) = true
 is_change Gone = true

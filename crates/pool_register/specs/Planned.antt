@@ -1,8 +1,8 @@
--- What a plan says of a call: what the plain step comes to, and the change of stored pools that it makes.
-use Rattle.std.specs.Prelude.{◌≡◌, ◌≢◌, ℕ, ◌+◌, ◌≤◌, fold, length, List, [], ◌∷◌, Some, None, Contains}
+-- What a plan says of a call: what the plain step leads to, and the change of stored pools that it makes.
+use Rattle.std.specs.Prelude.{◌≡◌, ◌≢◌, ℕ, ◌+◌, ◌≤◌, length, List, [], ◌∷◌, Some, None, Contains}
 use Rattle.history_lock.specs.Replies.{plain}
 use Rattle.ipam_data.specs.Checks.{most_spent}
-use Rattle.ipam_data.specs.RowList.{appended, last_next}
+use Rattle.ipam_data.specs.RowList.{last_next}
 use Rattle.number_pools.specs.declared.rows.NumberRange.{NumberRange}
 use Rattle.number_pools.specs.declared.rows.Member.{Member}
 use Rattle.number_pools.specs.declared.calls.TheConstants.{MOST_RANGES, MOST_MEMBERS}
@@ -10,9 +10,8 @@ use Rattle.number_pools.specs.declared.calls.PoolCall.{PoolCall}
 use Rattle.number_pools.specs.declared.calls.PoolReply.{PoolReply}
 use Rattle.number_pools.specs.declared.calls.PoolReply.TheVariants.{Made, Gone, Claimed, Refused as RefusedReply}
 use Rattle.number_pools.specs.Machines.{kind_of}
-use Rattle.number_pools.specs.Rows.{Pools, member_id}
-use Rattle.number_pools.specs.declared.calls.Quantity.TheVariants.{Members as MemberCount}
-use Rattle.number_pools.specs.Steps.{Check, no_ids, no_log, plain_pool_step, too_many, with_range, without_member, without_range}
+use Rattle.number_pools.specs.Rows.{Pools}
+use Rattle.number_pools.specs.Steps.{plain_pool_step, with_made, with_range, without_member, without_range}
 use Rattle.pool_rows.specs.Held.{Held}
 use Rattle.pool_keeper.specs.declared.tables.PoolChange.{PoolChange}
 use Rattle.pool_register.specs.declared.planned.Update.{Update}
@@ -20,20 +19,20 @@ use Rattle.pool_register.specs.declared.planned.Update.TheVariants.{AddRange, Cu
 use Rattle.pool_register.specs.declared.planned.Planned.{Planned}
 use Rattle.pool_register.specs.declared.planned.Planned.TheVariants.{Refused, Read, Change}
 
--- with these members behind all others, each of which spends an item of the log
+-- with these members after all others, each of which spends an item of the log
 abbrev pub with_members : Pools → List Member → Pools
-with_members s made = record { ranges = s.ranges; members = fold (appended member_id) s.members made; spent = s.spent + length made }
+with_members s made = with_made s made (length made)
 
 -- ---- what an update does
 
--- the pools behind it
+-- the pools after it
 abbrev pub updated : Pools → Update → Pools
 updated s (AddRange range) = with_range s range
 updated s (CutRange id) = without_range s id
 updated s (CutMember id) = without_member s id
 updated s (Claim made) = with_members s made
 
--- the reply that tells it
+-- the reply that gives it
 abbrev pub reply_of : Update → PoolReply
 reply_of (AddRange range) = Made range
 reply_of (CutRange id) = Gone
@@ -92,11 +91,7 @@ HasRoom held (Claim made) = (length made ≤ held.member_room) × (length made �
 
 -- ---- a plan
 
--- the last checks of a claim of so many items
-abbrev pub claim_limits : Pools → ℕ → List Check
-claim_limits s n = too_many MemberCount MOST_MEMBERS (length s.members.rows + n) ∷ no_ids s.members.next n ∷ no_log s n ∷ []
-
--- the plan is one of what a call comes to
+-- the plan is one of what a call leads to
 abbrev pub IsPlannedAs : Pools → Pools × PoolReply → Planned → Type 0
 IsPlannedAs s step (Refused why) = step ≡ (s, RefusedReply why)
 IsPlannedAs s step (Read reply) = (step ≡ (s, reply)) × (kind_of reply ≡ plain)

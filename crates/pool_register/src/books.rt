@@ -38,7 +38,7 @@ impl Model for Books {
     ghost invariant = { λ b. IsLawfulPools b.rows.pools };
 }
 
-/// Puts members, whose ids are the next ones, behind all others. It takes no memory.
+/// Puts members, whose ids are the next ones, after all others. It takes no memory.
 fn put_members(rows: &mut PoolRows, made: Vec<Member>)
     requires numbered { AreNumbered member_id rows.old.pools.members }
     requires from { AreFrom rows.old.pools.members.next made.items }
@@ -83,7 +83,7 @@ fn put(rows: &mut PoolRows, update: Update)
     }
 }
 
-/// The reply that tells an update. `Err` means out of memory.
+/// The reply that gives an update. `Err` means out of memory.
 fn reply_to(alloc: Global, update: &Update) -> Result<PoolReply, AllocError>
     ensures { IfOk result (λ r. r ≡ reply_of update.now) }
 {
@@ -121,7 +121,7 @@ impl Books {
         let _rows = &self.rows;
     }
 
-    /// What a call comes to. `Err` means out of memory.
+    /// What a call leads to. `Err` means out of memory.
     pub fn plan(&self, alloc: Global, call: &PoolCall) -> Result<Planned, AllocError>
         ensures { IfOk result (λ p. IsPlanned self.now call.now p) }
     {

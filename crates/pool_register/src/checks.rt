@@ -5,10 +5,12 @@ ghost use Rattle.ipam_data.specs.Checks.{first as first_of};
 ghost use Rattle.ipam_data.specs.RowList.{least};
 ghost use Rattle.number_pools.specs.Rows.{member_id, range_id};
 ghost use Rattle.number_pools.specs.declared.calls.PoolRefusal.TheVariants.{InUse, NameTaken};
-ghost use Rattle.number_pools.specs.Steps.{add_checks, cut_member_checks, cut_range_checks, has_name, in_bounds, is_of_range, is_out_of_bounds, member_at, no_ids, range_at, same_kind, too_many};
+ghost use Rattle.number_pools.specs.Steps.{add_checks, cut_member_checks, cut_range_checks, has_name, in_bounds, is_of_range, is_out_of_bounds, member_at, member_limits, no_ids, range_at, same_kind, too_many};
 
 use ipam_data::kinds::{LAST_ID, MOST_SPENT};
-use number_pools::{MOST_RANGES, Member, NumberRange, PoolKind, PoolRefusal, Quantity};
+use number_pools::{
+    MOST_MEMBERS, MOST_RANGES, Member, NumberRange, PoolKind, PoolRefusal, Quantity,
+};
 use pool_opening::{has_name, in_bounds, same_kind};
 use pool_rows::PoolRows;
 use stored_tables::tables::Text;
@@ -53,7 +55,7 @@ pub(crate) fn has_member(rows: &PoolRows, kind: PoolKind, id: u32) -> bool
 
 // ---- what refuses
 
-/// The refusal where there would be more than may be.
+/// The refusal if there would be more than may be.
 pub(crate) fn too_many(which: Quantity, most: u32, count: u64) -> Option<PoolRefusal>
     ensures { result ≡ too_many which most count }
 {
@@ -64,7 +66,7 @@ pub(crate) fn too_many(which: Quantity, most: u32, count: u64) -> Option<PoolRef
     }
 }
 
-/// The refusal where the next id and the number of new rows exceed the last next id.
+/// The refusal if the next id and the number of new rows exceed the last next id.
 pub(crate) fn no_ids(next: u32, more: u32) -> Option<PoolRefusal>
     ensures { result ≡ no_ids next more }
 {
@@ -82,7 +84,7 @@ fn named<'a>(ranges: &'a [NumberRange], kind: PoolKind, name: &Text) -> Option<&
     ranges.iter().find(|range| has_name(kind, name, range))
 }
 
-/// The refusal where a range of the kind has the name: it tells the one of the least id.
+/// The refusal if a range of the kind has the name: it names the one of the least id.
 fn name_taken(ranges: &[NumberRange], kind: PoolKind, name: &Text) -> Option<PoolRefusal>
     ensures { result ≡ option_map NameTaken (least range_id (has_name kind name.now) ranges.now) }
 {
@@ -106,7 +108,7 @@ fn first_of_range(members: &[Member], id: u32) -> Option<&Member>
     members.iter().find(|member| is_of_range(id, member))
 }
 
-/// The refusal where the range of an id has members: it tells the one of the least id.
+/// The refusal if the range of an id has members: it names the one of the least id.
 fn in_use(members: &[Member], id: u32) -> Option<PoolRefusal>
     ensures { result ≡ option_map InUse (least member_id (is_of_range id) members.now) }
 {
@@ -116,7 +118,7 @@ fn in_use(members: &[Member], id: u32) -> Option<PoolRefusal>
     }
 }
 
-/// The refusal where a range would not be in its bounds.
+/// The refusal if a range would not be in its bounds.
 fn out_of_bounds(kind: PoolKind, first: u32, last: u32) -> Option<PoolRefusal>
     ensures { result ≡ is_out_of_bounds kind first last }
 {
@@ -175,4 +177,23 @@ pub(crate) fn cut_member_refusal(rows: &PoolRows) -> Option<PoolRefusal>
     ensures { result ≡ first_of (cut_member_checks rows.now.pools) }
 {
     too_many(Quantity::Log, MOST_SPENT, rows.spent() as u64 + 1)
+}
+
+/// What refuses so many new members, once there are numbers for them.
+pub(crate) fn member_limit(rows: &PoolRows, n: u32) -> Option<PoolRefusal>
+    ensures { result ≡ first_of (member_limits rows.now.pools n) }
+{
+    match too_many(
+        Quantity::Members,
+        MOST_MEMBERS,
+        rows.members().len() as u64 + n as u64,
+    ) {
+        Some(why) => return Some(why),
+        None => {}
+    }
+    match no_ids(rows.next_member(), n) {
+        Some(why) => return Some(why),
+        None => {}
+    }
+    too_many(Quantity::Log, MOST_SPENT, rows.spent() as u64 + n as u64)
 }

@@ -11,6 +11,7 @@ mod opening;
 mod plan;
 mod planned;
 mod pools;
+mod record;
 mod stop;
 
 pub use machine::SeenPools;

@@ -9,7 +9,7 @@ use number_pools::{NumberRange, Short, free_numbers, plan_claim};
 use pool_rows::PoolRows;
 use std::alloc::{AllocError, Global};
 
-/// The least free numbers of a range that is there.
+/// The least free numbers of an existing range.
 pub(crate) fn free_of(
     alloc: Global,
     rows: &PoolRows,
@@ -23,7 +23,7 @@ pub(crate) fn free_of(
     free_numbers(alloc, rows.taken(), range, limit)
 }
 
-/// The `n` least free numbers of a range that is there; or how many there are, where there are fewer.
+/// The `n` least free numbers of an existing range; or how many there are, if there are fewer.
 pub(crate) fn numbers_of(
     alloc: Global,
     rows: &PoolRows,

@@ -16,7 +16,7 @@ use pool_opening::{PoolFault, opened};
 use pool_rows::PoolRows;
 use std::alloc::Global;
 
-/// The rows of the pools for which the tables of a keeper stand, and the keeper again.
+/// The rows of the pools that the tables of a keeper represent, and the keeper again.
 #[tactic(auto, using(crate::proofs::Loads::opened_is, crate::proofs::Loads::tells_loaded, crate::proofs::Loads::unopened_is))]
 fn load_rows<K: PoolKeeper + Drop>(
     alloc: Global,
@@ -47,12 +47,12 @@ fn load_rows<K: PoolKeeper + Drop>(
     }
 }
 
-/// Pools over a keeper, those for which its tables stand, before anything of the log is spent. The keeper keeps what it tells, as does the
+/// Pools over a keeper, those that its tables represent, before anything of the log is spent. What is known of the keeper stays, as of the
 /// keeper that a refusal hands back.
 ///
-/// `Err` is `BadRange` exactly where a range breaks a rule beside those before it, with the least id of such a range; else `BadMember` exactly
-/// where a member does, with the least id of such a member; else `BadNext` exactly where a next id is 0 or not above all ids; `Keeper` only
-/// where the keeper failed in this call, whose count rises in no other case; `Memory` for lack of memory, or where there are more ranges or
+/// `Err` is `BadRange` exactly if a range breaks a rule given those before it, with the least id of such a range; else `BadMember` exactly
+/// if a member does, with the least id of such a member; else `BadNext` exactly if a next id is 0 or not above all ids; `Keeper` only
+/// if the keeper failed in this call, whose count rises in no other case; `Memory` for lack of memory, or if there are more ranges or
 /// members than can be held, which are never opened. So the tables of lawful pools are refused for the last two causes alone.
 pub fn open<K: PoolKeeper + Drop>(alloc: Global, keeper: K) -> Result<Pools<K>, (K, PoolFault)>
     ensures state { IfOk result (λ p. IsOpened (K.told keeper) p.state) }

@@ -1,31 +1,29 @@
-//! What calls come to.
+//! What calls lead to.
 
 ghost use Rattle.std.specs.Prelude.{◌≡◌, ◌≤◌, Bool, Some, IfOk, IfErr, length, take};
-ghost use Rattle.ipam_data.specs.Checks.{first as first_of};
 ghost use Rattle.number_pools.specs.declared.calls.TheConstants.{MOST_CLAIMED as most_claimed};
 ghost use Rattle.number_pools.specs.Claims.{IsClaimed, IsShort};
 ghost use Rattle.number_pools.specs.Free.{free_numbers as free_numbers_of};
 ghost use Rattle.number_pools.specs.Lawful.{IsInBounds, IsLawfulPools};
 ghost use Rattle.number_pools.specs.Steps.{claim_step};
-ghost use Rattle.pool_register.specs.Planned.{IsPlanned, IsPlannedAs, claim_limits};
+ghost use Rattle.pool_register.specs.Planned.{IsPlanned, IsPlannedAs};
 
 use crate::checks::{
-    add_refusal, cut_member_refusal, cut_range_refusal, has_member, has_range, no_ids, range_at,
-    too_many,
+    add_refusal, cut_member_refusal, cut_range_refusal, has_member, has_range, member_limit,
+    range_at, too_many,
 };
 use crate::lists::{made_members, members_of, ranges_of};
 use crate::numbers::{free_of, numbers_of};
 use crate::planned::{Planned, Update};
-use ipam_data::kinds::MOST_SPENT;
+use crate::record::plan_record;
 use number_pools::{
-    Listed, MOST_CLAIMED, MOST_MEMBERS, NumberRange, PoolCall, PoolKind, PoolRefusal, PoolReply,
-    Quantity, Short,
+    Listed, MOST_CLAIMED, NumberRange, PoolCall, PoolKind, PoolRefusal, PoolReply, Quantity, Short,
 };
 use pool_rows::PoolRows;
 use std::alloc::{AllocError, Global};
 use stored_tables::tables::{Text, Texts};
 
-/// What it comes to that a range is to be made.
+/// What it leads to that a range is to be made.
 fn plan_add_range(
     rows: &PoolRows,
     kind: PoolKind,
@@ -47,7 +45,7 @@ fn plan_add_range(
     }
 }
 
-/// What it comes to that a range is to go.
+/// What it leads to that a range is to go.
 fn plan_cut_range(rows: &PoolRows, kind: PoolKind, id: u32) -> Planned
     ensures { IsPlanned rows.now.pools (PoolCall.CutRange kind id) result }
 {
@@ -60,7 +58,7 @@ fn plan_cut_range(rows: &PoolRows, kind: PoolKind, id: u32) -> Planned
     }
 }
 
-/// What it comes to that a member is to go.
+/// What it leads to that a member is to go.
 fn plan_cut_member(rows: &PoolRows, kind: PoolKind, id: u32) -> Planned
     ensures { IsPlanned rows.now.pools (PoolCall.CutMember kind id) result }
 {
@@ -115,26 +113,7 @@ fn read_free(
     Ok(Planned::Read(PoolReply::Numbers(Listed::of(found))))
 }
 
-/// What refuses so many new members, once there are numbers for them.
-fn claim_limit(rows: &PoolRows, n: u32) -> Option<PoolRefusal>
-    ensures { result ≡ first_of (claim_limits rows.now.pools n) }
-{
-    match too_many(
-        Quantity::Members,
-        MOST_MEMBERS,
-        rows.members().len() as u64 + n as u64,
-    ) {
-        Some(why) => return Some(why),
-        None => {}
-    }
-    match no_ids(rows.next_member(), n) {
-        Some(why) => return Some(why),
-        None => {}
-    }
-    too_many(Quantity::Log, MOST_SPENT, rows.spent() as u64 + n as u64)
-}
-
-/// The members of a claim for which there are numbers, where no limit stands against them.
+/// The members of a claim for which there are numbers, if no limit is against them.
 fn plan_members(
     alloc: Global,
     rows: &PoolRows,
@@ -147,7 +126,7 @@ fn plan_members(
     ensures { IfOk result (IsPlannedAs rows.now.pools (claim_step rows.now.pools range.now.id names.now (Some range.now))) }
 {
     let n = names.len() as u32;
-    match claim_limit(rows, n) {
+    match member_limit(rows, n) {
         Some(why) => return Ok(Planned::Refused(why)),
         None => {}
     }
@@ -155,7 +134,7 @@ fn plan_members(
     Ok(Planned::Change(Update::Claim(Listed::of(made))))
 }
 
-/// What a claim on a range that is there comes to.
+/// What a claim on an existing range leads to.
 fn plan_claim_on(
     alloc: Global,
     rows: &PoolRows,
@@ -177,7 +156,7 @@ fn plan_claim_on(
     }
 }
 
-/// What a claim comes to.
+/// What a claim leads to.
 fn plan_claim_in(
     alloc: Global,
     rows: &PoolRows,
@@ -194,7 +173,7 @@ fn plan_claim_in(
     plan_claim_on(alloc, rows, range, names.as_slice())
 }
 
-/// What a call comes to. `Err` means out of memory.
+/// What a call leads to. `Err` means out of memory.
 pub fn plan(alloc: Global, rows: &PoolRows, call: &PoolCall) -> Result<Planned, AllocError>
     requires lawful { IsLawfulPools rows.now.pools }
     ensures { IfOk result (λ p. IsPlanned rows.now.pools call.now p) }
@@ -217,5 +196,11 @@ pub fn plan(alloc: Global, rows: &PoolRows, call: &PoolCall) -> Result<Planned, 
             list: _,
             names,
         } => plan_claim_in(alloc, rows, *kind, *id, names),
+        PoolCall::Record {
+            kind,
+            id,
+            list: _,
+            items,
+        } => plan_record(alloc, rows, *kind, *id, items),
     }
 }

@@ -1,4 +1,4 @@
-//! What a call comes to.
+//! What a call leads to.
 
 ghost use Rattle.std.specs.Prelude.{◌≡◌};
 ghost use Rattle.pool_register.specs.Planned.{reply_of};
@@ -18,7 +18,7 @@ pub enum Update {
     Claim(Listed<Member>),
 }
 
-/// What a call comes to: a refusal, a reply that changes nothing, or a change, which is made where a keeper stores it.
+/// What a call leads to: a refusal, a reply that changes nothing, or a change, which is made if a keeper stores it.
 #[derive(Debug, Drop)]
 pub enum Planned {
     /// A check refuses.

@@ -22,7 +22,7 @@ use std::marker::Model;
 use std::snapshot::Snapshot;
 
 /// Pools over a keeper. A contract sees them as they were opened and as they are, the changes that they accepted, from the first, each with
-/// its caller, and the keeper. Where the keeper tells its tables, they are those of the pools.
+/// its caller, and the keeper. If the tables of the keeper are known, they are those of the pools.
 #[derive(Drop)]
 pub struct Pools<K: PoolKeeper> {
     books: Books,
@@ -41,7 +41,7 @@ impl<K: PoolKeeper> Model for Pools<K> {
     ghost invariant = { λ p. IsWhole p.opening.value p.books p.log.items (K.told p.keeper) };
 }
 
-/// Empty pools over a keeper whose tables, where it tells them, are empty. It takes no memory.
+/// Empty pools over a keeper whose tables, if they are known, are empty. It takes no memory.
 pub fn begin<K: PoolKeeper>(alloc: Global, keeper: K) -> Pools<K>
     requires { Tells (K.told keeper) empty_pools }
     ensures { result ≡ record { opening = empty_pools; state = empty_pools; log = []; keeper = keeper } }
@@ -50,7 +50,7 @@ pub fn begin<K: PoolKeeper>(alloc: Global, keeper: K) -> Pools<K>
 }
 
 impl<K: PoolKeeper> Pools<K> {
-    /// Pools without accepted changes over a keeper whose tables, where it tells them, are those of these books. It takes no memory.
+    /// Pools without accepted changes over a keeper whose tables, if they are known, are those of these books. It takes no memory.
     pub(crate) fn over(alloc: Global, books: Books, keeper: K) -> Pools<K>
         requires { Tells (K.told keeper) books }
         ensures { result ≡ record { opening = books; state = books; log = []; keeper = keeper } }
@@ -94,14 +94,14 @@ impl<K: PoolKeeper> Pools<K> {
         let _log = self.log.as_slice();
     }
 
-    /// What holds of all pools: where the keeper tells its tables, they are those of the pools. A law, for callers.
+    /// What holds of all pools: if the tables of the keeper are known, they are those of the pools. A law, for callers.
     pub fn told(&self)
         ensures { Tells (K.told self.now.keeper) self.now.state }
     {
         let _log = self.log.as_slice();
     }
 
-    /// Makes the update that a call comes to, and notes the call. `Err` leaves the pools but for their keeper's count.
+    /// Makes the update that a call leads to, and notes the call. `Err` leaves the pools but for their keeper's count.
     fn perform(&mut self, who: u32, call: PoolCall, update: Update) -> Result<PoolReply, Stop>
         requires { IsPlanned self.old.state call (Planned.Change update) }
         ensures ok { IfOk result (λ reply. plain_pool_step self.old.state call ≡ (self.new.state, reply)) }
@@ -164,7 +164,7 @@ impl<K: PoolKeeper> Pools<K> {
         }
     }
 
-    /// What a call comes to. `Err` means out of memory.
+    /// What a call leads to. `Err` means out of memory.
     fn planned(&self, call: &PoolCall) -> Result<Planned, AllocError>
         ensures { IfOk result (λ p. IsPlanned self.now.state call.now p) }
     {
@@ -172,7 +172,7 @@ impl<K: PoolKeeper> Pools<K> {
         self.books.plan(alloc, call)
     }
 
-    /// Answers a call, and notes it where it is an accepted change. `Err` leaves the pools but for their keeper's count.
+    /// Answers a call, and notes it if it is an accepted change. `Err` leaves the pools but for their keeper's count.
     fn answer(&mut self, who: u32, call: PoolCall) -> Result<PoolReply, Stop>
         ensures ok { IfOk result (λ reply. plain_pool_step self.old.state call ≡ (self.new.state, reply)) }
         ensures log { IfOk result (λ reply. self.new.log ≡ logged self.old.log (who, call) reply) }
@@ -187,7 +187,7 @@ impl<K: PoolKeeper> Pools<K> {
         ensures still { IsErrOf result KeeperStop ⊎ (K.faults self.new.keeper ≡ K.faults self.old.keeper) }
         ensures asked { IsErrOf result KeeperStop → kind_of (plain_pool_step self.old.state call).1 ≡ accepted }
     {
-        // The call is moved on every path, so that no path has to take its fields apart.
+        // The call is moved on every path: none has to take its fields apart.
         match self.planned(&call) {
             Err(AllocError) => {
                 drop(call);
@@ -199,9 +199,9 @@ impl<K: PoolKeeper> Pools<K> {
 
     /// Answers the call of the caller with this number: the one step of the pools. An accepted change is stored by the keeper first and
     /// then made whole, and is noted at the end of the log with its caller. Out of memory and a failed keeper are the answers that the
-    /// plain step does not give. After every answer but that of an accepted change the pools are as they were, but for their keeper's
-    /// count, which rises only where the answer is that the keeper failed. A read and a refusal by a check do not use the keeper: it
-    /// fails only where a change was to be stored.
+    /// plain step does not give. After every answer but that of an accepted change the pools are unchanged, but for their keeper's
+    /// count, which rises only if the answer is that the keeper failed. A read and a refusal by a check do not use the keeper: it
+    /// fails only if a change was to be stored.
     pub fn act(&mut self, who: u32, call: PoolCall) -> PoolReply
         ensures step { ¬ (result ≡ PoolReply.Refused PoolRefusal.Memory) → ¬ (result ≡ PoolReply.Refused PoolRefusal.Keeper) → plain_pool_step self.old.state call ≡ (self.new.state, result) }
         ensures log { self.new.log ≡ logged self.old.log (who, call) result }

@@ -34,7 +34,7 @@ impl From<KeepFault> for Stop {
 }
 
 impl Stop {
-    /// The refusal that tells it.
+    /// The refusal that gives it.
     pub fn refusal(self) -> PoolRefusal
         ensures { result ≡ refusal_of self }
     {

@@ -2,6 +2,7 @@
 use Rattle.std.proofs.Common.{◌≡◌, List, ℕ, Option, Some, None, sym, ◌∙◌, ap, subst}
 use Rattle.number_pools.specs.declared.rows.PoolKind.{PoolKind}
 use Rattle.pool_json.proofs.Unique.{claim_is_one, range_body_is_one}
+use Rattle.pool_json.proofs.Recording.{record_is_one}
 use Rattle.rest_query.proofs.Unique.{limit_is_one}
 use Rattle.rest_query.specs.Query.{path_in, query_in}
 use Rattle.rest_query.specs.declared.asked.Available.TheVariants.{Addrs}
@@ -11,7 +12,7 @@ use Rattle.pool_rest.specs.declared.route.RangePart.TheVariants.{Free, Given}
 use Rattle.pool_rest.specs.declared.route.Method.{Method}
 use Rattle.pool_rest.specs.declared.route.Method.TheVariants.{Get, Post, Delete}
 use Rattle.pool_rest.specs.Routes.{method_named}
-use Rattle.pool_rest.specs.Requests.{Asked, IsRangesAsked, IsFreeAsked, IsAskedOf, IsAskedAt, asks_range, asks_free, asks_claim}
+use Rattle.pool_rest.specs.Requests.{Asked, IsRangesAsked, IsFreeAsked, IsGivenAsked, IsAskedOf, IsAskedAt, asks_range, asks_free, asks_claim, asks_record}
 use Rattle.pool_rest.specs.Answers.{refused_answer}
 use Rattle.pool_rest.specs.Laws.{RequestIsOne}
 use Rattle.pool_rest.proofs.Routed.{one_route}
@@ -29,11 +30,17 @@ one_of_free kind id (Some Post) query body a b h g = h.2 ∙ ap (asks_claim kind
 one_of_free kind id (Some Delete) query body a b h g = h ∙ sym g
 one_of_free kind id None query body a b h g = h ∙ sym g
 
+one_of_given : (kind : PoolKind) (id : ℕ) (method : Option Method) (body : List ℕ) (a b : Asked) → IsGivenAsked kind id method body a → IsGivenAsked kind id method body b → a ≡ b
+one_of_given kind id (Some Get) body a b h g = h ∙ sym g
+one_of_given kind id (Some Post) body a b h g = h.2 ∙ ap (asks_record kind id) (record_is_one kind body h.0 g.0 h.1 g.1) ∙ sym g.2
+one_of_given kind id (Some Delete) body a b h g = h ∙ sym g
+one_of_given kind id None body a b h g = h ∙ sym g
+
 one_of : (route : Route) (method : Option Method) (query body : List ℕ) (a b : Asked) → IsAskedOf route method query body a → IsAskedOf route method query body b → a ≡ b
 one_of (Many kind) method query body a b h g = one_of_ranges kind method body a b h g
 one_of (Single base id) method query body a b h g = h ∙ sym g
 one_of (Within Free kind id) method query body a b h g = one_of_free kind id method query body a b h g
-one_of (Within Given kind id) method query body a b h g = h ∙ sym g
+one_of (Within Given kind id) method query body a b h g = one_of_given kind id method body a b h g
 
 one_at : (route : Option Route) (method query body : List ℕ) (a b : Asked) → IsAskedAt route method query body a → IsAskedAt route method query body b → a ≡ b
 one_at None method query body a b h g = h ∙ sym g

@@ -10,7 +10,7 @@ use Rattle.number_pools.specs.declared.calls.PoolRefusal.TheVariants as pool
 use Rattle.number_pools.specs.declared.calls.PoolReply.{PoolReply}
 use Rattle.number_pools.specs.declared.calls.PoolReply.TheVariants.{Made, Gone, Claimed, Ranges, Members, Numbers, Refused}
 use Rattle.pool_json.specs.declared.bodies.RequestRefusal.{RequestRefusal}
-use Rattle.pool_json.specs.declared.bodies.RequestRefusal.TheVariants.{Common, Start, End}
+use Rattle.pool_json.specs.declared.bodies.RequestRefusal.TheVariants.{Common, Start, End, Number}
 use Rattle.pool_json.specs.declared.replies.Shape.{Shape}
 use Rattle.pool_json.specs.Replies.{reply_text, request_refusal_text}
 use Rattle.http_session.specs.Talk.{Answer}
@@ -32,6 +32,9 @@ pool_refusal_status (pool.NameTaken n) = 400
 pool_refusal_status pool.Bounds = 400
 pool_refusal_status (pool.InUse n) = 409
 pool_refusal_status (pool.NoSpace n) = 409
+pool_refusal_status (pool.Outside n) = 400
+pool_refusal_status (pool.Taken n id) = 409
+pool_refusal_status (pool.Repeated n) = 409
 pool_refusal_status (pool.Limit which n) = 507
 pool_refusal_status pool.Keeper = 503
 pool_refusal_status pool.Memory = 500
@@ -46,7 +49,7 @@ status_of (Members rows) = 200
 status_of (Numbers numbers) = 200
 status_of (Refused refusal) = pool_refusal_status refusal
 
--- the answer of a reply of the pools, which stands at a place
+-- the answer of a reply of the pools, which is at a place
 abbrev pub reply_answer : Shape → PoolReply → ℕ → Answer
 reply_answer shape reply place =
     record { status = status_of reply; allow = []; field = Some (place_field place); media = json_type; body = reply_text shape reply }
@@ -56,13 +59,14 @@ abbrev pub request_status : RequestRefusal → ℕ
 request_status (Common refusal) = refusal_status_of refusal
 request_status Start = 400
 request_status End = 400
+request_status (Number kind) = 400
 
 -- the methods of a route that does not have the one that was asked for
 abbrev pub route_methods : Option Route → List ℕ
 route_methods None = []
 route_methods (Some route) = methods_text route
 
--- the `Allow` field, which is there for the refusal of a method alone
+-- the `Allow` field, which is sent for the refusal of a method alone
 abbrev pub common_allow : Option Route → Refusal → List ℕ
 common_allow route BadHead = []
 common_allow route (TooLarge part) = []
@@ -84,6 +88,7 @@ abbrev pub allow_of : Option Route → RequestRefusal → List ℕ
 allow_of route (Common refusal) = common_allow route refusal
 allow_of route Start = []
 allow_of route End = []
+allow_of route (Number kind) = []
 
 -- the answer of a refusal that the bytes decide, on this route: it has no place
 abbrev pub refused_answer : Option Route → RequestRefusal → Answer
@@ -94,7 +99,7 @@ refused_answer route refusal =
 abbrev pub IsRefusedAnswer : List ℕ → RequestRefusal → Answer → Type 0
 IsRefusedAnswer target refusal answer = (route : Option Route) × HasRoute (path_in target) route × (answer ≡ refused_answer route refusal)
 
--- the refusal of bytes that stand in the place of a request and are none
+-- the refusal of bytes that are in the place of a request and are none
 abbrev pub refusal_of : Fault → Refusal
 refusal_of fault.BadHead = BadHead
 refusal_of fault.LargeHead = TooLarge Head

@@ -5,6 +5,7 @@ use Rattle.ipam_data.specs.declared.calls.Answered.TheVariants.{AsOne, AsList}
 use Rattle.ipam_data.specs.declared.replies.Refusal.{Refusal}
 use Rattle.ipam_data.specs.declared.replies.Refusal.TheVariants.{NoRoute, Method as NoMethod}
 use Rattle.number_pools.specs.declared.rows.PoolKind.{PoolKind}
+use Rattle.number_pools.specs.declared.calls.Chosen.{Chosen}
 use Rattle.number_pools.specs.declared.calls.PoolCall.{PoolCall}
 use Rattle.number_pools.specs.declared.calls.PoolCall.TheVariants as call
 use Rattle.pool_json.specs.declared.bodies.RangeDraft.{RangeDraft}
@@ -12,6 +13,7 @@ use Rattle.pool_json.specs.declared.bodies.RequestRefusal.{RequestRefusal}
 use Rattle.pool_json.specs.declared.bodies.RequestRefusal.TheVariants.{Common}
 use Rattle.pool_json.specs.declared.replies.Shape.{Shape}
 use Rattle.pool_json.specs.Bodies.{IsClaim, IsRangeBody}
+use Rattle.pool_json.specs.Records.{IsRecord}
 use Rattle.rest_query.specs.declared.asked.Available.TheVariants.{Addrs}
 use Rattle.rest_query.specs.Lists.{IsLimitAsked}
 use Rattle.rest_query.specs.Query.{path_in, query_in}
@@ -29,7 +31,7 @@ use Rattle.pool_rest.specs.Routes.{HasRoute, method_named}
 abbrev pub Asked : Type 0
 Asked = Result (PoolCall × Shape) RequestRefusal
 
--- how the reply to a call is written: for its kind, and as a list where the call is a claim that came as one
+-- how the reply to a call is written: for its kind, and as a list if the call is one of items that were given as one
 abbrev pub shape_of : PoolCall → Shape
 shape_of (call.AddRange kind name first last) = record { kind = kind; list = false }
 shape_of (call.CutRange kind id) = record { kind = kind; list = false }
@@ -38,6 +40,7 @@ shape_of (call.Members kind id) = record { kind = kind; list = false }
 shape_of (call.CutMember kind id) = record { kind = kind; list = false }
 shape_of (call.Available kind id limit) = record { kind = kind; list = false }
 shape_of (call.Claim kind id list names) = record { kind = kind; list = list }
+shape_of (call.Record kind id list items) = record { kind = kind; list = list }
 
 abbrev pub asks : PoolCall → Asked
 asks c = Ok (c, shape_of c)
@@ -45,7 +48,7 @@ asks c = Ok (c, shape_of c)
 abbrev pub no_method : Asked
 no_method = Err (Common NoMethod)
 
--- one more range, where the body gives one
+-- one more range, if the body gives one
 abbrev pub asks_range : PoolKind → Result RangeDraft RequestRefusal → Asked
 asks_range kind (Ok draft) = asks (call.AddRange kind draft.name draft.first draft.last)
 asks_range kind (Err refusal) = Err refusal
@@ -72,21 +75,21 @@ one_asked base id (Some Post) = no_method
 one_asked base id (Some Delete) = asks (cut_call base id)
 one_asked base id None = no_method
 
--- the free numbers, where the query gives how many
+-- the free numbers, if the query gives how many
 abbrev pub asks_free : PoolKind → ℕ → Result ℕ Refusal → Asked
 asks_free kind id (Ok limit) = asks (call.Available kind id limit)
 asks_free kind id (Err refusal) = Err (Common refusal)
 
--- where it gives none, the limit is that of a list of available addresses
+-- if it gives none, the limit is that of a list of available addresses
 abbrev pub IsFreeListed : PoolKind → ℕ → List ℕ → Asked → Type 0
 IsFreeListed kind id query asked = (limit : Result ℕ Refusal) × IsLimitAsked Addrs query limit × (asked ≡ asks_free kind id limit)
 
--- whether a claim came as a list
+-- whether a claim was given as a list
 abbrev pub is_list : Answered → Bool
 is_list AsOne = false
 is_list AsList = true
 
--- a claim, where the body gives its names
+-- a claim, if the body gives its names
 abbrev pub asks_claim : PoolKind → ℕ → Result (Answered × List (List ℕ)) Refusal → Asked
 asks_claim kind id (Ok claim) = asks (call.Claim kind id (is_list claim.0) claim.1)
 asks_claim kind id (Err refusal) = Err (Common refusal)
@@ -102,17 +105,26 @@ IsFreeAsked kind id (Some Post) query body asked = IsClaimAsked kind id body ask
 IsFreeAsked kind id (Some Delete) query body asked = asked ≡ no_method
 IsFreeAsked kind id None query body asked = asked ≡ no_method
 
--- what a method asks of the members of a range
-abbrev pub given_asked : PoolKind → ℕ → Option Method → Asked
-given_asked kind id (Some Get) = asks (call.Members kind id)
-given_asked kind id (Some Post) = no_method
-given_asked kind id (Some Delete) = no_method
-given_asked kind id None = no_method
+-- chosen numbers are recorded, if the body gives them
+abbrev pub asks_record : PoolKind → ℕ → Result (Answered × List Chosen) RequestRefusal → Asked
+asks_record kind id (Ok chosen) = asks (call.Record kind id (is_list chosen.0) chosen.1)
+asks_record kind id (Err refusal) = Err refusal
+
+abbrev pub IsRecordAsked : PoolKind → ℕ → List ℕ → Asked → Type 0
+IsRecordAsked kind id body asked =
+    (chosen : Result (Answered × List Chosen) RequestRefusal) × IsRecord kind body chosen × (asked ≡ asks_record kind id chosen)
+
+-- what a method asks of the members of a range, with this body
+abbrev pub IsGivenAsked : PoolKind → ℕ → Option Method → List ℕ → Asked → Type 0
+IsGivenAsked kind id (Some Get) body asked = asked ≡ asks (call.Members kind id)
+IsGivenAsked kind id (Some Post) body asked = IsRecordAsked kind id body asked
+IsGivenAsked kind id (Some Delete) body asked = asked ≡ no_method
+IsGivenAsked kind id None body asked = asked ≡ no_method
 
 -- what a method asks of a part of a range
 abbrev pub IsPartAsked : RangePart → PoolKind → ℕ → Option Method → List ℕ → List ℕ → Asked → Type 0
 IsPartAsked Free kind id method query body asked = IsFreeAsked kind id method query body asked
-IsPartAsked Given kind id method query body asked = asked ≡ given_asked kind id method
+IsPartAsked Given kind id method query body asked = IsGivenAsked kind id method body asked
 
 -- what a method asks of a route, with this query and this body
 abbrev pub IsAskedOf : Route → Option Method → List ℕ → List ℕ → Asked → Type 0

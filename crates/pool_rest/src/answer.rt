@@ -31,6 +31,9 @@ fn pool_refusal_code(refusal: PoolRefusal) -> StatusCode
         PoolRefusal::Bounds => StatusCode::BAD_REQUEST,
         PoolRefusal::InUse(_) => StatusCode::CONFLICT,
         PoolRefusal::NoSpace(_) => StatusCode::CONFLICT,
+        PoolRefusal::Outside(_) => StatusCode::BAD_REQUEST,
+        PoolRefusal::Taken(_, _) => StatusCode::CONFLICT,
+        PoolRefusal::Repeated(_) => StatusCode::CONFLICT,
         PoolRefusal::Limit(_, _) => StatusCode::INSUFFICIENT_STORAGE,
         PoolRefusal::Keeper => StatusCode::SERVICE_UNAVAILABLE,
         PoolRefusal::Memory => StatusCode::INTERNAL_SERVER_ERROR,
@@ -60,10 +63,11 @@ fn request_refusal_code(refusal: &RequestRefusal) -> StatusCode
         RequestRefusal::Common(refusal) => status(refusal),
         RequestRefusal::Start => StatusCode::BAD_REQUEST,
         RequestRefusal::End => StatusCode::BAD_REQUEST,
+        RequestRefusal::Number(_) => StatusCode::BAD_REQUEST,
     }
 }
 
-/// The methods of a route, where there is one.
+/// The methods of a route, if there is one.
 fn methods(route: Option<Route>) -> &'static [u8]
     ensures { result.now ≡ route_methods route }
 {
@@ -93,7 +97,7 @@ fn allowed(route: Option<Route>, refusal: &RequestRefusal) -> &'static [u8]
     }
 }
 
-/// The answer of a reply of the pools to a call of this shape, which stands at this place. `Err` means out of memory.
+/// The answer of a reply of the pools to a call of this shape, which is at this place. `Err` means out of memory.
 pub fn answer_of_reply(
     alloc: Global,
     shape: Shape,
@@ -133,7 +137,7 @@ pub fn answer_of_refusal_by(
     })
 }
 
-/// The refusal of bytes that stand in the place of a request and are none.
+/// The refusal of bytes that are in the place of a request and are none.
 fn refusal_of(fault: Fault) -> Refusal
     ensures refusal { result ≡ spec.refusal_of fault }
     ensures fixed { is_fixed result ≡ true }
@@ -146,7 +150,7 @@ fn refusal_of(fault: Fault) -> Refusal
     }
 }
 
-/// The answer to bytes that stand in the place of a request and are none: it has no place. It takes no memory.
+/// The answer to bytes that are in the place of a request and are none: it has no place. It takes no memory.
 pub fn answer_of_fault(fault: Fault) -> Answer
     ensures { IsFramingAnswer fault (answer_of result) }
 {

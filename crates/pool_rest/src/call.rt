@@ -3,7 +3,7 @@
 ghost use Rattle.std.specs.Prelude.{◌≡◌, IfOk, false};
 ghost use Rattle.number_pools.specs.Machines.{IsTaken};
 ghost use Rattle.pool_json.specs.Bodies.{OrWant};
-ghost use Rattle.pool_rest.specs.Requests.{IsClaimAsked, IsFreeAsked, IsFreeListed, IsPartAsked, IsRangeAsked, IsRangesAsked, IsRequest};
+ghost use Rattle.pool_rest.specs.Requests.{IsClaimAsked, IsFreeAsked, IsFreeListed, IsGivenAsked, IsPartAsked, IsRangeAsked, IsRangesAsked, IsRecordAsked, IsRequest};
 ghost use Rattle.pool_rest.specs.Requests as spec;
 
 use crate::route::{Base, Method, RangePart, Route};
@@ -11,11 +11,11 @@ use crate::table::Routes;
 use ipam_data::calls::Answered;
 use ipam_data::replies::Refusal;
 use number_pools::{PoolCall, PoolKind};
-use pool_json::{RequestRefusal, Shape, read_claim, read_range};
+use pool_json::{RequestRefusal, Shape, read_claim, read_range, read_record};
 use rest_query::{Available, cut, read_limit};
 use std::alloc::Global;
 
-/// A reply for a kind that is not a claim's.
+/// A reply for a kind to a call without items.
 fn plain(kind: PoolKind) -> Shape
     ensures { result ≡ record { kind = kind; list = false } }
 {
@@ -34,6 +34,10 @@ pub fn shape_of(call: &PoolCall) -> Shape
         PoolCall::CutMember { kind, .. } => plain(*kind),
         PoolCall::Available { kind, .. } => plain(*kind),
         PoolCall::Claim { kind, list, .. } => Shape {
+            kind: *kind,
+            list: *list,
+        },
+        PoolCall::Record { kind, list, .. } => Shape {
             kind: *kind,
             list: *list,
         },
@@ -137,7 +141,7 @@ fn call_of_limit(
     }
 }
 
-/// Whether a claim came as a list.
+/// Whether items were given as a list.
 fn is_list(answered: Answered) -> bool
     ensures { result ≡ spec.is_list answered }
 {
@@ -188,18 +192,41 @@ fn call_of_free(
     }
 }
 
+/// The call that records the numbers that a body chooses.
+fn call_of_record(
+    alloc: Global,
+    kind: PoolKind,
+    id: u32,
+    body: &[u8],
+) -> Result<(PoolCall, Shape), RequestRefusal>
+    ensures asked { OrWant (IsRecordAsked kind id body.now) result }
+    ensures taken { IfOk result (λ asked. IsTaken asked.0) }
+{
+    match read_record(alloc, kind, body) {
+        Ok((answered, items)) => Ok(asks(PoolCall::Record {
+            kind,
+            id,
+            list: is_list(answered),
+            items,
+        })),
+        Err(refusal) => Err(refusal),
+    }
+}
+
 /// What a method asks of the members of a range.
 fn call_of_given(
+    alloc: Global,
     kind: PoolKind,
     id: u32,
     method: Option<Method>,
+    body: &[u8],
 ) -> Result<(PoolCall, Shape), RequestRefusal>
-    ensures asked { result ≡ spec.given_asked kind id method }
+    ensures asked { OrWant (IsGivenAsked kind id method body.now) result }
     ensures taken { IfOk result (λ asked. IsTaken asked.0) }
 {
     match method {
         Some(Method::Get) => Ok(asks(PoolCall::Members { kind, id })),
-        Some(Method::Post) => Err(no_method()),
+        Some(Method::Post) => call_of_record(alloc, kind, id, body),
         Some(Method::Delete) => Err(no_method()),
         None => Err(no_method()),
     }
@@ -220,13 +247,13 @@ fn call_of_part(
 {
     match part {
         RangePart::Free => call_of_free(alloc, kind, id, method, query, body),
-        RangePart::Given => call_of_given(kind, id, method),
+        RangePart::Given => call_of_given(alloc, kind, id, method, body),
     }
 }
 
-/// What a request asks of the pools, by a table of the routes that is lent, with how its reply is written. `NoRoute` comes where the
-/// path has no route, then `Method` where the route does not have the method, and then the refusals of a body, or for a list of free
-/// numbers that of its limit; `Memory` may come in place of any answer. The body of a GET or a DELETE is ignored.
+/// What a request asks of the pools, by a table of the routes that is lent, with how its reply is written. `NoRoute` is returned if the
+/// path has no route, then `Method` if the route does not have the method, and then the refusals of a body, or for a list of free
+/// numbers that of its limit; `Memory` may be returned in place of any answer. The body of a GET or a DELETE is ignored.
 pub fn read_call_by(
     alloc: Global,
     routes: &Routes,

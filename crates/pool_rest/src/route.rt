@@ -22,7 +22,7 @@ fn ranges_name(kind: PoolKind) -> &'static str
     }
 }
 
-/// The name of members of ranges of a kind in a path, behind a range too.
+/// The name of members of ranges of a kind in a path, after a range too.
 fn members_name(kind: PoolKind) -> &'static str
     ensures base { result.now ≡ base_text (Base.Members kind) }
     ensures part { result.now ≡ part_text RangePart.Given kind }
@@ -79,7 +79,7 @@ impl RangePart {
     {
         match self {
             RangePart::Free => "GET, POST",
-            RangePart::Given => "GET",
+            RangePart::Given => "GET, POST",
         }
     }
 }
@@ -101,7 +101,7 @@ pub enum Method {
 }
 
 impl Method {
-    /// The method of a name, in upper case (RFC 9110 9.1), or `None` where no route has it.
+    /// The method of a name, in upper case (RFC 9110 9.1), or `None` if no route has it.
     pub fn named(name: &[u8]) -> Option<Method>
         ensures { result ≡ method_named name.now }
     {

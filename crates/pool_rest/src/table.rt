@@ -49,7 +49,7 @@ fn route_at(stem: Stem, text: Option<&str>) -> Option<Route>
     }
 }
 
-/// What stands before the id in a path.
+/// What is before the id in a path.
 fn front_text(alloc: Global, base: Base) -> Result<String, AllocError>
     ensures { IfOk result (λ t. string_bytes t ≡ base_path base) }
 {
@@ -135,7 +135,7 @@ impl Routes {
         Ok(Routes { table })
     }
 
-    /// The route of a path, or `None` where it has none.
+    /// The route of a path, or `None` if it has none.
     pub fn route_of(&self, target: &[u8]) -> Option<Route>
         ensures { HasRoute target.now result }
     {

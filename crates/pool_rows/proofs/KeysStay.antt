@@ -90,14 +90,19 @@ counted f b (x ∷ xs) m e c = go (is_same b (f x)) refl (contains_cases x m xs 
     go false t (inl s) ih = let q : true ≡ false = sym e ∙ ap (λ (y : Member). is_same b (f y)) (sym s) ∙ t in cc
     go false t (inr d) ih = let n = count_no (is_same b) (f x) (map f xs) t in let p = ih d in omega arith
 
--- the tree has the number of a member that is found
-pub key_there : (ranges : List NumberRange) (members : List Member) (n : ℕ) (m : Member) (held : List Cidr) → row_at member_id members n ≡ Some m → AreKeys ranges members held
+-- the tree has the number of a member that is there
+pub key_held : (ranges : List NumberRange) (members : List Member) (m : Member) (held : List Cidr) → Contains members m → AreKeys ranges members held
     → 0 < times_of held (key_block ranges m)
-key_there ranges members n m held e keys =
+key_held ranges members m held c keys =
     let b = key_block ranges m in
-    let there = counted (key_block ranges) b members m (let same : is_same b b ≡ true = grind (arith, nat_tests) in same) (found_there member_id members n m e).0 in
+    let there = counted (key_block ranges) b members m (let same : is_same b b ≡ true = grind (arith, nat_tests) in same) c in
     let alike : count_by (is_same b) (map (key_block ranges) members) ≡ times_of held b = count_alike (is_same b) (map (key_block ranges) members) held keys in
     rw alike at there
+
+-- and that of one that is found
+pub key_there : (ranges : List NumberRange) (members : List Member) (n : ℕ) (m : Member) (held : List Cidr) → row_at member_id members n ≡ Some m → AreKeys ranges members held
+    → 0 < times_of held (key_block ranges m)
+key_there ranges members n m held e keys = key_held ranges members m held (found_there member_id members n m e).0 keys
 
 -- what is there is taken out
 pub taken_out : (r : Bool) (held new : List Cidr) (b : Cidr) → MatchBool r (IsPermutation held (b ∷ new)) (new ≡ held) → MatchBool r (0 < times_of held b) (times_of held b ≡ 0)

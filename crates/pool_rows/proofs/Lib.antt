@@ -1,2 +1,3 @@
 pub mod Filling
 pub mod KeysStay
+pub mod Holders

@@ -1,13 +1,13 @@
 //! The rows of pools in memory.
 
-ghost use Rattle.std.specs.Prelude.{◌≡◌, ◌≢◌, ℕ, ◌+◌, ◌<◌, ◌≤◌, ◌^◌, [], length, Contains, IfOk, OnOk, OnErr, option_copied};
+ghost use Rattle.std.specs.Prelude.{◌≡◌, ◌≢◌, ℕ, ◌+◌, ◌<◌, ◌≤◌, ◌^◌, [], length, find, Contains, IfOk, OnOk, OnErr, option_copied};
 ghost use Rattle.inet_num.specs.declared.Family.TheVariants.{V6};
 ghost use Rattle.block_space.specs.Usable.{AreSingles};
 ghost use Rattle.ipam_data.specs.Checks.{most_spent};
-ghost use Rattle.ipam_data.specs.RowList.{AllBelow, Rises, last_next, row_at, with_row};
+ghost use Rattle.ipam_data.specs.RowList.{AllBelow, Rises, last_next, least, row_at, with_row};
 ghost use Rattle.number_pools.specs.declared.rows.Member.{Member as OneMember};
 ghost use Rattle.number_pools.specs.Rows.{empty_pools, member_id, range_id};
-ghost use Rattle.number_pools.specs.Free.{pool_at};
+ghost use Rattle.number_pools.specs.Free.{holds, pool_at, pool_of as pool_of_range};
 ghost use Rattle.number_pools.specs.Keys.{AreKeys, key_block};
 ghost use Rattle.number_pools.specs.Lawful.{AreNumbered, IsLawfulPools};
 ghost use Rattle.number_pools.specs.Steps.{with_range, without_member, without_range};
@@ -99,7 +99,7 @@ impl PoolRows {
         }
     }
 
-    /// Puts a member behind all others, whose ids are lower. The next id and the log stay. It takes no memory.
+    /// Puts a member after all others, whose ids are lower. The next id and the log stay. It takes no memory.
     fn admit(&mut self, member: Member)
         requires below { AllBelow member_id member.id self.old.pools.members.rows }
         requires id { 1 ≤ member.id }
@@ -115,7 +115,7 @@ impl PoolRows {
         self.members.put(member);
     }
 
-    /// Puts members whose ids rise, where there are none. It takes no memory.
+    /// Puts members whose ids rise, if there are none. It takes no memory.
     fn admit_all(&mut self, members: Vec<Member>)
         requires rises { Rises member_id 0 members.items }
         requires empty { self.old.pools.members.rows ≡ [] }
@@ -197,6 +197,41 @@ impl PoolRows {
         }
     }
 
+    /// Whether a member holds this number of this pool.
+    fn holds(&self, pool: u32, number: u32, member: &Member) -> bool
+        ensures { result ≡ holds self.now.pools.ranges.rows pool number member.now }
+    {
+        if member.number == number {
+            return self.pool(member.range) == pool;
+        }
+        false
+    }
+
+    /// The first member that holds a number of a pool, found by a look at all of them.
+    fn held_by(&self, pool: u32, number: u32) -> Option<&Member>
+        ensures { option_copied result ≡ find (holds self.now.pools.ranges.rows pool number) self.now.pools.members.rows }
+    {
+        self.members
+            .rows()
+            .iter()
+            .find(|member| self.holds(pool, number, member))
+    }
+
+    /// The id of the member that holds a number of the pool of a range, if one does. The tree has the number if one does, so that the members
+    /// are looked at for a number that is taken alone.
+    pub fn holder(&self, range: &NumberRange, number: u32) -> Option<u32>
+        ensures { result ≡ least member_id (holds self.now.pools.ranges.rows (pool_of_range range.now) number) self.now.pools.members.rows }
+    {
+        let pool = pool_of(range);
+        if self.taken.times(key_at(pool, number)) == 0 {
+            return None;
+        }
+        match self.held_by(pool, number) {
+            Some(member) => Some(member.id),
+            None => None,
+        }
+    }
+
     /// Makes room for one range more. `Err` means out of memory.
     pub fn reserve_range(&mut self) -> Result<(), AllocError>
         requires { length self.old.pools.ranges.rows + 1 < 2 ^ 30 }
@@ -217,7 +252,7 @@ impl PoolRows {
         self.taken.reserve(n)
     }
 
-    /// Puts a range, whose id is the next one, behind all others. It takes no memory.
+    /// Puts a range, whose id is the next one, after all others. It takes no memory.
     pub fn put_range(&mut self, range: NumberRange)
         requires lawful { IsLawfulPools self.old.pools }
         requires room { 1 ≤ self.old.range_room }
@@ -241,7 +276,7 @@ impl PoolRows {
         self.spent += 1;
     }
 
-    /// Puts a member, whose id is the next one, behind all others. It takes no memory.
+    /// Puts a member, whose id is the next one, after all others. It takes no memory.
     pub fn put_member(&mut self, member: Member)
         requires numbered { AreNumbered member_id self.old.pools.members }
         requires room { 1 ≤ self.old.member_room }
@@ -280,7 +315,7 @@ impl PoolRows {
     }
 }
 
-/// The rows with these members, whose ids rise, where there are none. `Err` means out of memory, or more members than can be held.
+/// The rows with these members, whose ids rise, if there are none. `Err` means out of memory, or more members than can be held.
 fn filled(rows: PoolRows, members: Vec<Member>) -> Result<PoolRows, AllocError>
     requires rises { Rises member_id 0 members.items }
     requires empty { rows.pools.members.rows ≡ [] }

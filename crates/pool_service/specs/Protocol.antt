@@ -10,7 +10,7 @@ use Rattle.pool_rest.specs.Answers.{IsFramingAnswer, IsRefusedAnswer, reply_answ
 use Rattle.pool_rest.specs.Requests.{IsRequest}
 use Rattle.machine_session.specs.Protocols.{Protocol}
 
--- the plain step of the pools, what a request asks for, and which answer tells a reply: as its call is written, with its place
+-- the plain step of the pools, what a request asks for, and which answer gives a reply: as its call is written, with its place
 abbrev pub pool_protocol : Protocol Seen PoolCall PoolReply PoolReply Shape RequestRefusal
 pool_protocol =
     record {

@@ -1,4 +1,4 @@
-//! What stands between number pools and the requests of their connections.
+//! What is between number pools and the requests of their connections.
 
 ghost use Rattle.std.specs.Prelude.{◌≡◌, ◌≢◌, IfOk, MatchBool};
 ghost use Rattle.http_session.specs.Replies.{answer_of};
@@ -22,6 +22,7 @@ fn is_want(refusal: &RequestRefusal) -> bool
         RequestRefusal::Common(refusal) => matches!(refusal, Refusal::Memory),
         RequestRefusal::Start => false,
         RequestRefusal::End => false,
+        RequestRefusal::Number(_) => false,
     }
 }
 

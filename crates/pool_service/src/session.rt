@@ -17,8 +17,8 @@ use std::sync::Wait;
 
 /// Serves one connection over shared pools, from its first byte to its end, and notes its changes under the seat's number.
 ///
-/// `Closed` comes with all requests answered; `SourceFault` where a read failed, with all requests that lay whole in the bytes read
-/// answered; `SinkFault` where a write failed, with a shorter front of the last answer written; `Memory` where memory ran out before
+/// `Closed` comes with all requests answered; `SourceFault` if a read failed, with all requests that lay whole in the bytes read
+/// answered; `SinkFault` if a write failed, with a shorter prefix of the last answer written; `Memory` if memory ran out before
 /// a call reached the pools, or for the text of a reply. The count of either end rises with its own fault alone.
 pub fn serve_pools<R: Wait, K: PoolKeeper, So: Source, Si: Sink>(
     rt: &R,

@@ -1,4 +1,4 @@
--- What is said where an opening is refused.
+-- What is said if an opening is refused.
 use Rattle.std.specs.Prelude.{◌≡◌, ◌++◌, ◌∷◌, [], ℕ, List, codes, decimal}
 use Rattle.command_streams.specs.Streams.{EndsWith, Told}
 use Rattle.pool_opening.specs.declared.faults.PoolFault.{PoolFault}

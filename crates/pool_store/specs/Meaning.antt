@@ -7,6 +7,6 @@ use Rattle.pool_register.specs.Kept.{Seen}
 use Rattle.pool_store.specs.FaultWords.{IsSaid}
 use Rattle.pool_store.specs.Opening.{Holds, IsLoaded, IsRefusedOpening}
 
--- what pools are opened over and go back to, by the path of the store, if any, and what is said where they are not opened
+-- what pools are opened over and go back to, by the path of the store, if any, and what is said if they are not opened
 abbrev pub pool_opener : OpenerMeaning (Option (List ℕ)) PoolTables Seen PoolFault
 pool_opener = record { loads = IsLoaded; holds = Holds; refuses = IsRefusedOpening; says = IsSaid }

@@ -1,4 +1,4 @@
-//! What is said where an opening is refused. The lines have fixed room, so that saying them takes no memory.
+//! What is said if an opening is refused. The lines have fixed room, so that saying them takes no memory.
 
 ghost use Rattle.std.specs.Prelude.{◌≡◌, ◌≤◌, length};
 ghost use Rattle.command_streams.specs.Streams.{EndsWith, told};
@@ -34,8 +34,8 @@ fn say_row<Se: Sink>(name: &[u8], id: u32, errors: &mut Se) -> u8
     end_with(errors, line.as_slice(), REFUSED)
 }
 
-/// Says why an opening was refused, and gives the status of that: 1 for a fault of the tables, 4 where the store failed, 5 where memory ran
-/// out, of which nothing is said; and 3 where the line could not be written.
+/// Says why an opening was refused, and gives the status of that: 1 for a fault of the tables, 4 if the store failed, 5 if memory ran
+/// out, of which nothing is said; and 3 if the line could not be written.
 pub fn say_fault<Se: Sink>(fault: PoolFault, errors: &mut Se) -> u8
     ensures said { IsSaid fault (told Se.written Se.faults errors.old) (told Se.written Se.faults errors.new) result }
     ensures later { Se.faults errors.old ≤ Se.faults errors.new }

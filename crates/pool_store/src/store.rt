@@ -14,7 +14,7 @@ use std::alloc::Global;
 use stored_tables::tables::Text;
 
 /// The store that a command names by its path, or else one in memory. The opener of keepers is lent to it. The path is lent as a whole, and not
-/// an option of a reference: so a function that lends its opener to a store knows it again behind the store.
+/// an option of a reference: so a function that lends its opener to a store knows it again after the store.
 #[derive(Drop)]
 pub struct PoolStore<'a, 'p, O> {
     pub opener: &'a mut O,

@@ -3,13 +3,13 @@
 use ipam_data::calls::Answered;
 use number_pools::{Listed, Member, NumberRange, PoolKind, PoolRefusal, PoolReply, Quantity};
 use pool_json::{
-    RequestRefusal, Shape, read_claim, read_range, reply_bytes, request_refusal_bytes,
+    RequestRefusal, Shape, read_claim, read_range, read_record, reply_bytes, request_refusal_bytes,
 };
 use std::alloc::{AllocError, Global};
 use std::test::Fail;
 use stored_tables::tables::Text;
 
-/// What bodies of ranges ask for: a line `= TEXT`, and below it the bodies that are told this.
+/// What bodies of ranges ask for: a line `= TEXT`, and below it the bodies that give this.
 const RANGES: &[u8] = b"= lab 64512 64521
 {\"name\":\"lab\",\"start\":64512,\"end\":64521}
  { \"end\" : 64521 , \"x\" : [1.5, {}] , \"start\":64512, \"name\":\"l\\u0061b\" } 
@@ -43,7 +43,7 @@ null
 {\"name\":\"lab\",\"start\":1,\"end\":1e1}
 {\"name\":\"lab\",\"start\":1,\"end\":true}";
 
-/// What bodies of claims ask for, each behind the letter of its kind: the names with a colon behind each, of a list behind a `+`.
+/// What bodies of claims ask for, each after the letter of its kind: the names with a colon after each, of a list after a `+`.
 const CLAIMS: &[u8] = b"= :
 a{}
 a{\"name\":5}
@@ -74,12 +74,51 @@ v{\"name\":5}
 v{\"name\":\"\"}
 v[{\"name\":\"red\"},{}]";
 
-/// What a refusal is told by.
+/// What bodies that record ask for, as those of claims: a number and a name of each item.
+const RECORDS: &[u8] = b"= 64520 :
+a{\"asn\":64520}
+a{\"asn\":64520,\"name\":\"\"}
+a{\"asn\":1,\"asn\":64520,\"x\":{}}
+= 64520 edge:
+a{\"asn\":64520,\"name\":\"edge\"}
+= +0 :4294967295 a b:
+a[{\"asn\":0},{\"name\":\"a b\",\"asn\":4294967295}]
+= 10 voice:
+v{\"vid\":10,\"name\":\"voice\"}
+= +10 voice:10 data:
+v[{\"vid\":10,\"name\":\"voice\"},{\"vid\":10,\"name\":\"data\",\"asn\":1}]
+= {\"code\":\"bad_json\",\"detail\":\"the body is not the JSON that is asked for\"}
+a
+a5
+a[{\"asn\":1},5]
+v[{},5]
+v{\"vid\":10
+= {\"code\":\"field\",\"detail\":\"body is missing or malformed\"}
+a[]
+v[ ]
+= {\"code\":\"field\",\"detail\":\"asn is missing or malformed\"}
+a{}
+a{\"vid\":10,\"name\":5}
+a{\"asn\":4294967296}
+a[{\"asn\":1},{\"asn\":1.0}]
+= {\"code\":\"field\",\"detail\":\"vid is missing or malformed\"}
+v{}
+v{\"vid\":\"10\",\"name\":5}
+v[{\"vid\":-1},{\"vid\":10}]
+= {\"code\":\"field\",\"detail\":\"name is missing or malformed\"}
+a{\"asn\":1,\"name\":null}
+a{\"asn\":1,\"name\":\"a\\u007f\"}
+a{\"asn\":1,\"name\":\"aaaaaaaaaaaaaaaaaaaaaaaaaaaaaaaaaaaaaaaaaaaaaaaaaaaaaaaaaaaaaaaaaaaaaaaaaaaaaaaaaaaaaaaaaaaaaaaaaaaaa\"}
+v{\"vid\":10}
+v{\"vid\":10,\"name\":\"\"}
+v[{\"vid\":10},{}]";
+
+/// How a refusal is printed.
 fn refused(alloc: Global, refusal: RequestRefusal) -> Result<Vec<u8>, AllocError> {
     request_refusal_bytes(alloc, &refusal)
 }
 
-/// What the body of a range is told by.
+/// How the body of a range is printed.
 fn range_told(alloc: Global, body: &[u8]) -> Result<Vec<u8>, AllocError> {
     match read_range(alloc, body) {
         Ok(range) => {
@@ -93,7 +132,7 @@ fn range_told(alloc: Global, body: &[u8]) -> Result<Vec<u8>, AllocError> {
     }
 }
 
-/// What the body of a claim is told by.
+/// How the body of a claim is printed.
 fn claim_told(alloc: Global, kind: PoolKind, body: &[u8]) -> Result<Vec<u8>, AllocError> {
     match read_claim(alloc, kind, body) {
         Ok((answered, names)) => {
@@ -112,7 +151,36 @@ fn claim_told(alloc: Global, kind: PoolKind, body: &[u8]) -> Result<Vec<u8>, All
     }
 }
 
-/// What a body behind the letter of its kind is told by.
+/// How a line of the test states the body of a call that records.
+fn record_told(alloc: Global, kind: PoolKind, body: &[u8]) -> Result<Vec<u8>, AllocError> {
+    match read_record(alloc, kind, body) {
+        Ok((answered, items)) => {
+            let mut text = Vec::new(alloc);
+            match answered {
+                Answered::AsOne => {}
+                Answered::AsList => text.push(b'+')?,
+            }
+            for item in items.as_slice() {
+                let number = item.number;
+                let name = item.name.as_str();
+                text.extend_from_slice(format!(in alloc; "{number} {name}:")?.as_bytes())?;
+            }
+            Ok(text)
+        }
+        Err(refusal) => refused(alloc, refusal),
+    }
+}
+
+/// How a line states a body that records, after the letter of its kind.
+fn record_letter_told(alloc: Global, line: &[u8]) -> Result<Vec<u8>, AllocError> {
+    match line {
+        [b'a', body @ ..] => record_told(alloc, PoolKind::Asn, body),
+        [b'v', body @ ..] => record_told(alloc, PoolKind::Vlan, body),
+        _ => Ok(Vec::new(alloc)),
+    }
+}
+
+/// How a body after the letter of its kind is printed.
 fn letter_told(alloc: Global, line: &[u8]) -> Result<Vec<u8>, AllocError> {
     match line {
         [b'a', body @ ..] => claim_told(alloc, PoolKind::Asn, body),
@@ -144,6 +212,21 @@ fn bodies_of_claims(rt: HostRuntime) -> Result<(), Fail> {
             [b'=', b' ', text @ ..] => want = text,
             line => {
                 let told = letter_told(rt.alloc(), line)?;
+                assert_eq!(rt; told.as_slice(), want);
+            }
+        }
+    }
+    Ok(())
+}
+
+#[test]
+fn bodies_that_record(rt: HostRuntime) -> Result<(), Fail> {
+    let mut want: &[u8] = b"";
+    for line in RECORDS.split(|b| *b == b'\n') {
+        match line {
+            [b'=', b' ', text @ ..] => want = text,
+            line => {
+                let told = record_letter_told(rt.alloc(), line)?;
                 assert_eq!(rt; told.as_slice(), want);
             }
         }
@@ -185,6 +268,18 @@ fn members(alloc: Global) -> Result<Listed<Member>, AllocError> {
     Ok(Listed::of(list))
 }
 
+/// A member without a name.
+fn nameless(alloc: Global) -> Result<Listed<Member>, AllocError> {
+    let mut list = Vec::new(alloc);
+    list.push(Member {
+        id: 7,
+        range: 1,
+        number: 64512,
+        name: text(alloc, "")?,
+    })?;
+    Ok(Listed::of(list))
+}
+
 /// The reply of a line of texts.
 fn reply(alloc: Global, number: u32) -> Result<PoolReply, AllocError> {
     let mut ranges = Vec::new(alloc);
@@ -214,17 +309,22 @@ fn reply(alloc: Global, number: u32) -> Result<PoolReply, AllocError> {
         16 => PoolReply::Refused(PoolRefusal::Limit(Quantity::Ids, 4294967294)),
         17 => PoolReply::Refused(PoolRefusal::Limit(Quantity::Log, 1000000)),
         18 => PoolReply::Refused(PoolRefusal::Keeper),
+        19 => PoolReply::Claimed(nameless(alloc)?),
+        20 => PoolReply::Refused(PoolRefusal::Outside(64511)),
+        21 => PoolReply::Refused(PoolRefusal::Taken(64512, 7)),
+        22 => PoolReply::Refused(PoolRefusal::Repeated(64513)),
+        23 => PoolReply::Refused(PoolRefusal::Limit(Quantity::Items, 1000)),
         _ => PoolReply::Refused(PoolRefusal::Memory),
     })
 }
 
-/// The texts of the replies above, for ASNs and, behind a bar where they differ, for VLANs.
+/// The texts of the replies above, for ASNs and, after a bar if they differ, for VLANs.
 const REPLIES: &str = "{\"end\":64514,\"id\":1,\"name\":\"lab\",\"start\":64512}
 
-{\"asn\":64512,\"id\":7,\"range\":1}|{\"group\":1,\"id\":7,\"name\":\"a\\\"b\",\"vid\":64512}
-{\"asn\":64512,\"id\":7,\"range\":1}|{\"group\":1,\"id\":7,\"name\":\"a\\\"b\",\"vid\":64512}
+{\"asn\":64512,\"id\":7,\"name\":\"a\\\"b\",\"range\":1}|{\"group\":1,\"id\":7,\"name\":\"a\\\"b\",\"vid\":64512}
+{\"asn\":64512,\"id\":7,\"name\":\"a\\\"b\",\"range\":1}|{\"group\":1,\"id\":7,\"name\":\"a\\\"b\",\"vid\":64512}
 [{\"end\":64514,\"id\":1,\"name\":\"lab\",\"start\":64512}]
-[{\"asn\":64512,\"id\":7,\"range\":1},{\"asn\":64513,\"id\":7,\"range\":1}]|[{\"group\":1,\"id\":7,\"name\":\"a\\\"b\",\"vid\":64512},{\"group\":1,\"id\":7,\"name\":\"a\\\"b\",\"vid\":64513}]
+[{\"asn\":64512,\"id\":7,\"name\":\"a\\\"b\",\"range\":1},{\"asn\":64513,\"id\":7,\"name\":\"a\\\"b\",\"range\":1}]|[{\"group\":1,\"id\":7,\"name\":\"a\\\"b\",\"vid\":64512},{\"group\":1,\"id\":7,\"name\":\"a\\\"b\",\"vid\":64513}]
 [64513,64514]
 []
 {\"code\":\"not_found\",\"detail\":\"3 is not there\"}
@@ -238,6 +338,11 @@ const REPLIES: &str = "{\"end\":64514,\"id\":1,\"name\":\"lab\",\"start\":64512}
 {\"code\":\"limit\",\"detail\":\"ids would exceed 4294967294\"}
 {\"code\":\"limit\",\"detail\":\"log would exceed 1000000\"}
 {\"code\":\"keeper\",\"detail\":\"the store could not be written\"}
+{\"asn\":64512,\"id\":7,\"range\":1}|{\"group\":1,\"id\":7,\"name\":\"\",\"vid\":64512}
+{\"code\":\"bounds\",\"detail\":\"number 64511 is not in the range\"}
+{\"code\":\"taken\",\"detail\":\"number 64512 is that of member 7\"}
+{\"code\":\"taken\",\"detail\":\"number 64513 is that of an earlier item\"}
+{\"code\":\"limit\",\"detail\":\"items would exceed 1000\"}
 {\"code\":\"memory\",\"detail\":\"no memory\"}";
 
 #[test]

@@ -33,8 +33,15 @@ GET /api/ipam/asns/7/ - = Common(Method) 405 DELETE
 PATCH /api/ipam/vlans/7/ {} = Common(Method) 405 DELETE
 GET /api/ipam/asn-ranges/7/asns/?limit=x - = Members { kind: Asn, id: 7 } Asn false
 GET /api/ipam/vlan-groups/7/vlans/ - = Members { kind: Vlan, id: 7 } Vlan false
-POST /api/ipam/asn-ranges/7/asns/ {} = Common(Method) 405 GET
-DELETE /api/ipam/vlan-groups/7/vlans/ - = Common(Method) 405 GET
+POST /api/ipam/asn-ranges/7/asns/?limit=x {\"asn\":64520} = Record { kind: Asn, id: 7, list: false, items: Listed { items: [Chosen { number: 64520, name: Text { characters: Owned(\"\") } }] } } Asn false
+POST /api/ipam/vlan-groups/7/vlans/ [{\"name\":\"red\",\"vid\":0}] = Record { kind: Vlan, id: 7, list: true, items: Listed { items: [Chosen { number: 0, name: Text { characters: Owned(\"red\") } }] } } Vlan true
+POST /api/ipam/asn-ranges/7/asns/ {} = Number(Asn) 400 
+POST /api/ipam/vlan-groups/7/vlans/ [{}] = Number(Vlan) 400 
+POST /api/ipam/vlan-groups/7/vlans/ {\"vid\":7} = Common(Field(Name)) 400 
+POST /api/ipam/vlan-groups/7/vlans/ [] = Common(Field(Body)) 400 
+POST /api/ipam/vlan-groups/7/vlans/ 5 = Common(BadJson) 400 
+PATCH /api/ipam/asn-ranges/7/asns/ {} = Common(Method) 405 GET, POST
+DELETE /api/ipam/vlan-groups/7/vlans/ - = Common(Method) 405 GET, POST
 GET /api/ipam/asn-ranges/7/available-asns/ - = Available { kind: Asn, id: 7, limit: 50 } Asn false
 GET /api/ipam/vlan-groups/7/available-vlans/?limit=2&offset=x - = Available { kind: Vlan, id: 7, limit: 2 } Vlan false
 GET /api/ipam/asn-ranges/7/available-asns/?limit=0 - = Available { kind: Asn, id: 7, limit: 1000 } Asn false
@@ -97,7 +104,7 @@ fn told(
     }
 }
 
-/// What stands before the first of these bytes in a line, and behind it.
+/// What is before the first of these bytes in a line, and after it.
 fn cut(line: &[u8], byte: u8) -> (&[u8], &[u8]) {
     match line.iter().position(|other| *other == byte) {
         Some(place) => (&line[..place], &line[place + 1..]),
@@ -124,7 +131,7 @@ fn requests(rt: HostRuntime) -> Result<(), Fail> {
     Ok(())
 }
 
-/// An answer in words: its status, whether it has `Allow`, its place where it has one, and its body.
+/// An answer in words: its status, whether it has `Allow`, its place if it has one, and its body.
 fn words(alloc: Global, answer: &Answer) -> Result<String, AllocError> {
     let body = String::from_utf8_lossy(alloc, answer.body.bytes())?;
     let number = answer.status.as_u16();
@@ -212,6 +219,12 @@ fn refusals(rt: HostRuntime) -> Result<(), Fail> {
     is_refused(&rt, alloc, PoolRefusal::InUse(2), want)?;
     let want = "409 0 0 {\"code\":\"no_space\",\"detail\":\"no space for claim 0\"}";
     is_refused(&rt, alloc, PoolRefusal::NoSpace(0), want)?;
+    let want = "400 0 0 {\"code\":\"bounds\",\"detail\":\"number 7 is not in the range\"}";
+    is_refused(&rt, alloc, PoolRefusal::Outside(7), want)?;
+    let want = "409 0 0 {\"code\":\"taken\",\"detail\":\"number 7 is that of member 2\"}";
+    is_refused(&rt, alloc, PoolRefusal::Taken(7, 2), want)?;
+    let want = "409 0 0 {\"code\":\"taken\",\"detail\":\"number 7 is that of an earlier item\"}";
+    is_refused(&rt, alloc, PoolRefusal::Repeated(7), want)?;
     let want = "507 0 0 {\"code\":\"limit\",\"detail\":\"claims would exceed 1000\"}";
     is_refused(&rt, alloc, PoolRefusal::Limit(Quantity::Claims, 1000), want)?;
     let want = "503 0 0 {\"code\":\"keeper\",\"detail\":\"the store could not be written\"}";

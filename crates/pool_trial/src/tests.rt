@@ -1,6 +1,6 @@
 //! Calls of pools over a keeper in memory.
 
-use number_pools::{Member, NumberRange, PoolCall, PoolKind, PoolReply};
+use number_pools::{Chosen, Listed, Member, NumberRange, PoolCall, PoolKind, PoolReply};
 use pool_keeper::memory::MemoryPools;
 use pool_keeper::tables::empty_tables;
 use pool_register::{Pools, begin};
@@ -8,7 +8,7 @@ use std::alloc::{AllocError, Global};
 use std::test::Fail;
 use stored_tables::tables::{Text, Texts};
 
-/// A call a line, and behind the equals sign what is answered. The keeper's calls of the numbers 1 and 5 fail.
+/// A call a line, and after the equals sign what is answered. The keeper's calls of the numbers 1 and 5 fail.
 const CALLS: &str = "\
 add asn office 64512 64514=made 1
 claim asn 1 2=Keeper
@@ -45,9 +45,20 @@ cut_member vlan 25=gone
 cut_member vlan 24=gone
 cut vlan 4=gone
 ranges vlan=3
+record asn 2 64514=64514
+record asn 2 64512=Outside(64512)
+record asn 1 64514=Taken(64514, 27)
+record vlan 3 30,29,31=30 29 31
+record vlan 3 33,30=Taken(30, 28)
+record vlan 3 33,34,33,5000=Repeated(33)
+record vlan 3 5000,1=Outside(5000)
+record vlan 3 1,5000=Taken(1, 3)
+record vlan 2 1=Absent(2)
+claim asn 2 1=64515
+members asn 2=64514 64515
 ";
 
-/// The number of a word. Where it is none, the line is wrong, and the test fails as for lack of memory.
+/// The number of a word. If it is none, the line is wrong, and the test fails as for lack of memory.
 fn number(word: Option<&str>) -> Result<u32, AllocError> {
     word.unwrap_or("").parse::<u32>().map_err(|_| AllocError)
 }
@@ -68,6 +79,17 @@ fn names(alloc: Global, n: u32) -> Result<Texts, AllocError> {
         items.push(Text::of(String::new(alloc)))?;
     }
     Ok(Texts::of(items))
+}
+
+/// The numbers of a text, which have no names.
+fn chosen(alloc: Global, text: &str) -> Result<Listed<Chosen>, AllocError> {
+    let mut items = Vec::new(alloc);
+    for word in text.split(',') {
+        let number = number(Some(word))?;
+        let name = Text::of(String::new(alloc));
+        items.push(Chosen { number, name })?;
+    }
+    Ok(Listed::of(items))
 }
 
 /// The call of a line.
@@ -98,6 +120,14 @@ fn call_of(alloc: Global, line: &str) -> Result<PoolCall, AllocError> {
     }
     if verb == "members" {
         return Ok(PoolCall::Members { kind, id });
+    }
+    if verb == "record" {
+        return Ok(PoolCall::Record {
+            kind,
+            id,
+            list: true,
+            items: chosen(alloc, words.next().unwrap_or(""))?,
+        });
     }
     let n = number(words.next())?;
     if verb == "free" {
@@ -167,7 +197,7 @@ fn told(alloc: Global, reply: PoolReply) -> Result<String, AllocError> {
     text
 }
 
-/// What is answered to the call of a line, behind the line.
+/// What is answered to the call of a line, after the line.
 fn answered(
     alloc: Global,
     pools: &mut Pools<MemoryPools>,
@@ -243,7 +273,7 @@ fn numbers_from(alloc: Global, first: u32, last: u32) -> Result<String, AllocErr
     Ok(text)
 }
 
-/// What comes of 1,000 ranges, one more, and two claims of 1,000 numbers each: the answers to the last range that is taken, to the one behind
+/// The outcome of 1,000 ranges, one more, and two claims of 1,000 numbers each: the answers to the last range that is taken, to the one after
 /// it, and to both claims.
 fn most(alloc: Global, pools: &mut Pools<MemoryPools>) -> Result<[String; 4], AllocError> {
     let mut last = String::new(alloc);

@@ -1,32 +1,50 @@
--- What was found in words whose first one is a command's name.
-use Rattle.std.proofs.Common.{◌≡◌, ℕ, List, ◌∷◌, sym, ◌∙◌, ap, arith, codes, sum, Option, Some, None, Result, Ok, Err, IfOk, MatchOption, subst}
+-- What was found in words whose first one is a name of a command.
+use Rattle.std.proofs.Common.{◌≡◌, ◌≢◌, ℕ, List, ◌∷◌, sym, ◌∙◌, ap, arith, codes, sum, Option, Some, None, Result, Ok, Err, IfOk, MatchOption, subst}
 use Rattle.clap.specs.Simple.{App}
 use Rattle.clap.specs.Walk.{Row}
 use Rattle.command_grammar.specs.Grammar.{Takes, given}
-use Rattle.word_values.proofs.Unique.{same_first}
 use Rattle.pool_words.specs.declared.asked.Command.{Command}
-use Rattle.pool_words.specs.declared.asked.Command.TheVariants.{Session, Serve}
+use Rattle.pool_words.specs.declared.asked.Command.TheVariants.{Session, Serve, About}
+use Rattle.pool_words.specs.declared.asked.Topic.TheVariants as topic
 use Rattle.pool_words.specs.Grammar.{session_app}
-use Rattle.pool_words.specs.Asked.{Asks, IsFile, IsNoCommand, IsReadAs, name_of}
+use Rattle.pool_words.specs.declared.asked.CommandName.{CommandName}
+use Rattle.pool_words.specs.Asked.{Asks, IsFile, IsNoCommand, IsReadAs, command_word, name_in, name_of}
+use Rattle.word_values.specs.Values.{main_name}
+use Rattle.word_values.proofs.Unique.{same_first}
 
-read_so : (name : List ℕ) (words rest : List (List ℕ)) (found : Option Command) → words ≡ name ∷ rest → IsReadAs name words found
+-- of words with this first one
+named_by : (first : List ℕ) (words rest : List (List ℕ)) (c : Command) → words ≡ first ∷ rest → Asks words c → main_name first ≡ name_of c
+named_by first words rest c split asks = ap main_name (same_first first asks.first rest asks.rest (sym split ∙ asks.split)) ∙ asks.named
+
+read_so : (name first : List ℕ) (words rest : List (List ℕ)) (found : Option Command) → words ≡ first ∷ rest → main_name first ≡ name → IsReadAs name words found
     → MatchOption found (IsNoCommand words) (λ c. Asks words c)
-read_so name words rest None first h = λ c asks. h c (same_first (name_of c) name asks.rest rest (sym asks.named ∙ first)) asks
-read_so name words rest (Some c) first h = h rest first
+read_so name first words rest None split is h = λ c asks. h c (sym (named_by first words rest c split asks) ∙ is) asks
+read_so name first words rest (Some c) split is h = h first rest split is
 
--- the first word is this name
+-- a word that is the name of one command, which is this one
+pub word_of : (word : List ℕ) (n m : CommandName) → n ≡ m → word ≡ command_word n → word ≡ command_word m
+word_of word n m same h = subst (λ (k : CommandName). word ≡ command_word k) same h
+
+-- the first word is this one
 abbrev IsFirst : List ℕ → List (List ℕ) → Type 0
 IsFirst first words = (rest : List (List ℕ)) × (words ≡ first ∷ rest)
 
--- what was read of words behind a name, where it is their first word, is what they ask for
-pub read_is_asked : {E : Type 0} (name first : List ℕ) (words : List (List ℕ)) (result : Result (Option Command) E) → first ≡ name → IsFirst first words
-    → IfOk result (λ found. IsReadAs name words found) → IfOk result (λ found. MatchOption found (IsNoCommand words) (λ c. Asks words c))
-read_is_asked name first words (Ok found) e h k = read_so name words h.0 found (subst (λ (n : List ℕ). words ≡ n ∷ h.0) e h.1) k
-read_is_asked name first words (Err error) e h k = tt
+-- what was read of words as the command of a name, if their first word is a name of it, is what they ask for
+pub read_is_asked : {E : Type 0} (name first main : List ℕ) (words : List (List ℕ)) (result : Result (Option Command) E) → main ≡ name → main ≡ main_name first
+    → IsFirst first words → IfOk result (λ found. IsReadAs name words found) → IfOk result (λ found. MatchOption found (IsNoCommand words) (λ c. Asks words c))
+read_is_asked name first main words (Ok found) e m h k = read_so name first words h.0 found h.1 (sym m ∙ e) k
+read_is_asked name first main words (Err error) e m h k = tt
+
+-- a first word that is no name asks for nothing
+pub none_named : (first main : List ℕ) (words : List (List ℕ)) → main ≡ main_name first → IsFirst first words → ((n : CommandName) → main ≢ command_word n) → IsNoCommand words
+none_named first main words m h none = λ c asks. none (name_in c) (m ∙ named_by first words h.0 c h.1 asks)
 
 none_asked : (words : List (List ℕ)) (rows : List Row) → rows ≡ given session_app words → ((d : Option (List ℕ)) → ¬ IsFile rows d) → (c : Command) → name_of c ≡ codes "session" → ¬ Asks words c
 none_asked words rows is none (Session d) same asks = none d (subst (λ (r : List Row). IsFile r d) (sym is) asks.values)
 none_asked words rows is none (Serve s) same asks = let e = ap sum same in absurd (omega arith)
+none_asked words rows is none (About topic.Version) same asks = let e = ap sum same in absurd (omega arith)
+none_asked words rows is none (About topic.Commands) same asks = let e = ap sum same in absurd (omega arith)
+none_asked words rows is none (About (topic.Command n)) same asks = let e = ap sum same in absurd (omega arith)
 
 -- words with the name of `session` that give no file as they should ask for nothing
 pub no_session : {M : Type 0} (words : List (List ℕ)) (rows_of : M → List Row) (app : App) (took : Option M) (m : M) (found : Option (Option (List ℕ))) → app ≡ session_app → took ≡ Some m

@@ -1,3 +1,4 @@
 pub mod Found
+pub mod Help
 pub mod Plain
 pub mod Unique

@@ -1,14 +1,18 @@
 -- Words ask for one command: each value is determined by the text that was given, and the names of commands differ.
-use Rattle.std.proofs.Common.{◌≡◌, ℕ, sym, ◌∙◌, ap, ap₂, arith, List, Option, codes, sum}
+use Rattle.std.proofs.Common.{◌≡◌, ◌⊎◌, inl, inr, ℕ, refl, sym, ◌∙◌, ap, ap₂, arith, List, Option, Some, None, codes, sum}
 use Rattle.clap.specs.Walk.{Row}
 use Rattle.clap.specs.Words.{first_of}
 use Rattle.command_grammar.specs.Grammar.{given}
-use Rattle.word_values.specs.Values.{most_connections, most_workers}
+use Rattle.word_values.specs.Values.{main_name, most_connections, most_workers}
 use Rattle.word_values.proofs.Unique.{one_number, one_number_or, one_text, same_first}
 use Rattle.pool_words.specs.declared.asked.Serving.{Serving}
 use Rattle.pool_words.specs.declared.asked.Command.{Command}
-use Rattle.pool_words.specs.declared.asked.Command.TheVariants.{Session, Serve}
-use Rattle.pool_words.specs.Asked.{HasValues, IsServing, WordsAskForOne, app_for, name_of}
+use Rattle.pool_words.specs.declared.asked.Command.TheVariants.{Session, Serve, About}
+use Rattle.pool_words.specs.declared.asked.CommandName.{CommandName}
+use Rattle.pool_words.specs.declared.asked.CommandName.TheVariants as names
+use Rattle.pool_words.specs.declared.asked.Topic.{Topic}
+use Rattle.pool_words.specs.declared.asked.Topic.TheVariants as topic
+use Rattle.pool_words.specs.Asked.{HasValues, IsServing, IsTopicValue, WordsAskForOne, app_for, command_word, name_of}
 
 one_serving : (rows : List Row) (s t : Serving) → IsServing rows s → IsServing rows t → s ≡ t
 one_serving rows s t h k =
@@ -21,13 +25,40 @@ one_serving rows s t h k =
     ap₂ (λ (b : List ℕ) (w : ℕ). record s { bind = b; workers = w }) bind workers in
     first ∙ ap₂ (λ (c : ℕ) (d : Option (List ℕ)). record t { connections = c; db = d }) connections db
 
+one_command : (n m : CommandName) → sum (command_word n) ≡ sum (command_word m) → n ≡ m
+one_command names.Session names.Session e = refl
+one_command names.Serve names.Serve e = refl
+one_command names.Version names.Version e = refl
+one_command names.Help names.Help e = refl
+one_command n m e = absurd (omega arith)
+
+none_given : (text : Option (List ℕ)) (word : List ℕ) → text ≡ None → text ≡ Some word → ⊥
+none_given text word h k = cc
+
+-- what is in both is one
+one_of_two : (a b : List ℕ) → Some a ≡ Some b → a ≡ b
+one_of_two a b h = cc
+
+about_sum : (t : Topic) → (sum (name_of (About t)) ≡ sum (codes "version")) ⊎ (sum (name_of (About t)) ≡ sum (codes "help"))
+about_sum topic.Version = inl refl
+about_sum topic.Commands = inr refl
+about_sum (topic.Command n) = inr refl
+
 -- with one name they are one
 one_named : (words : List (List ℕ)) (one other : Command) → sum (name_of one) ≡ sum (name_of other) → HasValues (given (app_for one) words) one
     → HasValues (given (app_for other) words) other → one ≡ other
 one_named words (Session d) (Session e) same h k = ap Session (h.text.0 ∙ sym k.text.0)
 one_named words (Serve s) (Serve t) same h k = ap Serve (one_serving _ s t h k)
+one_named words (About topic.Version) (About topic.Version) same h k = refl
+one_named words (About topic.Commands) (About topic.Commands) same h k = refl
+one_named words (About topic.Commands) (About (topic.Command n)) same h k = absurd (none_given _ (command_word n) h k)
+one_named words (About (topic.Command n)) (About topic.Commands) same h k = absurd (none_given _ (command_word n) k h)
+one_named words (About (topic.Command n)) (About (topic.Command m)) same h k =
+    ap (λ (x : CommandName). About (topic.Command x)) (one_command n m (ap sum (one_of_two (command_word n) (command_word m) (sym h ∙ k))))
+one_named words (About t) other same h k = absurd (elim (about_sum t) [ inl i ↦ omega arith | inr i ↦ omega arith ])
+one_named words one (About t) same h k = absurd (elim (about_sum t) [ inl i ↦ omega arith | inr i ↦ omega arith ])
 one_named words one other same h k = absurd (omega arith)
 
 pub words_ask_for_one : WordsAskForOne
 words_ask_for_one = λ words one other h k.
-    one_named words one other (ap sum (same_first (name_of one) (name_of other) h.rest k.rest (sym h.named ∙ k.named))) h.values k.values
+    one_named words one other (ap sum (sym h.named ∙ ap main_name (same_first h.first k.first h.rest k.rest (sym h.split ∙ k.split)) ∙ k.named)) h.values k.values

@@ -1,24 +1,52 @@
--- Which command of `poold` the words ask for: its name comes first, the words are some that it takes, and they give its values.
-use Rattle.std.specs.Prelude.{◌≡◌, ℕ, List, ◌∷◌, Option, MatchOption, codes}
+-- Which command of `poold` the arguments ask for: its name comes first, the arguments are some that it takes, and they give its values.
+use Rattle.std.specs.Prelude.{◌≡◌, ℕ, List, ◌∷◌, Option, Some, None, MatchOption, codes}
 use Rattle.clap.specs.Simple.{App}
 use Rattle.clap.specs.Walk.{Row}
 use Rattle.clap.specs.Words.{first_of}
-use Rattle.command_grammar.specs.Grammar.{Takes, given}
-use Rattle.word_values.specs.Values.{IsNumberOr, IsNumberValue, IsTextOrNone, IsTextValue, most_connections, most_workers}
+use Rattle.command_grammar.specs.Grammar.{Takes, given, help_app, version_app}
+use Rattle.word_values.specs.Values.{IsNumberOr, IsNumberValue, IsTextOrNone, IsTextValue, main_name, most_connections, most_workers}
 use Rattle.pool_words.specs.declared.asked.Serving.{Serving}
 use Rattle.pool_words.specs.declared.asked.Command.{Command}
-use Rattle.pool_words.specs.declared.asked.Command.TheVariants.{Session, Serve}
+use Rattle.pool_words.specs.declared.asked.Command.TheVariants.{Session, Serve, About}
+use Rattle.pool_words.specs.declared.asked.CommandName.{CommandName}
+use Rattle.pool_words.specs.declared.asked.CommandName.TheVariants as names
+use Rattle.pool_words.specs.declared.asked.Topic.{Topic}
+use Rattle.pool_words.specs.declared.asked.Topic.TheVariants.{Version, Commands, Command as OfCommand}
 use Rattle.pool_words.specs.Grammar.{serve_app, session_app}
 
--- the first word
-abbrev pub name_of : Command → List ℕ
-name_of (Session db) = codes "session"
-name_of (Serve serving) = codes "serve"
+-- the name of a command
+abbrev pub command_word : CommandName → List ℕ
+command_word names.Session = codes "session"
+command_word names.Serve = codes "serve"
+command_word names.Version = codes "version"
+command_word names.Help = codes "help"
 
--- the words behind it that are taken
+-- which command it is
+abbrev pub name_in : Command → CommandName
+name_in (Session db) = names.Session
+name_in (Serve serving) = names.Serve
+name_in (About Version) = names.Version
+name_in (About Commands) = names.Help
+name_in (About (OfCommand named)) = names.Help
+
+abbrev pub name_of : Command → List ℕ
+name_of command = command_word (name_in command)
+
+-- the words that a command of this name takes
+abbrev pub app_of_name : CommandName → App
+app_of_name names.Session = session_app
+app_of_name names.Serve = serve_app
+app_of_name names.Version = version_app
+app_of_name names.Help = help_app
+
 abbrev pub app_for : Command → App
-app_for (Session db) = session_app
-app_for (Serve serving) = serve_app
+app_for command = app_of_name (name_in command)
+
+-- what help is asked for: all commands, or one by its name
+abbrev pub IsTopicValue : Option (List ℕ) → Topic → Type 0
+IsTopicValue text Version = ⊥
+IsTopicValue text Commands = text ≡ None
+IsTopicValue text (OfCommand named) = text ≡ Some (command_word named)
 
 -- the file that was given, if any
 pub record IsFile (rows : List Row) (db : Option (List ℕ)) : Type 0 where
@@ -35,11 +63,16 @@ pub record IsServing (rows : List Row) (serving : Serving) : Type 0 where
 abbrev pub HasValues : List Row → Command → Type 0
 HasValues rows (Session db) = IsFile rows db
 HasValues rows (Serve serving) = IsServing rows serving
+HasValues rows (About Version) = Unit {0}
+HasValues rows (About Commands) = IsTopicValue (first_of (codes "command") rows) Commands
+HasValues rows (About (OfCommand named)) = IsTopicValue (first_of (codes "command") rows) (OfCommand named)
 
--- the words ask for the command
+-- the arguments ask for the command: the first one is its name, or another name of it
 pub record Asks (words : List (List ℕ)) (command : Command) : Type 0 where
+  pub first : List ℕ
   pub rest : List (List ℕ)
-  pub named : words ≡ name_of command ∷ rest
+  pub split : words ≡ first ∷ rest
+  pub named : main_name first ≡ name_of command
   pub taken : Takes (app_for command) words
   pub values : HasValues (given (app_for command) words) command
 
@@ -47,11 +80,11 @@ pub record Asks (words : List (List ℕ)) (command : Command) : Type 0 where
 abbrev pub IsNoCommand : List (List ℕ) → Type 0
 IsNoCommand words = (command : Command) → ¬ Asks words command
 
--- what was found in words is the command of this name that they ask for, if their first word is this name, and nothing where they
+-- what was found in words is the command of this name that they ask for, if their first word is this name, and nothing if they
 -- ask for none of this name
 abbrev pub IsReadAs : List ℕ → List (List ℕ) → Option Command → Type 0
 IsReadAs name words found = MatchOption found ((c : Command) → name_of c ≡ name → ¬ Asks words c)
-    (λ c. (rest : List (List ℕ)) → words ≡ name ∷ rest → Asks words c)
+    (λ c. (first : List ℕ) (rest : List (List ℕ)) → words ≡ first ∷ rest → main_name first ≡ name → Asks words c)
 
 -- words ask for one command
 abbrev pub WordsAskForOne : Type 0

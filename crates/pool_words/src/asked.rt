@@ -11,6 +11,26 @@ pub struct Serving {
     pub db: Option<WordText>,
 }
 
+/// A command by its name.
+#[derive(Clone, Copy, Debug)]
+pub enum CommandName {
+    Session,
+    Serve,
+    Version,
+    Help,
+}
+
+/// What the program says of itself.
+#[derive(Clone, Copy, Debug)]
+pub enum Topic {
+    /// Its version.
+    Version,
+    /// Its commands, a line each.
+    Commands,
+    /// What this command takes, and with which defaults.
+    Command(CommandName),
+}
+
 /// What the program is asked to do.
 #[derive(Debug, Drop)]
 pub enum Command {
@@ -18,4 +38,6 @@ pub enum Command {
     Session(Option<WordText>),
     /// Sessions with all that connect.
     Serve(Serving),
+    /// A text about the program: `version` and `help`.
+    About(Topic),
 }

@@ -1,4 +1,4 @@
-//! The words of each command as clap takes them.
+//! The arguments of each command as clap takes them.
 
 ghost use Rattle.std.specs.Prelude.{◌≡◌, IfOk};
 ghost use Rattle.clap.specs.Words.{app_of};

@@ -1,29 +1,35 @@
-//! The words behind the name of `poold`: which command they ask for, with its values.
+//! The arguments after the name of `poold`: which command they ask for, with its values.
 #![tactic(auto)]
 
 ghost use Rattle.std.specs.Prelude.{map, IfOk, MatchOption};
 ghost use Rattle.pool_words.specs.Asked.{Asks, IsNoCommand, WordsAskForOne};
 
+mod about;
 mod asked;
 mod commands;
 mod readers;
 
-pub use asked::{Command, Serving};
+use about::{command_named, read_help, read_version};
+pub use asked::{Command, CommandName, Serving, Topic};
 use readers::{read_serve, read_session};
 use std::alloc::{AllocError, Global};
-use word_values::{first_word, is_word};
+use word_values::{first_word, main_name};
 
-/// The command that the words ask for, or none where they are no command. `Err` means out of memory.
+/// The command that the arguments ask for, or none if they are no command. `Err` means out of memory.
 pub fn read_words<'a>(alloc: Global, words: &'a [&'a str]) -> Result<Option<Command>, AllocError>
     ensures { IfOk result (λ found. MatchOption found (IsNoCommand (map (λ w. w.now) words.entry.now)) (λ c. Asks (map (λ w. w.now) words.entry.now) c)) }
 {
-    let Some(name) = first_word(words) else {
+    let Some(first) = first_word(words) else {
+        return Ok(None);
+    };
+    let Some(name) = command_named(main_name(first)) else {
         return Ok(None);
     };
     match name {
-        name if is_word(name, "session") => read_session(alloc, words),
-        name if is_word(name, "serve") => read_serve(alloc, words),
-        _ => Ok(None),
+        CommandName::Session => read_session(alloc, words),
+        CommandName::Serve => read_serve(alloc, words),
+        CommandName::Version => read_version(alloc, words),
+        CommandName::Help => read_help(alloc, words),
     }
 }
 

@@ -1,4 +1,4 @@
-//! The words of each command, behind its name.
+//! The arguments of each command, after its name.
 
 ghost use Rattle.std.specs.Prelude.{IfOk, List, map, codes, MatchOption, Option, ℕ};
 ghost use Rattle.clap.specs.Words.{found_of, rows_of};

@@ -1,4 +1,4 @@
-//! `poold`: pools of AS numbers and of VLANs. Its commands stand in `pool_command`; its stores are SQLite files.
+//! `poold`: pools of AS numbers and of VLANs. Its commands are in `pool_command`; its stores are SQLite files.
 #![tactic(auto)]
 
 use ipam_listen::TcpDoors;

@@ -1,4 +1,4 @@
-//! Runs over stores: what is answered, what outlives a run, what is refused, and what a store that fails leaves.
+//! Runs over stores: what is answered, what persists after a run, what is refused, and what a store that fails leaves.
 
 use crate::exchanges::{part, put_answer, put_request};
 use crate::running::{Left, run_words};
@@ -11,8 +11,8 @@ use std::sync::Wait;
 use std::test::Fail;
 use std::thread::Threads;
 
-/// A store a case. Its first line has the tables under the path `a`: the next ids and, behind semicolons, rows, and which calls of each keeper
-/// fail. Each line after it is a run over the store: its status, its words and what it says, and behind each `~` an exchange.
+/// A store a case. Its first line has the tables under the path `a`: the next ids and, after semicolons, rows, and which calls of each keeper
+/// fail. Each line after it is a run over the store: its status, its words and what it says, and after each `~` an exchange.
 const CASES: [&str; 10] = [
     r#"1 1
 0|session --db a|~POST /api/ipam/asn-ranges/|{"name":"a","start":64512,"end":64514}|201 Created|Ipam-Place: 0|{"end":64514,"id":1,"name":"a","start":64512}~POST /api/ipam/asn-ranges/1/available-asns/|[{},{}]|201 Created|Ipam-Place: 1|[{"asn":64512,"id":1,"range":1},{"asn":64513,"id":2,"range":1}]~POST /api/ipam/asn-ranges/|{"name":"b","start":64513,"end":64515}|201 Created|Ipam-Place: 2|{"end":64515,"id":2,"name":"b","start":64513}~GET /api/ipam/asn-ranges/2/available-asns/||200 OK|Ipam-Place: 3|[64514,64515]~POST /api/ipam/asn-ranges/2/available-asns/|[{},{},{}]|409 Conflict|Ipam-Place: 3|{"code":"no_space","detail":"no space for claim 2"}~POST /api/ipam/vlan-groups/|{"name":"c","start":1,"end":4094}|201 Created|Ipam-Place: 3|{"end":4094,"id":3,"name":"c","start":1}~POST /api/ipam/vlan-groups/3/available-vlans/|{"name":"voice"}|201 Created|Ipam-Place: 4|{"group":3,"id":3,"name":"voice","vid":1}
@@ -43,6 +43,8 @@ const CASES: [&str; 10] = [
 2||usage: poold COMMAND
 2|''|usage: poold COMMAND
 2|free|usage: poold COMMAND
+2|help free|usage: poold COMMAND
+2|version x|usage: poold COMMAND
 2|Session|usage: poold COMMAND
 2|session a|usage: poold COMMAND
 2|session --db|usage: poold COMMAND
@@ -82,7 +84,7 @@ fn is_left(alloc: Global, left: &Left, run: &str, output: &[u8]) -> Result<bool,
     Ok(status.as_str() == wanted && errors == said && left.output.as_slice() == output)
 }
 
-/// Whether a run over the store comes out as its line says, where the input comes in pieces of this size.
+/// Whether a run over the store ends as its line says, if the input is read in pieces of this size.
 fn is_run<R: Threads + Wait + Sync>(
     rt: &R,
     alloc: Global,
@@ -97,7 +99,7 @@ fn is_run<R: Threads + Wait + Sync>(
     is_left(alloc, &left, run, &output)
 }
 
-/// The first run of a case that comes out otherwise than its line says, where the input comes in pieces of this size; empty where there is none.
+/// The first run of a case that ends otherwise than its line says, if the input is read in pieces of this size; empty if there is none.
 fn wrong_run<'a, R: Threads + Wait + Sync>(
     rt: &R,
     alloc: Global,

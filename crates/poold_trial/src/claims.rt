@@ -59,7 +59,7 @@ fn tell_lane(lane: &ListLane, told: &mut String) -> Result<(), AllocError> {
     Ok(())
 }
 
-/// The same for all lanes that came back.
+/// The same for all lanes that were given back.
 fn tell(listener: &ListListener, told: &mut String) -> Result<(), AllocError> {
     for lane in listener.returned() {
         tell_lane(lane, told)?;
@@ -67,7 +67,7 @@ fn tell(listener: &ListListener, told: &mut String) -> Result<(), AllocError> {
     Ok(())
 }
 
-/// How often a part stands in a text.
+/// How often a part occurs in a text.
 fn times<'a>(text: &'a str, part: &'a str) -> usize {
     text.split(part).count().saturating_sub(1)
 }

@@ -3,7 +3,7 @@
 
 use std::alloc::{AllocError, Global};
 
-/// A part of a line. Where there is none, the line is wrong, and the test fails as for lack of memory.
+/// A part of a line. If there is none, the line is wrong, and the test fails as for lack of memory.
 pub fn part(line: &str, index: usize) -> Result<&str, AllocError> {
     line.split('|').nth(index).ok_or(AllocError)
 }
@@ -13,7 +13,7 @@ fn put(out: &mut Vec<u8>, text: &str) -> Result<(), AllocError> {
     out.extend_from_slice(text.as_bytes())
 }
 
-/// Puts a field on a line of its own, if there is one.
+/// Puts a field on its own line, if there is one.
 fn put_field(out: &mut Vec<u8>, field: &str) -> Result<(), AllocError> {
     if field.is_empty() {
         return Ok(());
@@ -22,7 +22,7 @@ fn put_field(out: &mut Vec<u8>, field: &str) -> Result<(), AllocError> {
     put(out, "\r\n")
 }
 
-/// The length of a body, where there is one.
+/// The length of a body, if there is one.
 fn put_length(alloc: Global, out: &mut Vec<u8>, body: &str) -> Result<(), AllocError> {
     if body.is_empty() {
         return Ok(());
@@ -41,7 +41,7 @@ pub fn put_request(alloc: Global, out: &mut Vec<u8>, exchange: &str) -> Result<(
     put(out, body)
 }
 
-/// The fields that tell of a body, where there is one.
+/// The fields that describe a body, if there is one.
 fn put_size(alloc: Global, out: &mut Vec<u8>, body: &str) -> Result<(), AllocError> {
     if body.is_empty() {
         return Ok(());
@@ -50,7 +50,7 @@ fn put_size(alloc: Global, out: &mut Vec<u8>, body: &str) -> Result<(), AllocErr
     put_length(alloc, out, body)
 }
 
-/// The answer of an exchange, which leaves the connection open. That to HEAD tells of a body and sends none.
+/// The answer of an exchange, which leaves the connection open. That to HEAD describes a body and sends none.
 pub fn put_answer(alloc: Global, out: &mut Vec<u8>, exchange: &str) -> Result<(), AllocError> {
     put(out, "HTTP/1.1 ")?;
     put(out, part(exchange, 2)?)?;

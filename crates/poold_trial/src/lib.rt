@@ -2,6 +2,8 @@
 #![tactic(auto)]
 
 #[cfg(test)]
+mod about;
+#[cfg(test)]
 mod cases;
 #[cfg(test)]
 mod claims;

@@ -29,7 +29,7 @@ fn words_of<'a>(alloc: Global, text: &'a str) -> Result<Vec<&'a str>, AllocError
     Ok(list)
 }
 
-/// Runs words over an input that comes in pieces of this size.
+/// Runs words over an input that is read in pieces of this size.
 pub fn run_words<R: Threads + Wait + Sync, L: Listener>(
     rt: &R,
     alloc: Global,

@@ -1,4 +1,4 @@
-//! A store from a line: the next ids and, behind semicolons, rows and the numbers of the calls of each keeper that fail.
+//! A store from a line: the next ids and, after semicolons, rows and the numbers of the calls of each keeper that fail.
 
 use number_pools::{Listed, Member, NumberRange, PoolKind};
 use pool_keeper::opener::MemoryPoolOpener;
@@ -6,7 +6,7 @@ use pool_keeper::tables::PoolTables;
 use std::alloc::{AllocError, Global};
 use stored_tables::tables::Text;
 
-/// A word of a part. Where there is none, the line is wrong, and the test fails as for lack of memory.
+/// A word of a part. If there is none, the line is wrong, and the test fails as for lack of memory.
 fn word(part: &str, index: usize) -> Result<&str, AllocError> {
     part.split(' ').nth(index).ok_or(AllocError)
 }

@@ -14,7 +14,7 @@ use Rattle.prefix_list.specs.Styles.{front_of, number_of, list_text_of}
 abbrev pub is_feed : ℕ → Bool
 is_feed b = b == 10
 
--- the parts between line feeds; behind the last line feed there is one more, which is empty where the last line has its line feed
+-- the parts between line feeds; after the last line feed there is one more, which is empty if the last line has its line feed
 abbrev pub lines_of : List ℕ → List (List ℕ)
 lines_of bytes = slice_split is_feed bytes
 
@@ -26,7 +26,7 @@ CanName Plain name = Unit {0}
 CanName Ios name = IsListName name
 CanName Junos name = IsListName name
 
--- the line is this front, any number of at most ten digits where the style has one, and a text of this block, which is one of the family
+-- the line is this front, any number of at most ten digits if the style has one, and a text of this block, which is one of the family
 pub record IsFormed (style : Style) (front : List ℕ) (family : Family) (line : List ℕ) (b : Cidr) : Type 0 where
   pub number : ℕ
   pub text : List ℕ

@@ -49,7 +49,7 @@ impl<T: Drop> From<AllocFailed<T>> for ListFault {
     }
 }
 
-/// The first line of the bytes, and what follows its line feed, or `None` where it has none.
+/// The first line of the bytes, and what follows its line feed, or `None` if it has none.
 fn cut_line(bytes: &[u8]) -> (&[u8], Option<&[u8]>)
     ensures some { IfSome result.1 (λ rest. lines_of bytes.now ≡ result.0.now ∷ lines_of rest.now) }
     ensures shorter { IfSome result.1 (λ rest. length rest.now < length bytes.now) }
@@ -197,7 +197,7 @@ fn line_block(form: &Form, line: &[u8]) -> Option<Block>
     block_behind(form.style, &form.front, form.family, line)
 }
 
-/// Takes the line with this number: its block is put behind the others, and an empty line is skipped.
+/// Takes the line with this number: its block is put after the others, and an empty line is skipped.
 fn take_line(
     form: &Form,
     number: u64,
@@ -250,7 +250,7 @@ pub fn read_list(
     ensures lawful { IfOk result (λ v. AllByRecursion IsBlock v.items) }
     ensures family { IfOk result (λ v. AreOf family v.items) }
     ensures line { IfErr result (IsFault (IsLine style name.now family) bytes.now) }
-    // Where a line is refused, that is the answer.
+    // If a line is refused, that is the answer.
     ensures refused { (n : ℕ) → IsRefused style name.now family bytes.now n → (result ≡ Err (Line n)) ⊎ (result ≡ Err Memory) }
 {
     let form = form_of(alloc, style, name.as_str(), family)?;

@@ -25,7 +25,7 @@ fn set_of(alloc: Global, family: Family, blocks: &[Block]) -> Result<SpanSet, Al
     Ok(set)
 }
 
-/// The addresses of the blocks, in whatever order they come.
+/// The addresses of the blocks, in any order.
 fn sorted_set(alloc: Global, family: Family, blocks: &[Block]) -> Result<SpanSet, AllocError>
     requires { AreOf family blocks.now }
     ensures family { IfOk result (λ set. set.family ≡ family) }
@@ -37,8 +37,8 @@ fn sorted_set(alloc: Global, family: Family, blocks: &[Block]) -> Result<SpanSet
     set_of(alloc, family, &sorted)
 }
 
-/// The fewest blocks that have exactly the addresses of these blocks, in address order. The blocks have one family, come in any order, and
-/// may overlap. The one error is out of memory.
+/// The fewest blocks that have exactly the addresses of these blocks, in address order. The blocks have one family, are in any order, and
+/// may overlap. The one error means out of memory.
 pub fn fewest(alloc: Global, blocks: &[Block]) -> Result<Vec<Block>, AllocError>
     requires { HaveOneFamily blocks.now }
     // In address order, and no address twice.
@@ -54,7 +54,7 @@ pub fn fewest(alloc: Global, blocks: &[Block]) -> Result<Vec<Block>, AllocError>
     set.blocks()
 }
 
-/// The fewest blocks of the addresses of the blocks, in whatever order they come.
+/// The fewest blocks of the addresses of the blocks, in any order.
 fn in_order(alloc: Global, family: Family, blocks: &[Block]) -> Result<Vec<Block>, AllocError>
     requires { AreOf family blocks.now }
     ensures family { IfOk result (λ v. AreOf family v.items) }
@@ -100,7 +100,7 @@ fn add_from(set: &mut SpanSet, block: &Block, from: u128) -> Result<(), AllocErr
     set.add(span(block.family(), from, block.last().value()))
 }
 
-/// Adds the addresses of the block that none of the others has, which come in address order.
+/// Adds the addresses of the block that none of the others has, which are in address order.
 fn add_rest(set: &mut SpanSet, block: &Block, by: &[Block]) -> Result<(), AllocError>
     requires family { block.now.family ≡ set.old.family }
     requires ordered { InOrder 0 by.now }
@@ -124,7 +124,7 @@ fn add_rest(set: &mut SpanSet, block: &Block, by: &[Block]) -> Result<(), AllocE
     add_from(set, block, at)
 }
 
-/// The blocks that do not end before the number. They come in address order.
+/// The blocks that do not end before the number. They are in address order.
 fn reaching(by: &[Block], number: u128) -> &[Block]
     requires { InOrder 0 by.now }
     ensures ordered { InOrder 0 result.now }
@@ -140,7 +140,7 @@ fn reaching(by: &[Block], number: u128) -> &[Block]
     rest
 }
 
-/// The addresses of the blocks that none of the others has. Both lists come in address order, and no address twice in one list.
+/// The addresses of the blocks that none of the others has. Both lists are in address order, and no address twice in one list.
 fn rest_of(
     alloc: Global,
     family: Family,
@@ -163,7 +163,7 @@ fn rest_of(
 }
 
 /// The fewest blocks that have exactly the addresses of `have` that are not in `by`, in address order. The blocks of both lists have one family,
-/// come in any order, and may overlap. The one error is out of memory.
+/// are in any order, and may overlap. The one error means out of memory.
 pub fn uncovered(alloc: Global, have: &[Block], by: &[Block]) -> Result<Vec<Block>, AllocError>
     requires { ShareFamily have.now by.now }
     // In address order, and no address twice.

@@ -5,7 +5,7 @@
 pub enum Style {
     /// The block alone.
     Plain,
-    /// Cisco IOS: `ip prefix-list NAME seq N permit B`, with `ipv6` for `ip` where the block is one of IPv6.
+    /// Cisco IOS: `ip prefix-list NAME seq N permit B`, with `ipv6` for `ip` if the block is one of IPv6.
     Ios,
     /// Junos OS: `set policy-options prefix-list NAME B`.
     Junos,

@@ -50,7 +50,7 @@ fn push_junos_front(name: &str, out: &mut Vec<u8>) -> Result<(), AllocError>
     Ok(())
 }
 
-/// Appends what each line of a list begins with. The one error is out of memory, and `out` may then have a part of it.
+/// Appends what each line of a list begins with. The one error means out of memory, and `out` may then have a part of it.
 pub fn push_front(
     style: Style,
     name: &str,
@@ -143,7 +143,7 @@ fn lines_text(
 }
 
 /// Appends the lines of blocks to `out`, the first one with the number `first`, so that a long list can be written in pieces: the next piece begins
-/// with a number that is higher by five for each block of this one. The one error is out of memory, and `out` is then as before.
+/// with a number that is higher by five for each block of this one. The one error means out of memory, and `out` is then as before.
 pub fn write_lines(
     style: Style,
     name: &Text,
@@ -159,7 +159,7 @@ pub fn write_lines(
     out.extend_from_slice(&text)
 }
 
-/// Appends the text of a list to `out`: a line for each block, in their order. The one error is out of memory, and `out` is then as before.
+/// Appends the text of a list to `out`: a line for each block, in their order. The one error means out of memory, and `out` is then as before.
 pub fn write_list(
     style: Style,
     name: &Text,

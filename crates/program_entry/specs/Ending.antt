@@ -16,7 +16,7 @@ RunsOf U = List (List ℕ) → Streams → Streams → U → U → ℕ → Type 
 abbrev pub UsageOf : Type 1
 UsageOf = Streams → Streams → ℕ → Type 0
 
--- a standard stream as it is handed out: it tells nothing, and has not failed
+-- a standard stream as it is handed out: nothing is known of it, and it has not failed
 pub record IsUntold (stream : Told) : Type 0 where
   pub bytes : stream.bytes ≡ None
   pub faults : stream.faults ≡ 0
@@ -35,13 +35,13 @@ RunsOver runs words before after status = (old : Streams) × (new : Streams) × 
 abbrev pub SaysNoText : UsageOf → ℕ → Type 0
 SaysNoText says status = (old : Streams) × (new : Streams) × AreUntold old × says old new status
 
--- what it ends with where there are no words
+-- what it ends with if there are no words
 abbrev pub EndsWithout : UsageOf → NoArguments → ℕ → Type 0
 EndsWithout says NoText status = SaysNoText says status
 EndsWithout says Memory status = status ≡ 5
 
--- what a process ends with that was given these arguments: the status of a run of their words, all but the program's name; or, where one of
--- them is no text, that of the usage line; or that of out of memory, where the system had none to give them. Then nothing else was used
+-- what a process ends with that was given these arguments: the status of a run of their words, all but the program's name; or, if one of
+-- them is no text, that of the usage line; or that of out of memory, if the system had none to give them. Then nothing else was used
 abbrev pub IsEnding : {U Y Z : Type 0} → RunsOf U → UsageOf → Result (IntoIter (String Y) Z) Error → U → U → ℕ → Type 0
 IsEnding runs says (Ok given) before after status = RunsOver runs (words_behind given) before after status
 IsEnding runs says (Err error) before after status =

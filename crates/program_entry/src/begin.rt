@@ -13,7 +13,7 @@ use std::env::Args;
 use std::io;
 use std::process::ExitCode;
 
-/// Ends where there are no arguments: with the usage line where one of them is no text.
+/// Ends if there are no arguments: with the usage line if one of them is no text.
 fn end_without<P: Program>(rt: &HostRuntime, why: NoArguments) -> ExitCode
     ensures { EndsWithout P.says_usage why (exit_status result) }
 {
@@ -23,8 +23,8 @@ fn end_without<P: Program>(rt: &HostRuntime, why: NoArguments) -> ExitCode
     }
 }
 
-/// The arguments behind the program's name, of those that the system gave, as `std::env::args` answers. `Err` has what the process ends with:
-/// the status of the usage line, where one of them is no UTF-8, or that of out of memory.
+/// The arguments after the program's name, of those that the system gave, as `std::env::args` answers. `Err` has what the process ends with:
+/// the status of the usage line, if one of them is no UTF-8, or that of out of memory.
 pub fn arguments<P: Program>(
     rt: &HostRuntime,
     given: io::Result<Args>,
@@ -38,7 +38,7 @@ pub fn arguments<P: Program>(
     }
 }
 
-/// The arguments as words. `Err` has what the process ends with where memory runs out.
+/// The arguments as words. `Err` has what the process ends with if memory runs out.
 pub fn words<P: Program>(alloc: Global, args: &[String]) -> Result<Vec<&str>, ExitCode>
     ensures words { IfOk result (λ words. map (λ w. w.now) words.items ≡ map string_bytes args.now) }
     ensures ended { IfErr result (λ code. (kept : P.Used) → RunsOver P.runs (map string_bytes args.now) kept kept (exit_status code)) }

@@ -5,7 +5,7 @@ ghost use Rattle.command_streams.specs.Streams.{Streams, Told, streams, told};
 
 use ipam_edge::Sink;
 
-/// A program, by what its runs promise and what it says where it was given no words.
+/// A program, by what its runs promise and what it says if it was given no words.
 pub trait Program {
     /// What is seen of all that a run uses besides the streams, such as an opener and a listener.
     ghost Used: { Type 0 };
@@ -21,6 +21,6 @@ pub trait Program {
         ensures usage { (input output : Told) → says_usage (streams input output (told Se.written Se.faults errors.old))
             (streams input output (told Se.written Se.faults errors.new)) result };
 
-    /// Where memory runs out to read the words, nothing is used, and that is a run of them.
+    /// If memory runs out to read the words, nothing is used, and that is a run of them.
     ghost not_begun: { (words : List (List ℕ)) (seen : Streams) (kept : Used) → runs words seen seen kept kept 5 };
 }

@@ -10,7 +10,7 @@ use ipam_edge::{
 use std::io::{Printer, Stderr, StdinLock};
 use std::marker::Model;
 
-/// An input, an output, and where messages go. Contracts see what the three tell.
+/// An input, an output, and where messages go. Contracts see what is known of the three.
 #[derive(Drop)]
 pub struct Three<I: Source, O: Sink, E: Sink> {
     pub input: I,

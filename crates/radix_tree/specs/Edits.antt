@@ -1,4 +1,4 @@
--- The two changes of a tree's shape: a node is put at a place and takes over all that stood there, or the node of a place is
+-- The two changes of a tree's shape: a node is put at a place and takes over all that it had, or the node of a place is
 -- cut out and its one child takes the place.
 use Rattle.std.specs.Prelude.{◌≡◌, ◌≢◌, ◌⊎◌, ℕ, Bool, Option, Some, None}
 use Rattle.inet_num.specs.Net.{Cidr, IsBlock, IsInside}
@@ -18,7 +18,7 @@ pub record CanPut (old : Linked) (land : Cidr) (n : Node) : Type 0 where
   pub below : (id : ℕ) (m : Node) → node_at old.pool id ≡ Some m → IsInside m.block land → IsInside m.block n.block
   pub children : (side : Bool) → HasRoom n.block → IsLink old.pool (child side n) (half side n.block)
 
--- the new node stands at the place, and the rest is as it was
+-- the new node is at the place, and the rest is unchanged
 pub record IsPut (old new : Linked) (place : Place) (i : ℕ) (n : Node) : Type 0 where
   pub family : new.family ≡ old.family
   pub put : node_at new.pool i ≡ Some n
@@ -30,7 +30,7 @@ pub record IsPut (old new : Linked) (place : Place) (i : ℕ) (n : Node) : Type 
       ⊎ (((side : Bool) × HasRoom n.block × (at ≡ child side n) × (land ≡ half side n.block))
       ⊎ ((q ≢ place) × HasLink old q at land))
 
--- the node at the place is gone, the place has what stood on its one side, and the rest is as it was
+-- the node at the place is gone, the place has what was on its one side, and the rest is unchanged
 pub record IsCut (old new : Linked) (place : Place) (i : ℕ) (n : Node) (side : Bool) : Type 0 where
   pub family : new.family ≡ old.family
   pub here : node_at old.pool i ≡ Some n

@@ -10,7 +10,7 @@ use Rattle.radix_tree.specs.declared.links.Linked.{Linked}
 use Rattle.radix_tree.specs.Shape.{half, IsLink}
 use Rattle.radix_tree.specs.Listed.{blocks_of}
 
--- a free block of this length is there, where the least length of one is this
+-- a free block of this length exists, if the least length of one is this
 abbrev pub Reaches : Option ℕ → ℕ → Type 0
 Reaches None len = ⊥
 Reaches (Some least) len = least ≤ len
@@ -34,8 +34,8 @@ pub record AreFitting (t : Linked) (land : Cidr) (len : ℕ) (s : Sides) : Type 
 abbrev pub depth : Cidr → ℕ
 depth land = width_of land.family - land.len
 
--- the visits of a search in a land: two for each length, and four where the search begins inside the land and finds a block;
--- one where it begins at the land's first address and finds none; none where the land lies before its begin
+-- the visits of a search in a land: two for each length, and four if the search begins inside the land and finds a block;
+-- one if it begins at the land's first address and finds none; none if the land lies before its begin
 pub record IsQuick (land : Cidr) (from : ℕ) (result : Option Cidr) (old new : ℕ) : Type 0 where
   pub past : land.first + size_of land ≤ from → new ≡ old
   pub none_early : result ≡ None → from ≤ land.first → new ≤ old + 1

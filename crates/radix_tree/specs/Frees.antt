@@ -10,13 +10,13 @@ use Rattle.radix_tree.specs.declared.links.Linked.{Linked}
 use Rattle.radix_tree.specs.Figures.{Figures, figures}
 use Rattle.radix_tree.specs.Listed.{blocks_of}
 
--- the lesser of two lengths, where there are any
+-- the lesser of two lengths, if there are any
 abbrev pub lesser : Option ℕ → Option ℕ → Option ℕ
 lesser None g = g
 lesser (Some a) None = Some a
 lesser (Some a) (Some b) = Some (min a b)
 
--- of a half of this length and the topmost node in it, if there is one: with none the half itself is free; beside a smaller
+-- of a half of this length and the topmost node in it, if there is one: with none the half itself is free; next to a smaller
 -- block one half of the half is; and else it is what the node says
 abbrev pub free_beside : ℕ → Option Node → Option ℕ
 free_beside len None = Some len
@@ -65,7 +65,7 @@ side_covered pool (Some id) = covered_said (node_at pool id)
 abbrev pub wrapped_wide : ℕ → ℕ → ℕ
 wrapped_wide a b = (a + b) % 2 ^ 128
 
--- how many addresses a block of this length has; none where the length is 0, since no integer counts all of IPv6
+-- how many addresses a block of this length has; none if the length is 0, since no integer counts all of IPv6
 abbrev pub own_size : ℕ → Cidr → ℕ
 own_size zero b = 0
 own_size (suc len) b = size_of b
@@ -123,6 +123,6 @@ IsLeastFree blocks land free =
     MatchOption free ((b : Cidr) → IsBlock b → IsInside b land → ¬ IsFree blocks b)
     (λ len. ((b : Cidr) × IsBlock b × IsInside b land × IsFree blocks b × (b.len ≡ len)) × ((b : Cidr) → IsBlock b → IsInside b land → IsFree blocks b → len ≤ b.len))
 
--- each node says the least length of a free block inside its own, beside the blocks of the list that lie there
+-- each node says the least length of a free block inside its own, given the blocks of the list that lie there
 abbrev pub HasLeastFrees : Pooled Node → Type 0
 HasLeastFrees pool = (id : ℕ) (n : Node) → node_at pool id ≡ Some n → IsLeastFree (counting_of (blocks_of pool) n.block false) n.block n.free

@@ -1,4 +1,4 @@
--- The blocks of a list that lie inside a block, with how often each stands there, by first address and then length.
+-- The blocks of a list that lie inside a block, with how often each occurs there, by first address and then length.
 use Rattle.std.specs.Prelude.{◌≡◌, ◌⊎◌, ℕ, zero, suc, ◌<◌, List, [], ◌∷◌, Contains}
 use Rattle.inet_num.specs.Net.{Cidr, IsInside}
 use Rattle.block_space.specs.Listed.{times_of}
@@ -8,7 +8,7 @@ use Rattle.radix_tree.specs.declared.Entry.{Entry}
 abbrev pub ComesBefore : Cidr → Cidr → Type 0
 ComesBefore a b = (a.first < b.first) ⊎ ((a.first ≡ b.first) × (a.len < b.len))
 
--- each block comes before all that follow it, so none stands twice
+-- each block comes before all that follow it, so none occurs twice
 abbrev pub AreInOrder : List Entry → Type 0
 AreInOrder [] = Unit {0}
 AreInOrder (x ∷ xs) = ((y : Entry) → Contains xs y → ComesBefore x.block y.block) × AreInOrder xs

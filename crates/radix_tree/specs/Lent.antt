@@ -1,4 +1,4 @@
--- What a reader of a tree's nodes may rely on, beside the blocks that they stand for.
+-- What a reader of a tree's nodes may rely on, besides the blocks that they represent.
 use Rattle.std.specs.Prelude.{◌≡◌, ◌≢◌, ℕ, Bool, List, [], ◌∷◌, Option, Some, None}
 use Rattle.inet_num.specs.Net.{IsInside}
 use Rattle.node_pool.specs.Pooled.{Pooled, node_at, IsLive}

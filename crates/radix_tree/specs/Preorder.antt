@@ -1,4 +1,4 @@
--- The entries below a link, and those that a stack of links still stands for.
+-- The entries below a link, and those that a stack of links still represents.
 use Rattle.std.specs.Prelude.{ℕ, zero, suc, ◌-◌, ◌*◌, ◌+◌, ◌≤◌, ◌++◌, ◌≡◌, List, [], ◌∷◌, Option, Some, None}
 use Rattle.node_pool.specs.Pooled.{Pooled, node_at, IsLive}
 use Rattle.radix_tree.specs.declared.Node.{Node}
@@ -19,7 +19,7 @@ preorder zero pool at = []
 preorder (suc d) pool None = []
 preorder (suc d) pool (Some id) = entries_at (preorder d pool) (node_at pool id)
 
--- no more than 129 nodes stand one below another
+-- no more than 129 nodes are one below another
 abbrev pub entries_below : Pooled Node → Option ℕ → List Entry
 entries_below pool at = preorder 129 pool at
 
@@ -28,7 +28,7 @@ abbrev pub to_come : Pooled Node → List (Option ℕ) → List Entry
 to_come pool [] = []
 to_come pool (x ∷ xs) = to_come pool xs ++ entries_below pool x
 
--- each link of the stack has a node, and the deeper it stands in the stack the more nodes may stand below it
+-- each link of the stack has a node, and the deeper it is in the stack the more nodes may be below it
 abbrev pub IsStacked : Pooled Node → ℕ → List (Option ℕ) → Type 0
 IsStacked pool most [] = Unit {0}
 IsStacked pool most (x ∷ xs) = (rank pool x ≤ most) × ((id : ℕ) → x ≡ Some id → IsLive pool id) × IsStacked pool (most - 1) xs

@@ -1,4 +1,4 @@
--- The shape of a path-compressed binary tree of blocks: where links stand, which block each is for, and when they are
+-- The shape of a path-compressed binary tree of blocks: where links are, which block each is for, and when they are
 -- right. Each link has a land: the block that it is for, the whole family for the link to the topmost node, and a half of
 -- its node's block elsewhere.
 use Rattle.std.specs.Prelude.{◌≡◌, ◌≢◌, ◌⊎◌, ℕ, ◌+◌, ◌-◌, ◌<◌, Bool, true, false, Option, Some, None}
@@ -38,7 +38,7 @@ pub record IsLink (pool : Pooled Node) (at : Option ℕ) (land : Cidr) : Type 0 
   pub top : (id : ℕ) → at ≡ Some id → (node : Node) × (node_at pool id ≡ Some node) × IsInside node.block land
   pub leads : (id : ℕ) (node : Node) → node_at pool id ≡ Some node → IsInside node.block land → LeadsTo pool at node.block
 
--- this link stands at the place, and is for this land
+-- this link is at the place, and is for this land
 abbrev pub HasLink : Linked → Place → Option ℕ → Cidr → Type 0
 HasLink t Root at land = (at ≡ t.root) × (land ≡ whole t.family)
 HasLink t (Under id side) at land = (node : Node) × (node_at t.pool id ≡ Some node) × HasRoom node.block × (at ≡ child side node) × (land ≡ half side node.block)
@@ -59,7 +59,7 @@ pub record IsTree (t : Linked) : Type 0 where
   pub one : HasOneEach t.pool
   pub links : (place : Place) (at : Option ℕ) (land : Cidr) → HasLink t place at land → IsLink t.pool at land
 
--- how many nodes can stand one below another from a node on
+-- how many nodes can be one below another from a node on
 abbrev pub rank_of : Option Node → ℕ
 rank_of None = 0
 rank_of (Some node) = width_of node.block.family + 1 - node.block.len
@@ -69,7 +69,7 @@ abbrev pub rank : Pooled Node → Option ℕ → ℕ
 rank pool None = 0
 rank pool (Some id) = rank_of (node_at pool id)
 
--- the node is as it was, but for its link at the place, if the place is its own
+-- the node is unchanged, but for its link at the place, if the place is its own
 pub record IsSet (place : Place) (to : Option ℕ) (id : ℕ) (m n : Node) : Type 0 where
   pub block : n.block ≡ m.block
   pub count : n.count ≡ m.count

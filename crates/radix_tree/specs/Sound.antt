@@ -42,7 +42,7 @@ pub record IsInserted (old new : Linked) (block : Cidr) : Type 0 where
   pub spare : old.pool.spare ≤ new.pool.spare + 2
   pub frees : HasFrees old.pool → HasFreesBut new.pool block
 
--- the node at the place is gone if it had no count and fewer than two children, and else all is as it was
+-- the node at the place is gone if it had no count and fewer than two children, and else all is unchanged
 pub record IsTrimmed (old new : Linked) (place : Place) (id : ℕ) : Type 0 where
   pub tree : IsTree new
   pub tallied : IsTallied new
@@ -55,7 +55,7 @@ pub record IsTrimmed (old new : Linked) (place : Place) (id : ℕ) : Type 0 wher
       → (q : Node) × (node_at new.pool j ≡ Some q) × (q.block ≡ m.block) × (q.count ≡ m.count) × ((side : Bool) → place ≢ Under j side → child side q ≡ child side m)
   pub frees : (block : Cidr) → ((n : Node) → node_at old.pool id ≡ Some n → IsInside block n.block) → HasFreesBut old.pool block → HasFreesBut new.pool block
 
--- one copy of the block was taken away, or there was none and the list is as it was
+-- one copy of the block was taken away, or there was none and the list is unchanged
 pub record IsRemoved (old new : Linked) (block : Cidr) (done : Bool) : Type 0 where
   pub sound : IsSound new
   pub family : new.family ≡ old.family

@@ -91,7 +91,7 @@ impl Linked {
         self.available_below(sides.high, half_of(&within, true), from, steps)
     }
 
-    /// The first available block of a block that does not begin before a number, beside the blocks that count.
+    /// The first available block of a block that does not begin before a number, given the blocks that count.
     pub fn next_available<L: Ledger>(
         &self,
         within: &Block,

@@ -1,4 +1,4 @@
-//! The lowest free block of a length. A search goes down by halves of a land, and into a node's block only where the node says
+//! The lowest free block of a length. A search goes down by halves of a land, and into a node's block only if the node says
 //! that a block of the length is free there.
 
 ghost use Rattle.std.specs.Prelude.{◌≡◌, ℕ, ◌+◌, ◌*◌, ◌<◌, ◌≤◌, ◌↔◌, IsTrue, Some, None, [], IfSome, Option, true, false};
@@ -109,7 +109,7 @@ impl Linked {
         }
     }
 
-    /// The links for the halves of a land with this topmost node, or nothing where no block of this length is free in the land.
+    /// The links for the halves of a land with this topmost node, or nothing if no block of this length is free in the land.
     pub fn fitting_sides<L: Ledger>(
         &self,
         id: NodeId,
@@ -224,7 +224,7 @@ impl Linked {
         self.fit_below(sides.high, half_of(&within, true), len, from, steps)
     }
 
-    /// The lowest free block of this length in a block that does not begin before a number, beside the blocks that count.
+    /// The lowest free block of this length in a block that does not begin before a number, given the blocks that count.
     pub fn first_fit<L: Ledger>(
         &self,
         within: &Block,

@@ -73,7 +73,7 @@ pub struct Entry {
     pub times: u32,
 }
 
-/// Blocks of one family, a block as often as it was put in. No two nodes have one block, and a node without a count has two
+/// Blocks of one family, a block once for each time that it was put in. No two nodes have one block, and a node without a count has two
 /// children, so n blocks take fewer than 2n nodes.
 #[derive(Drop)]
 pub struct Tree {

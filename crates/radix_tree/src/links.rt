@@ -65,7 +65,7 @@ fn leaf_of(block: Block) -> Node
     }
 }
 
-/// Where a link stands: at the top, or in a node, for the high half of its block (true) or for the low one.
+/// Where a link is: at the top, or in a node, for the high half of its block (true) or for the low one.
 #[derive(Clone, Copy)]
 pub enum Place {
     Root,
@@ -84,7 +84,7 @@ impl Place {
     }
 }
 
-/// Where a block is or belongs: the place, the link that stands there, and the land, which is the block that the link is for.
+/// Where a block is or belongs: the place, the link that is there, and the land, which is the block that the link is for.
 #[derive(Clone, Copy)]
 pub struct Found {
     pub place: Place,

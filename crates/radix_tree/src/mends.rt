@@ -1,4 +1,4 @@
-//! What nodes say of the blocks inside them: it is reckoned from a node's children, and mended on the way to a block that was put in
+//! What nodes say of the blocks inside them: it is computed from a node's children, and mended on the way to a block that was put in
 //! or taken out, the deepest node first.
 
 ghost use Rattle.std.specs.Prelude.{◌≡◌, ◌+◌, ◌≤◌, ℕ, Some, Option};
@@ -25,7 +25,7 @@ pub struct Says {
     pub covered: u128,
 }
 
-/// The lesser of two lengths, where there are any.
+/// The lesser of two lengths, if there are any.
 fn lesser_of(a: Option<u8>, b: Option<u8>) -> Option<u8>
     ensures { result ≡ lesser a b }
 {
@@ -38,7 +38,7 @@ fn lesser_of(a: Option<u8>, b: Option<u8>) -> Option<u8>
     }
 }
 
-/// How many addresses a block has; none where its length is 0.
+/// How many addresses a block has; none if its length is 0.
 fn own_size(block: &Block) -> u128
     ensures { result ≡ own_size block.now.len block.now }
 {

@@ -8,7 +8,7 @@ use Rattle.ipam_data.specs.RowList.{row_at}
 use Rattle.ipam_data.specs.Claims.{sees_all}
 use Rattle.register_tables.specs.Beside.{blocks_in_table, blocks_in_all}
 
--- the prefix is there, under its id
+-- the prefix exists, under its id
 abbrev pub IsThere : List Prefix → Prefix → Type 0
 IsThere rows row = row_at prefix_id rows row.id ≡ Some row
 
@@ -16,6 +16,6 @@ IsThere rows row = row_at prefix_id rows row.id ≡ Some row
 abbrev pub own_table_blocks : List Prefix → Prefix → List Cidr
 own_table_blocks rows row = blocks_in_table rows (table_of row.vrf) row.block.family
 
--- the blocks beside which what is free in a prefix is looked for: those of its table, or of all where all count
+-- the blocks among which what is free in a prefix is looked for: those of its table, or of all if all count
 abbrev pub blocks_beside : List Prefix → Prefix → List Cidr
 blocks_beside rows row = if sees_all row then blocks_in_all rows row.block.family else own_table_blocks rows row

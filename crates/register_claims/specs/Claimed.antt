@@ -1,4 +1,4 @@
--- The row that one item of a claim gets.
+-- The row that one item of a claim returns.
 use Rattle.std.specs.Prelude.{ℕ}
 use Rattle.inet_num.specs.Net.{Cidr}
 use Rattle.ipam_data.specs.declared.calls.BlockItem.{BlockItem}

@@ -1,4 +1,4 @@
--- Spaces of hosts, in which an address is a block of its own: which addresses they have. And the addresses of a range that may be given out.
+-- Spaces of hosts, in which an address is its own block: which addresses they have. And the addresses of a range that may be given out.
 use Rattle.std.specs.Prelude.{◌≡◌, ℕ, Bool, List, [], if◌then◌else◌}
 use Rattle.inet_num.specs.Net.{Cidr, HasAddress}
 use Rattle.inet_num.specs.Free.{is_taken}

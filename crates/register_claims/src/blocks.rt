@@ -26,7 +26,7 @@ use ipam_data::replies::{Blocks, Refusal, Reply};
 use register_tables::{Planned, RowTables};
 use std::alloc::AllocError;
 
-/// The first available blocks of a prefix that is there, at most `limit`: the largest free ones, in order. `Err` means out of memory.
+/// The first available blocks of an existing prefix, at most `limit`: the largest free ones, in order. `Err` means out of memory.
 pub fn available_in(
     row_tables: &RowTables,
     row: &Prefix,
@@ -40,8 +40,8 @@ pub fn available_in(
     available_blocks(row_tables.allocator(), kids, row.block, limit)
 }
 
-/// Reads the first available blocks of the prefix of an id, at most `limit`: the largest free ones, in order. `Err` is want of
-/// memory.
+/// Reads the first available blocks of the prefix of an id, at most `limit`: the largest free ones, in order. `Err` means out
+/// of memory.
 pub fn plan_available_blocks(
     row_tables: &RowTables,
     id: u32,
@@ -62,7 +62,7 @@ pub fn plan_available_blocks(
     }
 }
 
-/// What lengths get in a prefix that is there, beside the prefixes that count for it.
+/// What lengths get in an existing prefix, given the prefixes that count for it.
 fn fits(row_tables: &mut RowTables, row: &Prefix, wanted: &[u8]) -> Result<Vec<Block>, ClaimFault>
     requires lawful { IsLawful (state_of row_tables.old) }
     requires there { IsThere row_tables.old.prefixes.rows row.now }
@@ -112,7 +112,7 @@ fn plan_rows(
     changed(alloc, puts, Kind::Prefixes, next + wanted, wanted, reply)
 }
 
-/// Plans a claim in a prefix that is there. `Err` means out of memory.
+/// Plans a claim in an existing prefix. `Err` means out of memory.
 fn plan_claimed(
     row_tables: &mut RowTables,
     row: &Prefix,
@@ -135,7 +135,7 @@ fn plan_claimed(
     }
 }
 
-/// The prefix of an id, as a row of its own. `Err` means out of memory.
+/// The prefix of an id, as its own row. `Err` means out of memory.
 fn prefix_of(row_tables: &RowTables, id: u32) -> Result<Option<Prefix>, AllocError>
     ensures { IfOk result (λ found. found ≡ row_at prefix_id row_tables.now.prefixes.rows id) }
 {
@@ -148,7 +148,7 @@ fn prefix_of(row_tables: &RowTables, id: u32) -> Result<Option<Prefix>, AllocErr
     }
 }
 
-/// Plans a claim of blocks in the prefix of an id: each item gets the lowest free block of its length beside the prefixes that
+/// Plans a claim of blocks in the prefix of an id: each item gets the lowest free block of its length given the prefixes that
 /// count and the blocks of the items before it. The rows stay; a space of the book is lent to the plan, and no room is left in
 /// its table. `Err` means out of memory.
 pub fn plan_claim_blocks(

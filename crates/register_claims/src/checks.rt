@@ -50,7 +50,7 @@ pub fn no_place(
     None
 }
 
-/// What a claim comes to that got too little. `Err` means out of memory.
+/// What a claim leads to that got too little. `Err` means out of memory.
 pub fn stopped(fault: ClaimFault) -> Result<Planned, AllocError>
     ensures { (wanted : ℕ) (got : ℕ) → IsShort wanted got fault → IfOk result (λ p. (p ≡ Planned.Refused (NoSpace got)) × (got < wanted)) }
 {
@@ -60,7 +60,7 @@ pub fn stopped(fault: ClaimFault) -> Result<Planned, AllocError>
     }
 }
 
-/// The answer to a claim that came as one object: its row.
+/// The answer to a claim that was given as one object: its row.
 fn first_made(views: Vec<View>) -> Reply
     ensures { result ≡ served AsOne views.items }
 {

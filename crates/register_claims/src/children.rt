@@ -30,7 +30,7 @@ pub fn sees_all(row: &Prefix) -> bool
     is_container(row.status) && is_one_table(Table::of(row.vrf), Table::Global)
 }
 
-/// The space of the prefixes of a prefix's table and family. The prefix is there.
+/// The space of the prefixes of a prefix's table and family. The prefix exists.
 pub fn own_space<'a, S: Space + Drop>(book: &'a PrefixBook<S>, row: &Prefix) -> &'a S
     requires order { IsInOrder book.now }
     requires there { IsThere book.now.rows row.now }
@@ -43,7 +43,7 @@ pub fn own_space<'a, S: Space + Drop>(book: &'a PrefixBook<S>, row: &Prefix) -> 
     }
 }
 
-/// The space of the prefixes beside which what is free in a prefix is looked for. The prefix is there.
+/// The space of the prefixes among which what is free in a prefix is looked for. The prefix exists.
 pub fn space_beside<'a, S: Space + Drop>(book: &'a PrefixBook<S>, row: &Prefix) -> &'a S
     requires order { IsInOrder book.now }
     requires there { IsThere book.now.rows row.now }

@@ -24,7 +24,7 @@ use placed_book::Book;
 use register_tables::{Planned, RowTables};
 use utilisation::{of_aggregate, of_container};
 
-/// How much of a prefix that is there the prefixes of its table inside it cover.
+/// How much of an existing prefix the prefixes of its table inside it cover.
 fn container_figure(row_tables: &RowTables, row: &Prefix) -> u8
     requires lawful { IsLawful (state_of row_tables.now) }
     requires there { IsThere row_tables.now.prefixes.rows row.now }
@@ -33,7 +33,7 @@ fn container_figure(row_tables: &RowTables, row: &Prefix) -> u8
     of_container(own_space(row_tables.prefixes(), row), row.block)
 }
 
-/// How much of a prefix that is there is used, where that does not rest on its addresses: it counts as full, or is a container.
+/// How much of an existing prefix is used, if that does not rest on its addresses: it counts as full, or is a container.
 fn settled_figure(row_tables: &RowTables, row: &Prefix) -> Option<u8>
     requires lawful { IsLawful (state_of row_tables.now) }
     requires there { IsThere row_tables.now.prefixes.rows row.now }
@@ -68,7 +68,7 @@ fn plan_aggregate_figure(row_tables: &RowTables, id: u32) -> Planned
     }
 }
 
-/// How much of a prefix that is there is used, in whole percent. It takes no memory.
+/// How much of an existing prefix is used, in whole percent. It takes no memory.
 fn figure_of_prefix(row_tables: &RowTables, row: &Prefix) -> u8
     requires lawful { IsLawful (state_of row_tables.now) }
     requires there { IsThere row_tables.now.prefixes.rows row.now }

@@ -41,7 +41,7 @@ use placed_book::Book;
 use register_tables::{Planned, RowTables};
 use std::alloc::{AllocError, Global};
 
-// ---- what is told of the items
+// ---- what is said of the items
 
 /// Whether an address of IPv4 is said to be made by SLAAC.
 fn is_slaac_of_ipv4(status: AddressStatus, family: Family) -> bool
@@ -80,8 +80,8 @@ fn fault_of_items(items: &[AddrItem], family: Family) -> Result<Option<Refusal>,
     Ok(None)
 }
 
-/// Why a claim can't be served by what its items say, if so: there are too many of them, or one of them is at fault. `Err` is want of
-/// memory.
+/// Why a claim can't be served by what its items say, if so: there are too many of them, or one of them is at fault. `Err` means out
+/// of memory.
 fn fault_of_claim(items: &[AddrItem], family: Family) -> Result<Option<Refusal>, AllocError>
     ensures { IfOk result (λ r. r ≡ first (too_many ClaimItems most_items (length items.now) ∷ flat_map (told_of_address family) items.now)) }
 {
@@ -149,7 +149,7 @@ fn claimed_rows(
     Ok(views)
 }
 
-/// What is done and answered where the items get these addresses. `Err` means out of memory.
+/// What is done and answered if the items get these addresses. `Err` means out of memory.
 fn made(
     row_tables: &RowTables,
     answered: Answered,
@@ -172,7 +172,7 @@ fn made(
     changed(alloc, puts, Kind::Addresses, next + wanted, wanted, reply)
 }
 
-/// Plans a claim of which nothing is told and whose items get these addresses. `Err` means out of memory.
+/// Plans a claim of which nothing is said and whose items get these addresses. `Err` means out of memory.
 fn plan_served(
     row_tables: &RowTables,
     answered: Answered,
@@ -205,7 +205,7 @@ fn plan_served(
 
 // ---- the calls
 
-/// Plans a claim in a prefix that is there, beside the spans of the populated ranges of its table. `Err` means out of memory.
+/// Plans a claim in an existing prefix, given the spans of the populated ranges of its table. `Err` means out of memory.
 fn claim_in_prefix(
     row_tables: &RowTables,
     answered: Answered,
@@ -237,7 +237,7 @@ fn claim_in_prefix(
     }
 }
 
-/// Plans a claim in a range that is there, given by its pieces. `Err` means out of memory.
+/// Plans a claim in an existing range, given by its pieces. `Err` means out of memory.
 fn claim_in_range(
     row_tables: &RowTables,
     answered: Answered,
@@ -271,8 +271,8 @@ fn claim_in_range(
     }
 }
 
-/// Plans a claim of addresses of the prefix of an id: each item gets the lowest usable one, the first item the first. It came as
-/// one item or as a list, and is answered so. `Err` means out of memory.
+/// Plans a claim of addresses of the prefix of an id: each item gets the lowest usable one, the first item the first. It was given
+/// as one item or as a list, and is answered so. `Err` means out of memory.
 pub fn plan_claim_prefix_addrs(
     row_tables: &RowTables,
     id: u32,

@@ -17,7 +17,7 @@ use ipam_data::kinds::Table;
 use ipam_data::prefix::Prefix;
 use ipam_data::range::IpRange;
 
-/// The hosts of a table and family, or the empty space where the table is not there.
+/// The hosts of a table and family, or the empty space if it does not exist.
 fn in_table<'a, S: Space + Drop>(
     book: &'a AddressBook<S>,
     table: Table,
@@ -47,7 +47,7 @@ fn hosts_in_all<'a, S: Space + Drop>(book: &'a AddressBook<S>, row: &Prefix) -> 
     book.all(row.block.family())
 }
 
-/// The hosts of a prefix's own table, which count for every other prefix, or the empty space where the table is not there.
+/// The hosts of a prefix's own table, which count for every other prefix, or the empty space if it does not exist.
 fn hosts_in_own<'a, S: Space + Drop>(book: &'a AddressBook<S>, row: &Prefix, empty: &'a S) -> &'a S
     requires order { IsInOrder book.now }
     requires own { sees_all row.now ≡ false }
@@ -60,7 +60,7 @@ fn hosts_in_own<'a, S: Space + Drop>(book: &'a AddressBook<S>, row: &Prefix, emp
     in_table(book, Table::of(row.vrf), row.block.family(), empty)
 }
 
-/// The hosts that count for a prefix: those of its table, or of every one. The empty space is taken where there is no table.
+/// The hosts that count for a prefix: those of its table, or of every one. The empty space is taken if there is no table.
 pub fn hosts_of_prefix<'a, S: Space + Drop>(
     book: &'a AddressBook<S>,
     row: &Prefix,
@@ -79,7 +79,7 @@ pub fn hosts_of_prefix<'a, S: Space + Drop>(
     hosts_in_own(book, row, empty)
 }
 
-/// The hosts of a range's table and family. The empty space is taken where there is no table.
+/// The hosts of a range's table and family. The empty space is taken if there is no table.
 pub fn hosts_of_range<'a, S: Space + Drop>(
     book: &'a AddressBook<S>,
     row: &IpRange,

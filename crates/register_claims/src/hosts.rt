@@ -37,7 +37,7 @@ use register_tables::{Planned, RowTables};
 use std::alloc::AllocError;
 use utilisation::{of_hosts, of_range};
 
-/// The first usable addresses of a prefix, beside the spans of the populated ranges of its table.
+/// The first usable addresses of a prefix, given the spans of the populated ranges of its table.
 fn usable_of_prefix(
     row_tables: &RowTables,
     held: &[Span],
@@ -128,8 +128,8 @@ pub fn plan_prefix_addrs(row_tables: &RowTables, id: u32, limit: u32) -> Result<
     }))
 }
 
-/// The first addresses of the range of an id that no host has, at most so many, and none where somebody else fills it. `Err` is want of
-/// memory.
+/// The first addresses of the range of an id that no host has, at most so many, and none if somebody else fills it. `Err` means out
+/// of memory.
 pub fn plan_range_addrs(row_tables: &RowTables, id: u32, limit: u32) -> Result<Planned, AllocError>
     requires { IsLawful (state_of row_tables.now) }
     ensures { IfOk result (λ p. IsPlanned (range_addrs_plan (state_of row_tables.now) id limit) p) }
@@ -159,7 +159,7 @@ fn used_of_prefix(row_tables: &RowTables, marked: &[Span], row: &Prefix) -> u8
     of_hosts(hosts, marked, row.block, row.is_pool)
 }
 
-/// How much of a prefix that is there is used, in whole percent, where its addresses decide: it is no container and does not count
+/// How much of an existing prefix is used, in whole percent, if its addresses decide: it is no container and does not count
 /// as full. The addresses that hosts or marked ranges have count, each once, of those that hosts can have.
 pub fn hosts_figure(row_tables: &RowTables, row: &Prefix) -> u8
     requires lawful { IsLawful (state_of row_tables.now) }
@@ -173,7 +173,7 @@ pub fn hosts_figure(row_tables: &RowTables, row: &Prefix) -> u8
     used_of_prefix(row_tables, marked, row)
 }
 
-/// How much of a range is used, in whole percent: all of it where it is marked, and else the addresses that hosts have, each once.
+/// How much of a range is used, in whole percent: all of it if it is marked, and else the addresses that hosts have, each once.
 fn figure_of_range(row_tables: &RowTables, row: &IpRange) -> u8
     requires { IsRange row.now }
     ensures { result ≡ range_figure (state_of row_tables.now) row.now }

@@ -1,4 +1,4 @@
-//! The items of a claim of blocks: what is told of them, and the rows that they get.
+//! The items of a claim of blocks: what is said of them, and the rows that they get.
 
 ghost use Rattle.std.specs.Prelude.{◌≡◌, ℕ, ◌+◌, ◌^◌, ◌<◌, ◌∷◌, IfOk, length, map};
 ghost use Rattle.std.specs.List.{flat_map};

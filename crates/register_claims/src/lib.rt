@@ -1,4 +1,4 @@
-//! What claims, lists of what is free, figures and surveys come to, before anything is done: the spaces of the books are asked, and
+//! What claims, lists of what is free, figures and surveys give, before anything is done: the spaces of the books are asked, and
 //! no row is looked at but the one that is named; a survey looks at each prefix. Nothing here changes a row.
 #![tactic(auto)]
 

@@ -36,8 +36,8 @@ fn pieces_of(row_tables: &RowTables, id: u32, _range: &IpRange) -> Result<Vec<Bl
     row_tables.ranges().pieces(id)
 }
 
-/// The blocks of the range of an id, which is this one, whose addresses may be given out: none where somebody else fills it. `Err` is
-/// want of memory.
+/// The blocks of the range of an id, which is this one, whose addresses may be given out: none if somebody else fills it. `Err`
+/// means out of memory.
 pub fn given_pieces(
     row_tables: &RowTables,
     id: u32,

@@ -22,7 +22,7 @@ use placed_book::Book;
 use register_tables::{Planned, RowTables};
 use std::alloc::{AllocError, Global};
 
-/// The prefix at an index that is there.
+/// The prefix at an index that exists.
 fn prefix_at(row_tables: &RowTables, index: u32) -> &Prefix
     requires { index < length row_tables.now.prefixes.rows }
     ensures { Some result.now ≡ slice_get row_tables.now.prefixes.rows index }

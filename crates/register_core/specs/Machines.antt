@@ -1,4 +1,4 @@
--- The register as a lock sees it: its state, with whether its keeper tells its tables; which kind each reply has; and an entry as the pair
+-- The register as a lock sees it: its state, with whether the tables of its keeper are known; which kind each reply has; and an entry as the pair
 -- of its fields.
 use Rattle.std.specs.Prelude.{ℕ, Bool, Option, is_some}
 use Rattle.history_lock.specs.Replies.{ReplyKind, accepted, fault, memory, plain}
@@ -11,20 +11,20 @@ use Rattle.ipam_data.specs.Replays.{Entry}
 use Rattle.ipam_data.specs.State.{State}
 use Rattle.ipam_data.specs.Steps.{plain_step}
 
--- the state of a register, and whether its keeper tells its tables: a keeper that does goes on doing so
+-- the state of a register, and whether the tables of its keeper are known: once known, they stay known
 pub record Seen : Type 0 where
   pub state : State
   pub tells : Bool
 
--- of a keeper that tells these tables, or none
+-- of a keeper whose known tables are these, or none
 abbrev pub seen : {A : Type 0} → State → Option A → Seen
 seen state told = record { state = state; tells = is_some told }
 
--- the plain step, which leaves what the keeper tells
+-- the plain step, which leaves what is known of the keeper
 abbrev pub seen_step : Seen → Call → Seen × Reply
 seen_step s call = (record { state = (plain_step s.state call).0; tells = s.tells }, (plain_step s.state call).1)
 
--- out of memory and a keeper that failed are kinds of their own, and every other refusal a plain answer
+-- out of memory and a keeper that failed are separate kinds, and every other refusal a plain answer
 abbrev pub refusal_kind : Refusal → ReplyKind
 refusal_kind BadHead = plain
 refusal_kind (TooLarge part) = plain

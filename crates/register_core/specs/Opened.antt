@@ -21,15 +21,15 @@ abbrev pub AreRead : List Row → List View → Option (Kind × ℕ) → Type 0
 AreRead rows views None = AreOf rows views
 AreRead rows views (Some unread) = IsUnread rows unread.0 unread.1
 
--- the state is one for which the tables that are told stand
+-- the state is one that the known tables represent
 abbrev pub IsOpened : Option Tables → Bool → State → Type 0
 IsOpened told global_unique state = (tables : Tables) × IsTold told tables × IsOpening tables global_unique state
 
--- the fault is one of the tables that are told
+-- the fault is one of the known tables
 abbrev pub IsUnopened : Option Tables → Bool → OpenFault → Type 0
 IsUnopened told global_unique fault = (tables : Tables) × IsTold told tables × IsRefused tables global_unique fault
 
--- tables that are checked: they stand for the state of what is held, or have this fault
+-- tables that are checked: they represent the state of what is held, or have this fault
 abbrev pub IsChecked : Tables → Bool → Result Held OpenFault → Type 0
 IsChecked tables global_unique (Ok held) = IsOpening tables global_unique (state_of held)
 IsChecked tables global_unique (Err fault) = IsOfTables fault × IsRefused tables global_unique fault

@@ -33,13 +33,13 @@ is_claim (Export kind) = false
 is_claim Survey = false
 
 -- of so many items that are wanted so many get something, so that the item of this number, from 0, is the first that gets nothing;
--- there are not too many items, and nothing is told of them
+-- there are not too many items, and nothing is said of them
 pub record FallsShort (told : List (Option Refusal)) (wanted got item : ℕ) : Type 0 where
   pub begun : first (too_many Claims most_items wanted ∷ told) ≡ None
   pub first_without : item ≡ got
   pub short : got < wanted
 
--- the claim finds no space for the item of this number: its row is there, the items before it get the lowest free blocks of their
+-- the claim finds no space for the item of this number: its row exists, the items before it get the lowest free blocks of their
 -- lengths, one after another, or the lowest addresses that can be given out, and for it none is left
 abbrev pub LacksSpace : State → Call → ℕ → Type 0
 LacksSpace s (ClaimBlocks n answered items) i =

@@ -6,7 +6,7 @@ use Rattle.ipam_data.specs.declared.replies.Refusal.TheVariants.{Keeper as Keepe
 use Rattle.register_core.specs.declared.stop.Stop.{Stop}
 use Rattle.register_core.specs.declared.stop.Stop.TheVariants.{Memory as NoMemory, Keeper}
 
--- what stops a call where the keeper refuses
+-- what stops a call if the keeper refuses
 abbrev pub stop_of : KeepFault → Stop
 stop_of Failed = Keeper
 stop_of Memory = NoMemory
@@ -14,7 +14,7 @@ stop_of Memory = NoMemory
 abbrev pub no_memory : Stop
 no_memory = NoMemory
 
--- the refusal that tells it
+-- the refusal that gives it
 abbrev pub refusal_of : Stop → Refusal
 refusal_of NoMemory = MemoryRefusal
 refusal_of Keeper = KeeperRefusal

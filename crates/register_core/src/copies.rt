@@ -1,4 +1,4 @@
-//! An update is copied where it is to be lent after its rows went into the books.
+//! An update is copied if it is to be lent after its rows went into the books.
 
 ghost use Rattle.std.specs.Prelude.{◌≡◌, IfOk, IfSome};
 
@@ -6,7 +6,7 @@ use ipam_data::replies::{View, Views};
 use ipam_data::update::Update;
 use std::alloc::{AllocError, Global};
 
-/// What a register lends beside its state.
+/// What a register lends besides its state.
 #[derive(Clone, Copy, Debug, PartialEq, Eq)]
 pub(crate) enum Lending {
     Nothing,
@@ -48,7 +48,7 @@ fn copy_views(alloc: Global, views: &[View]) -> Result<Vec<View>, AllocError>
     Ok(copies)
 }
 
-/// The update again, where it is lent. `Err` means out of memory.
+/// The update again, if it is lent. `Err` means out of memory.
 pub(crate) fn copy_lent(
     alloc: Global,
     lending: Lending,

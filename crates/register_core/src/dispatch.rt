@@ -1,4 +1,4 @@
-//! What each call comes to: a line a call.
+//! What each call leads to: a line a call.
 
 ghost use Rattle.std.specs.Prelude.{◌≡◌, IfOk};
 ghost use Rattle.ipam_data.specs.Lawful.{IsLawful};
@@ -17,7 +17,7 @@ use register_plans::{
 use register_tables::{Planned, RowTables};
 use std::alloc::AllocError;
 
-/// What a call comes to. The state stays: a claim of blocks takes a space out of its book and puts it back, an import makes its rows
+/// What a call leads to. The state stays: a claim of blocks takes a space out of its book and puts it back, an import makes its rows
 /// and cuts them again, and all others change nothing. `Err` means out of memory.
 pub(crate) fn plan(row_tables: &mut RowTables, call: &Call) -> Result<Planned, AllocError>
     requires { IsLawful (state_of row_tables.old) }

@@ -12,7 +12,7 @@ use ipam_data::replies::Reply;
 use ipam_keeper::keeper::Keeper;
 use std::marker::Model;
 
-/// A state, and whether the keeper tells its tables, as contracts of a lock see them. No value of it is made.
+/// A state, and whether the tables of the keeper are known, as contracts of a lock see them. No value of it is made.
 pub struct SeenState {}
 
 impl Model for SeenState {

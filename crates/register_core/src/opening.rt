@@ -42,7 +42,7 @@ fn check(
         return Ok(Err(OpenFault::Limit(Which::Kind(kind), most_of(kind) as u64)));
     }
     let bad_next = first_bad_next(nexts, rows);
-    // The tables in memory are given away on every way out, so that no path has to take them apart.
+    // The tables in memory are given away on every way out: none has to take them apart.
     let mut row_tables = bare(alloc, nexts, global_unique);
     drop(tables);
     match fill(&mut row_tables, views) {
@@ -65,8 +65,8 @@ fn check(
     }
 }
 
-/// The tables in memory of the state for which the tables of a keeper stand, and the keeper again. The tables are loaded once and checked in
-/// passes, each over all rows by kind and id before the next begins. The keeper keeps what it tells, as does the keeper that a refusal
+/// The tables in memory of the state that the tables of a keeper represent, and the keeper again. The tables are loaded once and checked in
+/// passes, each over all rows by kind and id before the next begins. What is known of the keeper stays, as of the keeper that a refusal
 /// hands back.
 fn load_row_tables<K: Keeper + Drop>(
     alloc: Global,
@@ -101,13 +101,13 @@ fn load_row_tables<K: Keeper + Drop>(
     }
 }
 
-/// A register over a keeper, of the state for which its tables stand. The register has an empty log and no last change, and the keeper
-/// keeps what it tells, as does the keeper that a refusal hands back.
+/// A register over a keeper, of the state that its tables represent. The register has an empty log and no last change, and what is
+/// known of the keeper stays, as of the keeper that a refusal hands back.
 ///
-/// `Err` is `Version` exactly where the version is not that of the register's tables; `BadRow` exactly where a row has id 0 or can't be read, the first such;
-/// `Limit` exactly where a kind has more rows than it may, the first such; `BadTables` exactly where a row breaks a rule beside the
-/// rows before it, the first such with its first rule, references first; `BadNext` exactly where a next id is absent, 0 or not above
-/// all ids of its kind, the first such kind; `Keeper` only where the keeper failed in this call, whose count rises in no other case; `Memory`
+/// `Err` is `Version` exactly if the version is not that of the register's tables; `BadRow` exactly if a row has id 0 or can't be read, the first such;
+/// `Limit` exactly if a kind has more rows than it may, the first such; `BadTables` exactly if a row breaks a rule given the
+/// rows before it, the first such with its first rule, references first; `BadNext` exactly if a next id is absent, 0 or not above
+/// all ids of its kind, the first such kind; `Keeper` only if the keeper failed in this call, whose count rises in no other case; `Memory`
 /// for lack of memory.
 pub fn open<K: Keeper + Drop>(
     alloc: Global,

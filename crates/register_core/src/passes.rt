@@ -107,7 +107,7 @@ pub(crate) fn first_overfull(rows: &[Row]) -> Option<Kind>
 
 // ---- no row breaks a rule
 
-/// The next id that is told of a kind, or 0.
+/// The given next id of a kind, or 0.
 fn told_next(nexts: &[(Kind, u32)], kind: Kind) -> u32
     ensures { result ≡ told_next nexts.now kind }
 {
@@ -119,7 +119,7 @@ fn told_next(nexts: &[(Kind, u32)], kind: Kind) -> u32
     0
 }
 
-/// RowTables without rows, with the told next ids. It takes no memory.
+/// RowTables without rows, with the given next ids. It takes no memory.
 pub(crate) fn bare(alloc: Global, nexts: &[(Kind, u32)], global_unique: bool) -> RowTables
     ensures state { state_of result ≡ bare_state nexts.now global_unique }
     ensures nexts { AreNextIds nexts.now }
@@ -154,7 +154,7 @@ fn place_of(view: &View) -> (Kind, u32)
     }
 }
 
-/// The breach of a row beside the rows that are there.
+/// The breach of a row, given the existing rows.
 fn breach_of(row_tables: &RowTables, view: &View) -> Option<Breach>
     ensures { result ≡ breach_of (state_of row_tables.now) view.now }
 {
@@ -171,7 +171,7 @@ fn breach_of(row_tables: &RowTables, view: &View) -> Option<Breach>
     }
 }
 
-/// Takes the first of views that stand in reverse. Half of their room is given back each time that it is empty.
+/// Takes the first of views that are in reverse. Half of their room is given back each time that it is empty.
 fn take_first(reversed: &mut Vec<View>) -> Option<View>
     ensures items { reverse reversed.old.items ≡ option_to_list result ++ reverse reversed.new.items }
     ensures variant { IsSome result ↔ (0 < vec_len reversed.old) }
@@ -184,8 +184,8 @@ fn take_first(reversed: &mut Vec<View>) -> Option<View>
     first
 }
 
-/// Puts rows one after another, as far as each breaks no rule beside those that stand before it; the first that breaks one is
-/// told. A view is gone as soon as its row is put, so that views and rows do not fill the memory of both. `Err` means out of memory.
+/// Puts rows one after another, as far as each breaks no rule given those that are before it; the first that breaks one is
+/// reported. A view is gone as soon as its row is put, so that views and rows do not fill the memory of both. `Err` means out of memory.
 pub(crate) fn fill(
     row_tables: &mut RowTables,
     views: Vec<View>,

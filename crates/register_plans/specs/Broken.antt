@@ -1,4 +1,4 @@
--- The first rule that a row breaks beside the rows of a state: the rows that it names come first.
+-- The first rule that a row breaks given the rows of a state: the rows that it names come first.
 use Rattle.std.specs.Prelude.{Option, None, ◌++◌}
 use Rattle.ipam_data.specs.declared.replies.Rule.{Rule}
 use Rattle.ipam_data.specs.declared.replies.View.{View}

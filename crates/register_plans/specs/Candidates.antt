@@ -1,4 +1,4 @@
--- The rows of a kind among which all are that a filter leaves, told by their ids; and where those are looked for that a filter
+-- The rows of a kind among which all are that a filter leaves, given by their ids; and if those are looked for that a filter
 -- leaves which names a VRF or a block.
 use Rattle.std.specs.Prelude.{◌≡◌, ℕ, ◌<◌, ◌^◌, ◌&&◌, Bool, true, List, [], ◌∷◌, Option, Some, None, Contains, length, map, filter_map}
 use Rattle.std.specs.List.Sorted.{IsStrictlyIncreasing}
@@ -18,7 +18,7 @@ pub record AreCandidates {T : Type 0} (id : T → ℕ) (test : T → Bool) (rows
   pub few : length ids < 2 ^ 30
   pub all : (row : T) → Contains rows row → test row ≡ true → Contains ids (id row)
 
--- the rows of these ids, those that are there
+-- the rows of these ids, those that exist
 abbrev pub rows_of : {T : Type 0} → (T → ℕ) → List T → List ℕ → List T
 rows_of id rows ids = filter_map (row_at id rows) ids
 

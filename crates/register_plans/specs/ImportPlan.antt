@@ -1,4 +1,4 @@
--- What the rows of an import come to.
+-- What the rows of an import lead to.
 use Rattle.std.specs.Prelude.{◌≡◌, ℕ, ◌==◌, List, None, if◌then◌else◌}
 use Rattle.ipam_data.specs.declared.kinds.Kind.{Kind}
 use Rattle.ipam_data.specs.declared.replies.View.{View}

@@ -37,7 +37,7 @@ record_keys s kind = by_kind kind (λ T rules. map (key_of_row rules) (rules.row
 
 -- ---- before any record is made
 
--- the key of a draft, where its row is not refused by itself; of another row none is asked for
+-- the key of a draft, if its row is not refused by itself; of another row none is asked for
 abbrev pub key_where : Option Refusal → Draft → List ℕ
 key_where None draft = key_of_draft draft
 key_where (Some refusal) draft = []
@@ -58,7 +58,7 @@ keys_of rows = map (λ row. row.key) rows
 abbrev pub ready_checks : Bool → State → Ready → List (Option Refusal)
 ready_checks makes s row = row.fault ∷ create_checks makes s row.draft
 
--- what one row does to the state and to the records that were made, where it makes a record or does not
+-- what one row does to the state and to the records that were made, if it makes a record or does not
 abbrev pub IsTaken : Bool → Ready → State → List View → State → List View → Result (Unit {0}) Halt → Type 0
 IsTaken makes row s made after more (Ok u) =
     (first (ready_checks makes s row) ≡ None)

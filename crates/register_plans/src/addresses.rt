@@ -1,4 +1,4 @@
-//! Addresses: in a table that enforces two have one host only where both have a shared role.
+//! Addresses: in a table that enforces two have one host only if both have a shared role.
 
 ghost use Rattle.std.specs.Prelude.{◌≡◌, ℕ, ◌==◌, ◌++◌, IfOk, None, option_map, bytes_eq};
 ghost use Rattle.ipam_data.specs.declared.replies.Rule.TheVariants.{Populated as PopulatedRule};
@@ -29,7 +29,7 @@ use register_tables::{Planned, RowTables, missing_vrf};
 use std::alloc::AllocError;
 use vrf_table::VrfRules;
 
-/// The first rule past the VRF that it names that an address breaks beside the rows of other ids.
+/// The first rule past the VRF that it names that an address breaks given the rows of other ids.
 fn fault(row_tables: &RowTables, row: &IpAddress) -> Option<Rule>
     ensures { result ≡ address_fault row_tables.now.addresses.rows row.now (is_enforcing row_tables.now.global_unique row_tables.now.vrfs.rows (table_of row.now.vrf)) }
 {
@@ -39,7 +39,7 @@ fn fault(row_tables: &RowTables, row: &IpAddress) -> Option<Rule>
     row_tables.addresses().fault(row, enforcing)
 }
 
-/// Why no address may come to the place of this one, if so: a range of its table has it that somebody else fills.
+/// Why no address may be put in the place of this one, if so: a range of its table has it that somebody else fills.
 fn filled(row_tables: &RowTables, row: &IpAddress) -> Option<Rule>
     ensures { result ≡ option_map PopulatedRule (populated_at row_tables.now.ranges.rows (table_of row.now.vrf) row.now.host.addr) }
 {
@@ -60,7 +60,7 @@ fn barred_new(row_tables: &RowTables, row: &IpAddress) -> Option<Rule>
     filled(row_tables, row)
 }
 
-/// Whether the address comes to its place: the one of its id has another host or is of another table, or there is none.
+/// Whether the address is put in its place: the one of its id has another host or is of another table, or there is none.
 fn is_coming(row_tables: &RowTables, row: &IpAddress) -> bool
     ensures { result ≡ is_moved (row_at address_id row_tables.now.addresses.rows row.now.id) row.now }
 {

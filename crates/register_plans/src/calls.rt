@@ -84,7 +84,7 @@ fn check_new<T: Registered>(row_tables: &RowTables, row: &T) -> Option<Refusal>
     no_log_for_one(row_tables.spent())
 }
 
-/// Why the row can't stand in the place of the one of its id, if so.
+/// Why the row can't be in the place of the one of its id, if so.
 fn check_changed<T: Registered>(row_tables: &RowTables, row: &T) -> Option<Refusal>
     ensures { (old : T) → own_row T.rules (state_of row_tables.now) row.now ≡ Some old → result ≡ verdict_of (replace T.rules (state_of row_tables.now) old [] row.now) }
 {
@@ -169,7 +169,7 @@ pub fn plan_create<T: Registered + Drop>(
     )
 }
 
-/// Plans a changed row in the place of the one of its id, which is there. `Err` means out of memory.
+/// Plans a changed row in the place of the one of its id, which exists. `Err` means out of memory.
 pub fn plan_replace<T: Registered + Drop>(
     row_tables: &RowTables,
     row: T,
@@ -225,14 +225,14 @@ pub fn plan_get<T: Registered>(row_tables: &RowTables, id: u32) -> Result<Planne
     }
 }
 
-/// Whether the row before which so many meet the filter stands on the page.
+/// Whether the row before which so many meet the filter is on the page.
 fn is_on_page(before: u32, limit: u32, offset: u32) -> bool
     ensures { result ≡ is_paged before limit offset }
 {
     offset <= before && before - offset < limit
 }
 
-/// The row at an index that is there.
+/// The row at an index that exists.
 pub(crate) fn row_at_index<T: Listed, R: RowsOf<T>>(among: &R, index: u32) -> &T
     requires { index < length (R.rows among.now) }
     ensures { Some result.now ≡ slice_get (R.rows among.now) index }
@@ -243,7 +243,7 @@ pub(crate) fn row_at_index<T: Listed, R: RowsOf<T>>(among: &R, index: u32) -> &T
     }
 }
 
-/// Adds a row to a page where it meets the filter and stands on the page, and gives how many meet it now. `Err` means out of
+/// Adds a row to a page if it meets the filter and is on the page, and gives how many meet it now. `Err` means out of
 /// memory.
 fn take_in<T: Listed>(
     row: &T,
@@ -288,7 +288,7 @@ fn take_by_id<T: Listed, R: RowsOf<T>>(
     }
 }
 
-/// Adds the rows of a page, where all rows are looked at, and gives how many meet the filter. `Err` means out of memory.
+/// Adds the rows of a page, if all rows are looked at, and gives how many meet the filter. `Err` means out of memory.
 pub(crate) fn take_all<T: Listed, R: RowsOf<T>>(
     among: &R,
     filter: &Filter,
@@ -309,7 +309,7 @@ pub(crate) fn take_all<T: Listed, R: RowsOf<T>>(
     Ok(met)
 }
 
-/// The same where the rows of some ids are looked at, among which each is that meets the filter.
+/// The same if the rows of some ids are looked at, among which each is that meets the filter.
 fn take_found<T: Listed, R: RowsOf<T>>(
     among: &R,
     ids: &[u32],
@@ -350,7 +350,7 @@ pub(crate) fn page_among<T: Listed, R: RowsOf<T>>(
     })
 }
 
-/// The same page where the rows of some ids are looked at, among which each is that meets the filter.
+/// The same page if the rows of some ids are looked at, among which each is that meets the filter.
 fn page_found<T: Listed, R: RowsOf<T>>(
     alloc: Global,
     among: &R,

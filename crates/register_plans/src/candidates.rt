@@ -78,8 +78,8 @@ pub fn area_of(parent: &Option<Block>) -> Area
     }
 }
 
-/// The ids of the rows of the VRF that a filter names, if any, whose block is in the area, rising; `None` where there are many, or
-/// no VRF is named and any block will do. The VRFs that the rows name are there. `Err` means out of memory.
+/// The ids of the rows of the VRF that a filter names, if any, whose block is in the area, rising; `None` if there are many, or
+/// no VRF is named and any block will do. The VRFs that the rows name exist. `Err` means out of memory.
 pub fn ids_asked<T: Located + Drop>(
     row_tables: &RowTables,
     book: &PlacedBook<T, Tree>,

@@ -1,4 +1,4 @@
-//! What each call comes to, by its kind: a line a kind in each dispatch.
+//! What each call leads to, by its kind: a line a kind in each dispatch.
 
 ghost use Rattle.std.specs.Prelude.{◌≡◌, IfOk};
 ghost use Rattle.ipam_data.specs.Lawful.{IsLawful};
@@ -22,7 +22,7 @@ use ipam_data::vrf::Vrf;
 use register_tables::{Planned, RowTables};
 use std::alloc::AllocError;
 
-/// The first rule that a row breaks that no call makes, beside the rows that are there, the rows that it names first: an address that was
+/// The first rule that a row breaks that no call makes, given the existing rows, the rows that it names first: an address that was
 /// in a range before somebody else filled it stays.
 pub fn broken_by_view(row_tables: &RowTables, view: &View) -> Option<Rule>
     ensures { result ≡ broken_new (state_of row_tables.now) view.now }

@@ -1,4 +1,4 @@
-//! The tests that a filter asks for: each holds where nothing is asked.
+//! The tests that a filter asks for: each holds if nothing is asked.
 
 ghost use Rattle.std.specs.Prelude.{◌≡◌, ◌==◌, bytes_eq};
 ghost use Rattle.ipam_data.specs.Checks.{asks};
@@ -41,7 +41,7 @@ pub fn asks_id(wanted: &Option<u32>, id: u32) -> bool
     }
 }
 
-/// Whether the row that is named is the one that is asked for, or none is where none is asked for.
+/// Whether the row that is named is the one that is asked for, or none is if none is asked for.
 pub fn asks_name(wanted: &Option<Option<u32>>, named: Option<u32>) -> bool
     ensures { result ≡ asks wanted.now (λ n. same_name named n) }
 {

@@ -1,5 +1,5 @@
-//! Imports over the register's tables: the rows of a kind become records one after another, each checked beside those before it, and
-//! are taken back; what they come to is handed out as any planned change.
+//! Imports over the register's tables: the rows of a kind become records one after another, each checked given those before it, and
+//! are taken back; what they lead to is handed out as any planned change.
 
 ghost use Rattle.std.specs.Prelude.{◌≡◌, ◌∷◌, ◌≤◌, [], IfOk, length};
 ghost use Rattle.ipam_data.specs.Checks.{no_log};
@@ -71,7 +71,7 @@ fn update_of(
     })
 }
 
-/// What an import comes to whose rows were made into these records: it is refused where the log has no room for it.
+/// What an import leads to whose rows were made into these records: it is refused if the log has no room for it.
 fn finish(
     row_tables: &RowTables,
     kind: Kind,
@@ -103,7 +103,7 @@ fn finish(
     ))
 }
 
-/// What an import comes to that stops so.
+/// What an import leads to that stops so.
 fn stopped(halt: Halt) -> Result<Planned, AllocError>
     ensures { (plan : Plan) → IsHaltBy (verdict_of plan) halt → IfOk result (λ p. IsPlanned plan p) }
 {
@@ -113,7 +113,7 @@ fn stopped(halt: Halt) -> Result<Planned, AllocError>
     }
 }
 
-/// Plans an import of rows of a kind: a record more for each row for which none is left to stand. The state stays: the records are made
+/// Plans an import of rows of a kind: a record more for each row for which none is left. The state stays: the records are made
 /// and taken back. `Err` means out of memory.
 pub fn plan_import(
     row_tables: &mut RowTables,

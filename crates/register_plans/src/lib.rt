@@ -1,4 +1,4 @@
-//! What each call on records comes to, an import and an export too, before anything is done: its refusal, its answer, or an update
+//! What each call on records leads to, an import and an export too, before anything is done: its refusal, its answer, or an update
 //! with its answer. The five calls are planned once over what a kind gives (`Registered`); a kind has a file, and a line in each
 //! dispatch. No row is changed when a plan is handed out: an import makes its rows and cuts them again. Get and List need little of
 //! a kind (`Listed`), and of its rows that they can be looked at (`RowsOf`): a book of VRFs or of prefixes alone answers them too.

@@ -35,7 +35,7 @@ fn asks_status(wanted: &Option<PrefixStatus>, status: PrefixStatus) -> bool
     }
 }
 
-/// The first rule past the rows that it names that a prefix breaks beside the rows of other ids.
+/// The first rule past the rows that it names that a prefix breaks given the rows of other ids.
 fn fault(row_tables: &RowTables, row: &Prefix) -> Option<Rule>
     ensures { result ≡ prefix_fault row_tables.now.prefixes.rows row.now (is_enforcing row_tables.now.global_unique row_tables.now.vrfs.rows (table_of row.now.vrf)) }
 {

@@ -41,7 +41,7 @@ fn family_fault(start: Addr, end: Addr) -> Option<Rule>
     Some(Rule::RangeFamily)
 }
 
-/// What is told of the ends of a draft, beside its row: their families, then their masks.
+/// What is said of the ends of a draft, besides its row: their families, then their masks.
 fn told(start: Host, end: Host) -> Option<Rule>
     ensures { result ≡ first (range_told start end) }
 {
@@ -174,7 +174,7 @@ fn missing_drafted(row_tables: &RowTables, draft: &Draft) -> Option<Rule>
     }
 }
 
-/// What is told of a draft, beside its row.
+/// What is said of a draft, besides its row.
 fn told_drafted(draft: &Draft) -> Option<Rule>
     ensures { result ≡ first (told_of_draft draft.now) }
 {
@@ -213,7 +213,7 @@ fn missing_edited(row_tables: &RowTables, old: &IpRange, edit: &Edit) -> Option<
     }
 }
 
-/// What is told of the ends that an edit leaves.
+/// What is said of the ends that an edit leaves.
 fn told_edited(old: &IpRange, edit: &Edit) -> Option<Rule>
     ensures { result ≡ first (told_of_change edit.now old.now) }
 {
@@ -241,8 +241,8 @@ fn plan_edited(row_tables: &RowTables, old: &IpRange, edit: &Edit) -> Result<Pla
     plan_replace(row_tables, row)
 }
 
-/// Plans the range of an id with the fields of an edit changed; an end that is not given keeps the row's mask. `Err` is want of
-/// memory.
+/// Plans the range of an id with the fields of an edit changed; an end that is not given keeps the row's mask. `Err` means out
+/// of memory.
 pub fn plan_edit(row_tables: &RowTables, id: u32, edit: &Edit) -> Result<Planned, AllocError>
     ensures { IfOk result (λ p. IsPlanned (change range_rules (state_of row_tables.now) id (told_of_change edit.now) (edited_range edit.now)) p) }
 {

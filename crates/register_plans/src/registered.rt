@@ -1,4 +1,4 @@
-//! What the calls need of a kind of row, beside what List and Get need.
+//! What the calls need of a kind of row besides what List and Get need.
 
 ghost use Rattle.std.specs.Prelude.{◌≡◌, ℕ, ◌<◌, ◌^◌, None, IfOk, IfSome, option_copied, length, slice_get};
 ghost use Rattle.ipam_data.specs.Checks.{first};
@@ -35,8 +35,8 @@ pub trait Registered: Listed {
     fn nth<'a>(row_tables: &'a RowTables, index: u32) -> Option<&'a Self>
         ensures { option_copied result ≡ slice_get (Self.rules.row_list (state_of row_tables.now)).rows index };
 
-    /// The ids of some rows, rising, among which each is that meets a filter; `None` where all rows are to be looked at. `Err` is
-    /// out of memory.
+    /// The ids of some rows, rising, among which each is that meets a filter; `None` if all rows are to be looked at. `Err`
+    /// means out of memory.
     fn candidates(_row_tables: &RowTables, _filter: &Filter) -> Result<Option<Vec<u32>>, AllocError>
         requires { IsLawful (state_of _row_tables.now) }
         ensures { IfOk result (λ found. IfSome found (λ v. AreCandidates Self.rules.id (Self.meets _filter.now) (Self.rules.row_list (state_of _row_tables.now)).rows v.items)) }
@@ -56,7 +56,7 @@ pub trait Registered: Listed {
     fn fault_new(&self, row_tables: &RowTables) -> Option<Rule>
         ensures { result ≡ first (call_faults Self.rules (state_of row_tables.now) None self.now) };
 
-    /// The first rule that it breaks where a call puts it in the place of the row of its id.
+    /// The first rule that it breaks if a call puts it in the place of the row of its id.
     fn fault_changed(&self, row_tables: &RowTables) -> Option<Rule>
         ensures { result ≡ first (call_faults Self.rules (state_of row_tables.now) (own_row Self.rules (state_of row_tables.now) self.now) self.now) };
 
@@ -64,7 +64,7 @@ pub trait Registered: Listed {
     fn user(row_tables: &RowTables, id: u32) -> Option<Refusal>
         ensures { result ≡ first (Self.rules.users (state_of row_tables.now) id) };
 
-    /// The rows that are put again where the row of an id goes. `Err` means out of memory.
+    /// The rows that are put again if the row of an id goes. `Err` means out of memory.
     fn forgetting(row_tables: &RowTables, id: u32) -> Result<Vec<View>, AllocError>
         ensures { IfOk result (λ v. v.items ≡ Self.rules.forgetting (state_of row_tables.now) id) };
 }

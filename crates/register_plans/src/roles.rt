@@ -28,7 +28,7 @@ use placed_book::Book;
 use register_tables::{Planned, Prefixes, RowTables};
 use std::alloc::AllocError;
 
-/// Adds a prefix without the role, where it has it. `Err` means out of memory.
+/// Adds a prefix without the role, if it has it. `Err` means out of memory.
 fn forget_in_prefix(row: &Prefix, id: u32, views: &mut Vec<View>) -> Result<(), AllocError>
     ensures { OnOk result (views.new.items ≡ views.old.items ++ map prefix_rules.view (prefixes_without_role id (row.now ∷ []))) }
 {
@@ -41,7 +41,7 @@ fn forget_in_prefix(row: &Prefix, id: u32, views: &mut Vec<View>) -> Result<(), 
     Ok(())
 }
 
-/// Adds a range without the role, where it has it. `Err` means out of memory.
+/// Adds a range without the role, if it has it. `Err` means out of memory.
 fn forget_in_range(row: &IpRange, id: u32, views: &mut Vec<View>) -> Result<(), AllocError>
     ensures { OnOk result (views.new.items ≡ views.old.items ++ map range_rules.view (ranges_without_role id (row.now ∷ []))) }
 {
@@ -54,7 +54,7 @@ fn forget_in_range(row: &IpRange, id: u32, views: &mut Vec<View>) -> Result<(), 
     Ok(())
 }
 
-/// The prefix at an index that is there.
+/// The prefix at an index that exists.
 fn prefix_at(book: &Prefixes, index: u32) -> &Prefix
     requires { index < length book.now.rows }
     ensures { slice_get book.now.rows index ≡ Some result.now }

@@ -1,4 +1,4 @@
-//! VRFs: no two have one route distinguisher, one that has rows stays, and a table may enforce only where no two of its rows coincide.
+//! VRFs: no two have one route distinguisher, one that has rows stays, and a table may enforce only if no two of its rows coincide.
 
 ghost use Rattle.std.specs.Prelude.{◌≡◌, ℕ, ◌<◌, ◌≤◌, ◌&&◌, Some, None, IfOk, find, drop, length, option_map, option_copied, slice_get};
 ghost use Rattle.ipam_data.specs.declared.prefix.Prefix.{Prefix};
@@ -65,7 +65,7 @@ fn is_turned_on(row_tables: &RowTables, row: &Vrf) -> bool
     }
 }
 
-/// Two rows of the VRF's table that may not stand in it once it enforces, where it is to: prefixes before addresses.
+/// Two rows of the VRF's table that may not be in it once it enforces, if it is to: prefixes before addresses.
 fn coinciding(row_tables: &RowTables, row: &Vrf) -> Option<Rule>
     ensures { result ≡ coincidence (state_of row_tables.now) (row_at vrf_id row_tables.now.vrfs.rows row.now.id) row.now }
 {

@@ -1,4 +1,4 @@
--- The blocks beside which a prefix is looked at: those of one table, or of all.
+-- The blocks among which a prefix is looked at: those of one table, or of all.
 use Rattle.std.specs.Prelude.{List, map}
 use Rattle.inet_num.specs.declared.Family.{Family}
 use Rattle.inet_num.specs.Net.{Cidr}

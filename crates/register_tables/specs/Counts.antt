@@ -7,7 +7,7 @@ use Rattle.ipam_data.specs.declared.replies.View.{View}
 use Rattle.placed_book.specs.Keys.{number_of}
 use Rattle.register_tables.specs.Held.{is_in}
 
--- the number that is kept, and 0 where none is
+-- the number that is kept, and 0 if none is
 abbrev pub kept_or_0 : Option ℕ → ℕ
 kept_or_0 None = 0
 kept_or_0 (Some n) = n

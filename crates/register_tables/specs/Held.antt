@@ -1,4 +1,4 @@
--- What the tables in memory of a register hold: the books of all kinds with their rooms, the next ids, the setting and the log items spent.
+-- What the tables in memory of a register hold: the books of all kinds with their room, the next ids, the setting and the log items spent.
 use Rattle.std.specs.Prelude.{◌≡◌, ℕ, ◌≤◌, ◌==◌, Bool, true, false, List, Option, Some, None, length, count_by}
 use Rattle.ipam_data.specs.declared.vrf.Vrf.{Vrf}
 use Rattle.ipam_data.specs.declared.rir.Rir.{Rir}
@@ -77,14 +77,14 @@ kind_of (AddressView row) = Addresses
 abbrev pub is_of : Kind → View → Bool
 is_of kind view = same_kind (kind_of view) kind
 
--- the table of a row, where it is of the kind and the rows of that have places in tables
+-- the table of a row, if it is of the kind and the rows of that have places in tables
 abbrev pub table_in : Kind → View → Option Table
 table_in Aggregates (AggregateView row) = Some Global
 table_in Prefixes (PrefixView row depth children) = Some (table_of row.vrf)
 table_in Addresses (AddressView row) = Some (table_of row.vrf)
 table_in kind view = None
 
--- the table is there, and is this one
+-- the table exists, and is this one
 abbrev pub is_table : Table → Option Table → Bool
 is_table table None = false
 is_table table (Some found) = same_table found table

@@ -1,4 +1,4 @@
-//! Claims of blocks beside the prefixes: a space is taken out of the book for the plan, and comes back with the same blocks.
+//! Claims of blocks given the prefixes: a space is taken out of the book for the plan, and returns with the same blocks.
 
 ghost use Rattle.std.specs.Prelude.{◌≡◌, ℕ, ◌+◌, ◌^◌, ◌<◌, true, length, IfOk, IfErr, IsPermutation};
 ghost use Rattle.ipam_data.specs.declared.kinds.Table.{Table};
@@ -20,7 +20,7 @@ use std::alloc::Global;
 use std::marker::Brand;
 use std::sync::ledger::{Blank, Ledger};
 
-/// The plan of a claim in a space, for which room is made, on a counter of its own.
+/// The plan of a claim in a space, for which room is made, on its own counter.
 fn plan_counted<S: Space, L: Ledger>(
     alloc: Global,
     kids: &mut S,
@@ -44,7 +44,7 @@ fn plan_counted<S: Space, L: Ledger>(
     plan_blocks(alloc, kids, within, wanted, &mut steps)
 }
 
-/// What lengths get in a block beside the prefixes of a table.
+/// What lengths get in a block given the prefixes of a table.
 fn plan_in_table<S: Space + Drop>(
     alloc: Global,
     book: &mut PrefixBook<S>,
@@ -69,7 +69,7 @@ fn plan_in_table<S: Space + Drop>(
     planned
 }
 
-/// The same beside the prefixes of every table.
+/// The same given the prefixes of every table.
 fn plan_in_all<S: Space + Drop>(
     alloc: Global,
     book: &mut PrefixBook<S>,
@@ -92,7 +92,7 @@ fn plan_in_all<S: Space + Drop>(
 }
 
 impl RowTables {
-    /// The blocks that lengths get in a block one after another by `plan_blocks`, each the lowest that is free beside the
+    /// The blocks that lengths get in a block one after another by `plan_blocks`, each the lowest that is free given the
     /// prefixes of a table strictly inside the block and the blocks that the lengths before it got. The rows stay, and no room
     /// is left in the table. `NoSpace` is the first length that gets none; `Memory` means out of memory.
     pub fn fits_in_table(
@@ -111,7 +111,7 @@ impl RowTables {
         plan_in_table(self.alloc, &mut self.prefixes, table, within, wanted)
     }
 
-    /// The same beside the prefixes of every table.
+    /// The same given the prefixes of every table.
     pub fn fits_in_all(&mut self, within: Block, wanted: &[u8]) -> Result<Vec<Block>, ClaimFault>
         requires lengths { FitInside within wanted.now }
         requires few { length self.old.prefixes.rows + length wanted.now < 2 ^ 30 }

@@ -1,5 +1,5 @@
 //! The rows of all kinds with the next ids and the log items spent: what an update changes. Nothing here decides whether a row may
-//! stand: between two puts of one update the rows may break rules. All memory is taken by `reserve`, before the first change.
+//! be: between two puts of one update the rows may break rules. All memory is taken by `reserve`, before the first change.
 #![tactic(auto)]
 
 ghost use Rattle.std.specs.Prelude.{◌≡◌, ℕ, ◌+◌, ◌^◌, ◌<◌, ◌≤◌, ◌∷◌, [], List, fold, length, option_copied, slice_get};
@@ -33,7 +33,7 @@ use std::alloc::Global;
 use std::marker::Model;
 use vrf_table::VrfBook;
 
-/// What keeps the aggregates: their blocks stand in trees.
+/// What keeps the aggregates: their blocks are in trees.
 pub type Aggregates = AggregateBook<Tree>;
 
 /// What keeps the prefixes: their tables are trees.
@@ -43,7 +43,7 @@ pub type Prefixes = PrefixBook<Tree>;
 pub type Addresses = AddressBook<Tree>;
 
 /// The rows of all kinds with the next ids, the log items spent and the register's setting. A contract sees the books with their
-/// rooms.
+/// room.
 #[derive(Drop)]
 pub struct RowTables {
     alloc: Global,
@@ -190,7 +190,7 @@ impl RowTables {
         self.spent
     }
 
-    /// Puts a row, for which there is room, in the place of the one of its kind and id, or else behind all of its kind.
+    /// Puts a row, for which there is room, in the place of the one of its kind and id, or else after all of its kind.
     pub(crate) fn put(&mut self, view: View)
         requires fits { IsFit (state_of self.old) view }
         requires room { HasRoom self.old (view ∷ []) }
@@ -212,7 +212,7 @@ impl RowTables {
         }
     }
 
-    /// Takes the row of a kind and id out, where there is one. It takes no memory.
+    /// Takes the row of a kind and id out, if there is one. It takes no memory.
     pub fn cut(&mut self, kind: Kind, id: u32)
         ensures { state_of self.new ≡ without_row (state_of self.old) (kind, id) }
     {

@@ -1,4 +1,4 @@
-//! The rows that a row names, where they are not there.
+//! The rows that a row names, if they do not exist.
 
 ghost use Rattle.std.specs.Prelude.{◌≡◌, Some, is_some};
 ghost use Rattle.ipam_data.specs.declared.kinds.Kind.TheVariants.{Vrfs, Rirs, Roles};
@@ -11,7 +11,7 @@ use ipam_data::kinds::Kind;
 use ipam_data::replies::Rule;
 use placed_book::Book;
 
-/// The VRF that is named, where it is not there.
+/// The VRF that is named, if it does not exist.
 pub fn missing_vrf(row_tables: &RowTables, vrf: Option<u32>) -> Option<Rule>
     ensures { result ≡ no_such Vrfs (row_at vrf_id row_tables.now.vrfs.rows) vrf }
 {
@@ -25,7 +25,7 @@ pub fn missing_vrf(row_tables: &RowTables, vrf: Option<u32>) -> Option<Rule>
     }
 }
 
-/// The role that is named, where it is not there.
+/// The role that is named, if it does not exist.
 pub fn missing_role(row_tables: &RowTables, role: Option<u32>) -> Option<Rule>
     ensures { result ≡ no_such Roles (row_at role_id row_tables.now.roles.rows) role }
 {
@@ -39,7 +39,7 @@ pub fn missing_role(row_tables: &RowTables, role: Option<u32>) -> Option<Rule>
     }
 }
 
-/// The RIR that is named, where it is not there.
+/// The RIR that is named, if it does not exist.
 pub fn missing_rir(row_tables: &RowTables, rir: u32) -> Option<Rule>
     ensures { result ≡ no_such Rirs (row_at rir_id row_tables.now.rirs.rows) (Some rir) }
 {

@@ -44,7 +44,7 @@ fn is_of_kind(view: &View, kind: Kind) -> bool
     is_one_kind(kind_of_view(view), kind)
 }
 
-/// The table of a row, where it is of the kind and the rows of that have places in tables.
+/// The table of a row, if it is of the kind and the rows of that have places in tables.
 pub(crate) fn table_of_view(view: &View, kind: Kind) -> Option<Table>
     ensures { result ≡ table_in kind view.now }
 {
@@ -70,7 +70,7 @@ fn count_of_kind(views: &[View], kind: Kind) -> usize
     views.iter().filter(|view| is_of_kind(view, kind)).count()
 }
 
-/// Makes room in the table of a row, where it is of the kind, for all rows that are counted for that table.
+/// Makes room in the table of a row, if it is of the kind, for all rows that are counted for that table.
 fn reserve_table_of<T: Located + Drop>(
     book: &mut PlacedBook<T, Tree>,
     kind: Kind,
@@ -91,7 +91,7 @@ fn reserve_table_of<T: Located + Drop>(
     }
 }
 
-/// Makes room in the table of a row, where it is of the kind, for that row alone.
+/// Makes room in the table of a row, if it is of the kind, for that row alone.
 fn reserve_for_one<T: Located + Drop>(
     book: &mut PlacedBook<T, Tree>,
     kind: Kind,
@@ -185,7 +185,7 @@ impl RowTables {
         self.reserve(std::slice::from_ref(view))
     }
 
-    /// Takes room for a row, and puts it. `Err` means out of memory, and the state is then as it was.
+    /// Takes room for a row, and puts it. `Err` means out of memory, and the state is then unchanged.
     pub fn admit(&mut self, view: View) -> Result<(), AllocError>
         requires fits { IsFit (state_of self.old) view }
         ensures ok { OnOk result (state_of self.new ≡ with_view (state_of self.old) view) }

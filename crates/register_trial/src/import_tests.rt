@@ -14,7 +14,7 @@ use std::alloc::{AllocError, Global};
 use std::test::Fail;
 use stored_tables::tables::Tables;
 
-/// An import a line: its rows, each a prefix with a plus behind it where its status is container; what is answered; the entries of the log, the
+/// An import a line: its rows, each a prefix with a plus after it if its status is container; what is answered; the entries of the log, the
 /// prefixes, and the greatest id that was given by then.
 const IMPORTS: &str = "\
 10.0.0.0/24 10.0.1.0/24 10.0.2.0/24+;Imported { created: 3, present: 0 };1 3 3
@@ -22,7 +22,7 @@ const IMPORTS: &str = "\
 10.0.3.0/24 0.0.0.0/0;Refused(Row(2, Rule(ZeroMask)));2 3 3
 ";
 
-/// The rows that the tables have behind each of them: the kind, the id and the texts.
+/// The rows that the tables have after each of them: the kind, the id and the texts.
 const ROWS: &str = "\
 Prefixes 1 10.0.0.0/24,,active,,false,false,,
 Prefixes 2 10.0.1.0/24,,active,,false,false,,
@@ -61,7 +61,7 @@ fn rows_of(alloc: Global, line: &str) -> Result<ImportRows, AllocError> {
     Ok(ImportRows::of(rows))
 }
 
-/// Imports the rows of a line, and tells the answer with what the register has then, but for the greatest id.
+/// Imports the rows of a line, and gives the answer with what the register has then, but for the greatest id.
 fn imported(
     alloc: Global,
     register: &mut Register<MemoryKeeper>,
@@ -75,7 +75,7 @@ fn imported(
     format!(in alloc; "{reply:?};{entries} {prefixes}")
 }
 
-/// The tables behind the first lines, with the answer to the last of them.
+/// The tables after the first lines, with the answer to the last of them.
 fn behind(alloc: Global, lines: usize) -> Result<Option<(String, Tables)>, AllocError> {
     let keeper = MemoryKeeper::new(empty_tables(alloc)?, Vec::new(alloc));
     let settings = Settings {

@@ -81,7 +81,7 @@ fn populated_of(book: &RangeBook, table: Table, last: u8) -> u32 {
     }
 }
 
-/// Two ranges of the global table and one of another, and what further ones may do beside them.
+/// Two ranges of the global table and one of another, and what further ones may do next to them.
 fn check_book(
     rt: &impl Abort,
     alloc: Global,
@@ -151,7 +151,7 @@ fn pieces_in_book(alloc: Global, row: IpRange) -> Result<Vec<Block>, AllocError>
     book.pieces(1)
 }
 
-/// Blocks as their texts, each with a blank behind it.
+/// Blocks as their texts, each with a blank after it.
 fn told(alloc: Global, blocks: &[Block]) -> Result<String, Fail> {
     let mut text = Vec::new(alloc);
     for block in blocks {

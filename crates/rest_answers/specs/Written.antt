@@ -32,7 +32,7 @@ refuses_method other = false
 abbrev pub unplaced : Answer → Answer
 unplaced answer = record { status = answer.status; allow = answer.allow; field = None; media = answer.media; body = answer.body }
 
--- what `Allow` says: the methods of the path of this target, where the method is refused, and else nothing
+-- what `Allow` says: the methods of the path of this target, if the method is refused, and else nothing
 abbrev pub IsAllow : Bool → List ℕ → List ℕ → Type 0
 IsAllow true target allow = (route : Option Route) × HasRoute (path_in target) route × (allow ≡ route_methods route)
 IsAllow false target allow = allow ≡ []
@@ -48,7 +48,7 @@ abbrev pub IsReplyAnswer : List ℕ → Reply → Links → Option ℕ → Answe
 IsReplyAnswer target reply links (Some place) answer = answer ≡ reply_answer reply links place
 IsReplyAnswer target reply links None answer = IsUnplacedAnswer target reply links answer
 
--- the whole text was written, or a shorter front of it, or nothing
+-- the whole text was written, or a shorter prefix of it, or nothing
 abbrev pub IsPutAnswer : Option (List ℕ) → Option (List ℕ) → PutReply → List ℕ → Type 0
 IsPutAnswer old new Whole text = Appends old new text
 IsPutAnswer old new SinkFault text = AppendsLess old new text
@@ -62,7 +62,7 @@ IsPutReply old new SinkFault target reply links place close =
     (answer : Answer) × IsReplyAnswer target reply links place answer × AppendsLess old new (framed_text answer close false)
 IsPutReply old new Memory target reply links place close = new ≡ old
 
--- a fault comes only where the sink's count rose, and with no other end
+-- a fault is returned only if the sink's count rose, and with no other end
 abbrev pub HasPutCause : ℕ → ℕ → PutReply → Type 0
 HasPutCause old new Whole = new ≡ old
 HasPutCause old new SinkFault = (old ≤ new) × Rose old new

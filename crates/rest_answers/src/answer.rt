@@ -1,4 +1,4 @@
-//! The answer of a reply that stands at a place.
+//! The answer of a reply that is at a place.
 
 ghost use Rattle.std.specs.Prelude.{◌≡◌, ◌≢◌, IfOk, IsOk, MatchBool, option_map};
 ghost use Rattle.http_session.specs.Replies.{answer_of, field_of};
@@ -12,7 +12,7 @@ use rest_query::place_at;
 use rest_routes::{answer_of_reply, answer_of_want, finish_links};
 use std::alloc::{AllocError, Global};
 
-/// The field that tells a place, where there is one.
+/// The field with a place, if there is one.
 pub fn place_field(place: Option<u64>) -> Option<NumberField>
     ensures { option_map field_of result ≡ option_map spec.place_field place }
 {
@@ -39,8 +39,8 @@ fn is_memory(reply: &Reply) -> bool
     }
 }
 
-/// The answer of a reply of the register, which stands at this place, with these links. `Err` means out of memory, which
-/// the answer of a reply that itself tells out of memory does not need.
+/// The answer of a reply of the register, which is at this place, with these links. `Err` means out of memory, which
+/// the answer of a reply that itself reports out of memory does not need.
 pub fn answer_at(
     alloc: Global,
     reply: &Reply,
@@ -56,7 +56,7 @@ pub fn answer_at(
     answer_of_reply(alloc, reply, links, place)
 }
 
-/// The answer of a reply of the register, which stands at this place, and whose page ends with so many rows. `Err` means out of memory,
+/// The answer of a reply of the register, which is at this place, and whose page ends with so many rows. `Err` means out of memory,
 /// as in `answer_at`.
 pub fn answer_to(
     alloc: Global,

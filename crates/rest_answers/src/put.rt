@@ -112,9 +112,9 @@ fn put_whole<Si: Sink>(sink: &mut Si, answer: &Answer, close: bool) -> PutReply
 }
 
 /// Writes the answer of a reply to a request of this target: with a place, that of a reply of the register; without one, that of a
-/// refusal which the bytes of the request decide. The links are written as they are given. After `SinkFault`, which comes only where
-/// the sink's count rose, a shorter front of the answer was written; `Memory` comes where memory ran out, with nothing written, and never
-/// for a reply that itself tells out of memory.
+/// refusal which the bytes of the request decide. The links are written as they are given. After `SinkFault`, which is returned only if
+/// the sink's count rose, a shorter prefix of the answer was written; `Memory` is returned if memory ran out, with nothing written, and never
+/// for a reply that itself reports out of memory.
 pub fn put_reply<Si: Sink>(
     alloc: Global,
     sink: &mut Si,

@@ -1,4 +1,4 @@
--- What stands next in the bytes of a connection, with a refusal in the words of the register.
+-- What comes next in the bytes of a connection, with a refusal in the words of the register.
 use Rattle.std.specs.Prelude.{◌≡◌, ◌⊎◌, ℕ, List, [], Option}
 use Rattle.std.specs.Io.KnownBytes.{IsAtEnd}
 use Rattle.ipam_edge.specs.Reading.{Last, Open, Told, Failed}
@@ -14,7 +14,7 @@ use Rattle.rest_ipam.specs.declared.request.Asked.TheVariants as asked
 abbrev pub framed : HttpRequest → Framed
 framed r = record { method = r.method; target = r.target; body = r.body; close = r.close }
 
--- what stands next in the bytes, of which `number` items were given before, and the inbox behind it
+-- what comes next in the bytes, of which `number` items were given before, and the inbox after it
 abbrev pub IsAsked : ℕ → List ℕ → Option (List ℕ) → Asked → InboxView → Type 0
 IsAsked n bytes left (asked.Request r) inbox = IsItem n bytes (IsAtEnd left) (Asks (framed r)) inbox.bytes × (inbox.number ≡ next_number n)
 IsAsked n bytes left (asked.Bad why) inbox =
@@ -23,7 +23,7 @@ IsAsked n bytes left asked.End inbox = IsAtEnd left × (bytes ≡ []) × (inbox.
 IsAsked n bytes left asked.SourceFault inbox = IsUnfinished bytes × (inbox.bytes ≡ bytes) × (inbox.number ≡ n)
 IsAsked n bytes left asked.Memory inbox = (inbox.bytes ≡ bytes) × (inbox.number ≡ n)
 
--- what the last read said, by what stands next
+-- what the last read said, by what comes next
 abbrev pub IsAskedLast : Asked → Last → Type 0
 IsAskedLast (asked.Request r) last = last ≡ Open
 IsAskedLast (asked.Bad why) last = (last ≡ Open) ⊎ (last ≡ Told)

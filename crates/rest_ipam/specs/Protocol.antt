@@ -24,7 +24,7 @@ pub record IsAskedInBounds (request : Framed) (asked : Asked) : Type 0 where
   pub is : IsRequest request.method request.target request.body asked
   pub bounded : IsBounded asked
 
--- the plain register over HTTP: a fault, which is a failed keeper's, is told only in place of an accepted change
+-- the plain register over HTTP: a fault, which is a failed keeper's, is reported only in place of an accepted change
 abbrev pub register_protocol : Protocol State Call Reply Reply Links Refusal
 register_protocol =
     record {
@@ -38,6 +38,6 @@ register_protocol =
       misread = IsFramingAnswer;
     }
 
--- the same, as the lock sees the register: with whether its keeper tells its tables, which no call changes
+-- the same, as the lock sees the register: with whether the tables of its keeper are known, which no call changes
 abbrev pub seen_protocol : Protocol Seen Call Reply Reply Links Refusal
 seen_protocol = protocol_over seen_step register_protocol

@@ -12,9 +12,9 @@ use http_session::{PutEnd, put_parts};
 use ipam_edge::Sink;
 use rest_answers::place_field;
 
-/// Writes an answer: its status, `Content-Type` and `Content-Length` where there is a body, `Allow` where there are methods, its place
-/// where it has one, `Connection: close` where the connection closes, and the body. After `SinkFault`, which comes only where the sink's
-/// count rose, a shorter front of it was written. It takes no memory.
+/// Writes an answer: its status, `Content-Type` and `Content-Length` if there is a body, `Allow` if there are methods, its place
+/// if it has one, `Connection: close` if the connection closes, and the body. After `SinkFault`, which is returned only if the sink's
+/// count rose, a shorter prefix of it was written. It takes no memory.
 pub fn put_answer<Si: Sink>(
     sink: &mut Si,
     status: u16,

@@ -13,7 +13,7 @@ use ipam_edge::Source;
 use rest_routes::refusal_of;
 use std::alloc::Global;
 
-/// A request before its route: its method and its target as they stand, its body, and whether no request follows it.
+/// A request before its route: its method and its target as they are, its body, and whether no request follows it.
 #[derive(Debug, Drop)]
 pub struct HttpRequest {
     pub method: Bytes,
@@ -22,11 +22,11 @@ pub struct HttpRequest {
     pub close: bool,
 }
 
-/// What stands next.
+/// What comes next.
 #[derive(Drop)]
 pub enum Asked {
     Request(HttpRequest),
-    /// The bytes are no request, and nothing behind them is read: one of `BadHead`, `TooLarge` and `Coding`.
+    /// The bytes are no request, and nothing after them is read: one of `BadHead`, `TooLarge` and `Coding`.
     Bad(Refusal),
     /// The input has ended between two requests.
     End,
@@ -52,9 +52,9 @@ fn request_of(request: http_session::HttpRequest) -> HttpRequest
     }
 }
 
-/// The next item of the bytes that the inbox has and the source has left: a request, a refusal of the bytes that stand in its place, or
-/// the end of the input between two requests. `SourceFault` comes where a read failed while more bytes were needed, and no other answer
-/// where the source's count rose; `Memory` where memory ran out. After both no byte is lost, and the call may be made again.
+/// The next item of the bytes that the inbox has and the source has left: a request, a refusal of the bytes that are in its place, or
+/// the end of the input between two requests. `SourceFault` is returned if a read failed while more bytes were needed, and no other answer
+/// if the source's count rose; `Memory` if memory ran out. After both no byte is lost, and the call may be made again.
 pub fn next_request<So: Source>(alloc: Global, source: &mut So, inbox: &mut Inbox) -> Asked
     ensures item { (all : List ℕ) × Grown (So.left source.old) (So.left source.new) inbox.old.bytes all × IsAsked inbox.old.number all (So.left source.new) result inbox.new × IsReadWhile IsUnfinished inbox.old.bytes all
         × IsReadUntil So.reads IsUnfinished source.old source.new inbox.old.bytes all (λ last. IsAskedLast result last) }

@@ -1,4 +1,4 @@
-//! What stands between the register and the requests of its connections.
+//! What is between the register and the requests of its connections.
 
 ghost use Rattle.std.specs.Prelude.{◌≡◌, ◌≢◌, IfOk};
 ghost use Rattle.http_session.specs.Replies.{answer_of};

@@ -16,9 +16,9 @@ use std::sync::Wait;
 
 /// Serves one connection over the shared register, from its first byte to its end, and notes its changes under the seat's number.
 ///
-/// `Closed` comes with all requests answered; `SourceFault` where a read failed, with all requests that lay whole in the bytes read
-/// answered; `SinkFault` where a write failed, with a shorter front of the last answer written; `Memory` where memory ran out before
-/// a call reached the register, or for the text of a reply that tells something else: a reply that tells out of memory in the register
+/// `Closed` comes with all requests answered; `SourceFault` if a read failed, with all requests that lay whole in the bytes read
+/// answered; `SinkFault` if a write failed, with a shorter prefix of the last answer written; `Memory` if memory ran out before
+/// a call reached the register, or for the text of a reply that reports something else: a reply that reports out of memory in the register
 /// is answered like any other. The table of routes is built before the first read.
 pub fn serve_session<R: Wait, K: Keeper, So: Source, Si: Sink>(
     rt: &R,

@@ -18,7 +18,7 @@ use std::thread::{Threads, for_each_mut};
 /// What serves the connections of one lane through one seat of a shared register.
 pub type Worker<K, A> = machine_workers::Worker<Register<K>, A>;
 
-/// Serves the connections of all workers' lanes, each worker in a thread of its own; where no thread can be had they run one after
+/// Serves the connections of all workers' lanes, each worker in its own thread; if no thread can be started they run one after
 /// another. Each worker has a seat again at the end, of the same number and weight, and its lane has no accept left. Each
 /// worker builds its table of routes in its own thread.
 pub fn serve_workers<R: Threads + Wait + Sync, K: Keeper + Send, A: Lane + Send, G: Gate + Sync>(

@@ -1,4 +1,4 @@
--- The field of an answer that tells its place.
+-- The field of an answer with its place.
 use Rattle.std.specs.Prelude.{ℕ, codes}
 use Rattle.http_session.specs.Answers.{NamedNumber}
 

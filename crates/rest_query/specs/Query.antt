@@ -10,11 +10,11 @@ use Rattle.ipam_data.specs.Answers.{field_text}
 abbrev pub is_mark : ℕ → Bool
 is_mark c = c == 63
 
--- what stands before the first question mark of a target
+-- what is before the first question mark of a target
 abbrev pub path_in : List ℕ → List ℕ
 path_in target = take (position_or_len is_mark target) target
 
--- and what stands behind it, or nothing
+-- and what follows it, or nothing
 abbrev pub query_in : List ℕ → List ℕ
 query_in target = drop (position_or_len is_mark target + 1) target
 
@@ -27,7 +27,7 @@ abbrev pub newest : List ℕ → Option (List ℕ) → List (List ℕ × List �
 newest name found [] = found
 newest name found (pair ∷ pairs) = newest name (if bytes_eq (text_of pair.0) name then Some pair.1 else found) pairs
 
--- the value of a parameter, where the query has it
+-- the value of a parameter, if the query has it
 unfoldable pub parameter : List ℕ → List ℕ → Option (List ℕ)
 parameter query name = option_map text_of (newest name None (raw_pairs query))
 
@@ -40,6 +40,6 @@ abbrev pub with_given : List ℕ → List ℕ → Option (List ℕ) → List ℕ
 with_given form name None = form
 with_given form name (Some value) = append_pair form name value
 
--- a form with a parameter of the query, where it has it
+-- a form with a parameter of the query, if it has it
 abbrev pub with_value : List ℕ → FieldName → List ℕ → List ℕ
 with_value query name form = with_given form (field_text name) (value_in query name)

@@ -23,7 +23,7 @@ HasId text (Some None) = ⊥
 HasId text (Some (Some None)) = ⊥
 HasId text (Some (Some (Some n))) = (text ≡ decimal n) × (1 ≤ n) × (n < 2 ^ 32)
 
--- where the text is `null`, those are meant that have none
+-- if the text is `null`, those are meant that have none
 abbrev pub HasIdOrNull : Bool → List ℕ → Option (Option (Option ℕ)) → Type 0
 HasIdOrNull true text id = id ≡ Some (Some None)
 HasIdOrNull false text id = HasId text id
@@ -32,7 +32,7 @@ abbrev pub IsIdTest : Option (List ℕ) → Option (Option (Option ℕ)) → Typ
 IsIdTest None id = id ≡ Some None
 IsIdTest (Some text) id = HasIdOrNull (bytes_eq text (codes "null")) text id
 
--- an id alone, where each row has one
+-- an id alone, if each row has one
 abbrev pub IsRowTest : Option (List ℕ) → Option (Option ℕ) → Type 0
 IsRowTest None id = id ≡ Some None
 IsRowTest (Some text) None = (n : ℕ) → 1 ≤ n → n < 2 ^ 32 → text ≢ decimal n
@@ -51,7 +51,7 @@ abbrev pub HasBlock : List ℕ → Option Cidr → Type 0
 HasBlock text (Some b) = IsBlockText text b
 HasBlock text None = (b : Cidr) → ¬ IsBlockText text b
 
--- this block; where there is none, that of an address alone, which has its family's width
+-- this block; if there is none, that of an address alone, which has its family's width
 abbrev pub IsAreaOf : Option Cidr → List ℕ → Option (Option Cidr) → Type 0
 IsAreaOf (Some b) text area = area ≡ Some (Some b)
 IsAreaOf None text None = IsNoAddressText text
@@ -71,7 +71,7 @@ most_listed = 1000
 abbrev pub limit_of : ℕ → ℕ
 limit_of n = if n == 0 || nat_lt most_listed n then most_listed else n
 
--- so many things are listed where no limit is given, but available blocks, which are listed up to the most
+-- so many things are listed if no limit is given, but available blocks, which are listed up to the most
 abbrev pub default_limit : ℕ
 default_limit = 50
 

@@ -1,4 +1,4 @@
--- The filter of a list of roles: the texts are compared as they stand.
+-- The filter of a list of roles: the texts are compared as they are.
 use Rattle.std.specs.Prelude.{ℕ, List}
 use Rattle.ipam_data.specs.declared.calls.Filter.{Filter}
 use Rattle.ipam_data.specs.declared.calls.Filter.TheVariants.{Roles as SomeRoles}

@@ -54,7 +54,7 @@ pub struct Listing {
     pub offset: u32,
 }
 
-/// What of a prefix or a range is available and listed. It decides how many are listed where no limit is given.
+/// What of a prefix or a range is available and listed. It decides how many are listed if no limit is given.
 #[derive(Clone, Copy, Debug)]
 pub enum Available {
     Blocks,

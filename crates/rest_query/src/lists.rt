@@ -86,7 +86,7 @@ fn listed(filter: Filter, limit: Option<u32>, offset: Option<u32>) -> Result<Lis
 }
 
 /// What the query of a list asks for. `Field` names the first parameter that is malformed, in the order of the kind's filters,
-/// then limit, then offset; `Memory` may come in place of any answer.
+/// then limit, then offset; `Memory` may be returned in place of any answer.
 pub fn read_listing(alloc: Global, kind: Kind, query: &[u8]) -> Result<Listing, Refusal>
     ensures listing { OrMemory (IsListing kind query.now) result }
     ensures kind { IfOk result (λ l. kind_of l.filter ≡ kind) }
@@ -103,8 +103,8 @@ pub fn read_listing(alloc: Global, kind: Kind, query: &[u8]) -> Result<Listing, 
     }
 }
 
-/// What the query of a list of available things asks for: a limit alone, so that other parameters do not count. `Field` comes
-/// where it is malformed; `Memory` may come in place of any answer.
+/// What the query of a list of available things asks for: a limit alone, so that other parameters do not count. `Field` is
+/// returned if it is malformed; `Memory` may be returned in place of any answer.
 pub fn read_limit(alloc: Global, available: Available, query: &[u8]) -> Result<u32, Refusal>
     ensures { OrMemory (IsLimitAsked available query.now) result }
 {
@@ -138,8 +138,8 @@ fn add_filters(
     }
 }
 
-/// The query of a link to another page: the filters that are given, as they were given, then limit and offset. `Err` is want of
-/// memory.
+/// The query of a link to another page: the filters that are given, as they were given, then limit and offset. `Err` means out
+/// of memory.
 pub fn link_query(
     alloc: Global,
     kind: Kind,

@@ -22,7 +22,7 @@ pub(crate) fn is_decimal(text: &str, number: u64) -> bool
     text == room.format(number)
 }
 
-/// The number below a bound that the text is in decimal, without a sign or a leading zero; none where it is no such number.
+/// The number below a bound that the text is in decimal, without a sign or a leading zero; none if it is no such number.
 pub fn number_below(text: &str, bound: u64) -> Option<u64>
     ensures some { IfSome result (λ n. (text.now ≡ decimal n) × (n < bound)) }
     ensures none { IfNone result ((n : ℕ) → n < bound → text.now ≢ decimal n) }

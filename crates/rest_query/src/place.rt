@@ -1,4 +1,4 @@
-//! The field of an answer that tells its place.
+//! The field of an answer with its place.
 
 ghost use Rattle.std.specs.Prelude.{◌≡◌};
 ghost use Rattle.http_session.specs.Replies.{field_of};
@@ -6,7 +6,7 @@ ghost use Rattle.rest_query.specs.Place.{place_field};
 
 use http_session::NumberField;
 
-/// The field that tells the place of an answer: how many changes were accepted before it.
+/// The field with the place of an answer: how many changes were accepted before it.
 pub fn place_at(place: u64) -> NumberField
     ensures { field_of result ≡ place_field place }
 {

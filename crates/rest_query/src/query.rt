@@ -11,7 +11,7 @@ use ipam_data::text::Text;
 use ipam_words::field_name;
 use std::alloc::{AllocError, Global};
 
-/// What stands before the first question mark of a target, and what stands behind it, which is nothing where it has none.
+/// What is before the first question mark of a target, and what follows it, which is nothing if it has none.
 pub fn cut(target: &[u8]) -> (&[u8], &[u8])
     ensures path { result.0.now ≡ path_in target.now }
     ensures query { result.1.now ≡ query_in target.now }
@@ -30,7 +30,7 @@ fn is_named(alloc: Global, key: &[u8], name: &str) -> Result<bool, AllocError>
     Ok(text.as_str() == name)
 }
 
-/// The value of a pair where it has the name, and else what was found before.
+/// The value of a pair if it has the name, and else what was found before.
 fn newer<'a>(
     alloc: Global,
     found: Option<&'a [u8]>,
@@ -61,7 +61,7 @@ fn last_value<'a>(
     Ok(found)
 }
 
-/// The value of a parameter of this name, the last one where the query has more than one: decoded as `application/x-www-form-urlencoded`,
+/// The value of a parameter of this name, the last one if the query has more than one: decoded as `application/x-www-form-urlencoded`,
 /// the form of the WHATWG URL standard. The one error means out of memory.
 #[tactic(auto, unfolding(crate::specs::Query::parameter))]
 pub fn parameter_value(alloc: Global, query: &[u8], name: &str) -> Result<Option<Text>, AllocError>
@@ -73,7 +73,7 @@ pub fn parameter_value(alloc: Global, query: &[u8], name: &str) -> Result<Option
     }
 }
 
-/// The value of a parameter, where the query has it.
+/// The value of a parameter, if the query has it.
 pub(crate) fn value(
     alloc: Global,
     query: &[u8],
@@ -84,7 +84,7 @@ pub(crate) fn value(
     parameter_value(alloc, query, field_name(name))
 }
 
-/// Adds a parameter of the query, where it has it, to a form.
+/// Adds a parameter of the query, if it has it, to a form.
 pub(crate) fn add_value(
     alloc: Global,
     form: &mut Serializer<Global>,

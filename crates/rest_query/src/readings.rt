@@ -141,10 +141,10 @@ pub(crate) fn block_test(text: &Option<Text>) -> Option<Option<Block>>
 /// At most so many things are listed.
 const MOST_LISTED: u32 = 1000;
 
-/// So many rows or addresses are listed where no limit is given.
+/// So many rows or addresses are listed if no limit is given.
 pub(crate) const DEFAULT_LIMIT: u32 = 50;
 
-/// How many available things are listed where no limit is given.
+/// How many available things are listed if no limit is given.
 pub(crate) fn available_limit(available: Available) -> u32
     ensures { result ≡ spec.available_limit available }
 {
@@ -164,7 +164,7 @@ fn limit_of(number: u64) -> u32
     number as u32
 }
 
-/// A limit, which is the default where it is absent.
+/// A limit, which is the default if it is absent.
 pub(crate) fn limit(text: &Option<Text>, default: u32) -> Option<u32>
     ensures { IsLimit default text.now result }
 {

@@ -1,4 +1,4 @@
--- Routes: which targets name something, and by which methods. A route is told by its whole path, compared byte by byte with the
+-- Routes: which targets name something, and by which methods. A route is given by its whole path, compared byte by byte with the
 -- path of the target (RFC 3986 3.3): nothing is decoded, and a missing slash or a leading zero makes another path.
 use Rattle.std.specs.Prelude.{◌≡◌, ℕ, ◌^◌, ◌<◌, ◌≤◌, List, ◌++◌, codes, decimal, bytes_eq, Option, Some, None, if◌then◌else◌}
 use Rattle.ipam_data.specs.declared.kinds.Kind.{Kind}

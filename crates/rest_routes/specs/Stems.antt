@@ -1,4 +1,4 @@
--- How the routes stand in a table of forms of paths: a stem is a route without its id.
+-- How the routes are in a table of forms of paths: a stem is a route without its id.
 use Rattle.std.specs.Prelude.{◌≡◌, ◌≢◌, ℕ, List, [], ◌∷◌, ◌++◌, codes, decimal, map, Option, Some, None, IsPermutation}
 use Rattle.route_table.specs.Paths.{Form, Whole, Around}
 use Rattle.ipam_data.specs.declared.kinds.Kind.{Kind}

@@ -42,7 +42,7 @@ fn reply_status(reply: &Reply) -> StatusCode
     }
 }
 
-/// The methods of a route, where there is one.
+/// The methods of a route, if there is one.
 fn methods(route: Option<Route>) -> &'static [u8]
     ensures { result.now ≡ route_methods route }
 {
@@ -62,7 +62,7 @@ fn allowed(route: Option<Route>, refusal: &Refusal) -> &'static [u8]
     }
 }
 
-/// The answer of a reply of the register, which stands at this place. `Err` means out of memory.
+/// The answer of a reply of the register, which is at this place. `Err` means out of memory.
 pub fn answer_of_reply(
     alloc: Global,
     reply: &Reply,
@@ -114,7 +114,7 @@ pub fn answer_of_refusal(
     answer_of_refusal_by(alloc, &routes, target, refusal)
 }
 
-/// The refusal of bytes that stand in the place of a request and are none.
+/// The refusal of bytes that are in the place of a request and are none.
 pub fn refusal_of(fault: Fault) -> Refusal
     ensures refusal { result ≡ spec.refusal_of fault }
     ensures fixed { is_fixed result ≡ true }
@@ -127,7 +127,7 @@ pub fn refusal_of(fault: Fault) -> Refusal
     }
 }
 
-/// The answer to bytes that stand in the place of a request and are none: it has no place. It takes no memory.
+/// The answer to bytes that are in the place of a request and are none: it has no place. It takes no memory.
 pub fn answer_of_fault(fault: Fault) -> Answer
     ensures { IsFramingAnswer fault (answer_of result) }
 {
@@ -141,7 +141,7 @@ pub fn answer_of_fault(fault: Fault) -> Answer
     }
 }
 
-/// The answer where memory runs out in the register, which takes none itself.
+/// The answer if memory runs out in the register, which takes none itself.
 pub fn answer_of_want(place: u64) -> Answer
     ensures { (links : Links) → answer_of result ≡ reply_answer (Reply.Refused Refusal.Memory) links place }
 {
@@ -177,7 +177,7 @@ pub fn page_end(call: &Call) -> u64
     }
 }
 
-/// The links of a page that has so many rows up to its end: where these are all, no page is after it. It takes no memory.
+/// The links of a page that has so many rows up to its end: if these are all, no page is after it. It takes no memory.
 pub fn finish_links(reply: &Reply, end: u64, links: Links) -> Links
     ensures { result ≡ finished_links reply.now end links }
 {

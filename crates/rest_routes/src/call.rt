@@ -145,8 +145,8 @@ fn call_of_row(
 }
 
 /// What a request asks of the register, by a table of the routes that is lent, with the links to the pages after and before that of
-/// a list. `NoRoute` comes where the path has no route, then `Method` where the route does not have the method, and then the
-/// refusals of a body, or for a list those of a query; `Memory` may come in place of any answer. The body of a GET or a DELETE is
+/// a list. `NoRoute` is returned if the path has no route, then `Method` if the route does not have the method, and then the
+/// refusals of a body, or for a list those of a query; `Memory` may be returned in place of any answer. The body of a GET or a DELETE is
 /// ignored.
 pub fn read_call_by(
     alloc: Global,

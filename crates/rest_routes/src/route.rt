@@ -78,7 +78,7 @@ pub enum Method {
 }
 
 impl Method {
-    /// The method of a name, in upper case (RFC 9110 9.1), or `None` where no route has it.
+    /// The method of a name, in upper case (RFC 9110 9.1), or `None` if no route has it.
     pub fn named(name: &[u8]) -> Option<Method>
         ensures { result ≡ method_named name.now }
     {

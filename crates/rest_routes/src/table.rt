@@ -124,7 +124,7 @@ impl Routes {
         Ok(Routes { table })
     }
 
-    /// The route of a path, or `None` where it has none.
+    /// The route of a path, or `None` if it has none.
     pub fn route_of(&self, target: &[u8]) -> Option<Route>
         ensures { HasRoute target.now result }
     {

@@ -1,5 +1,5 @@
 -- What an input says, over whole lines as std's `lines` gives them: a line ends with a line feed and loses a carriage return before
--- it, and what follows the last line feed is a line where it is not empty.
+-- it, and what follows the last line feed is a line if it is not empty.
 use Rattle.std.specs.Prelude.{◌≡◌, ℕ, ◌+◌, false, List, ◌∷◌, ◌++◌, length, not}
 use Rattle.std.specs.List.{filter, AllZip}
 use Rattle.reverse_zone.specs.declared.record.Pair.{Pair}

@@ -16,7 +16,7 @@ pub record IsWritable (pair : Pair) : Type 0 where
 abbrev pub pair_line_of : Pair → List ℕ
 pair_line_of pair = line_of pair.host pair.name
 
--- the lines of pairs, one behind the other
+-- the lines of pairs, one after the other
 abbrev pub lines_text_of : List Pair → List ℕ
 lines_text_of pairs = flat_map pair_line_of pairs
 

@@ -29,7 +29,7 @@ fits_dns name =
     && not (has_star name)
     && has_short_labels name
 
--- the name that the DNS has for a `dns_name`: that without a final period; none where it is empty or its first label is a star
+-- the name that the DNS has for a `dns_name`: that without a final period; none if it is empty or its first label is a star
 abbrev pub ptr_name_of : List ℕ → Option (List ℕ)
 ptr_name_of [] = None
 ptr_name_of (c ∷ cs) = if has_star (c ∷ cs) then None else Some (bare (c ∷ cs))

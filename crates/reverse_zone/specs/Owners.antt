@@ -27,7 +27,7 @@ abbrev pub zone_of : Family → List ℕ
 zone_of V4 = codes "in-addr.arpa."
 zone_of V6 = codes "ip6.arpa."
 
--- so many labels of a number, the low-order one first, and the zone behind them
+-- so many labels of a number, the low-order one first, and the zone after them
 unfoldable pub labels_of : Family → ℕ → ℕ → List ℕ
 labels_of family zero number = zone_of family
 labels_of family (suc count) number = label_of family (number % base_of family) ++ 46 ∷ labels_of family count (number / base_of family)

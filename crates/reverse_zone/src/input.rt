@@ -50,7 +50,7 @@ fn is_skipped_line(line: &[u8]) -> bool
 
 /// The pairs of an input's PTR records, in order. A line is `OWNER [TTL] IN PTR NAME`, its words separated by spaces or tabs
 /// and its letters in either case; empty lines and lines that begin with `;` are skipped. `Line(n)` is the answer exactly
-/// where line n, counted from 1, is the first that is none of these; `Memory` may come in place of any answer.
+/// if line n, counted from 1, is the first that is none of these; `Memory` may be returned in place of any answer.
 pub fn read_ptrs(alloc: Global, bytes: &[u8]) -> Result<Vec<Pair>, PtrFault>
     ensures ok { IfOk result (λ pairs. ArePairsOf (lines bytes.now) pairs.items) }
     ensures err { IfErr result (λ fault. (fault ≡ Memory) ⊎ ((n : ℕ) × (fault ≡ Line n) × IsFirstRefused (lines bytes.now) n)) }

@@ -23,7 +23,7 @@ pub fn ptr_line(host: Addr, name: &str) -> Line
     line
 }
 
-/// Appends the line of a PTR record (`ptr_line`). The name has to fit (`fits`). If memory runs out, `out` is as before; it does not where `out` has
+/// Appends the line of a PTR record (`ptr_line`). The name has to fit (`fits`). If memory runs out, `out` is as before; it does not if `out` has
 /// room for `LINE_ROOM` more bytes.
 pub fn write_ptr(host: Addr, name: &str, out: &mut Vec<u8>) -> Result<(), AllocError>
     requires { IsTrue (fits_dns name.now) }

@@ -58,7 +58,7 @@ pub fn fits(name: &str) -> bool
         && are_labels_short(bytes)
 }
 
-/// The name that the DNS has for a row with this `dns_name`: that without a final period, or `None` where it is empty or its
+/// The name that the DNS has for a row with this `dns_name`: that without a final period, or `None` if it is empty or its
 /// first label is a star. Whether the name fits is asked of it afterwards. It takes no memory.
 pub fn ptr_name(dns_name: &str) -> Option<&str>
     ensures some { IfSome result (λ name. ptr_name_of dns_name.now ≡ Some name.now) }

@@ -84,7 +84,7 @@ fn read_name(word: &[u8]) -> Option<&str>
     if fits(name) { Some(name) } else { None }
 }
 
-/// The host and the name of these words, or `None` where they are no PTR record's.
+/// The host and the name of these words, or `None` if they are no PTR record's.
 fn read_words<'a>(words: &[&'a [u8]]) -> Option<(Addr, &'a str)>
     ensures some { IfSome result (λ r. IsRecord (map (λ word. word.now) words.now) (record { host = r.0; name = r.1.now })) }
     ensures none { IfNone result ((pair : PairValue) → ¬ IsRecord (map (λ word. word.now) words.now) pair) }
@@ -95,7 +95,7 @@ fn read_words<'a>(words: &[&'a [u8]]) -> Option<(Addr, &'a str)>
     Some((host, name))
 }
 
-/// The pair of a line's record, or `None` where the line is no PTR record.
+/// The pair of a line's record, or `None` if the line is no PTR record.
 pub(crate) fn read_record(alloc: Global, line: &[u8]) -> Result<Option<Pair>, AllocError>
     ensures some { IfOk result (λ found. IfSome found (IsRecordOf line.now)) }
     ensures none { IfOk result (λ found. IfNone found ((pair : PairValue) → ¬ IsRecordOf line.now pair)) }

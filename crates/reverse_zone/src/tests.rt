@@ -1,4 +1,4 @@
-//! Lines of PTR records: the worked examples, and where a name or a line is none.
+//! Lines of PTR records: the worked examples, and names and lines that are none.
 
 use crate::{Pair, PtrFault, fits, ptr_name, read_ptrs, write_ptr};
 use inet_num::{read_addr, write_addr};
@@ -116,7 +116,7 @@ fn written_out(alloc: Global, part: &str) -> Result<String, AllocError> {
     Ok(text)
 }
 
-/// What is before the mark, and what is behind it.
+/// What is before the mark, and what is after it.
 fn halves<'a>(case: &'a str, mark: &'a str) -> (&'a str, &'a str) {
     match case.split_once(mark) {
         Some((front, back)) => (front, back),

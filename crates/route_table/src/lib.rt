@@ -1,6 +1,6 @@
-//! A table of routes by their paths. A path is a text of segments, as `/books/7/pages/` (RFC 3986 3.3). A route is told by one
-//! whole path, or by two texts with one parameter between them, which stands for one piece: a text that is not empty and has no
-//! slash, so a whole segment where the first text ends with a slash. Paths are compared byte by byte: nothing is decoded. The search is
+//! A table of routes by their paths. A path is a text of segments, as `/books/7/pages/` (RFC 3986 3.3). A route is given by one
+//! whole path, or by two texts with one parameter between them, which represents one piece: a text that is not empty and has no
+//! slash, so a whole segment if the first text ends with a slash. Paths are compared byte by byte: nothing is decoded. The search is
 //! `matchit`'s; what a route is says nothing of it.
 #![tactic(auto)]
 
@@ -18,8 +18,8 @@ use matchit::Router;
 use std::alloc::{AllocError, Global};
 use std::marker::Model;
 
-/// Forms of paths, each with a value, as a handler of requests keeps its routes. A contract sees them as a list, in no order
-/// that is told: of two forms that fit one path, either may be found.
+/// Forms of paths, each with a value, as a handler of requests keeps its routes. A contract sees them as a list, in no known
+/// order: of two forms that fit one path, either may be found.
 #[derive(Drop)]
 pub struct RouteTable<T> {
     alloc: Global,
@@ -40,8 +40,8 @@ impl<T> Model for RouteTable<T> {
     ghost invariant = { λ t. AreOfForms t.router };
 }
 
-/// Puts a route into a router. After `Err` the router is as before. `matchit` has errors beside out of memory, for a route that it
-/// cannot read and for one beside which another stands that it takes for the same; the forms here have neither, and they would be answered
+/// Puts a route into a router. After `Err` the router is as before. `matchit` has errors other than out of memory, for a route that it
+/// cannot read and for one next to another that it takes for the same; the forms here have neither, and they would be answered
 /// as out of memory too.
 fn put<T: Drop>(router: &mut Router<T>, text: &str, value: T) -> Result<(), AllocError>
     ensures ok { OnOk result (InsertsRead (parse_route text.now) value router.old router.new (Ok tt)) }
@@ -53,7 +53,7 @@ fn put<T: Drop>(router: &mut Router<T>, text: &str, value: T) -> Result<(), Allo
     }
 }
 
-/// A front, the parameter that stands for the piece, and what follows it.
+/// A front, the parameter that represents the piece, and what follows it.
 fn around_text(alloc: Global, front: &str, rest: &str) -> Result<String, AllocError>
     ensures { IfOk result (λ t. string_bytes t ≡ front.now ++ (codes "{id}" ++ rest.now)) }
 {
@@ -68,7 +68,7 @@ fn around_text(alloc: Global, front: &str, rest: &str) -> Result<String, AllocEr
 pub struct Found<'a, 'p, T> {
     /// The value of the form.
     pub value: &'a T,
-    /// The part of the path that the form's parameter stands for, where it has one.
+    /// The part of the path that the form's parameter represents, if it has one.
     pub piece: Option<&'p str>,
 }
 
@@ -92,7 +92,7 @@ impl<T: Drop> RouteTable<T> {
         put(&mut self.router, text, value)
     }
 
-    /// Adds the route of a front, a piece and what follows the piece: bytes below `{`, and a slash right behind the piece. After
+    /// Adds the route of a front, a piece and what follows the piece: bytes below `{`, and a slash right after the piece. After
     /// `Err`, which means out of memory, the table is as before.
     pub fn add_around(&mut self, front: &str, rest: &str, value: T) -> Result<(), AllocError>
         requires front { IsLiteral front.now }
@@ -105,7 +105,7 @@ impl<T: Drop> RouteTable<T> {
         put(&mut self.router, text.as_str(), value)
     }
 
-    /// The value of a form that the path has, and its piece; `None` exactly where the path is of no form. It takes no memory.
+    /// The value of a form that the path has, and its piece; `None` exactly if the path is of no form. It takes no memory.
     pub fn find<'a, 'p>(&'a self, path: &'p str) -> Option<Found<'a, 'p, T>>
         ensures found { IfSome result (λ f. (form : Form) × Contains self.now (form, f.value.now) × IsOfForm form path.now (option_copied f.piece)) }
         ensures none { IfNone result ((form : Form) (value : T) (piece : Option (List ℕ)) → Contains self.now (form, value) → ¬ IsOfForm form path.now piece) }

@@ -117,7 +117,7 @@ fn refusal_text(
     Ok(format!(in alloc; "{refusal:?} {number} {allow}")?.into_bytes())
 }
 
-/// A link behind a space, where there is one.
+/// A link after a space, if there is one.
 fn link_words(alloc: Global, link: &Option<Text>) -> Result<String, AllocError> {
     match link {
         Some(link) => format!(in alloc; " {}", link.as_str()),
@@ -146,7 +146,7 @@ fn told(
     }
 }
 
-/// What stands before the first of these bytes in a line, and behind it.
+/// What is before the first of these bytes in a line, and after it.
 fn cut(line: &[u8], byte: u8) -> (&[u8], &[u8]) {
     match line.iter().position(|other| *other == byte) {
         Some(place) => (&line[..place], &line[place + 1..]),
@@ -228,7 +228,7 @@ fn answers_without_memory(rt: HostRuntime) -> Result<(), Fail> {
     Ok(())
 }
 
-/// Whether a page of so many rows has one after it, where the request has this query.
+/// Whether a page of so many rows has one after it, if the request has this query.
 fn has_next(alloc: Global, target: &[u8], count: u32) -> Result<bool, AllocError> {
     let Ok((call, links)) = read_call(alloc, b"GET", target, b"") else {
         return Ok(false);

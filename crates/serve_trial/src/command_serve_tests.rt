@@ -93,7 +93,7 @@ fn listener_of_all(alloc: Global) -> Result<ListListener, AllocError> {
     ListListener::new(alloc, all_lanes(alloc)?)
 }
 
-/// Puts what was written to the connections of the lanes that came back at the end of a text.
+/// Puts what was written to the connections of the lanes that were given back at the end of a text.
 fn tell(listener: &ListListener, told: &mut String) -> Result<(), AllocError> {
     for lane in listener.returned() {
         for handed in lane.handed() {
@@ -105,12 +105,12 @@ fn tell(listener: &ListListener, told: &mut String) -> Result<(), AllocError> {
     Ok(())
 }
 
-/// How often a part stands in a text.
+/// How often a part occurs in a text.
 fn times<'a>(text: &'a str, part: &'a str) -> usize {
     text.split(part).count().saturating_sub(1)
 }
 
-/// Whether each of the ids from 1 up to this one is told once, and no other prefix is made.
+/// Whether each of the ids from 1 up to this one is answered once, and no other prefix is made.
 fn has_each_once(alloc: Global, told: &str, last: u32) -> Result<bool, AllocError> {
     for id in 1..=last {
         let named = format!(in alloc; "\"id\":{id},")?;

@@ -146,7 +146,7 @@ fn refusal(name: &str) -> &'static str {
     }
 }
 
-/// A session over what comes in a case writes what the case says, and closes.
+/// A session over the input of a case writes what the case says, and closes.
 fn expect_case<R: Abort + AllocGlobal>(rt: &R, case: &str) -> Result<(), AllocError> {
     let closed = column(case, 3).parse().unwrap_or(u32::MAX);
     expect(
@@ -158,7 +158,7 @@ fn expect_case<R: Abort + AllocGlobal>(rt: &R, case: &str) -> Result<(), AllocEr
     )
 }
 
-/// What comes, what is answered, no refusal, and how many answers are written.
+/// The input, what is answered, no refusal, and how many answers are written.
 const ANSWERED: [&str; 14] = [
     "|||0",
     "HEAD /a HTTP/1.1\r\n\r\nGET /a HTTP/1.1\r\n\r\n\
@@ -196,7 +196,7 @@ fn requests_are_answered_in_order(rt: HostRuntime) -> Result<(), Fail> {
     Ok(())
 }
 
-/// What comes, what is answered, which refusal stands behind that, and how many answers are written with it.
+/// The input, what is answered, which refusal that is, and how many answers are written with it.
 const REFUSED: [&str; 15] = [
     "GET / HTTP/1.1\r\nHost||bad head|1",
     "HEAD / HTTP/1.1\r\nContent-Length: +5\r\n\r\n||bad head|1",
@@ -297,7 +297,7 @@ fn the_thousandth_answer_closes(rt: HostRuntime) -> Result<(), Fail> {
     Ok(())
 }
 
-/// What comes, the read that fails, the room of the sink, what is answered, which refusal stands behind that, and how the session ends:
+/// The input, the read that fails, the room of the sink, what is answered, which refusal that is, and how the session ends:
 /// what failed, or how many answers are written.
 const FAULTS: [&str; 11] = [
     "GET /a HTTP/1.1\r\n\r\n|0|999|||source",
@@ -325,7 +325,7 @@ fn end_of(word: &str) -> SessionEnd {
     }
 }
 
-/// What a session writes over what comes in a case, and how it ends.
+/// What a session writes over the input of a case, and how it ends.
 fn served_with_faults(alloc: Global, case: &str) -> Result<(Vec<u8>, SessionEnd), AllocError> {
     let bytes = Vec::from_slice(alloc, column(case, 0).as_bytes())?;
     let mut fails = Vec::new(alloc);

@@ -31,7 +31,7 @@ pub record IsShown (first : State) (log : List (ℕ × Call)) (feed : FeedView L
   pub live : feed.live ≡ true
   pub count : length feed.published ≡ length log
 
--- a feed that follows the register: where it is whole it shows all of its changes, and else it lacks some
+-- a feed that follows the register: if it is whole it shows all of its changes, and else it lacks some
 pub record IsKept (whole : Bool) (first : State) (log : List (ℕ × Call)) (feed : FeedView Lists Update) : Type 0 where
   pub follows : IsFeedOf first log feed
   pub shown : whole ≡ true → IsShown first log feed

@@ -1,4 +1,4 @@
-//! The operator's session over a register of its own: each accepted change is published to readers before it is answered.
+//! The operator's session over its own register: each accepted change is published to readers before it is answered.
 #![tactic(auto)]
 
 mod begin;

@@ -23,14 +23,14 @@ use std::sync::Wait;
 pub struct Operated<K: Keeper> {
     pub register: Register<K>,
     pub feed: Feed,
-    /// Whether the feed shows all accepted changes: it does but where memory ran out to publish one.
+    /// Whether the feed shows all accepted changes: it does but if memory ran out to publish one.
     pub is_whole: bool,
     pub end: SessionEnd,
 }
 
-/// Serves the operator's connection over a register of its own, from its first byte to its end, as `machine_session::serve_own` does, and
+/// Serves the operator's connection over its own register, from its first byte to its end, as `machine_session::serve_own` does, and
 /// notes its changes under the number 0. Each accepted change is published by the feed before it is answered, which may wait for a reader to
-/// leave a copy. Where memory runs out to publish a change, the change stands and its answer is lost; then no later change is published.
+/// leave a copy. If memory runs out to publish a change, the change is kept and its answer is lost; then no later change is published.
 pub fn serve_operator<R: Wait, K: Keeper, So: Source, Si: Sink>(
     rt: &R,
     alloc: Global,

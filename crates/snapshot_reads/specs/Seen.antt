@@ -26,7 +26,7 @@ pub record LookView (L C : Type 0) : Type 0 where
   pub told : List C
 
 module _ {L C : Type 0} where
-  -- the lists before the first change, where they are known
+  -- the lists before the first change, if they are known
   abbrev pub opening_of : Option (Known L C) → Option L
   opening_of v = option_map (λ (k : Known L C). k.opening.value) v
 
@@ -65,8 +65,8 @@ IsAsked call least rows count (Given reply n) = (n ≡ count) × (least ≤ n) �
 IsAsked call least rows count (Behind n) = (n ≡ count) × (n < least)
 IsAsked call least rows count Memory = Unit {0}
 
--- what a read answers: the reply on each state with the lists after the n changes that were seen, where n is at least `least`;
--- n alone, where it is below; or out of memory, which leaves the look as it was
+-- what a read answers: the reply on each state with the lists after the n changes that were seen, if n is at least `least`;
+-- n alone, if it is below; or out of memory, which does not change the look
 abbrev pub IsAnswered : Call → ℕ → LookView Lists Update → LookView Lists Update → Looked → Type 0
 IsAnswered call least before now (Given reply n) =
     (opening : Lists) × (now.opening ≡ Some opening) × answers (published_lists_of opening now.seen) call reply × IsFound n before now × (least ≤ n)

@@ -62,7 +62,7 @@ pub(crate) fn begin<C>() -> (Word<C, u64, HistoryRule>, Seen<C, u64, HistoryRule
     (Word::tracked(0, &mut first), seen)
 }
 
-/// Adds a change to the history that was seen. Where the history is longer it does not, and gives false; then nothing is known of
+/// Adds a change to the history that was seen. If the history is longer it does not, and gives false; then nothing is known of
 /// `seen` but its book.
 pub(crate) fn extend<C>(
     head: &Word<C, u64, HistoryRule>,

@@ -91,8 +91,8 @@ impl Look {
         }
     }
 
-    /// Asks the copy that is shown. The reply is that of each state with the lists after the changes that are then seen; `Behind` comes
-    /// exactly where these are fewer than `least`. `Memory` leaves the look as it was.
+    /// Asks the copy that is shown. The reply is that of each state with the lists after the changes that are then seen; `Behind` is
+    /// returned exactly if these are fewer than `least`. `Memory` does not change the look.
     pub fn read(&mut self, call: &Call, least: u64) -> Looked
         ensures grows { Grows self.old self.new }
         ensures answer { IsAnswered call.now least self.old self.new result }
@@ -158,7 +158,7 @@ impl Look {
     }
 
     /// Is told all that the feed published, so that every number found later is at least the feed's. The one error means out of
-    /// memory, and leaves the look as it was.
+    /// memory, and does not change the look.
     pub fn learn(&mut self, feed: &mut Feed) -> Result<(), AllocError>
         requires own { IsLookOf feed.old self.old }
         ensures feed { feed.new ≡ feed.old }

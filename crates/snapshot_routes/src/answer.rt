@@ -94,7 +94,7 @@ pub fn unread_answer(alloc: Global, why: &Unread) -> Result<Answer, AllocError>
     }
 }
 
-/// The answer where fewer changes are published than are asked for: so many. `Err` means out of memory.
+/// The answer if fewer changes are published than are asked for: so many. `Err` means out of memory.
 pub fn behind_answer(alloc: Global, published: u64) -> Result<Answer, AllocError>
     ensures { IfOk result (λ a. answer_of a ≡ spec.behind_answer published) }
 {

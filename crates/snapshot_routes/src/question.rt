@@ -67,7 +67,7 @@ fn is_served(route: Option<Route>) -> bool
     }
 }
 
-/// The number of changes that are asked for at least: 0 where the parameter is absent, and `None` where it is malformed.
+/// The number of changes that are asked for at least: 0 if the parameter is absent, and `None` if it is malformed.
 fn least_of(text: &Option<Text>) -> Option<u64>
     ensures { IsLeast text.now result }
 {
@@ -127,8 +127,8 @@ fn question_of_get(
     }
 }
 
-/// What a request asks for, by a table of the routes that is lent. `NoRoute` comes where the path is not that of the rows or of one row
-/// of VRFs or prefixes, then `Method` where the method is not GET, then `Least`, and then `Query` with the refusals of the listing's
+/// What a request asks for, by a table of the routes that is lent. `NoRoute` is returned if the path is not that of the rows or of one row
+/// of VRFs or prefixes, then `Method` if the method is not GET, then `Least`, and then `Query` with the refusals of the listing's
 /// parameters. The body is ignored. `Err` means out of memory.
 pub fn read_question(
     alloc: Global,

@@ -29,7 +29,7 @@ is_listed (VrfView row) = true
 is_listed (PrefixView row depth children) = true
 is_listed other = false
 
--- with a row put, where it is of one of the two kinds
+-- with a row put, if it is of one of the two kinds
 abbrev pub with_listed : Lists → View → Lists
 with_listed lists (VrfView row) = record lists { vrfs = with_row vrf_id lists.vrfs row }
 with_listed lists (PrefixView row depth children) = record lists { prefixes = with_row prefix_id lists.prefixes row }

@@ -11,14 +11,14 @@ use ipam_data::replies::View;
 use placed_book::{Book, PlacedBook};
 use register_tables::RowTables;
 
-/// The greatest ids of the rows that came new, for each of the two kinds.
+/// The greatest ids of the new rows, for each of the two kinds.
 #[derive(Clone, Copy)]
 pub(crate) struct Lasts {
     pub vrf: u32,
     pub prefix: u32,
 }
 
-/// The greatest new ids with this row, where it can be put behind those of the tables and the new ones up to these ids.
+/// The greatest new ids with this row, if it can be put after those of the tables and the new ones up to these ids.
 fn fits(tables: &RowTables, view: &View, lasts: Lasts) -> Option<Lasts>
     ensures { IfSome result (λ l. (s : State) → IsAhead (state_of tables.now) s lasts → IsFit s view.now × IsAhead (state_of tables.now) (with_view s view.now) l) }
 {
@@ -63,7 +63,7 @@ fn fits(tables: &RowTables, view: &View, lasts: Lasts) -> Option<Lasts>
     }
 }
 
-/// Whether rows of the two kinds can be put, one after another: each has the id of a row that is there, or one above all.
+/// Whether rows of the two kinds can be put, one after another: each has the id of an existing row, or one above all.
 pub(crate) fn all_fit(tables: &RowTables, views: &[View]) -> bool
     ensures { result ≡ true → AreFit (state_of tables.now) views.now }
 {

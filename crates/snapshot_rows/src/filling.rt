@@ -15,7 +15,7 @@ use register_tables::RowTables;
 use std::alloc::{AllocError, Global};
 use vrf_table::VrfBook;
 
-/// Puts a copy of a VRF behind all others. `Err` means out of memory.
+/// Puts a copy of a VRF after all others. `Err` means out of memory.
 fn admit_vrf(tables: &mut RowTables, row: &Vrf) -> Result<(), AllocError>
     requires low { 1 ≤ row.now.id }
     requires above { AllBelow vrf_id row.now.id (state_of tables.old).vrfs.rows }
@@ -26,7 +26,7 @@ fn admit_vrf(tables: &mut RowTables, row: &Vrf) -> Result<(), AllocError>
     tables.admit(View::Vrf(row))
 }
 
-/// Puts a copy of a prefix behind all others. `Err` means out of memory.
+/// Puts a copy of a prefix after all others. `Err` means out of memory.
 fn admit_prefix(tables: &mut RowTables, row: &Prefix) -> Result<(), AllocError>
     requires low { 1 ≤ row.now.id }
     requires above { AllBelow prefix_id row.now.id (state_of tables.old).prefixes.rows }
@@ -70,7 +70,7 @@ fn admit_prefixes<S: Space + Drop>(
     Ok(())
 }
 
-/// Puts copies of the rows of two books, where there are none yet. `Err` means out of memory.
+/// Puts copies of the rows of two books, if there are none yet. `Err` means out of memory.
 fn admit_all<S: Space + Drop>(
     tables: &mut RowTables,
     vrfs: &VrfBook,
@@ -93,7 +93,7 @@ impl SnapshotRows {
         ensures { IfOk result (λ rows. rows ≡ record { vrfs = vrfs.now.rows; prefixes = prefixes.now.rows }) }
     {
         let mut rows = SnapshotRows::new(alloc);
-        // The rows are given away on every way out, so that no path has to take them apart.
+        // The rows are given away on every way out: none has to take them apart.
         match admit_all(&mut rows.tables, vrfs, prefixes) {
             Ok(()) => Ok(rows),
             Err(AllocError) => {

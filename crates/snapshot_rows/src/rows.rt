@@ -32,7 +32,7 @@ impl Model for SnapshotRows {
     ghost view = { λ s. lists_of (state_of s.tables) };
 }
 
-/// Adds a copy of a row, where it is of one of the two kinds. `Err` means out of memory.
+/// Adds a copy of a row, if it is of one of the two kinds. `Err` means out of memory.
 fn push_listed(view: &View, puts: &mut Vec<View>) -> Result<(), AllocError>
     ensures { OnOk result (puts.new.items ≡ puts.old.items ++ only_if (is_listed view.now) view.now) }
 {
@@ -98,7 +98,7 @@ impl SnapshotRows {
     }
 
     /// Takes an update in: its rows and cuts of the two kinds. `Err` leaves the rows. It means out of memory, or an update that no
-    /// register makes: a row whose id is 0, or is not there and not above all ids so far; or rows beside more than 500,000,000 of a kind.
+    /// register makes: a row whose id is 0, or is not there and not above all ids so far; or rows next to more than 500,000,000 of a kind.
     pub fn take_in(&mut self, change: &Update) -> Result<(), AllocError>
         ensures ok { OnOk result (self.new ≡ after_update self.old change.now) }
         ensures err { OnErr result (self.new ≡ self.old) }

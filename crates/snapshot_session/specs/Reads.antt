@@ -20,8 +20,8 @@ use Rattle.snapshot_routes.specs.Questions.{IsQuestion}
 abbrev pub Seen : Type 0
 Seen = LookView Lists Update
 
--- the answer that tells what a look answered to a call whose page has these links: the reply with the number of changes as its place, or
--- that so many are too few. Out of memory is not told
+-- the answer that gives what a look answered to a call whose page has these links: the reply with the number of changes as its place, or
+-- that so many are too few. Out of memory is not reported
 abbrev pub IsToldAnswer : Call → Links → Looked → Answer → Type 0
 IsToldAnswer call links (Given reply n) answer = answer ≡ told_answer call reply links n
 IsToldAnswer call links (Behind n) answer = answer ≡ behind_answer n
@@ -32,7 +32,7 @@ abbrev pub IsReadAnswer : Seen → Call → Links → ℕ → Answer → Seen �
 IsReadAnswer before call links least answer now =
     (looked : Looked) × Grows before now × IsAnswered call least before now looked × IsToldAnswer call links looked answer
 
--- the answer to what a request asks for; where it is refused, the look is not asked
+-- the answer to what a request asks for; if it is refused, the look is not asked
 abbrev pub IsAnswerTo : Seen → Question → Answer → Seen → Type 0
 IsAnswerTo before (Reads call links least) answer now = IsReadAnswer before call links least answer now
 IsAnswerTo before (Refused why) answer now = (answer ≡ unread_answer why) × (now ≡ before)

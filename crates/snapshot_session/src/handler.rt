@@ -79,7 +79,7 @@ fn answer_request(
     }
 }
 
-/// What answers the requests of a reader, each from a look. Its paths are read by a table of routes; where memory was out for it, each request
+/// What answers the requests of a reader, each from a look. Its paths are read by a table of routes; if memory was out for it, each request
 /// makes its own.
 #[derive(Drop)]
 pub struct ReaderHandler {

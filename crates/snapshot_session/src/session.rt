@@ -15,8 +15,8 @@ use std::alloc::Global;
 /// Serves one connection of a reader, from its first byte to its end: each GET on the rows, or on one row, of VRFs or prefixes is answered
 /// from one read of the look, and all else is refused. The look is given back.
 ///
-/// `Closed` comes with all requests answered; `SourceFault` where a read failed, with all requests that lay whole in the bytes read
-/// answered; `SinkFault` where a write failed, with a shorter front of the last answer written; `Memory` where memory ran out, or where the
+/// `Closed` comes with all requests answered; `SourceFault` if a read failed, with all requests that lay whole in the bytes read
+/// answered; `SinkFault` if a write failed, with a shorter prefix of the last answer written; `Memory` if memory ran out, or if the
 /// look answered so.
 pub fn serve_reader<So: Source, Si: Sink>(
     alloc: Global,

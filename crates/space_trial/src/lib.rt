@@ -1,4 +1,4 @@
-//! Spaces that are kept in different ways, tried beside each other: after the same changes they answer alike.
+//! Spaces that are stored in different ways, compared with each other: after the same changes they answer alike.
 #![tactic(auto)]
 
 #[cfg(test)]

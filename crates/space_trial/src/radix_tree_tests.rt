@@ -17,7 +17,7 @@ enum Question {
     Inside,
 }
 
-/// How often a block is there, and the blocks that contain it.
+/// How often a block occurs, and the blocks that contain it.
 fn kept(alloc: Global, tree: &Tree, block: Block) -> Result<Vec<u8>, AllocError>
     requires { block.family ≡ tree.now.family }
 {
@@ -42,7 +42,7 @@ fn covered(alloc: Global, tree: &Tree, block: Block) -> Result<Vec<u8>, AllocErr
     Ok(format!(in alloc; "{all} {strict}")?.into_bytes())
 }
 
-/// The blocks inside a block, each with how often it is there.
+/// The blocks inside a block, each with how often it occurs.
 fn inside(alloc: Global, tree: &Tree, block: Block) -> Result<Vec<u8>, AllocError>
     requires { block.family ≡ tree.now.family }
 {
@@ -72,7 +72,7 @@ fn is_answered(alloc: Global, question: Question, case: &str) -> Result<bool, Al
     Ok(answer.as_slice() == column(case, 2).as_bytes())
 }
 
-/// Changes, a block, how often it is there after them, and the blocks that contain it.
+/// Changes, a block, how often it occurs after them, and the blocks that contain it.
 const KEPT: [&str; 9] = [
     "|10.0.0.0/32|0",
     "+::/1 +::/128 +8000::/2 +::/128 -::/1|::/128|2 ::/128",
@@ -82,7 +82,7 @@ const KEPT: [&str; 9] = [
     // a node that was only there because the tree parted at its block goes with one of its children, and lists no block
     "+10.0.0.0/32 +10.0.0.1/32|10.0.0.0/31|0",
     "+10.0.0.0/32 +10.0.0.1/32 -10.0.0.0/32|10.0.0.1/32|1 10.0.0.1/32",
-    // the largest comes first, in whatever order they came
+    // the largest comes first, in any order
     "+::/128 +::/8 +::/64 +::/0 +::1/128|::1/128|1 ::/0 ::/8 ::/64 ::1/128",
     // nothing to take out
     "+10.0.0.0/8 -10.0.0.0/9 -10.0.0.0/8 -10.0.0.0/8|10.0.0.0/8|0",
@@ -117,14 +117,14 @@ fn covered_addresses_are_counted_once(rt: HostRuntime) -> Result<(), Fail> {
     Ok(())
 }
 
-/// Changes, a block, and the blocks inside it, each with how often it is there.
+/// Changes, a block, and the blocks inside it, each with how often it occurs.
 const INSIDE: [&str; 4] = [
     "|0.0.0.0/0|",
-    // by first address and then length, in whatever order they came
+    // by first address and then length, in any order
     "+10.0.0.128/25 +10.0.0.0/32 +10.0.0.0/24 +10.0.0.0/25 +10.0.0.0/24 +0.0.0.0/0 +10.0.1.0/24
     |10.0.0.0/24
     |2*10.0.0.0/24 1*10.0.0.0/25 1*10.0.0.0/32 1*10.0.0.128/25",
-    // only a larger block is there
+    // only a larger block exists
     "+10.0.0.0/8|10.0.0.0/24|",
     "+ffff:ffff:ffff:ffff:ffff:ffff:ffff:ffff/128 +::/128
     |::/0

@@ -197,8 +197,8 @@ fn text_of(alloc: Global, block: Option<Block>) -> Result<Vec<u8>, AllocError> {
     Ok(out)
 }
 
-/// What a space says of a block: how often it is there (`times`), how many of its addresses are covered (`covered`), or its
-/// first free block of a length (`fit 24`), also beside those strictly inside it alone (`strict 24`). Of another question it says
+/// What a space says of a block: how often it occurs (`times`), how many of its addresses are covered (`covered`), or its
+/// first free block of a length (`fit 24`), also given those strictly inside it alone (`strict 24`). Of another question it says
 /// nothing.
 fn said<S: Space>(
     alloc: Global,

@@ -28,7 +28,7 @@ EndBelow limit runs = AllByRecursion (λ run. run.last < limit) runs
 abbrev pub left_part : ℕ → Run → List Run
 left_part first run = if nat_lt run.first first then (record { first = run.first; last = first - 1 }) ∷ [] else []
 
--- what a run has behind a number, as a list of one run or none
+-- what a run has after a number, as a list of one run or none
 abbrev pub right_part : ℕ → Run → List Run
 right_part last run = if nat_lt last run.last then (record { first = last + 1; last = run.last }) ∷ [] else []
 

@@ -60,7 +60,7 @@ impl SpanSet {
     }
 
     /// Adds the addresses of a span of the set's family, whose first is not above its last: the set then has an address
-    /// just where it had it or the span has it. The one error means out of memory, and the set is then as before.
+    /// exactly if it had it or the span has it. The one error means out of memory, and the set is then as before.
     pub fn add(&mut self, span: Span) -> Result<(), AllocError>
         requires first_family { span.first.family ≡ self.old.family }
         requires last_family { span.last.family ≡ self.old.family }
@@ -73,7 +73,7 @@ impl SpanSet {
     }
 
     /// Takes the addresses of a span of the set's family, whose first is not above its last, away: the set then has an
-    /// address just where it had it and the span does not have it. The one error means out of memory (a run falls into
+    /// address exactly if it had it and the span does not have it. The one error means out of memory (a run falls into
     /// two), and the set is then as before.
     pub fn subtract(&mut self, span: Span) -> Result<(), AllocError>
         requires first_family { span.first.family ≡ self.old.family }
@@ -113,8 +113,8 @@ impl SpanSet {
     }
 }
 
-/// A law: where a set has just the addresses of a block that a list of blocks does not take, the fewest blocks of the set
-/// are the block's available ones beside that list.
+/// A law: if a set has just the addresses of a block that a list of blocks does not take, the fewest blocks of the set
+/// are the block's available ones given that list.
 pub fn fewest_are_available()
     ensures { FewestAreAvailable }
 {}

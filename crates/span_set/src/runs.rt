@@ -14,7 +14,7 @@ pub struct Run {
     pub last: u128,
 }
 
-/// How many of the runs end more than the gap before the number: they stand in front.
+/// How many of the runs end more than the gap before the number: they come first.
 fn ending_before(runs: &[Run], first: u128, gap: u128) -> usize
     requires { AreApart 0 runs.now }
     ensures bound { result ≤ length runs.now }
@@ -25,7 +25,7 @@ fn ending_before(runs: &[Run], first: u128, gap: u128) -> usize
     runs.partition_point(|run| run.last < before)
 }
 
-/// How many of the runs do not begin more than the gap behind the number: they stand in front.
+/// How many of the runs do not begin more than the gap after the number: they come first.
 fn beginning_by(runs: &[Run], last: u128, gap: u128) -> usize
     requires { AreApart 0 runs.now }
     ensures bound { result ≤ length runs.now }
@@ -143,7 +143,7 @@ fn left_of(run: Run, first: u128) -> Option<Run>
     }
 }
 
-/// What a run has behind the number.
+/// What a run has after the number.
 fn right_of(run: Run, last: u128) -> Option<Run>
     ensures { option_to_list result ≡ right_part last run }
 {

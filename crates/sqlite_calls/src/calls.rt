@@ -45,12 +45,12 @@ pub fn begin<S: Alter>(conn: &mut Connection<S>) -> Result<(), StoreFault> {
 /// Undoes what was begun.
 fn undo<S: Alter>(conn: &mut Connection<S>) {
     if !conn.is_autocommit() {
-        // Where this fails too, the next opening undoes it.
+        // If this fails too, the next opening undoes it.
         let _ = conn.execute("ROLLBACK", &[]);
     }
 }
 
-/// Commits what was done since the begin, or undoes it where it was stopped.
+/// Commits what was done since the begin, or undoes it if it was stopped.
 pub fn end<S: Alter>(
     conn: &mut Connection<S>,
     done: Result<(), StoreFault>,

@@ -1,10 +1,10 @@
--- What a keeper tells and counts that is either one over a file or one in memory.
+-- What is known and counted of a keeper that is either one over a file or one in memory.
 use Rattle.std.specs.Prelude.{ℕ, Option, Some}
 use Rattle.stored_tables.specs.declared.tables.Tables.{Tables}
 use Rattle.sqlite_keeper.specs.declared.opener.StoreKeeper.{StoreKeeper}
 use Rattle.sqlite_keeper.specs.declared.opener.StoreKeeper.TheVariants.{File, Memory}
 
--- the tables that it tells, by those that a keeper over a file tells
+-- its known tables, by the known ones of a keeper over a file
 abbrev pub told_of : {F : Type 0} → (F → Option Tables) → StoreKeeper F → Option Tables
 told_of told (File kept) = told kept
 told_of told (Memory tables) = Some tables

@@ -16,7 +16,7 @@ use std::alloc::Global;
 use std::marker::Model;
 use stored_tables::tables::{Change, Tables};
 
-/// A keeper of tables in a SQLite file, each change one transaction, which stands before it is answered. It tells nothing of what
+/// A keeper of tables in a SQLite file, each change one transaction, which is stored before it is answered. Nothing is known of what
 /// the file holds. A contract sees how often it failed, as far as the count goes.
 #[derive(Drop)]
 pub struct SqliteKeeper<S: Alter> {
@@ -86,9 +86,9 @@ impl<S: Alter> Keeper for SqliteKeeper<S> {
 
     ghost faults = { λ k. k };
 
-    /// The tables of the file, which are made where it has none. `Failed` comes where the file can't be read or written, has tables
-    /// and no version, has an id or a next id that is not from 0 to 4,294,967,295, or rows out of order; each time it comes the
-    /// count rises by one.
+    /// The tables of the file, which are made if it has none. `Failed` is returned if the file can't be read or written, has tables
+    /// and no version, has an id or a next id that is not from 0 to 4,294,967,295, or rows out of order; each time it is returned
+    /// the count rises by one.
     fn load(&mut self) -> Result<Tables, KeepFault>
         ensures order { IfOk result (λ tables. AreTables tables) }
         ensures later { self.old ≤ self.new }
@@ -102,7 +102,7 @@ impl<S: Alter> Keeper for SqliteKeeper<S> {
         }
     }
 
-    /// Stores a change in one transaction. `Failed` comes where the file can't be written; each time it comes the count rises by
+    /// Stores a change in one transaction. `Failed` is returned if the file can't be written; each time it is returned the count rises by
     /// one.
     fn apply(&mut self, change: &Change) -> Result<(), KeepFault>
         ensures later { self.old ≤ self.new }
@@ -116,8 +116,8 @@ impl<S: Alter> Keeper for SqliteKeeper<S> {
         }
     }
 
-    /// Drops the table of ranges, makes it anew, fills it and sets the version, in one transaction. `Failed` comes where the file can't
-    /// be written; each time it comes the count rises by one.
+    /// Drops the table of ranges, makes it anew, fills it and sets the version, in one transaction. `Failed` is returned if the file can't
+    /// be written; each time it is returned the count rises by one.
     fn upgrade(&mut self, tables: &Tables) -> Result<(), KeepFault>
         ensures later { self.old ≤ self.new }
         ensures failed { IsErrOf result KeepFault.Failed → Rose self.old self.new }

@@ -14,7 +14,7 @@ use std::alloc::Global;
 use stored_tables::migration::FIRST_VERSION;
 use stored_tables::tables::{Row, Rows, Tables, Text, Texts, VERSION};
 
-/// Puts the next id of a kind behind others, where it stands among the numbers.
+/// Puts the next id of a kind after others, if it is among the numbers.
 fn push_next(
     alloc: Global,
     numbers: &[Number],
@@ -28,7 +28,7 @@ fn push_next(
     Ok(())
 }
 
-/// The next ids that stand among the numbers, in the order of the kinds.
+/// The next ids that are among the numbers, in the order of the kinds.
 fn next_ids(alloc: Global, numbers: &[Number]) -> Result<Ids, StoreFault> {
     let mut next = Vec::new(alloc);
     push_next(alloc, numbers, Kind::Vrfs, &mut next)?;
@@ -59,7 +59,7 @@ fn row_of(alloc: Global, kind: Kind, found: &FoundRow, count: usize) -> Result<R
     })
 }
 
-/// Reads all rows of a kind of tables of this version, behind those that stand there.
+/// Reads all rows of a kind of tables of this version, after those that exist.
 fn read_rows<S: Alter>(
     alloc: Global,
     conn: &mut Connection<S>,
@@ -109,7 +109,7 @@ fn read_all<S: Alter>(
     Ok(Rows::of(rows))
 }
 
-/// The tables as they stand in the file. A file without a version is a fault.
+/// The tables as they are in the file. A file without a version is a fault.
 fn read_tables<S: Alter>(alloc: Global, conn: &mut Connection<S>) -> Result<Tables, StoreFault> {
     let numbers = read_numbers(alloc, conn)?;
     let Some(version) = number_under(numbers.as_slice(), VERSION_NAME) else {
@@ -122,7 +122,7 @@ fn read_tables<S: Alter>(alloc: Global, conn: &mut Connection<S>) -> Result<Tabl
     })
 }
 
-/// The tables of a file, which are made where it has none. Tables that are not in order are a fault.
+/// The tables of a file, which are made if it has none. Tables that are not in order are a fault.
 pub(crate) fn load_tables<S: Alter>(
     alloc: Global,
     conn: &mut Connection<S>,

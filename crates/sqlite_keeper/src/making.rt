@@ -45,7 +45,7 @@ fn make_all<S: Alter>(alloc: Global, conn: &mut Connection<S>) -> Result<(), Sto
     make_kinds(alloc, conn, &put)
 }
 
-/// Makes the tables where the file has none, whole or not at all.
+/// Makes the tables if the file has none, whole or not at all.
 pub(crate) fn make_tables<S: Alter>(
     alloc: Global,
     conn: &mut Connection<S>,

@@ -47,7 +47,7 @@ impl<F: Keeper> Keeper for StoreKeeper<F> {
     }
 }
 
-/// An opener of keepers over the files that paths name. It does not tell what they hold.
+/// An opener of keepers over the files that paths name. It does not show what they hold.
 #[derive(Drop)]
 pub struct SqliteOpener<C: Connects> {
     alloc: Global,
@@ -95,8 +95,8 @@ where
 
     ghost faults = { λ o. o.faults };
 
-    /// A keeper over the file of this path, or without one in memory. `Failed` comes where the file can't be opened or something
-    /// else has it open; each time it comes the count rises by one.
+    /// A keeper over the file of this path, or without one in memory. `Failed` is returned if the file can't be opened or something
+    /// else has it open; each time it is returned the count rises by one.
     fn start(&mut self, path: Option<&Text>) -> Result<StoreKeeper<C::Kept>, KeepFault> {
         let Some(path) = path else {
             let keeper = KindKeeper::new(self.alloc)?;

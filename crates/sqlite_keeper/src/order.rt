@@ -1,4 +1,4 @@
-//! Whether tables stand in order.
+//! Whether tables are in order.
 
 ghost use Rattle.std.specs.Prelude.{◌≡◌, IsTrue, ◌≤◌};
 ghost use Rattle.ipam_data.specs.RowList.{Rises};
@@ -8,14 +8,14 @@ ghost use Rattle.stored_tables.specs.Order.{AreTables};
 use ipam_data::kinds::Kind;
 use stored_tables::tables::{Row, Tables};
 
-/// Where a row stands among all rows.
+/// Where a row is among all rows.
 fn place_of(row: &Row) -> u64
     ensures { result ≡ row_place row.now }
 {
     row.kind.number() as u64 * 4_294_967_296 + row.id as u64
 }
 
-/// Whether rows stand in the order of their kinds and ids, none twice.
+/// Whether rows are in the order of their kinds and ids, none twice.
 fn rows_rise(rows: &[Row]) -> bool
     ensures { IsTrue result → Rises row_place 0 rows.now }
 {
@@ -30,7 +30,7 @@ fn rows_rise(rows: &[Row]) -> bool
     true
 }
 
-/// Whether next ids stand in the order of their kinds, none twice.
+/// Whether next ids are in the order of their kinds, none twice.
 fn nexts_rise(nexts: &[(Kind, u32)]) -> bool
     ensures { IsTrue result → Rises next_place 0 nexts.now }
 {
@@ -45,7 +45,7 @@ fn nexts_rise(nexts: &[(Kind, u32)]) -> bool
     true
 }
 
-/// Whether tables stand in order.
+/// Whether tables are in order.
 pub(crate) fn are_in_order(tables: &Tables) -> bool
     ensures { IsTrue result → AreTables tables.now }
 {

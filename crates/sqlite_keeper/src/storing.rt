@@ -24,7 +24,7 @@ pub(crate) struct Statements {
 }
 
 impl Statements {
-    /// Those of a kind. That it has none is not reached.
+    /// Those of a kind. The case that it has none is not reached.
     fn of(&self, kind: Kind) -> Result<&KindStatements, StoreFault> {
         match self.kinds.get(kind.number() as usize - 1) {
             Some(statements) => Ok(statements),
@@ -33,7 +33,7 @@ impl Statements {
     }
 }
 
-/// Prepares the statements over the table of a kind, behind others.
+/// Prepares the statements over the table of a kind, after others.
 fn prepare_kind<S: Alter>(
     alloc: Global,
     conn: &mut Connection<S>,

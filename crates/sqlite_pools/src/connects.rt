@@ -26,11 +26,11 @@ pub trait ConnectsPools {
     type Kept: CountedPools;
 
     /// A keeper over the file of this path. A file that something else has open is refused, and nothing of it is changed. The
-    /// keeper does not tell what the file holds, and has not failed.
+    /// keeper does not show what the file holds, and has not failed.
     fn connect(&mut self, path: &Text) -> Result<Self::Kept, Error>
         ensures told { IfOk result (λ kept. Self.Kept.PoolKeeper.told kept ≡ None) }
         ensures fresh { IfOk result (λ kept. Self.Kept.PoolKeeper.faults kept ≡ 0) };
 
-    /// Closes the file of a keeper. What was committed stays, also where this could not put it all into one file.
+    /// Closes the file of a keeper. What was committed stays, also if this could not put it all into one file.
     fn close(&mut self, kept: Self::Kept);
 }

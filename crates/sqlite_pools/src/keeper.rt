@@ -16,7 +16,7 @@ use sqlite_calls::{StoreFault, refused};
 use std::alloc::Global;
 use std::marker::Model;
 
-/// A keeper of pools in a SQLite file, each change one transaction, which is durable before it is answered. It tells nothing of what
+/// A keeper of pools in a SQLite file, each change one transaction, which is durable before it is answered. Nothing is known of what
 /// the file holds. A contract sees how often it failed, as far as the count goes.
 #[derive(Drop)]
 pub struct SqlitePools<S: Alter> {
@@ -78,9 +78,9 @@ impl<S: Alter> PoolKeeper for SqlitePools<S> {
 
     ghost faults = { λ k. k };
 
-    /// The tables of the file, which are made where it has none. `Failed` comes where the file can't be read or written, has
+    /// The tables of the file, which are made if it has none. `Failed` is returned if the file can't be read or written, has
     /// tables that are not those of pools, an id or another number that is not from 0 to 4,294,967,295, or a kind that is neither
-    /// `asn` nor `vlan`; each time it comes the count rises by one.
+    /// `asn` nor `vlan`; each time it is returned the count rises by one.
     fn load(&mut self) -> Result<PoolTables, KeepFault>
         ensures later { self.old ≤ self.new }
         ensures failed { IsErrOf result KeepFault.Failed → Rose self.old self.new }
@@ -93,8 +93,8 @@ impl<S: Alter> PoolKeeper for SqlitePools<S> {
         }
     }
 
-    /// Stores a change in one transaction. `Failed` comes where the file can't be written, or has a new row's id already; each time
-    /// it comes the count rises by one.
+    /// Stores a change in one transaction. `Failed` is returned if the file can't be written, or has a new row's id already; each time
+    /// it is returned the count rises by one.
     fn apply(&mut self, change: &PoolChange) -> Result<(), KeepFault>
         ensures later { self.old ≤ self.new }
         ensures failed { IsErrOf result KeepFault.Failed → Rose self.old self.new }

@@ -82,7 +82,7 @@ fn number_named(numbers: &[Number], name: &str) -> Result<u32, StoreFault> {
     number_under(numbers, name).ok_or(StoreFault::Failed)
 }
 
-/// The tables of a file, which are made where it has none. A file with other tables is left as it is.
+/// The tables of a file, which are made if it has none. A file with other tables is left as it is.
 pub(crate) fn load_tables<S: Alter>(
     alloc: Global,
     conn: &mut Connection<S>,

@@ -16,7 +16,7 @@ fn make_all<S: Alter>(conn: &mut Connection<S>) -> Result<(), StoreFault> {
     set_number(conn, &put, NEXT_MEMBER, 1)
 }
 
-/// Makes the tables where the file has none, whole or not at all.
+/// Makes the tables if the file has none, whole or not at all.
 pub(crate) fn make_tables<S: Alter>(conn: &mut Connection<S>) -> Result<(), StoreFault> {
     if has_tables(conn)? {
         return Ok(());

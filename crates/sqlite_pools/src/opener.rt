@@ -42,7 +42,7 @@ impl<F: PoolKeeper> PoolKeeper for StorePools<F> {
     }
 }
 
-/// An opener of keepers of pools over the files that paths name. It does not tell what they hold.
+/// An opener of keepers of pools over the files that paths name. It does not show what they hold.
 #[derive(Drop)]
 pub struct SqlitePoolOpener<C: ConnectsPools> {
     alloc: Global,
@@ -90,8 +90,8 @@ where
 
     ghost faults = { λ o. o.faults };
 
-    /// A keeper over the file of this path, or without one over empty tables in memory. `Failed` comes where the file can't be
-    /// opened or something else has it open; each time it comes the count rises by one.
+    /// A keeper over the file of this path, or without one over empty tables in memory. `Failed` is returned if the file can't be
+    /// opened or something else has it open; each time it is returned the count rises by one.
     fn start(&mut self, path: Option<&Text>) -> Result<StorePools<C::Kept>, KeepFault> {
         let Some(path) = path else {
             let tables = empty_tables(self.alloc);

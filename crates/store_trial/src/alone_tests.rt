@@ -1,4 +1,4 @@
-//! Files of the host, by the opener of `ipamd`: what a file alone has, without its log, behind changes and behind a migration.
+//! Files of the host, by the opener of `ipamd`: what a file alone has, without its log, after changes and after a migration.
 
 use crate::database::is_run;
 use crate::files::stopping_files;
@@ -57,13 +57,13 @@ fn held_at<O: KeeperOpener>(
     told
 }
 
-/// Whether what a keeper told begins with its answers to the lines, and ends with as many rows as they put.
+/// Whether what a keeper answered begins with its answers to the lines, and ends with as many rows as they put.
 fn are_put(told: &str, had: &str) -> bool {
     told.starts_with("2:1,1,1,1,1,1,1,:\ndone\nFailed\ndone\ndone\ndone\ndone\n2:")
         && had.split(';').count() == 5_137
 }
 
-/// Whether a file has behind changes, without its log, what its keeper had, and another one has none of it.
+/// Whether a file has after changes, without its log, what its keeper had, and another one has none of it.
 fn is_held_alone<O: KeeperOpener>(rt: &HostRuntime, opener: &mut O) -> Result<bool, AllocError> {
     let alloc = rt.alloc();
     let told = answers_at(alloc, opener, "ipamd_alone_test/a.db", LINES)?;

@@ -1,4 +1,4 @@
-//! Changes one after another over a database: what a keeper holds behind each is what a keeper in memory holds.
+//! Changes one after another over a database: what a keeper holds after each is what a keeper in memory holds.
 
 use crate::database::{Trial, over_file};
 use crate::lines::change_of;
@@ -27,7 +27,7 @@ fn told_failure(alloc: Global, memory: &mut MemoryKeeper) -> Result<String, Allo
     Ok(text)
 }
 
-/// What that should be, by a keeper in memory, which makes the change where the line says that it is done.
+/// What that should be, by a keeper in memory, which makes the change if the line says that it is done.
 fn wanted_change(
     alloc: Global,
     memory: &mut MemoryKeeper,
@@ -40,7 +40,7 @@ fn wanted_change(
     }
 }
 
-/// Puts a line at the end of those that are wrong, where a keeper does not do as a keeper in memory.
+/// Puts a line at the end of those that are wrong, if a keeper does not do as a keeper in memory.
 fn note<K: Keeper>(
     alloc: Global,
     keeper: &mut K,
@@ -73,7 +73,7 @@ fn memory_after(alloc: Global, lines: &str, made: usize) -> Result<MemoryKeeper,
     Ok(memory)
 }
 
-/// Says so where a keeper loads other tables than one in memory.
+/// Says so if a keeper loads other tables than one in memory.
 fn note_first<K: Keeper>(
     alloc: Global,
     keeper: &mut K,
@@ -88,7 +88,7 @@ fn note_first<K: Keeper>(
     wrong.push_str("other tables at first")
 }
 
-/// Notes the lines whose changes leave other tables in a keeper over a database than in one in memory. A second keeper follows behind each.
+/// Notes the lines whose changes leave other tables in a keeper over a database than in one in memory. A second keeper follows after each.
 fn note_lines<S: Alter + Drop>(
     alloc: Global,
     mut keeper: SqliteKeeper<S>,
@@ -106,7 +106,7 @@ fn note_lines<S: Alter + Drop>(
     noted
 }
 
-/// The changes of the lines behind the first one, which says how many are made.
+/// The changes of the lines after the first one, which says how many are made.
 struct Changing;
 
 impl Trial for Changing {

@@ -37,7 +37,7 @@ fn bytes_of(alloc: Global, digits: &str) -> Result<Vec<u8>, AllocError> {
 
 /// What is tried over a connection, whatever its store.
 pub(crate) trait Trial {
-    /// Tries it with these words, and tells what came of it.
+    /// Tries it with these words, and says how it went.
     fn over<S: Alter + Drop>(
         alloc: Global,
         conn: Connection<S>,
@@ -50,7 +50,7 @@ pub(crate) fn is_run<S: Alter>(conn: &mut Connection<S>, words: &str) -> bool {
     conn.execute_batch(words).is_ok()
 }
 
-/// What a trial tells over the database in these files, or that they can't be opened.
+/// What a trial reports over the database in these files, or that they can't be opened.
 pub(crate) fn over_files<D: Disk + Drop, T: Trial>(
     alloc: Global,
     files: Files<D>,
@@ -66,7 +66,7 @@ pub(crate) fn over_files<D: Disk + Drop, T: Trial>(
     }
 }
 
-/// What a trial tells over the database in a file of these bytes, which is an empty one where there are none.
+/// What a trial reports over the database in a file of these bytes, which is an empty one if there are none.
 pub(crate) fn over_file<T: Trial>(
     alloc: Global,
     digits: &str,
@@ -78,7 +78,7 @@ pub(crate) fn over_file<T: Trial>(
     over_files::<Memory, T>(alloc, Files { log, db }, 1, words)
 }
 
-/// The lines of a table, each as it should be: what is tried over an empty database, a bar, and what is told then.
+/// The lines of a table, each as it should be: what is tried over an empty database, a bar, and what is printed then.
 pub(crate) fn told_lines<T: Trial>(alloc: Global, lines: &str) -> Result<String, AllocError> {
     let mut told = String::new(alloc);
     for line in lines.lines() {

@@ -1,4 +1,4 @@
-//! What a database keeps of a register at the edges: great ids, odd texts, many rows, a change behind a fault, and a migration over
+//! What a database keeps of a register at the edges: great ids, odd texts, many rows, a change after a fault, and a migration over
 //! other rows.
 
 use crate::changing::wrong_over;
@@ -17,13 +17,13 @@ use std::test::Fail;
 use stored_tables::migration::{FIRST_VERSION, migrate};
 use stored_tables::tables::Tables;
 
-/// Rows of every kind under great ids, of which some go again and some come anew.
+/// Rows of every kind under great ids, of which some are removed again and some put anew.
 const SPARSE: &str = "\
 done|sparse||vrfs,4294967295;ip-addresses,4294967295
 done|vrfs,65537,other,65000:1,true,text;ip-ranges,4294967293,a,b,c,d,e,f,g,h|prefixes,65536;ip-addresses,4294967294;roles,65537|rirs,65537
 ";
 
-/// Rows of every kind with odd texts, which come twice.
+/// Rows of every kind with odd texts, each twice.
 const ODD: &str = "\
 done|odd||vrfs,8
 done|odd||vrfs,9
@@ -35,7 +35,7 @@ done|ranges||ip-ranges,5002
 done||ip-ranges,5001;ip-ranges,1|
 ";
 
-/// Faults, each with a change behind it.
+/// Faults, each with a change after it.
 const FAULTS: &str = "\
 Failed|vrfs,3,green,65000:3|vrfs,1|vrfs,9
 done|vrfs,4,green,65000:4,true,lab||vrfs,5
@@ -79,7 +79,7 @@ impl Trial for GoingOn {
     }
 }
 
-/// What the keeper is to answer, where it loads nothing that a fault left.
+/// What the keeper is to answer, if it loads nothing that a fault left.
 const GONE_ON: &str = "\
 2:1,1,1,1,1,1,1,:
 Failed
@@ -115,7 +115,7 @@ fn other_rows(alloc: Global) -> Result<MemoryKeeper, AllocError> {
     Ok(MemoryKeeper::new(tables, Vec::new(alloc)))
 }
 
-/// Whether a keeper's tables get what the other one's become where they are migrated.
+/// Whether a keeper's tables get what the other one's become if they are migrated.
 fn is_put<K: Keeper, M: Keeper>(keeper: &mut K, other: &mut M) -> bool {
     match other.load() {
         Ok(tables) => match migrate(&tables, true) {
@@ -153,14 +153,14 @@ impl Trial for Upgrading {
     }
 }
 
-/// A text in front of its rows of ranges, and behind them.
+/// A text in front of its rows of ranges, and after them.
 fn around(text: &str) -> Option<(&str, &str)> {
     let (front, rest) = text.split_once("Ranges ")?;
     let (_, back) = rest.split_once("Addresses ")?;
     Some((front, back))
 }
 
-/// Whether these are tables of version 1 and, on the next line, of version 2, with the one range that came, and all else the same.
+/// Whether these are tables of version 1 and, on the next line, of version 2, with the one new range, and all else the same.
 fn is_upgraded(told: &str) -> bool {
     let Some((before, after)) = told.split_once('\n') else {
         return false;

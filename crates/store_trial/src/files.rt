@@ -17,8 +17,8 @@ pub(crate) enum Side {
     Database,
 }
 
-/// How files are found after a stop: with all that was written; with what was synced alone, so that the rest is lost; or torn, with
-/// every second sector as it was written and the others as they were synced.
+/// How files are found after a crash: with all that was written; with what the last fsync wrote alone, so that the rest is lost; or torn, with
+/// every second sector as it was written and the others as they were at the last fsync.
 #[derive(Clone, Copy, Debug)]
 pub(crate) enum Found {
     Written,
@@ -26,7 +26,7 @@ pub(crate) enum Found {
     Torn,
 }
 
-/// A stop: this file fails at the call behind so many, and at each one after it.
+/// A crash: this file fails at the call after so many, and at each one after it.
 #[derive(Clone, Copy)]
 pub(crate) struct Stop {
     pub(crate) side: Side,
@@ -34,7 +34,7 @@ pub(crate) struct Stop {
     pub(crate) found: Found,
 }
 
-/// A file without bytes that fails behind so many calls.
+/// A file without bytes that fails after so many calls.
 fn fuse(alloc: Global, calls: u64) -> Fuse<Memory>
     ensures { IsTrue (⟦<Fuse<Memory> as Disk>⟧.is_usable result) }
 {
@@ -91,7 +91,7 @@ pub(crate) fn file_of(alloc: Global, bytes: &[u8]) -> Result<Memory, AllocError>
     Ok(file)
 }
 
-/// Puts so many bytes at the end, as they stand at this place of what was synced; behind that they are 0.
+/// Puts so many bytes at the end, as they are at this place of what the last fsync wrote; after that they are 0.
 fn push_synced(bytes: &mut Vec<u8>, synced: &[u8], count: usize) -> Result<(), AllocError> {
     let from = bytes.len();
     let end = from.saturating_add(count);
@@ -101,7 +101,7 @@ fn push_synced(bytes: &mut Vec<u8>, synced: &[u8], count: usize) -> Result<(), A
     bytes.resize(end, 0)
 }
 
-/// Every second sector as it was written, and the others as they were synced.
+/// Every second sector as it was written, and the others as they were at the last fsync.
 fn torn(alloc: Global, written: &[u8], synced: &[u8]) -> Result<Vec<u8>, AllocError> {
     let mut bytes = Vec::new(alloc);
     let mut is_new = false;

@@ -18,18 +18,18 @@ Vrfs 1 red 65000:1 false office;Vrfs 2 blue 65000:2 true guests;Rirs 1 ARIN arin
 Roles 1 LAN lan 10 cables;Roles 2 WAN wan 32767 links;Aggregates 1 10.0.0.0/8 2 own;Aggregates 2 2001:db8::/32 1 six;\
 Prefixes 1 10.0.0.0/16 1 container 2 true false halls;Prefixes 2 2001:db8::/48 2 reserved 1 false true rooms;";
 
-/// The ranges, each in front of its mark and behind it.
+/// The ranges, each in front of its mark and after it.
 const RANGES: &str = "\
 Ranges 1 10.0.0.10/24 10.0.0.19/24 1 reserved 2 true| printers;
 Ranges 2 2001:db8::a/64 2001:db8::f/64 2 deprecated 1 false| phones;
 Ranges 7 10.0.0.1/24 10.0.0.9/24  active  false| ;
 ";
 
-/// What is loaded behind them.
+/// What is loaded after them.
 const BACK: &str = "\
 Addresses 1 10.0.0.1/24 1 dhcp vip gw.example.org gateway;Addresses 2 2001:db8::5/64 2 slaac carp b.example.org host;";
 
-/// What is loaded where the ranges have this mark, which may be none.
+/// What is loaded if the ranges have this mark, which may be none.
 fn wanted(alloc: Global, version: u32, mark: &str) -> Result<String, AllocError> {
     let mut text = format!(in alloc; "{version}:")?;
     text.push_str(FRONT)?;
@@ -68,7 +68,7 @@ fn told_before<K: Keeper>(
     }
 }
 
-/// What a keeper loads, and why it is not migrated, each on a line behind this text.
+/// What a keeper loads, and why it is not migrated, each on a line after this text.
 fn told_after<K: Keeper>(
     alloc: Global,
     before: Result<String, AllocError>,
@@ -80,7 +80,7 @@ fn told_after<K: Keeper>(
     format!(in alloc; "{before}\n{after}\n{why}")
 }
 
-/// A migration whose ranges are populated where the words are `yes`: what a keeper loads before it, what one over the same database
+/// A migration whose ranges are populated if the words are `yes`: what a keeper loads before it, what one over the same database
 /// loads after it, and why that one is not migrated again.
 struct Migrating;
 
@@ -97,7 +97,7 @@ impl Trial for Migrating {
     }
 }
 
-/// What that should be, where the ranges have this mark after it.
+/// What that should be, if the ranges have this mark after it.
 fn wanted_around(alloc: Global, mark: &str) -> Result<String, AllocError> {
     let mut text = wanted(alloc, 1, "")?;
     text.push('\n')?;

@@ -1,4 +1,4 @@
-//! Changes one after another by one keeper, which goes on behind faults.
+//! Changes one after another by one keeper, which goes on after faults.
 
 use crate::told::{loaded, pools_loaded};
 use crate::words::word_of;
@@ -7,7 +7,7 @@ use ipam_keeper::keeper::Keeper;
 use pool_keeper::keeper::PoolKeeper;
 use std::alloc::{AllocError, Global};
 
-/// What a keeper loads, what it answers to each of these lines, and what it loads behind the last one.
+/// What a keeper loads, what it answers to each of these lines, and what it loads after the last one.
 pub(crate) fn answers<K: Keeper>(
     alloc: Global,
     keeper: &mut K,

@@ -1,4 +1,4 @@
-//! A file of the host, by the opener of `ipamd`: what was put into it is there when it is opened again, and nobody else opens it meanwhile.
+//! A file of the host, by the opener of `ipamd`: what was put into it is found when it is opened again, and nobody else opens it meanwhile.
 
 use crate::lines::change_of;
 use crate::told::loaded;
@@ -21,7 +21,7 @@ const TEXT: &str = "no store";
 /// The change that makes the role 7.
 const ONE_ROLE: &str = "done|roles,7,LAN,lan,10,cables||roles,8";
 
-/// What a file holds when it is opened, behind which a change is made.
+/// What a file holds when it is opened, after which a change is made.
 fn held_before<O: KeeperOpener>(
     alloc: Global,
     opener: &mut O,
@@ -84,7 +84,7 @@ fn what_is_no_store_is_a_fault(rt: HostRuntime) -> Result<(), Fail> {
     Ok(())
 }
 
-/// Whether this text was told.
+/// Whether this text was printed.
 fn is_told(told: &Result<String, KeepFault>, text: &str) -> bool {
     match told {
         Ok(told) => told.as_str() == text,
@@ -92,7 +92,7 @@ fn is_told(told: &Result<String, KeepFault>, text: &str) -> bool {
     }
 }
 
-/// What the file of a path holds when an opener of its own opens it, behind which a change is made.
+/// What the file of a path holds when its own opener opens it, after which a change is made.
 fn held_now(rt: &HostRuntime, path: &Text, change: &Change) -> Result<String, KeepFault> {
     let mut opener = SqliteOpener::new(rt.alloc(), HostFiles::of(rt));
     held_before(rt.alloc(), &mut opener, path, change)

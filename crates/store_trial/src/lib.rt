@@ -1,5 +1,5 @@
 //! The stores over SQLite, tried on databases in memory and on a file of the host: what is stored, loaded and refused, of a register and of
-//! pools, also where a file stops at a call.
+//! pools, also if a file stops at a call.
 #![tactic(auto)]
 
 #[cfg(test)]

@@ -56,7 +56,7 @@ fn put_row(alloc: Global, rows: &mut Vec<Row>, words: &str) -> Result<(), AllocE
     Ok(())
 }
 
-/// The rows that are written out, each behind a semicolon but the first.
+/// The rows that are written out, each after a semicolon but the first.
 fn written_rows(alloc: Global, text: &str) -> Result<Vec<Row>, AllocError> {
     let mut rows = Vec::new(alloc);
     for words in text.split(';') {
@@ -84,7 +84,7 @@ fn ids_of(alloc: Global, text: &str) -> Result<Ids, AllocError> {
     Ok(Ids::of(ids))
 }
 
-/// The change of a line: behind its first bar the rows that come, behind the second one the ids that go, and then the next ids.
+/// The change of a line: after its first bar the rows that are put, after the second one the ids that are removed, and then the next ids.
 pub(crate) fn change_of(alloc: Global, line: &str) -> Result<Change, AllocError> {
     Ok(Change {
         puts: rows_of(alloc, part(line, 1)?)?,

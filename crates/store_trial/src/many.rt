@@ -104,7 +104,7 @@ pub(crate) fn odd_rows(alloc: Global) -> Result<Vec<Row>, AllocError> {
     Ok(rows)
 }
 
-/// A row each of whose columns has a text of its own.
+/// A row each of whose columns has its own text.
 fn own_row(alloc: Global, kind: Kind, id: u32) -> Result<Row, AllocError> {
     let mut fields = Vec::new(alloc);
     for column in column_names(kind) {

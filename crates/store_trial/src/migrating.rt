@@ -35,7 +35,7 @@ INSERT INTO ip_ranges (id, start_address, end_address, vrf, status, role, mark_u
 (3, '10.0.0.21/24', '10.0.0.29/24', '', 'active', '', 'false', 'phones'); \
 COMMIT";
 
-/// A stop that does not come.
+/// A crash that does not happen.
 pub(crate) const NEVER: Stop = Stop {
     side: Side::Log,
     calls: u64::MAX,
@@ -61,7 +61,7 @@ impl Stores for First {
     }
 }
 
-/// The files that something stores into where nothing stops. `Err` means out of memory.
+/// The files that something stores into if nothing stops. `Err` means out of memory.
 pub(crate) fn whole_files<K: Stores>(
     alloc: Global,
     files: Files<Fuse<Memory>>,

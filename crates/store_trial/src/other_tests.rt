@@ -16,7 +16,7 @@ use std::test::Fail;
 /// A keeper failed at its first call, and counts that.
 const REFUSED: &str = "Failed 1: ";
 
-/// What a keeper of a register answers where it loads.
+/// What a keeper of a register answers if it loads.
 fn answered<K: Keeper>(keeper: &mut K) -> &'static str {
     match keeper.load() {
         Ok(_) => word_of(Ok(())),
@@ -24,7 +24,7 @@ fn answered<K: Keeper>(keeper: &mut K) -> &'static str {
     }
 }
 
-/// What a keeper of pools answers where it loads.
+/// What a keeper of pools answers if it loads.
 fn pools_answered<K: PoolKeeper>(keeper: &mut K) -> &'static str {
     match keeper.load() {
         Ok(_) => word_of(Ok(())),
@@ -32,7 +32,7 @@ fn pools_answered<K: PoolKeeper>(keeper: &mut K) -> &'static str {
     }
 }
 
-/// What a keeper answered, how often it failed, and what is loaded behind it.
+/// What a keeper answered, how often it failed, and what is loaded after it.
 fn told_behind(
     alloc: Global,
     word: &str,
@@ -43,7 +43,7 @@ fn told_behind(
     format!(in alloc; "{word} {faults}: {text}")
 }
 
-/// What a keeper of pools answers, and what one of a register loads behind it.
+/// What a keeper of pools answers, and what one of a register loads after it.
 struct ByPoolsFirst;
 
 impl Trial for ByPoolsFirst {
@@ -61,7 +61,7 @@ impl Trial for ByPoolsFirst {
     }
 }
 
-/// What a keeper of a register answers, and what one of pools loads behind it.
+/// What a keeper of a register answers, and what one of pools loads after it.
 struct ByRegisterFirst;
 
 impl Trial for ByRegisterFirst {

@@ -1,4 +1,4 @@
-//! Files of the host, by the opener of `poold`: what a file alone has, without its log, behind changes.
+//! Files of the host, by the opener of `poold`: what a file alone has, without its log, after changes.
 
 use crate::going_on::pool_answers;
 use crate::told::pools_loaded;
@@ -46,13 +46,13 @@ fn held_at<O: PoolOpener>(alloc: Global, opener: &mut O, path: &str) -> Result<S
     told
 }
 
-/// Whether what a keeper told begins with its answers to the lines, and ends with as many rows as they put.
+/// Whether what a keeper answered begins with its answers to the lines, and ends with as many rows as they put.
 fn are_put(told: &str, had: &str) -> bool {
     told.starts_with("1,1:\ndone\nFailed\ndone\ndone\ndone\n4000000001,4294967295:")
         && had.split(';').count() == 2_003
 }
 
-/// Whether a file has behind changes, without its log, what its keeper had, and another one has none of it.
+/// Whether a file has after changes, without its log, what its keeper had, and another one has none of it.
 fn is_held_alone<O: PoolOpener>(rt: &HostRuntime, opener: &mut O) -> Result<bool, AllocError> {
     let alloc = rt.alloc();
     let told = answers_at(alloc, opener, "poold_alone_test/a.db", LINES)?;

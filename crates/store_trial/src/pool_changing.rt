@@ -1,4 +1,4 @@
-//! Changes of pools one after another over a database: what a keeper holds behind each is what a keeper in memory holds.
+//! Changes of pools one after another over a database: what a keeper holds after each is what a keeper in memory holds.
 
 use crate::database::{Trial, over_file};
 use crate::pool_lines::change_of;
@@ -31,7 +31,7 @@ fn told_failure(alloc: Global, memory: &mut MemoryPools) -> Result<String, Alloc
     Ok(text)
 }
 
-/// What that should be, by a keeper in memory, which makes the change where the line says that it is done.
+/// What that should be, by a keeper in memory, which makes the change if the line says that it is done.
 fn wanted_change(
     alloc: Global,
     memory: &mut MemoryPools,
@@ -44,7 +44,7 @@ fn wanted_change(
     }
 }
 
-/// Puts a line at the end of those that are wrong, where a keeper does not do as a keeper in memory.
+/// Puts a line at the end of those that are wrong, if a keeper does not do as a keeper in memory.
 fn note<K: PoolKeeper>(
     alloc: Global,
     keeper: &mut K,
@@ -77,7 +77,7 @@ fn memory_after(alloc: Global, lines: &str, made: usize) -> Result<MemoryPools, 
     Ok(memory)
 }
 
-/// Says so where a keeper loads other tables than one in memory.
+/// Says so if a keeper loads other tables than one in memory.
 fn note_first<K: PoolKeeper>(
     alloc: Global,
     keeper: &mut K,
@@ -92,7 +92,7 @@ fn note_first<K: PoolKeeper>(
     wrong.push_str("other tables at first")
 }
 
-/// Notes the lines whose changes leave other tables in a keeper over a database than in one in memory. A second keeper follows behind each.
+/// Notes the lines whose changes leave other tables in a keeper over a database than in one in memory. A second keeper follows after each.
 fn note_lines<S: Alter + Drop>(
     alloc: Global,
     mut keeper: SqlitePools<S>,
@@ -110,7 +110,7 @@ fn note_lines<S: Alter + Drop>(
     noted
 }
 
-/// The changes of the lines behind the first one, which says how many are made.
+/// The changes of the lines after the first one, which says how many are made.
 struct Changing;
 
 impl Trial for Changing {

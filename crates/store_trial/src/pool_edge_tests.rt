@@ -1,5 +1,5 @@
 //! What a database keeps of pools at the edges: as many ranges and members as one change may have, with great ids and numbers, and a change
-//! behind a fault.
+//! after a fault.
 
 use crate::database::{Trial, over_file};
 use crate::going_on::pool_answers;
@@ -17,7 +17,7 @@ done||||4294967294|4000000002,4294967295
 done|||3992070000||4294967295,4294967295
 ";
 
-/// Faults, each with a change behind it.
+/// Faults, each with a change after it.
 const FAULTS: &str = "\
 done|1,vlan,floor,100,199||||2,1
 Failed|1,vlan,again,200,299||||3,1
@@ -26,7 +26,7 @@ Failed||2,1,101,room 2;2,1,102,room 3|||2,3
 done||3,1,103,room 4|||2,4
 ";
 
-/// What the keeper is to answer, and to load before and behind that.
+/// What the keeper is to answer, and to load before and after that.
 const GONE_ON: &str = "\
 1,1:
 done

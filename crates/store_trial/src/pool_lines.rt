@@ -135,7 +135,7 @@ fn cut_of(word: &str) -> Result<Option<u32>, AllocError> {
     Ok(Some(number_of(Some(word))?))
 }
 
-/// The change of a line: behind its first bar the ranges that come, then the members that come, the range and the member that go, and the
+/// The change of a line: after its first bar the ranges that are put, then the members that are put, the range and the member that are removed, and the
 /// next ids.
 pub(crate) fn change_of(alloc: Global, line: &str) -> Result<PoolChange, AllocError> {
     let next = part(line, 5)?;

@@ -42,8 +42,8 @@ made numbers INSERT INTO members (id, range, number, name) VALUES (1, -2, 3, 'a'
 const NUMBERS: &str =
     "INSERT INTO meta (name, value) VALUES ('next_ranges', 3), ('next_members', 7); ";
 
-/// Changes one after another, each with its answer: the ranges and the members that come, the id of the range and of the member that goes, the
-/// next ids. The first one makes what model/pool_tables.sql makes. Where `many` come they are members of the range 3.
+/// Changes one after another, each with its answer: the ranges and the members that are put, the id of the range and of the member that is removed, the
+/// next ids. The first one makes what model/pool_tables.sql makes. If there are `many` they are members of the range 3.
 const CHANGES: &str = "\
 done|2,asn,office,64512,64600;3,vlan,floor,10,4094;5,asn,lab \"x\",4200000000,4294967295;8,vlan,façade,7,9|11,2,64513,edge;12,3,20,voice;14,5,4294967294,core;20,8,1,d'or|||9,21
 Failed|9,vlan,garden,30,40;3,asn,again,1,2|21,9,31,lamp|5|12|30,31
@@ -57,7 +57,7 @@ done||many|||39,2000
 done|||2|11|40,41
 ";
 
-/// What the words say, with what makes the tables and what sets the next ids in place of their names.
+/// What the arguments say, with what makes the tables and what sets the next ids in place of their names.
 fn text_made_of(alloc: Global, words: &str) -> Result<String, AllocError> {
     let text = words.replace(alloc, "made", MADE)?;
     text.as_str().replace(alloc, "numbers", NUMBERS)

@@ -41,7 +41,7 @@ fn schema_of<S: Alter>(alloc: Global, conn: &mut Connection<S>) -> Result<String
     }
 }
 
-/// The text of the tables of a register, which a keeper makes where the database has none.
+/// The text of the tables of a register, which a keeper makes if the database has none.
 struct OfRegister;
 
 impl Trial for OfRegister {

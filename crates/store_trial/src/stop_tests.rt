@@ -1,4 +1,4 @@
-//! Every stop of both files while the tables are made and ten rows are imported, while a file of version 1 is migrated, and while a
+//! Every crash of both files while the tables are made and ten rows are imported, while a file of version 1 is migrated, and while a
 //! group of VLANs is made and ten of them are claimed; and ten stops of an import of many rows.
 
 use crate::files::{Found, Side, Stop};
@@ -84,7 +84,7 @@ fn no_stop_breaks_the_tables_of_a_migration(rt: HostRuntime) -> Result<(), Fail>
     Ok(())
 }
 
-/// By how many calls of the log a stop is moved, one after another: so ten stops come ever nearer to the last call before the import stands.
+/// By how many calls of the log a crash is moved, one after another: so ten crashes get ever nearer to the last call before the import is stored.
 const STEPS: [u64; 10] = [512, 256, 128, 64, 32, 16, 8, 4, 2, 1];
 
 /// The number of calls before the last one of the log, by ten stops. One that breaks the tables is noted.

@@ -9,7 +9,7 @@ use sqlite::{Connection, Files, Options};
 use sqlite_disk::{Disk, Fuse, Memory};
 use std::alloc::{AllocError, Global};
 
-/// What came of a stop.
+/// The outcome of a crash.
 #[derive(Clone, Copy)]
 pub(crate) enum Ending {
     /// The tables are those before the change that was being made, or after it.
@@ -57,7 +57,7 @@ fn are_after<K: StoreKind>(alloc: Global, tables: &str, changes: u32) -> Result<
     Ok(after.as_str() == tables)
 }
 
-/// What comes of a stop while so many changes are stored. `Err` means out of memory.
+/// The outcome of a crash while so many changes are stored. `Err` means out of memory.
 pub(crate) fn ending_of<K: StoreKind>(
     alloc: Global,
     changes: u32,

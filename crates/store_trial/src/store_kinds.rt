@@ -16,7 +16,7 @@ use sqlite_keeper::SqliteKeeper;
 use sqlite_pools::SqlitePools;
 use std::alloc::{AllocError, Global};
 
-/// What stores over a connection. Tried over one, it tells the tables that are there.
+/// What stores over a connection. Tried over one, it lists the existing tables.
 pub(crate) trait Stores {
     /// Stores the first changes over a connection, and gives its store back, with how many were stored. `Err` means out of memory.
     fn store<S: Alter + Drop>(
@@ -26,14 +26,14 @@ pub(crate) trait Stores {
     ) -> (Result<u32, AllocError>, S);
 }
 
-/// A kind of store, whose changes are numbered from 1. Tried over a connection it tells the tables that are there.
+/// A kind of store, whose changes are numbered from 1. Tried over a connection it lists the existing tables.
 pub(crate) trait StoreKind: Stores + Trial {
     /// The files over which it begins, one of which stops. `Err` means out of memory.
     fn files(alloc: Global, stop: Stop) -> Result<Files<Fuse<Memory>>, AllocError>
         ensures log { IfOk result (λ files. IsTrue (⟦<Fuse<Memory> as Disk>⟧.is_usable files.log)) }
         ensures db { IfOk result (λ files. IsTrue (⟦<Fuse<Memory> as Disk>⟧.is_usable files.db)) };
 
-    /// The tables after so many changes, in words, as where nothing stops. `Err` means out of memory.
+    /// The tables after so many changes, in words, as when nothing stops. `Err` means out of memory.
     fn tables_after(alloc: Global, changes: u32) -> Result<String, AllocError>;
 }
 

@@ -21,8 +21,8 @@ CREATE TABLE meta (name TEXT PRIMARY KEY, value INTEGER NOT NULL) STRICT; INSERT
 CREATE TABLE meta (name TEXT PRIMARY KEY, value INTEGER NOT NULL) STRICT; INSERT INTO meta (name, value) VALUES ('version', -1)|Failed
 ";
 
-/// Changes one after another, each with its answer: the rows that come, the ids that go, the next ids. The first one makes what model/tables.sql
-/// makes; the third one changes every column. Where `many` come they are VRFs.
+/// Changes one after another, each with its answer: the rows that are put, the ids that are removed, the next ids. The first one makes what model/tables.sql
+/// makes; the third one changes every column. If there are `many` they are VRFs.
 const CHANGES: &str = "\
 done|vrfs,1,red,65000:1,false,office;vrfs,2,blue,65000:2,true,guests;rirs,1,ARIN,arin,true,north;rirs,2,RIPE NCC,ripe,false,east;roles,1,LAN,lan,10,cables;roles,2,WAN,wan,32767,links;aggregates,1,10.0.0.0/8,2,own;aggregates,2,2001:db8::/32,1,six;prefixes,1,10.0.0.0/16,1,container,2,true,false,halls;prefixes,2,2001:db8::/48,2,reserved,1,false,true,rooms;ip-ranges,1,10.0.0.10/24,10.0.0.19/24,1,reserved,2,true,false,printers;ip-ranges,2,2001:db8::a/64,2001:db8::f/64,2,deprecated,1,false,true,phones;ip-addresses,1,10.0.0.1/24,1,dhcp,vip,gw.example.org,gateway;ip-addresses,2,2001:db8::5/64,2,slaac,carp,b.example.org,host||vrfs,3;rirs,4;roles,5;aggregates,6;prefixes,7;ip-ranges,8;ip-addresses,9
 Failed|vrfs,3,green,65000:3|vrfs,1|vrfs,9

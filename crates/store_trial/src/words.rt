@@ -8,7 +8,7 @@ pub(crate) fn text_of(alloc: Global, text: &str) -> Result<Text, AllocError> {
     Ok(Text::of(String::from_str(alloc, text)?))
 }
 
-/// The number of a word. Where it is none, the line is wrong, and the test fails as for lack of memory.
+/// The number of a word. If it is none, the line is wrong, and the test fails as for lack of memory.
 pub(crate) fn number_of(word: Option<&str>) -> Result<u32, AllocError> {
     match word.unwrap_or("").parse::<u32>() {
         Ok(number) => Ok(number),
@@ -37,7 +37,7 @@ pub(crate) struct Lines<'a> {
     pub(crate) text: &'a str,
 }
 
-/// The lines behind the first one, which says how many of them are made.
+/// The lines after the first one, which says how many of them are made.
 pub(crate) fn lines_of(words: &str) -> Result<Lines<'_>, AllocError> {
     let (made, text) = words.split_once('\n').ok_or(AllocError)?;
     Ok(Lines {

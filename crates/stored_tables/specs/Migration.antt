@@ -1,4 +1,4 @@
--- Tables of version 1, in which ranges had no mark: those for which a state stood, and what becomes of them.
+-- Tables of version 1, in which ranges had no mark: those that represented a state, and what becomes of them.
 use Rattle.std.specs.Prelude.{◌≡◌, ℕ, ◌==◌, ◌∷◌, ◌++◌, Bool, not, true, false, List, [], Option, Some, None, option_map, map, find, length, take, drop, count_by, codes, if◌then◌else◌}
 use Rattle.std.specs.List.{flat_map}
 use Rattle.ipam_data.specs.declared.range.IpRange.{IpRange}
@@ -40,7 +40,7 @@ first_row view = stored_row view
 abbrev pub first_rows : State → Kind → List Row
 first_rows s kind = by_kind kind (λ T rules. map (λ row. first_row (rules.view row)) (rules.row_list s).rows)
 
--- the tables of version 1 for which a state stood, whatever the marks of its ranges
+-- the tables of version 1 that represented a state, whatever the marks of its ranges
 abbrev pub first_tables_of : State → Tables
 first_tables_of s = record {
   version = first_version;
@@ -94,7 +94,7 @@ range_count tables = count_by (λ row. is_range row.kind) tables.rows
 
 -- ---- the law
 
--- tables that stand in version 1 for a state become those that stand for that state with every mark as asked
+-- tables of version 1 that represent a state become those that represent that state with every mark as asked
 abbrev pub MigratedTablesStand : Type 0
 MigratedTablesStand = (s : State) (populated : Bool)
     → (unmigrated (first_tables_of s) ≡ None) × (migrated populated (first_tables_of s) ≡ tables_of (marked populated s))

@@ -1,4 +1,4 @@
--- Stored tables that are opened: what is wrong with them, if anything, and the state for which they stand. Each pass goes over all
+-- Stored tables that are opened: what is wrong with them, if anything, and the state that they represent. Each pass goes over all
 -- rows, by kind and id, before the next begins.
 use Rattle.std.specs.Prelude.{◌≡◌, ◌≢◌, ℕ, ◌≤◌, ◌==◌, ◌||◌, ◌&&◌, nat_lt, Bool, not, List, [], ◌∷◌, ◌++◌, Option, Some, None, option_map, find, fold, map, count_by, if◌then◌else◌}
 use Rattle.std.specs.List.{list_any}
@@ -26,27 +26,27 @@ use Rattle.stored_tables.specs.Reading.{IsBare}
 
 -- ---- the rules
 
--- the first rule that a row breaks beside the rows of a state, its references first
+-- the first rule that a row breaks given the rows of a state, its references first
 abbrev pub broken : State → View → Option Rule
 broken s view = by_view view (λ T rules row. first (rules.references s row ++ rules.faults s None row))
 
--- a row with the rule that it breaks beside the rows of a state
+-- a row with the rule that it breaks given the rows of a state
 abbrev pub breach_of : State → View → Option Breach
 breach_of s view = option_map (λ rule. record { kind = (stored_row view).kind; id = (stored_row view).id; rule = rule }) (broken s view)
 
--- of rows that stand one after another, the first that breaks a rule beside those that stand before it
+-- of rows that are one after another, the first that breaks a rule given those that are before it
 abbrev pub first_breach : State → List View → Option Breach
 first_breach s [] = None
 first_breach s (view ∷ views) = option_or (breach_of s view) (first_breach (with_view s view) views)
 
 -- ---- the state
 
--- the next id that is told of a kind, or 0
+-- the given next id of a kind, or 0
 abbrev pub told_next : List (Kind × ℕ) → Kind → ℕ
 told_next [] kind = 0
 told_next (next ∷ nexts) kind = if kind_number next.0 == kind_number kind then next.1 else told_next nexts kind
 
--- a kind without rows, with its told next id
+-- a kind without rows, with its given next id
 abbrev pub bare_row_list : {T : Type 0} → List (Kind × ℕ) → Kind → RowList T
 bare_row_list nexts kind = record { rows = []; next = told_next nexts kind }
 
@@ -117,7 +117,7 @@ pub record IsWithin (tables : Tables) (views : List View) : Type 0 where
   pub readable : IsReadable tables views
   pub few : find (is_overfull tables.rows) kinds ≡ None
 
--- and no row breaks a rule beside those before it
+-- and no row breaks a rule given those before it
 pub record IsUnbroken (tables : Tables) (global_unique : Bool) (views : List View) : Type 0 where
   pub within : IsWithin tables views
   pub unbroken : first_breach (bare_state tables.next global_unique) views ≡ None
@@ -154,18 +154,18 @@ IsOfTables fault = Unit {0}
 
 -- ---- the laws
 
--- the state for which the tables stand: it is lawful, its tables are these, and nothing is spent
+-- the state that the tables represent: it is lawful, its tables are these, and nothing is spent
 pub record IsOpening (tables : Tables) (global_unique : Bool) (state : State) : Type 0 where
   pub lawful : IsLawful state
   pub tables_are : tables_of state ≡ tables
   pub unique : state.global_unique ≡ global_unique
   pub spent : state.spent ≡ 0
 
--- the told next ids are those that may be next
+-- the given next ids are those that may be next
 abbrev pub AreNextIds : List (Kind × ℕ) → Type 0
 AreNextIds nexts = (kind : Kind) → told_next nexts kind ≤ last_next
 
--- tables in which nothing is found stand for the state of their rows
+-- tables in which nothing is found represent the state of their rows
 abbrev pub AcceptedAreOpened : Type 0
 AcceptedAreOpened = (tables : Tables) (global_unique : Bool) (views : List View) → AreTables tables → AreNextIds tables.next
     → IsAccepted tables global_unique views → IsOpening tables global_unique (loaded tables.next global_unique views)

@@ -4,7 +4,7 @@ use Rattle.stored_tables.specs.declared.tables.Tables.{Tables}
 use Rattle.ipam_data.specs.RowList.{Rises}
 use Rattle.stored_tables.specs.Stored.{kinds, next_ids, row_place, next_place, stored_version}
 
--- rows stand in the order of kind and id and next ids in the order of kind, none twice
+-- rows are in the order of kind and id and next ids in the order of kind, none twice
 pub record AreTables (tables : Tables) : Type 0 where
   pub rows : Rises row_place 0 tables.rows
   pub next : Rises next_place 0 tables.next

@@ -15,7 +15,7 @@ use Rattle.ipam_data.specs.Hosts.{Masked, RangeEnds}
 use Rattle.ipam_data.specs.Rows.{HasVrfBounds, HasRirBounds, HasRoleBounds, HasAggregateBounds, HasPrefixBounds, HasRangeBounds, HasAddressBounds}
 use Rattle.stored_tables.specs.Stored.{host_text, stored_row}
 
--- what a text was read as: a value within its bounds whose text it is, or nothing where it is the text of none
+-- what a text was read as: a value within its bounds whose text it is, or nothing if it is the text of none
 abbrev pub IsRead : {A B : Type 0} → (A → Type 0) → (A → B) → B → Option A → Type 0
 IsRead within text_of text (Some x) = within x × (text_of x ≡ text)
 IsRead {A} within text_of text None = (x : A) → within x → text_of x ≢ text
@@ -30,7 +30,7 @@ IsAny x = Unit {0}
 abbrev pub IsWord : ℕ → Type 0
 IsWord n = n < 4294967296
 
--- what is there is within its bounds
+-- what is given is within its bounds
 abbrev pub IsAbsentOr : {A : Type 0} → (A → Type 0) → Option A → Type 0
 IsAbsentOr within None = Unit {0}
 IsAbsentOr within (Some x) = within x

@@ -1,4 +1,4 @@
--- Stored tables: the texts of each row, the tables for which a state stands, and what a change does to tables.
+-- Stored tables: the texts of each row, the tables that represent a state, and what a change does to tables.
 use Rattle.std.specs.Prelude.{ℕ, ◌+◌, ◌*◌, Bool, true, false, List, [], ◌∷◌, ◌++◌, Option, Some, None, fold, map, codes, decimal, ◌≡◌}
 use Rattle.std.specs.List.{flat_map}
 use Rattle.inet_num.specs.Net.{Address}
@@ -184,7 +184,7 @@ next_ids next (kind ∷ rest) = (kind, next kind) ∷ next_ids next rest
 abbrev pub stored_version : ℕ
 stored_version = VERSION
 
--- the tables for which a state stands: their version, the next ids, and the rows in the order of their kinds and ids
+-- the tables that represent a state: their version, the next ids, and the rows in the order of their kinds and ids
 abbrev pub tables_of : State → Tables
 tables_of s = record {
   version = stored_version;
@@ -194,7 +194,7 @@ tables_of s = record {
 
 -- ---- changes of tables
 
--- rows stand by kind and then by id
+-- rows are by kind and then by id
 abbrev pub place_of : Kind → ℕ → ℕ
 place_of kind n = kind_number kind * 4294967296 + n
 
@@ -208,7 +208,7 @@ next_place next = kind_number next.0
 abbrev pub without_stored : List Row → Kind × ℕ → List Row
 without_stored rows cut = without row_place rows (place_of cut.0 cut.1)
 
--- the tables after a change: its rows come or replace those of their kinds and ids, its cuts go, and its next ids are set
+-- the tables after a change: its rows are added or replace those of their kinds and ids, its cuts go, and its next ids are set
 abbrev pub changed : Change → Tables → Tables
 changed change tables = record {
   version = tables.version;
@@ -220,7 +220,7 @@ changed change tables = record {
 abbrev pub change_of : Update → Change
 change_of u = record { puts = map stored_row u.puts; cuts = u.cuts; next = u.next }
 
--- where tables are told, they are those of the state
+-- if tables are known, they are those of the state
 abbrev pub Tells : Option Tables → State → Type 0
 Tells None s = Unit {0}
 Tells (Some tables) s = tables ≡ tables_of s

@@ -1,4 +1,4 @@
-//! The columns of stored rows. A text is read only where it is just the one that is written.
+//! The columns of stored rows. A text is read only if it is just the one that is written.
 
 ghost use Rattle.std.specs.Prelude.{◌≡◌, ◌↔◌, ◌∷◌, [], ℕ, ◌<◌, IfOk, IsTrue, Some, decimal};
 ghost use Rattle.inet_num.specs.Net.{IsBlock};
@@ -213,7 +213,7 @@ pub(crate) fn read_block_text(text: &Text) -> Option<Block>
     }
 }
 
-/// This address with its mask, where the text is the one that is written of it.
+/// This address with its mask, if the text is the one that is written of it.
 fn host_if_written(addr: Addr, len: u8, text: &Text) -> Option<Host>
     requires { IsHostText text.now addr len }
     ensures { IsRead IsMasked masked_text text.now result }
@@ -240,7 +240,7 @@ pub(crate) fn read_host_text(text: &Text) -> Option<Host>
     }
 }
 
-/// The ends of two hosts, where they have one mask.
+/// The ends of two hosts, if they have one mask.
 fn ends_of(start: Host, end: Host) -> Option<Ends>
     ensures { IsRead AreEnds ends_texts (masked_text start ∷ masked_text end ∷ []) result }
 {

@@ -15,7 +15,7 @@ pub fn written_rows_are_read()
     ensures { WrittenIsRead }
 {}
 
-/// Tables in which no pass finds anything stand for a lawful state: that of their rows, put one after another.
+/// Tables in which no pass finds anything represent a lawful state: that of their rows, put one after another.
 pub fn accepted_tables_are_opened()
     ensures { AcceptedAreOpened }
 {}
@@ -25,7 +25,7 @@ pub fn opening_is_one()
     ensures { OpeningIsOne }
 {}
 
-/// Tables that stood in version 1 for a state are migrated, and then stand for that state with every mark as asked.
+/// Tables of version 1 that represent a state are migrated, and then represent that state with every mark as asked.
 pub fn migrated_tables_stand()
     ensures { MigratedTablesStand }
 {}

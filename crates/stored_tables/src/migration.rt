@@ -141,8 +141,8 @@ fn migrate_rows(alloc: Global, rows: &[Row], populated: bool) -> Result<Rows, Al
     Ok(Rows::of(items))
 }
 
-/// Tables of version 1 as tables of the register's version: each range is marked as populated, or each is not. `Version` comes exactly
-/// where the version is not 1, and `BadRow` exactly where that is not so and the row of a range does not have seven texts, with the first
+/// Tables of version 1 as tables of the register's version: each range is marked as populated, or each is not. `Version` is returned
+/// exactly if the version is not 1, and `BadRow` exactly if that is not so and the row of a range does not have seven texts, with the first
 /// such one. `Memory` means out of memory.
 pub fn migrate(tables: &Tables, populated: bool) -> Result<Tables, MigrateFault>
     ensures ok { IfOk result (λ t. (unmigrated tables.now ≡ None) × (t ≡ migrated populated tables.now)) }

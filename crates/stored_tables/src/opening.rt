@@ -1,9 +1,9 @@
-//! What is found where stored tables are opened.
+//! What is found if stored tables are opened.
 
 use ipam_data::kinds::Kind;
 use ipam_data::replies::{Rule, Which};
 
-/// A row of a kind and id that breaks a rule beside the rows before it.
+/// A row of a kind and id that breaks a rule given the rows before it.
 #[derive(Clone, Copy, Debug)]
 pub struct Breach {
     pub kind: Kind,
@@ -16,7 +16,7 @@ pub struct Breach {
 pub enum OpenFault {
     /// The keeper failed.
     Keeper,
-    /// The row of this kind and id breaks a rule beside the rows before it.
+    /// The row of this kind and id breaks a rule given the rows before it.
     BadTables(Kind, u32, Rule),
     /// Out of memory.
     Memory,

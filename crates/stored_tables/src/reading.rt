@@ -1,4 +1,4 @@
-//! Rows out of stored rows, each read only where its texts are just those that are written.
+//! Rows out of stored rows, each read only if its texts are just those that are written.
 
 ghost use Rattle.std.specs.Prelude.{IfOk};
 ghost use Rattle.stored_tables.specs.Stored.{stored_row};
@@ -16,7 +16,7 @@ use ipam_data::kinds::Kind;
 use ipam_data::replies::View;
 use std::alloc::{AllocError, Global};
 
-/// The row, with figures of 0, of a stored row; `None` exactly where its id is 0, or its texts are those of no row of its kind.
+/// The row, with figures of 0, of a stored row; `None` exactly if its id is 0, or its texts are those of no row of its kind.
 /// `Err` means out of memory.
 pub fn read_row(alloc: Global, row: &Row) -> Result<Option<View>, AllocError>
     ensures { IfOk result (λ view. IsRead IsBare stored_row row.now view) }

@@ -62,7 +62,7 @@ impl Text {
         }
     }
 
-    /// The characters in a string of their own. `Err` means out of memory.
+    /// The characters in their own string. `Err` means out of memory.
     pub fn to_string(&self, alloc: Global) -> Result<String, AllocError>
         ensures { IfOk result (λ s. string_bytes s ≡ self.now) }
     {
@@ -221,7 +221,7 @@ impl Tables {
     }
 }
 
-/// An edit of stored tables: the rows that come or are replaced, those that go, and next ids.
+/// An edit of stored tables: the rows that are put or replaced, those that are removed, and next ids.
 #[derive(Debug, Drop)]
 pub struct Change {
     pub puts: Rows,

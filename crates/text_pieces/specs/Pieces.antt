@@ -9,6 +9,6 @@ pub record Passes (old new : Option (List ℕ)) (before after text : List ℕ) :
   pub told : Appends old new front
   pub rest : front ++ after ≡ before ++ text
 
--- so it is; or a write failed, and a front of both was written
+-- so it is; or a write failed, and a prefix of both was written
 abbrev pub Puts : {E : Type 0} → Option (List ℕ) → Option (List ℕ) → List ℕ → List ℕ → List ℕ → Result (Unit {0}) E → Type 0
 Puts old new before after text result = MatchResult result (λ _. Passes old new before after text) (λ _. AppendsFront old new (before ++ text))

@@ -9,7 +9,7 @@ ghost use Rattle.text_pieces.specs.Pieces.{Passes, Puts};
 use arrayvec::ArrayVec;
 use ipam_edge::{Failed, Sink, write_all};
 
-/// How many bytes are written at once, where no text is longer.
+/// How many bytes are written at once, if no text is longer.
 pub const ROOM: usize = 32_768;
 
 /// Writes the piece, and empties it.
@@ -40,7 +40,7 @@ fn put_behind<Si: Sink>(
     }
 }
 
-/// Puts a text after what the piece has. A piece without room for it is written first. The one error is that a write failed: a front of both
+/// Puts a text after what the piece has. A piece without room for it is written first. The one error is that a write failed: a prefix of both
 /// was written then.
 pub fn put<Si: Sink>(
     output: &mut Si,

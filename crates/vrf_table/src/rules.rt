@@ -34,7 +34,7 @@ fn rival<'a>(rows: &'a [Vrf], row: &Vrf) -> Option<&'a Vrf>
     rows.iter().find(|other| is_rival(row, other))
 }
 
-/// The rule that a VRF breaks beside the rows of other ids.
+/// The rule that a VRF breaks given the rows of other ids.
 #[tactic(auto, unfolding(ipam_data::specs::Vrfs::vrf_fault))]
 pub fn first_fault(rows: &[Vrf], row: &Vrf) -> Option<Rule>
     ensures { result ≡ vrf_fault rows.now row.now }
@@ -52,7 +52,7 @@ fn is_strict(row: &Vrf, id: u32) -> bool
     row.id == id && row.enforce_unique
 }
 
-/// Whether the VRF of this id is there and enforces.
+/// Whether the VRF of this id exists and enforces.
 fn is_strict_vrf(rows: &[Vrf], id: u32) -> bool
     ensures { result ≡ list_any (is_enforcing_vrf id) rows.now }
 {

@@ -1,4 +1,4 @@
-//! What the words of a command line say: their first one, and the values of options, whatever the commands are.
+//! What the arguments of a command line say: their first one, and the values of options, whatever the commands are.
 #![tactic(auto)]
 
 mod text;
@@ -6,6 +6,6 @@ mod values;
 
 pub use text::WordText;
 pub use values::{
-    MOST_CONNECTIONS, MOST_WORKERS, first_word, is_empty_text, is_word, number_of, number_or,
-    number_value, text_or_none, text_value,
+    MOST_CONNECTIONS, MOST_WORKERS, first_word, is_empty_text, is_word, main_name, number_of,
+    number_or, number_value, text_or_none, text_value,
 };

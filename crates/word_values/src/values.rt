@@ -1,7 +1,7 @@
-//! What a text says, where one was given: a number, or a text that is not empty.
+//! What a text says, if one was given: a number, or a text that is not empty.
 
 ghost use Rattle.std.specs.Prelude.{◌≡◌, ◌<◌, ◌^◌, ◌↔◌, ◌∷◌, ℕ, Option, List, [], Some, decimal, map, option_map, IfOk, IsTrue, MatchOption};
-ghost use Rattle.word_values.specs.Values.{IsNumberOr, IsNumberValue, IsTextValue};
+ghost use Rattle.word_values.specs.Values.{main_name, IsNumberOr, IsNumberValue, IsTextValue};
 
 use crate::text::WordText;
 use itoa::Buffer;
@@ -27,6 +27,19 @@ pub fn is_word(word: &str, name: &str) -> bool
     ensures { IsTrue result ↔ (word.now ≡ name.now) }
 {
     word == name
+}
+
+/// The name of a command by its first word: `--version` and `-V` are other names of `version`, `--help` and `-h` of `help`. Any other word is itself.
+pub fn main_name<'a>(word: &'a str) -> &'a str
+    ensures { result.now ≡ main_name word.now }
+{
+    if word == "--version" || word == "-V" {
+        "version"
+    } else if word == "--help" || word == "-h" {
+        "help"
+    } else {
+        word
+    }
 }
 
 /// The number that the text is read as: at least every decimal text of one is.

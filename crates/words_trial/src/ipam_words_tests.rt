@@ -66,7 +66,7 @@ fn lines(alloc: Global) -> Result<String, AllocError> {
     Ok(text)
 }
 
-/// The words that a status or a role is named and shown by, or none where nothing is named so.
+/// The words that a status or a role is named and shown by, or none if nothing is named so.
 fn names(alloc: Global) -> Result<String, AllocError> {
     let mut text = String::new(alloc);
     add(

@@ -150,7 +150,22 @@ load 100000 | Some(Load { count: 100000, workers: 1 })
 load --workers 4 1000 | Some(Load { count: 1000, workers: 4 })
 sessions | None
 --db f session | None
-help | None
+version | Some(About(Version))
+--version | Some(About(Version))
+-V | Some(About(Version))
+version x | None
+version --help | None
+help | Some(About(Commands))
+--help | Some(About(Commands))
+-h | Some(About(Commands))
+help load | Some(About(Command(Load)))
+help reverse-read | Some(About(Command(ReverseRead)))
+--help help | Some(About(Command(Help)))
+help Load | None
+help --load | None
+help load free | None
+--helps | None
+-v | None
  | None";
 
 /// What the words of a case ask for, as `Debug` writes it.

@@ -16,10 +16,10 @@ use std::sync::atomic::{AtomicU32, Ordering};
 use std::test::Fail;
 use std::thread::{Threads, yield_now};
 
-/// How often a worker looks at most whether the other one's session has ended, where the two run at once.
+/// How often a worker looks at most whether the other one's session has ended, if the two run at once.
 const TURNS: u32 = 1_000_000;
 
-/// The same where they run in turn, and so the other one's session can't end meanwhile.
+/// The same if they run in turn, and so the other one's session can't end meanwhile.
 const FEW_TURNS: u32 = 10;
 
 /// What the first client asks: a prefix, and an address of the prefix 1, whichever that is.
@@ -33,7 +33,7 @@ POST /api/ipam/prefixes/ HTTP/1.1\r\nHost: ipam\r\nContent-Length: 24\r\n\r\n{\"
 POST /api/ipam/prefixes/1/available-ips/ HTTP/1.1\r\nHost: ipam\r\nContent-Length: 2\r\n\r\n{}";
 
 /// A gate that holds each of two workers until the other's session has ended: the one that comes first before its session, and the other
-/// one behind its own. It counts how often one gave up.
+/// one after its own. It counts how often one gave up.
 #[derive(Drop)]
 struct Meets {
     came: AtomicU32,
@@ -120,7 +120,7 @@ fn serve_in_turn<R: Threads + Wait + Sync>(
     serve_alone(rt, alloc, shared, second.0, second.1, gate)
 }
 
-/// Serves two lanes in an order. Tells what was written where they are served at once.
+/// Serves two lanes in an order. Says what was written if they are served at once.
 fn serve_in_order<R: Threads + Wait + Sync>(
     rt: &R,
     alloc: Global,
@@ -153,7 +153,7 @@ fn serve_in_order<R: Threads + Wait + Sync>(
     }
 }
 
-/// Serves two lanes in an order, over a register of its own.
+/// Serves two lanes in an order, over its own register.
 fn serve_new<R: Threads + Wait + Sync>(
     rt: &R,
     alloc: Global,
@@ -179,7 +179,7 @@ fn turns_in(order: Order) -> u32 {
     }
 }
 
-/// How often a worker gave up where two sessions run in an order.
+/// How often a worker gave up if two sessions run in an order.
 fn given_up<R: Threads + Wait + Sync>(
     rt: &R,
     alloc: Global,
@@ -192,7 +192,7 @@ fn given_up<R: Threads + Wait + Sync>(
     Ok(gate.given_up())
 }
 
-/// How often a part stands in a text.
+/// How often a part occurs in a text.
 fn times<'a>(text: &'a str, part: &'a str) -> usize {
     text.split(part).count().saturating_sub(1)
 }

@@ -5,7 +5,7 @@ use rest_ipam::{Asked, Inbox, PutEnd, next_request, put_answer};
 use std::alloc::AllocError;
 use std::test::Fail;
 
-/// Appends what stands next.
+/// Appends what comes next.
 fn put_next(asked: &Asked, text: &mut Vec<u8>) -> Result<(), AllocError> {
     match asked {
         Asked::Request(request) => {

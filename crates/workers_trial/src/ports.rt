@@ -28,7 +28,7 @@ const BASE: u64 = 200;
 /// How long the slow client waits after each byte, in milliseconds.
 const PAUSE: u64 = 50;
 
-/// Serves a lane over a register of its own, past a gate.
+/// Serves a lane over its own register, past a gate.
 fn serve_new<R: Threads + Wait + Sync, A: Lane + Send + Drop, G: Gate + Sync>(
     rt: &R,
     alloc: Global,
@@ -125,7 +125,7 @@ fn sends_to_the_end(client: &TcpStream) -> bool {
     false
 }
 
-/// Serves a lane while the slow client sends. `None` means that one of the two did not come to its end.
+/// Serves a lane while the slow client sends. `None` means that one of the two did not reach its end.
 fn serve_slow<R: Threads + Wait + Sync, A: Lane + Send + Drop>(
     rt: &R,
     alloc: Global,
@@ -143,7 +143,7 @@ fn serve_slow<R: Threads + Wait + Sync, A: Lane + Send + Drop>(
 }
 
 /// What the last of three clients of one worker gets: the first one sends half a request and waits, and the second one sends a byte at a time
-/// for as long as its connection is open. However long these two take, the third one is answered behind them.
+/// for as long as its connection is open. However long these two take, the third one is answered after them.
 fn answer_behind_slow_clients<
     R: Threads + Wait + Net<Listener = TcpListener, Stream = TcpStream> + Clock + Sync,
 >(rt: &R, alloc: Global) -> Option<String> {
@@ -163,7 +163,7 @@ fn slow_clients_hold_no_worker(rt: HostRuntime) -> Result<(), Fail> {
     Ok(())
 }
 
-/// A gate that looks whether a client has an answer, before its session and behind it, and counts how often it had one.
+/// A gate that looks whether a client has an answer, before its session and after it, and counts how often it had one.
 struct Looks<'a> {
     client: &'a TcpStream,
     before: AtomicU32,
@@ -192,7 +192,7 @@ impl<'a> Gate for Looks<'a> {
     }
 }
 
-/// How often a gate found an answer before the session of a client, and behind it.
+/// How often a gate found an answer before the session of a client, and after it.
 fn looked<R: Threads + Wait + Net<Listener = TcpListener, Stream = TcpStream> + Clock + Sync>(
     rt: &R,
     alloc: Global,

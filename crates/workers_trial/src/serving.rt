@@ -23,7 +23,7 @@ fn tell(lane: &ListLane, told: &mut String) -> Result<(), AllocError> {
     Ok(())
 }
 
-/// Serves two lanes by two workers at once, and tells what was written.
+/// Serves two lanes by two workers at once, and says what was written.
 pub fn serve_at_once<R: Threads + Wait + Sync, G: Gate + Sync>(
     rt: &R,
     alloc: Global,
@@ -53,7 +53,7 @@ pub fn serve_at_once<R: Threads + Wait + Sync, G: Gate + Sync>(
     Ok(())
 }
 
-/// Serves a lane by a worker of its own. The worker stands in a `Vec`, since nothing is known of the size of any lane.
+/// Serves a lane by its own worker. The worker is in a `Vec`, since nothing is known of the size of any lane.
 pub fn serve_alone<R: Threads + Wait + Sync, A: Lane + Send + Drop, G: Gate + Sync>(
     rt: &R,
     alloc: Global,

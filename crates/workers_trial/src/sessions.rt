@@ -11,7 +11,7 @@ use std::sync::Wait;
 use std::test::Fail;
 
 /// What a client sends that ends in the middle of the head of its first request, or of the body of its second one: a line each, with a semicolon
-/// for the end of a line, and behind the bar how many answers are written.
+/// for the end of a line, and after the bar how many answers are written.
 const CASES: &str = "\
 GET / HTTP/1.1;Host|1
 POST /api/ipam/prefixes/ HTTP/1.1;Content-Length: 24;;{\"prefix\":\"10.0.0.0/24\"}POST /api/ipam/vrfs/ HTTP/1.1;Content-Length: 14;;{\"name\"|2
@@ -37,7 +37,7 @@ fn session_of<R: Wait + Sync>(
     Ok((sink.into_bytes(), end))
 }
 
-/// How often a part stands in a text.
+/// How often a part occurs in a text.
 fn times<'a>(text: &'a str, part: &'a str) -> usize {
     text.split(part).count().saturating_sub(1)
 }

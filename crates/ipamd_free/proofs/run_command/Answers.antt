@@ -35,3 +35,6 @@ returns-in-Load-clause-usage g c = λ _. c.say_usage-in-Load.ensures _ _
 
 pub returns-in-Migrate-clause-usage : goal.returns-in-Migrate-clause-usage
 returns-in-Migrate-clause-usage g c = λ _. c.say_usage-in-Migrate.ensures _ _
+
+pub returns-in-About-clause-usage : goal.returns-in-About-clause-usage
+returns-in-About-clause-usage g c = λ _. c.say_usage-in-About.ensures _ _

@@ -1,9 +1,16 @@
-use Rattle.std.proofs.Common.{refl, codes}
-use Rattle.pool_words.proofs.Found.{read_is_asked}
+use Rattle.std.proofs.Common.{codes}
+use Rattle.pool_words.proofs.Found.{read_is_asked, word_of}
+use Rattle.pool_words.specs.declared.asked.CommandName.TheVariants as names
 use Rattle.pool_words.proofs.read_words.Goals as goal
 
-pub returns-then-is_word : goal.returns-then-is_word
-returns-then-is_word c = read_is_asked (codes "session") c.in-Some.name.now _ c.read_session.result (c.if-is_word.ensures.0 refl) c.in-Some.ensures c.read_session.ensures
+pub returns-in-Session : goal.returns-in-Session
+returns-in-Session c = read_is_asked (codes "session") _ _ _ c.read_session.result (word_of _ _ names.Session c.in-Session.is c.in-Some-command_named.ensures) c.main_name.ensures c.in-Some.ensures c.read_session.ensures
 
-pub returns-then-is_word-2 : goal.returns-then-is_word-2
-returns-then-is_word-2 c = read_is_asked (codes "serve") c.in-Some.name.now _ c.read_serve.result (c.if-is_word-2.ensures.0 refl) c.in-Some.ensures c.read_serve.ensures
+pub returns-in-Serve : goal.returns-in-Serve
+returns-in-Serve c = read_is_asked (codes "serve") _ _ _ c.read_serve.result (word_of _ _ names.Serve c.in-Serve.is c.in-Some-command_named.ensures) c.main_name.ensures c.in-Some.ensures c.read_serve.ensures
+
+pub returns-in-Version : goal.returns-in-Version
+returns-in-Version c = read_is_asked (codes "version") _ _ _ c.read_version.result (word_of _ _ names.Version c.in-Version.is c.in-Some-command_named.ensures) c.main_name.ensures c.in-Some.ensures c.read_version.ensures
+
+pub returns-in-Help : goal.returns-in-Help
+returns-in-Help c = read_is_asked (codes "help") _ _ _ c.read_help.result (word_of _ _ names.Help c.in-Help.is c.in-Some-command_named.ensures) c.main_name.ensures c.in-Some.ensures c.read_help.ensures

@@ -47,7 +47,7 @@ fn figure_in(planned: &Planned) -> u8
     }
 }
 
-/// How much of a prefix that is there is used.
+/// How much of an existing prefix is used.
 fn figure_of(row_tables: &RowTables, row: &Prefix) -> u8
     requires lawful { IsLawful (state_of row_tables.now) }
     requires there { Contains row_tables.now.prefixes.rows row.now }
@@ -59,7 +59,7 @@ fn figure_of(row_tables: &RowTables, row: &Prefix) -> u8
     figure
 }
 
-/// What is told of a prefix that is there.
+/// What is said of an existing prefix.
 fn line_of(row_tables: &RowTables, row: &Prefix) -> PrefixLine
     requires lawful { IsLawful (state_of row_tables.now) }
     requires there { Contains row_tables.now.prefixes.rows row.now }
@@ -74,7 +74,7 @@ fn line_of(row_tables: &RowTables, row: &Prefix) -> PrefixLine
     }
 }
 
-/// The line of a prefix that is there, with its place.
+/// The line of an existing prefix, with its place.
 pub(crate) fn placed_line(row_tables: &RowTables, row: &Prefix) -> Placed
     requires lawful { IsLawful (state_of row_tables.now) }
     requires there { Contains row_tables.now.prefixes.rows row.now }

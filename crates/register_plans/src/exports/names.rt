@@ -42,7 +42,7 @@ pub(crate) fn role_name_of(
     }
 }
 
-/// The name of the RIR of an id, which is there.
+/// The name of the RIR of an id, which exists.
 pub(crate) fn rir_name_of(row_tables: &RowTables, rir: u32) -> Result<Name, AllocError>
     requires { IsSome (row_at rir_id row_tables.now.rirs.rows rir) }
     ensures { IfOk result (λ name. name ≡ rir_name row_tables.now.rirs.rows rir) }

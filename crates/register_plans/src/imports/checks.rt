@@ -11,7 +11,7 @@ use crate::registered::Registered;
 use ipam_data::replies::{Refusal, View};
 use register_tables::RowTables;
 
-/// Why a row can't be made, if so, where nothing is told of its draft; the log has no say.
+/// Why a row can't be made, if so, while nothing is said of its draft; the log has no say.
 fn check_row<T: Registered>(row_tables: &RowTables, row: &T) -> Option<Refusal>
     ensures { result ≡ first (creation T.rules (state_of row_tables.now) [] row.now) }
 {

@@ -1,4 +1,4 @@
-//! The drafts that the rows of an import stand for, and the rules that rows break by themselves.
+//! The drafts that the rows of an import represent, and the rules that rows break by themselves.
 
 ghost use Rattle.std.specs.Prelude.{◌≡◌, None, IfOk};
 ghost use Rattle.ipam_data.specs.declared.kinds.Kind.TheVariants.{Vrfs, Rirs, Roles, Aggregates, Prefixes, Ranges, Addresses};
@@ -24,7 +24,7 @@ use ipam_data::vrf::{Vrf, copy_distinguisher};
 use register_tables::RowTables;
 use std::alloc::AllocError;
 
-/// The draft that a row of a VRF stands for.
+/// The draft that a row of a VRF represents.
 fn vrf_draft(row: &ImportRow) -> Result<Draft, AllocError>
     requires { kind_of_row row.now ≡ Vrfs }
     ensures { (s : State) → IfOk result (λ d. d ≡ draft_of s row.now) }
@@ -45,7 +45,7 @@ fn vrf_draft(row: &ImportRow) -> Result<Draft, AllocError>
     }
 }
 
-/// The draft that a row of a RIR stands for.
+/// The draft that a row of a RIR represents.
 fn rir_draft(row: &ImportRow) -> Result<Draft, AllocError>
     requires { kind_of_row row.now ≡ Rirs }
     ensures { (s : State) → IfOk result (λ d. d ≡ draft_of s row.now) }
@@ -66,7 +66,7 @@ fn rir_draft(row: &ImportRow) -> Result<Draft, AllocError>
     }
 }
 
-/// The draft that a row of a role stands for.
+/// The draft that a row of a role represents.
 fn role_draft(row: &ImportRow) -> Result<Draft, AllocError>
     requires { kind_of_row row.now ≡ Roles }
     ensures { (s : State) → IfOk result (λ d. d ≡ draft_of s row.now) }
@@ -87,7 +87,7 @@ fn role_draft(row: &ImportRow) -> Result<Draft, AllocError>
     }
 }
 
-/// The draft that a row of an aggregate stands for.
+/// The draft that a row of an aggregate represents.
 fn aggregate_draft(row_tables: &RowTables, row: &ImportRow) -> Result<Draft, AllocError>
     requires { kind_of_row row.now ≡ Aggregates }
     ensures { IfOk result (λ d. d ≡ draft_of (state_of row_tables.now) row.now) }
@@ -106,7 +106,7 @@ fn aggregate_draft(row_tables: &RowTables, row: &ImportRow) -> Result<Draft, All
     }
 }
 
-/// The draft that a row of a prefix stands for.
+/// The draft that a row of a prefix represents.
 fn prefix_draft(row_tables: &RowTables, row: &ImportRow) -> Result<Draft, AllocError>
     requires { kind_of_row row.now ≡ Prefixes }
     ensures { IfOk result (λ d. d ≡ draft_of (state_of row_tables.now) row.now) }
@@ -133,7 +133,7 @@ fn prefix_draft(row_tables: &RowTables, row: &ImportRow) -> Result<Draft, AllocE
     }
 }
 
-/// The draft that a row of a range stands for.
+/// The draft that a row of a range represents.
 fn range_draft(row_tables: &RowTables, row: &ImportRow) -> Result<Draft, AllocError>
     requires { kind_of_row row.now ≡ Ranges }
     ensures { IfOk result (λ d. d ≡ draft_of (state_of row_tables.now) row.now) }
@@ -162,7 +162,7 @@ fn range_draft(row_tables: &RowTables, row: &ImportRow) -> Result<Draft, AllocEr
     }
 }
 
-/// The draft that a row of an address stands for.
+/// The draft that a row of an address represents.
 fn address_draft(row_tables: &RowTables, row: &ImportRow) -> Result<Draft, AllocError>
     requires { kind_of_row row.now ≡ Addresses }
     ensures { IfOk result (λ d. d ≡ draft_of (state_of row_tables.now) row.now) }
@@ -187,7 +187,7 @@ fn address_draft(row_tables: &RowTables, row: &ImportRow) -> Result<Draft, Alloc
     }
 }
 
-/// The draft that a row stands for.
+/// The draft that a row represents.
 pub(crate) fn draft(row_tables: &RowTables, row: &ImportRow) -> Result<Draft, AllocError>
     ensures { IfOk result (λ d. d ≡ draft_of (state_of row_tables.now) row.now) }
 {

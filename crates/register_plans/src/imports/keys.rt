@@ -1,4 +1,4 @@
-//! The keys of rows and records, and how many records are left that a row may stand for.
+//! The keys of rows and records, and how many records are left that a row may represent.
 
 ghost use Rattle.std.specs.Prelude.{◌≡◌, ℕ, ◌++◌, [], List, IfOk, OnOk, map, string_bytes};
 ghost use Rattle.std.specs.List.{AllByRecursion};
@@ -98,7 +98,7 @@ fn count_all(row_tables: &RowTables, kind: Kind, left: &mut Leftovers) -> Result
     }
 }
 
-/// How many records are left that each row may stand for, of a kind whose records are all counted: one look for each row and each record.
+/// How many records are left that each row may represent, of a kind whose records are all counted: one look for each row and each record.
 fn count_records(
     row_tables: &RowTables,
     kind: Kind,
@@ -111,7 +111,7 @@ fn count_records(
     Ok(left)
 }
 
-/// How many records of the kind are left that each row may stand for. Prefixes and addresses, of which there may be hundreds of
+/// How many records of the kind are left that each row may represent. Prefixes and addresses, of which there may be hundreds of
 /// thousands, are looked up row by row.
 pub(crate) fn leftovers(
     row_tables: &RowTables,

@@ -1,4 +1,4 @@
-//! How many records are left that the rows of an import may stand for. Rows and records are told apart by keys, which are texts.
+//! How many records are left that the rows of an import may represent. Rows and records are told apart by keys, which are texts.
 
 ghost use Rattle.std.specs.Prelude.{◌≡◌, ◌+◌, ◌<◌, ◌^◌, ◌++◌, ◌∷◌, [], ℕ, List, Some, None, true, false, not, nat_lt, OnOk, string_bytes, bytes_eq, count_by};
 ghost use Rattle.std.specs.List.{list_any};

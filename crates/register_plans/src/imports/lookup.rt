@@ -34,7 +34,7 @@ pub(crate) trait LookedUp: Registered {
         ensures { IfOk result (λ n. n ≡ count_by (bytes_eq key.now) (map (key_of_row Self.rules) (Self.rules.row_list (state_of row_tables.now)).rows)) };
 }
 
-/// Whether the record of an id is there and has the key.
+/// Whether the record of an id exists and has the key.
 fn has_key<T: Registered>(row_tables: &RowTables, id: u32, key: &str) -> Result<bool, AllocError>
     ensures { IfOk result (λ b. b ≡ has_key T.rules (T.rules.row_list (state_of row_tables.now)).rows key.now id) }
 {
@@ -123,7 +123,7 @@ fn address_filter(draft: &Draft) -> Filter
     }
 }
 
-/// The ids of the prefixes with the table and the block of a draft; `None` where all are to be looked at. `Err` means out of memory.
+/// The ids of the prefixes with the table and the block of a draft; `None` if all are to be looked at. `Err` means out of memory.
 fn prefix_ids(row_tables: &RowTables, draft: &Draft) -> Result<Option<Vec<u32>>, AllocError>
     requires { IsLawful (state_of row_tables.now) }
     ensures { IfOk result (λ found. IfSome found (λ v. AreCandidates prefix_id (prefix_meets (prefix_filter_of draft.now)) row_tables.now.prefixes.rows v.items)) }
@@ -134,7 +134,7 @@ fn prefix_ids(row_tables: &RowTables, draft: &Draft) -> Result<Option<Vec<u32>>,
     found
 }
 
-/// The ids of the addresses with the table and the host of a draft; `None` where all are to be looked at. `Err` means out of memory.
+/// The ids of the addresses with the table and the host of a draft; `None` if all are to be looked at. `Err` means out of memory.
 fn address_ids(row_tables: &RowTables, draft: &Draft) -> Result<Option<Vec<u32>>, AllocError>
     requires { IsLawful (state_of row_tables.now) }
     ensures { IfOk result (λ found. IfSome found (λ v. AreCandidates address_id (address_meets (address_filter_of draft.now)) row_tables.now.addresses.rows v.items)) }
@@ -176,7 +176,7 @@ fn count_of<T: LookedUp>(row_tables: &RowTables, row: &Ready) -> Result<u32, All
     }
 }
 
-/// How many records are left that each row may stand for, looked up row by row.
+/// How many records are left that each row may represent, looked up row by row.
 pub(crate) fn look_up<T: LookedUp>(
     row_tables: &RowTables,
     rows: &[Ready],

@@ -26,7 +26,7 @@ use ipam_data::replies::{Refusal, RowFault, View};
 use register_tables::RowTables;
 use std::alloc::AllocError;
 
-/// Keeps a record behind those that were made before.
+/// Keeps a record after those that were made before.
 fn keep(made: &mut Vec<View>, view: View) -> Result<(), AllocError>
     ensures { OnOk result (made.new.items ≡ made.old.items ++ view ∷ []) }
 {
@@ -34,7 +34,7 @@ fn keep(made: &mut Vec<View>, view: View) -> Result<(), AllocError>
     Ok(())
 }
 
-/// Whether a record is left that the row may stand for. It then stands for that.
+/// Whether a record is left that the row may represent. It then represents that.
 fn stands(left: &mut Leftovers, row: &Ready) -> bool
     ensures left { (keys records spent : List (List ℕ)) → IsLeft left.old keys records spent → IsLeft left.new keys records (spent ++ row.now.key ∷ []) }
     ensures found { (keys records spent : List (List ℕ)) → IsLeft left.old keys records spent → list_any (bytes_eq row.now.key) keys ≡ true
@@ -43,7 +43,7 @@ fn stands(left: &mut Leftovers, row: &Ready) -> bool
     left.spend(row.key.as_str())
 }
 
-/// What one row does: it is refused, it stands for a record that is left, or it makes one.
+/// What one row does: it is refused, it represents a record that is left, or it makes one.
 fn take_row(
     row_tables: &mut RowTables,
     left: &mut Leftovers,

@@ -65,7 +65,7 @@ fn put_record(
     Ok(())
 }
 
-/// Why the record of a draft can't be made beside those that are there, if so; the log has no say.
+/// Why the record of a draft can't be made given those that exist, if so; the log has no say.
 fn refused(row_tables: &RowTables, draft: &Draft, view: &View) -> Option<Refusal>
     requires told { first (told_of_draft draft.now) ≡ None }
     requires made { view.now ≡ record_of (state_of row_tables.now) draft.now }
@@ -74,7 +74,7 @@ fn refused(row_tables: &RowTables, draft: &Draft, view: &View) -> Option<Refusal
     check_view(row_tables, view)
 }
 
-/// Makes the record of a draft, where no check refuses it, and hands out a copy. `Err` leaves the tables.
+/// Makes the record of a draft, if no check refuses it, and hands out a copy. `Err` leaves the tables.
 pub(crate) fn make(row_tables: &mut RowTables, draft: &Draft) -> Result<View, Halt>
     requires lawful { IsLawful (state_of row_tables.old) }
     requires told { first (told_of_draft draft.now) ≡ None }

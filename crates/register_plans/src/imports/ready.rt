@@ -18,7 +18,7 @@ use ipam_data::text::Text;
 use register_tables::RowTables;
 use std::alloc::{AllocError, Global};
 
-/// A row made ready: its draft, why it is refused by itself, if so, and, where it is not, the key of its texts.
+/// A row made ready: its draft, why it is refused by itself, if so, and, if it is not, the key of its texts.
 #[derive(Drop)]
 pub struct Ready {
     pub(crate) draft: Draft,
@@ -35,7 +35,7 @@ fn key_of_draft(alloc: Global, draft: &Draft) -> Result<String, AllocError>
     key_of_view(alloc, &view)
 }
 
-/// The key of a draft, where its row is not refused by itself.
+/// The key of a draft, if its row is not refused by itself.
 fn key_if(alloc: Global, fault: &Option<Refusal>, draft: &Draft) -> Result<String, AllocError>
     requires { fault.now ≡ None → first (told_of_draft draft.now) ≡ None }
     ensures { IfOk result (λ k. string_bytes k ≡ key_where fault.now draft.now) }

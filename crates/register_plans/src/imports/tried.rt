@@ -23,8 +23,8 @@ pub(crate) struct Made {
     pub(crate) next: u32,
 }
 
-/// Makes the records of all rows, one after another, so that each is checked beside those before it, and takes them back, also where
-/// a row is refused or memory runs out: that takes no memory. The state stays.
+/// Makes the records of all rows, one after another, so that each is checked given those before it, and takes them back, also if a
+/// row is refused or memory runs out: that takes no memory. The state stays.
 pub(crate) fn try_rows(
     row_tables: &mut RowTables,
     kind: Kind,

@@ -1,5 +1,5 @@
-use Rattle.std.proofs.Common.{ap, Err, sym, ◌∙◌}
-use Rattle.pool_register.proofs.Keeping.{not_keeper, stop_is, stop_stays, stopped}
+use Rattle.std.proofs.Common.{ap, Err}
+use Rattle.pool_register.proofs.Keeping.{not_keeper, stop_is, stop_stays}
 use Rattle.pool_register.proofs.pools.Pools.act.Goals as goal
 use Rattle.pool_register.proofs.pools.Pools.act.Goals.{in-Ok, in-Err}
 

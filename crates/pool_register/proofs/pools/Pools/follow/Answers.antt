@@ -1,5 +1,5 @@
 use Rattle.std.proofs.Common.{sym}
-use Rattle.pool_register.proofs.Keeping.{change_idle, change_logged, read_stays, read_steps, refused_stays}
+use Rattle.pool_register.proofs.Keeping.{change_logged, read_stays, read_steps, refused_stays}
 use Rattle.pool_register.proofs.pools.Pools.follow.Goals as goal
 
 pub returns-in-Refused-clause-log : goal.returns-in-Refused-clause-log

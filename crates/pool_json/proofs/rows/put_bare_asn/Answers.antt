@@ -1,5 +1,5 @@
 use Rattle.ipam_json.proofs.Pieces.{wrote, after}
-use Rattle.pool_json.proofs.rows.put_asn.Goals as goal
+use Rattle.pool_json.proofs.rows.put_bare_asn.Goals as goal
 
 pub returns : goal.returns
 returns c =
