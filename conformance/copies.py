@@ -2,7 +2,7 @@
 made meanwhile. Of each copy the changes up to its place are made once more in an empty register, which is stopped then: its exports, reports and rows have
 to be those of the copy, which is opened with status 0. Copies without --hold, where changes have pauses; with --hold, where they have none, by nginx with
 examples/nginx-ipamd.conf, where all reading goes on; copies that are given up, ended by a signal, and refused; a register that is started anew while it is
-copied; and the lines of cron in docs/OPERATING.md. With --full a register of 200,000 prefixes and 500,000 addresses is copied too, with the time that it
+copied; the lines of cron in docs/OPERATING.md; and examples/ipamd-from. With --full a register of 200,000 prefixes and 500,000 addresses is copied too, with the time that it
 takes.
 
     conformance/run copies [--full] [PORT]
@@ -30,6 +30,7 @@ from tools.wire import Asker, listens
 
 TOP = os.path.abspath(os.path.join(os.path.dirname(os.path.abspath(__file__)), ".."))
 COPY = os.path.join(TOP, "examples/copy_register.py")
+FROM = os.path.join(TOP, "examples/ipamd-from")
 KINDS = ["vrfs", "rirs", "roles", "aggregates", "prefixes", "ip-ranges", "ip-addresses"]
 CLIENTS = 4
 
@@ -439,6 +440,34 @@ def cron(program, port, folder):
     print(f"   {len(lines)} lines of cron: a copy, its reports, a router's list compared, names, and the removal of old copies")
 
 
+def ran_from(folder, *words, given=b"", wanted=0):
+    """What ipamd-from prints and says, over a register that is being served."""
+    done = subprocess.run([FROM, *words], env={"PATH": f"{folder}/bin:{os.path.dirname(sys.executable)}:/usr/bin:/bin"}, input=given, capture_output=True)
+    if done.returncode != wanted:
+        fail(f"ipamd-from {words}: status {done.returncode}, {done.stderr.decode()}")
+    return done.stdout, done.stderr.decode()
+
+
+def from_url(program, folder, url, path):
+    """Commands over the register that is being served print what they print over its copy, and what is no command is refused."""
+    first = sqlite3.connect(path).execute("SELECT min(id) FROM prefixes").fetchone()[0]
+    asked = [("export", kind) for kind in KINDS] + [("report", "tree"), ("report", "utilization"), LISTED, ("reverse", "--prefix", str(first))]
+    for words in asked:
+        printed, said = ran_from(folder, url, *words)
+        if printed != output(program, *words, "--db", path):
+            fail(f"ipamd-from {words} does not print what the copy has")
+        if not re.fullmatch(rf"ipamd-from: {re.escape(url)}, \d{{4}}-\d\d-\d\d \d\d:\d\d:\d\dZ, place \d+\n", said):
+            fail(f"ipamd-from {words} says {said}")
+    if ran_from(folder, url, "prefix-check", *LISTED[1:], given=output(program, *LISTED, "--db", path))[0]:
+        fail("ipamd-from prefix-check: the register's own list differs")
+    for words in ((), (url,), (url, "import", "vrfs"), (url, "session"), (url, "export", "vrfs", "--db", path), (url, "export", "vrfs", f"--db={path}")):
+        if ran_from(folder, *words, wanted=2)[0]:
+            fail(f"ipamd-from {words} prints something")
+    ran_from(folder, "http://127.0.0.1:1", "export", "vrfs", wanted=4)
+    ran_from(folder, url, "export", "gadgets", wanted=2)
+    print(f"   ipamd-from: {len(asked)} commands over the register that is served print what its copy has")
+
+
 def full(program, port, folder):
     """A file of 200,000 prefixes and 500,000 addresses, which is served and copied."""
     path = f"{folder}/full.db"
@@ -495,6 +524,7 @@ def main():
             path = f"{folder}/last.db"
             copies.append((int(copy(url, path)), path))
             cron(program, port, folder)
+            from_url(program, folder, url, path)
         finally:
             server.end()
             if proxy is not None:
