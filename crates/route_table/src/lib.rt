@@ -96,8 +96,8 @@ impl<T: Drop> RouteTable<T> {
         }
     }
 
-    /// Adds the route of one whole path, of bytes below `{`, that the table does not have. After `Err`, which means out of memory or a
-    /// route that it has, the table is as before.
+    /// Adds the route of one whole path, of bytes below `{`. After `Err`, which means out of memory or a route that the table has, it is
+    /// as before.
     pub fn add_whole(&mut self, text: &str, value: T) -> Result<(), AllocError>
         requires { IsLiteral text.now }
         ensures ok { OnOk result (IsPermutation ((Whole text.now, value) ∷ self.old) self.new) }
@@ -107,8 +107,8 @@ impl<T: Drop> RouteTable<T> {
         put(&mut self.router, text, value)
     }
 
-    /// Adds the route of a front, a piece and what follows the piece, that the table does not have: bytes below `{`, and a slash right
-    /// after the piece. After `Err`, which means out of memory or a route that it has, the table is as before.
+    /// Adds the route of a front, a piece and what follows the piece: bytes below `{`, and a slash right after the piece. After
+    /// `Err`, which means out of memory or a route that the table has, it is as before.
     pub fn add_around(&mut self, front: &str, rest: &str, value: T) -> Result<(), AllocError>
         requires front { IsLiteral front.now }
         requires rest { IsLiteral rest.now }
