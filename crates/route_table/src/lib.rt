@@ -9,12 +9,13 @@ ghost use Rattle.std.specs.List.{Contains};
 ghost use Rattle.std.specs.String.{string_bytes};
 ghost use Rattle.matchit.specs.Route.{parse_route};
 ghost use Rattle.matchit.specs.Router.{InsertsRead};
+ghost use Rattle.route_table.specs.Rows.{IsReadable, IsOfReadable};
 ghost use Rattle.route_table.specs.Paths.{Form, Whole, Around, IsOfForm, IsLiteral, BeginsWithSlash};
 
 #[cfg(test)]
 mod tests;
 
-use matchit::Router;
+use matchit::{InsertError, Router};
 use std::alloc::{AllocError, Global};
 use std::marker::Model;
 
@@ -40,16 +41,28 @@ impl<T> Model for RouteTable<T> {
     ghost invariant = { λ t. AreOfForms t.router };
 }
 
-/// Puts a route into a router. After `Err` the router is as before. `matchit` has errors other than out of memory, for a route that it
-/// cannot read and for one next to another that it takes for the same; the forms here have neither, and they would be answered
-/// as out of memory too.
+/// The one error of a route that can be read and that no other is in the way of. A form that the table has already is answered so too.
+fn memory_of(error: InsertError) -> AllocError
+    requires { IsOfReadable error }
+{
+    match error {
+        InsertError::OutOfMemory => AllocError,
+        InsertError::Conflict { with: _ } => AllocError,
+        InsertError::InvalidParamSegment => unreachable!(),
+        InsertError::InvalidParam => unreachable!(),
+        InsertError::InvalidCatchAll => unreachable!(),
+    }
+}
+
+/// Puts a route, which can be read, into a router. After `Err` the router is as before.
 fn put<T: Drop>(router: &mut Router<T>, text: &str, value: T) -> Result<(), AllocError>
+    requires { IsReadable text.now }
     ensures ok { OnOk result (InsertsRead (parse_route text.now) value router.old router.new (Ok tt)) }
     ensures err { OnErr result (router.new ≡ router.old) }
 {
     match router.insert(text, value) {
         Ok(()) => Ok(()),
-        Err(_) => Err(AllocError),
+        Err(error) => Err(memory_of(error)),
     }
 }
 
@@ -83,22 +96,25 @@ impl<T: Drop> RouteTable<T> {
         }
     }
 
-    /// Adds the route of one whole path, of bytes below `{`. After `Err`, which means out of memory, the table is as before.
+    /// Adds the route of one whole path, of bytes below `{`. After `Err`, which means out of memory or a route that the table has, it is
+    /// as before.
     pub fn add_whole(&mut self, text: &str, value: T) -> Result<(), AllocError>
         requires { IsLiteral text.now }
         ensures ok { OnOk result (IsPermutation ((Whole text.now, value) ∷ self.old) self.new) }
+        ensures free { OnOk result ((other : T) → ¬ Contains self.old (Whole text.now, other)) }
         ensures err { OnErr result (self.new ≡ self.old) }
     {
         put(&mut self.router, text, value)
     }
 
     /// Adds the route of a front, a piece and what follows the piece: bytes below `{`, and a slash right after the piece. After
-    /// `Err`, which means out of memory, the table is as before.
+    /// `Err`, which means out of memory or a route that the table has, it is as before.
     pub fn add_around(&mut self, front: &str, rest: &str, value: T) -> Result<(), AllocError>
         requires front { IsLiteral front.now }
         requires rest { IsLiteral rest.now }
         requires slash { BeginsWithSlash rest.now }
         ensures ok { OnOk result (IsPermutation ((Around front.now rest.now, value) ∷ self.old) self.new) }
+        ensures free { OnOk result ((other : T) → ¬ Contains self.old (Around front.now rest.now, other)) }
         ensures err { OnErr result (self.new ≡ self.old) }
     {
         let text = around_text(self.alloc, front, rest)?;
