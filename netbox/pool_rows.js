@@ -1,9 +1,17 @@
 /* The records of poold as rows like the register's, with the members that NetBox's records have. */
 import kinds from './kinds.js';
 
+/** The letters U+00C0 to U+017F without their marks, as Unicode decomposes them; `?` has none. njs has no `normalize`. */
+const LETTERS = 'AAAAAA?CEEEEIIII?NOOOOO??UUUUY??aaaaaa?ceeeeiiii?nooooo??uuuuy?y'
+    + 'AaAaAaCcCcCcCcDd??EeEeEeEeEeGgGgGgGgHh??IiIiIiIiI???JjKk?LlLlLlL'
+    + 'l??NnNnNnn??OoOoOo??RrRrRrSsSsSsSsTtTt??UuUuUuUuUuUuWwYyYZzZzZzs';
+
 /** The slug that NetBox makes of a name. @param {string} name @returns {string} */
 function slugOf(name) {
-    const plain = name.normalize('NFKD').replace(/[^\x20-\x7e]/g, '').toLowerCase();
+    const plain = name.split('').map((letter) => {
+        const at = letter.charCodeAt(0) - 0xc0;
+        return at < 0 ? letter : at < LETTERS.length ? LETTERS[at] : '?';
+    }).join('').toLowerCase();
     return plain.replace(/[^a-z0-9_ -]/g, '').replace(/[ -]+/g, '-').replace(/^[-_]+|[-_]+$/g, '');
 }
 

@@ -85,6 +85,10 @@ function ofRegister(status, text, kind) {
     }
     const code = typeof told.code === 'string' ? told.code : undefined;
     const body = {};
+    if (code === 'taken' && kinds.has(NUMBERS, kind)) {
+        body[NUMBERS[kind]] = [told.detail];
+        return new Refusal(400, body, code);
+    }
     if (status === 400 && code !== undefined && code !== 'bad_json') {
         const member = memberOf(kind, code, told.detail);
         if (member !== undefined || code !== 'field') {

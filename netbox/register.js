@@ -6,6 +6,7 @@ import kinds from './kinds.js';
 import poolRows from './pool_rows.js';
 import refusals from './refusals.js';
 
+const UNREADABLE = 'the answer of the register could not be read';
 /** The register's longest page. */
 const PAGE = 1000;
 
@@ -54,7 +55,7 @@ function valueOf(answer, kind) {
     try {
         return JSON.parse(answer.text);
     } catch (e) {
-        throw refusals.detail(502, 'the answer of the register could not be read');
+        throw refusals.detail(502, UNREADABLE);
     }
 }
 
@@ -66,7 +67,10 @@ function rowOf(answer, kind) {
 /** The page of an answer. A list of poold that has no pages is one. @param {Answer} answer @param {string} kind @returns {{count: number, results: Object[]}} */
 function pageOf(answer, kind) {
     const value = valueOf(answer, kind);
-    const rows = Array.isArray(value) ? value : value.results;
+    const rows = Array.isArray(value) ? value : (value || {}).results;
+    if (!Array.isArray(rows) || !rows.every((row) => row !== null && typeof row === 'object')) {
+        throw refusals.detail(502, UNREADABLE);
+    }
     return { count: Array.isArray(value) ? value.length : value.count, results: rows.map((row) => poolRows.rowOf(kind, row)) };
 }
 
