@@ -1,11 +1,12 @@
 #!/usr/bin/env python3
-"""Draws the crates in layers, from crates.txt: a band for each of its comments, the last one on top. Most crates depend on crates of their own band and of those
-below; dependencies that go up are listed at the foot. Crates of tests are dashed. Crates of the kit are not drawn. The picture is 800 pixels wide and has a
-background of its own, so that it can be read in a light and in a dark theme.
+"""Draws the crates in layers, from crates.txt: a band for each of its comments, the last one on top. Crates depend on crates of their own band and of those
+below. Crates of tests are dashed. Crates of the kit are not drawn. The picture is 800 pixels wide and has a background of its own, so that it can be read in
+a light and in a dark theme.
 
     python3 docs/layers.py            writes docs/layers.svg
-    python3 docs/layers.py --check    ends with 1 if docs/layers.svg is not what would be written, or if docs/ARCHITECTURE.md does not list
-                                      the layers of crates.txt with the same crates in the same order; prints nothing if all is well
+    python3 docs/layers.py --check    ends with 1 if a crate depends on one of a layer above, if docs/layers.svg is not what would be written, or if
+                                      docs/ARCHITECTURE.md does not list the layers of crates.txt with the same crates in the same order; prints
+                                      nothing if all is well
 """
 import html
 import os
@@ -53,10 +54,10 @@ def band(number, title, crates, top):
     return parts, high
 
 
-def foot(crates):
-    """A line on dashed crates, and one for each dependency on a layer above."""
-    upward = [f"{name} also depends on {other}." for name in crates for other in crates[name][0] if other in crates and crates[other][1] > crates[name][1]]
-    return ["Crates depend on crates of their own layer and of those below" + (", unless a line below says more." if upward else ".") + " Dashed: crates of tests."] + upward
+def upward(crates):
+    """A line for each crate that depends on one of a layer above."""
+    return [f"layers: {name} depends on {other}, which is in a layer above: move one of them in crates.txt"
+            for name in crates for other in crates[name][0] if other in crates and crates[other][1] > crates[name][1]]
 
 
 def draw(crates, titles):
@@ -65,9 +66,9 @@ def draw(crates, titles):
         more, high = band(number, titles[number], crates, top)
         parts += more
         top += high + GAP
-    for line in foot(crates):
-        top += 18
-        parts.append(f"<text x='{MARGIN}' y='{top}' font-size='13' fill='#111' {FONT}>{html.escape(line)}</text>")
+    top += 18
+    parts.append(f"<text x='{MARGIN}' y='{top}' font-size='13' fill='#111' {FONT}>Crates depend on crates of their own layer and of those below. "
+                 "Dashed: crates of tests.</text>")
     height = top + MARGIN
     head = f"<svg xmlns='http://www.w3.org/2000/svg' viewBox='0 0 {PAGE} {height}' width='{PAGE}' height='{height}'>"
     return "\n".join([head, f"<rect width='{PAGE}' height='{height}' fill='white'/>"] + parts + ["</svg>"]) + "\n"
@@ -102,7 +103,7 @@ def main():
     text = draw(crates, titles)
     path = os.path.join(HERE, "layers.svg")
     if sys.argv[1:] == ["--check"]:
-        lines = check(text, path, layers_of(crates, titles))
+        lines = upward(crates) + check(text, path, layers_of(crates, titles))
         if lines:
             sys.exit("\n".join(lines))
         return
