@@ -192,6 +192,7 @@ STEPS = [
     using("./ipamd export ip-addresses --db office.db > office.csv", r"\A\Z"),
     using("examples/zone_files.py forward --zone example.com --table global --primary ns.example.org --contact hostmaster@example.org --ns ns.example.org "
           "< office.csv", r"\nwww\.example\.com\. IN A 192\.0\.2\.1\n"),
+    using("examples/zone_files.py read --zone 2.0.192.in-addr.arpa < 2.0.192.zone", r"\Aaddress,dns_name\n192\.0\.2\.1,www\.example\.com\n\Z"),
     using("./ipamd reverse-read < office.names", r"\Aaddress,dns_name\n192\.0\.2\.1,www\.example\.com\n\Z"),
     first_office,
     using("./ipamd migrate --db office.db --populated yes", r"\Amigrated 3\n\Z"),

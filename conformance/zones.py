@@ -1,7 +1,8 @@
 """examples/zone_files.py over a register, with named, NSD, Knot and PowerDNS: it lists the zones that prefixes need, which are written here by hand, and makes
 the zones of a /22, a /26 (RFC 2317), an IPv6 /48 and example.net. named-checkzone -k fail, nsd-checkzone and kzonecheck find no error. Each server loads all of
 them; what it transfers is what was imported, and it answers a question for each name. The zone above the /26 has the lines that `list` prints, and
-they lead to its names. A second run changes no file; a record more raises the serial by one, and a wanted serial is taken if it is ahead. What is refused is named.
+they lead to its names. A second run changes no file; a record more raises the serial by one, and a wanted serial is taken if it is ahead. What is read of
+a zone is what was written, and of one by hand what named-compilezone writes out. What is refused is named.
 
     conformance/run zones [PORT]
 """
@@ -30,6 +31,33 @@ NEEDED = {
     "2001:db8::8/126": ["0.0.0.0.0.0.0.0.0.0.0.0.0.0.0.0.0.0.0.0.0.0.0.8.b.d.0.1.0.0.2.ip6.arpa"],
 }
 ZONES = NEEDED["10.2.0.0/22"] + NEEDED["192.0.2.0/26"] + NEEDED["2001:db8:47::/48"]
+WRITTEN = r"""; a zone as people write it
+$TTL 1h
+@   IN  SOA ns1.example.org. first\.last.example.org. (
+        2026120101 ; serial
+        2h 1h      ; refresh, retry
+        2w 1h )    ; expire, negative
+        IN NS ns1.example.org.
+        3600 NS ns2.example.org.
+5       PTR Five.Example.COM.
+        IN PTR also-five.example.com.   ; the same owner
+6 IN 600 PTR six.example.com.
+7 1d IN PTR six.example.com.
+7 IN PTR SIX.example.com.
+$ORIGIN example.com.
+8.2.0.192.in-addr.arpa. PTR eight
+9.2.0.192.in-addr.arpa. PTR (
+    @ )
+10.2.0.192.in-addr.arpa. TXT "a ; b ( c" "d\"e"
+"""
+BAD = {
+    "$INCLUDE more\n": "line 1: $INCLUDE is not read",
+    "a PTR b\n": "line 1: a PTR record without an address",
+    "\n5 PTR (\n b\n": "line 2: a parenthesis is not closed",
+    " PTR b.\n": "line 1: not a line of a zone file",
+    "5 PTR a b\n": "line 1: not the PTR record of a host",
+    "x A 2001:db8::1\n": "line 1: not the A record of a host",
+}
 MISFITS = [("10.2.1.200", "_dmarc.example.net"), ("10.2.1.201", "a_b.example.net"), ("10.2.1.202", "-x.example.net")]
 
 
@@ -54,19 +82,27 @@ def names():
     return made + [("10.2.3.7", "example.net"), ("2001:db8:47::7", "example.net"), ("10.2.3.8", "twin.example.net"), ("10.2.3.9", "twin.example.net")]
 
 
+def owner_of(host):
+    """The owner of an address's PTR record, which is in a zone of its own for the /26."""
+    address = ipaddress.ip_address(host)
+    is_classless = address in ipaddress.ip_network(PREFIXES[1])
+    return address.reverse_pointer.replace(ABOVE, NEEDED[PREFIXES[1]][0]) if is_classless else address.reverse_pointer
+
+
+def is_of(zone, host, name):
+    """Whether a zone has a record of an address and a name."""
+    return name == zone or name.endswith("." + zone) if zone == "example.net" else owner_of(host).endswith("." + zone)
+
+
 def wanted(made):
     """The records of each zone, by Python's `ipaddress`: owner, type and data."""
     found = {zone: set() for zone in [*ZONES, "example.net"]}
     for host, name in made:
         address = ipaddress.ip_address(host)
-        owner = address.reverse_pointer
-        if address in ipaddress.ip_network(PREFIXES[1]):
-            owner = owner.replace(ABOVE, NEEDED[PREFIXES[1]][0])
-        for zone in ZONES:
-            if owner.endswith("." + zone):
-                found[zone].add((owner + ".", "PTR", name + "."))
-        if name == "example.net" or name.endswith(".example.net"):
-            found["example.net"].add((name + ".", "A" if address.version == 4 else "AAAA", str(address)))
+        kind = "A" if address.version == 4 else "AAAA"
+        for zone in found:
+            if is_of(zone, host, name):
+                found[zone].add((name + ".", kind, str(address)) if zone == "example.net" else (owner_of(host) + ".", "PTR", name + "."))
     return found
 
 
@@ -250,6 +286,33 @@ def check_serials(register, zones):
     print("   a second run changes no file; a name more raises the serial by one; a wanted one is taken if it is ahead")
 
 
+def read(zone, text, status=0):
+    return run([SCRIPT, "read", "--zone", zone], text, status)
+
+
+def check_reading(zones, made):
+    """What is read of the zones that were made, and of one that was written by hand, which named-compilezone writes out."""
+    for zone, path in zones.items():
+        with open(path) as file:
+            found = read(zone, file.read()).stdout.splitlines()
+        pairs = {(str(ipaddress.ip_address(host)), name) for host, name in made if is_of(zone, host, name)}
+        if found[0] != "address,dns_name" or len(found) != len(set(found)) or {tuple(line.split(",")) for line in found[1:]} != pairs:
+            fail(f"read {zone}: {sorted({tuple(line.split(',')) for line in found[1:]} ^ pairs)[:3]}")
+    with tempfile.TemporaryDirectory() as folder:
+        with open(f"{folder}/written", "w") as file:
+            file.write(WRITTEN)
+        run(["named-compilezone", "-q", "-F", "text", "-s", "full", "-o", f"{folder}/full", ABOVE, f"{folder}/written"])
+        with open(f"{folder}/full") as file:
+            wanted_lines = {(".".join(reversed(line.split(".")[:4])), line.split()[-1].lower().removesuffix(".")) for line in file if "PTR" in line.split()}
+    if {tuple(line.split(",")) for line in read(ABOVE, WRITTEN).stdout.splitlines()[1:]} != wanted_lines or len(wanted_lines) != 6:
+        fail(f"a zone by hand: {read(ABOVE, WRITTEN).stdout}")
+    for text, told in BAD.items():
+        said = read(ABOVE, text, 1).stderr
+        if said != f"zone_files.py: {told}\n":
+            fail(f"{text!r}: {said}")
+    print(f"   {len(zones)} zones are read as they were made, and one by hand as named-compilezone writes it out")
+
+
 def check_refusals(register):
     zone = "1.2.10.in-addr.arpa"
     register.add_names(MISFITS)
@@ -263,10 +326,15 @@ def check_refusals(register):
                 "ns.example.net", "--misfits", "skip"], register.lines("example.net"), 1).stderr
     if told != "zone_files.py: ns.example.net: the NS is in the zone and has no address there\n":
         fail(f"an NS without an address: {told}")
-    for words in (["--zone", zone, "--zone", zone], ["--zone", "1.2.3.10.in-addr.arpa"], ["--zone", "1-26.2.0.192.in-addr.arpa"], ["--zone", "example.net"], []):
+    bad_zones = ("1.2.3.10.in-addr.arpa", "1-26.2.0.192.in-addr.arpa", "300.in-addr.arpa", "example.net")
+    for words in (["--zone", zone, "--zone", zone], [], *(["--zone", it] for it in bad_zones)):
         run([SCRIPT, "reverse", *words, *WORDS], "", 2)
-    if run([SCRIPT, "reverse", "--zone", zone, *WORDS], "a IN A 10.0.0.1\n", 1).stderr != "zone_files.py: line 1: not a PTR line\n":
-        fail("another line")
+    run([SCRIPT, "forward", "--zone", "example.net", "--table", "global", "--status", "up", *WORDS], "", 2)
+    for kind, given, told in (("reverse", "a IN A 10.0.0.1\n", "line 1: not a PTR line"), ("reverse", "", "no PTR line is on the input"),
+                              ("forward", "", "no export of ip-addresses is on the input")):
+        words = ["--zone", zone] if kind == "reverse" else ["--zone", "example.net", "--table", "global"]
+        if run([SCRIPT, kind, *words, *WORDS], given, 1).stderr != f"zone_files.py: {told}\n":
+            fail(f"{kind} of {given!r}")
     print("   misfits, an NS without an address, other lines and other words are refused")
 
 
@@ -288,6 +356,7 @@ def main(port=18653):
         for at, server in enumerate(SERVERS):
             check_server(server, folder, zones, port + at, records, 7)
         check_above(folder, zones, port + len(SERVERS), made)
+        check_reading(zones, made)
         check_serials(register, zones)
         check_refusals(register)
     print("zones: all as wanted")

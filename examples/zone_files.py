@@ -4,14 +4,18 @@
     zone_files.py list PREFIX [--ns A,B]                 the reverse zones that a prefix needs, a line each
     ipamd reverse --prefix 1 --db office.db | zone_files.py reverse --zone 2.0.192.in-addr.arpa WORDS
     ipamd export ip-addresses --db office.db | zone_files.py forward --zone example.net --table global WORDS
+    zone_files.py read --zone 2.0.192.in-addr.arpa < FILE | ipamd import ip-addresses --db office.db
 
-WORDS are --primary NAME, --contact MAIL, --ns A,B, and any of --ttl SECONDS (3600), --serial N (1), --into FILE, --misfits skip. --table is global or the
-name of a VRF. --status active,reserved,.. says which addresses `forward` writes (all). Each option has one value, and is given once.
+WORDS are --primary NAME, --contact MAIL, --ns A,B, and any of --ttl SECONDS (3600), --serial N (1), --into FILE, --misfits skip. --table is global or
+the name of a VRF. --status active,reserved,.. says which addresses `forward` writes (all). Each option has one value, and is given once.
 
 Without --into the zone is printed. With it FILE is replaced if anything but the serial differs: the new serial is N if that is ahead of the old one
-(RFC 1982), or else the old one and 1. A line says which it was. Reverse zones end at an octet or a nibble, or are those of RFC 2317 (`0-26.2.0.192.in-addr.arpa`),
-for which `list` prints the lines of the zone above as comments. The lines of other zones are left out. A name that servers refuse for a host (`_`, `-x`) is
-named, and nothing is written; with --misfits skip it is left out, and standard error has their number. An NS in the zone needs an address there.
+(RFC 1982), or else the old one and 1. A line says which it was. Reverse zones end at an octet or a nibble, or are those of RFC 2317
+(`0-26.2.0.192.in-addr.arpa`), for which `list` prints the lines of the zone above as comments. The lines of other zones are left out. A name that servers
+refuse for a host (`_`, `-x`) is named, and nothing is written; with --misfits skip it is left out, and standard error has their number. An NS in the zone
+needs an address there.
+
+`read` takes any zone file (RFC 1035 5.1) without $INCLUDE, and prints the addresses and names of its PTR, A and AAAA records, each once.
 
 The status is 0, 1 if the input or a name is refused, or 2 for other words.
 """
@@ -165,11 +169,11 @@ def pairs(lines):
 
 
 def reverse_records(network, lines, misfits):
-    """The PTR records of a zone, each once, in the order of the lines."""
+    """The PTR records of a zone, each once, in the order of the lines. No line at all is what a command leaves that failed."""
     zone = zone_of(network)
     is_classless = network.version == 4 and network.prefixlen > 24
-    found = {}
-    for address, name in pairs(lines):
+    found, count = {}, 0
+    for count, (address, name) in enumerate(pairs(lines), 1):
         if address.version != network.version or address not in network:
             continue
         if not is_host(name):
@@ -177,6 +181,8 @@ def reverse_records(network, lines, misfits):
             continue
         owner = f"{label_of(address, 3)}.{zone}" if is_classless else address.reverse_pointer
         found[f"{owner}. IN PTR {name}."] = True
+    if count == 0:
+        raise Refused("no PTR line is on the input")
     return list(found)
 
 
@@ -194,19 +200,96 @@ def above(network, servers):
 
 def forward_records(zone, table, statuses, lines, misfits):
     """The A and AAAA records of a zone, each once, in the order of the rows."""
-    found = {}
-    for row in csv.DictReader(lines):
-        if "address" not in row or "dns_name" not in row:
-            raise Refused("not an export of ip-addresses")
+    found, rows = {}, csv.DictReader(lines)
+    if not {"address", "vrf", "status", "dns_name"} <= set(rows.fieldnames or ()):
+        raise Refused("no export of ip-addresses is on the input")
+    for row in rows:
         name = row["dns_name"].lower().removesuffix(".")
         in_zone = name == zone or name.endswith("." + zone)
-        if row.get("vrf", "") != table or (statuses and row.get("status") not in statuses) or not in_zone:
+        if row["vrf"] != table or (statuses and row["status"] not in statuses) or not in_zone:
             continue
         address = ipaddress.ip_interface(row["address"]).ip
         if not is_host(name.removeprefix("*.")):
             misfits.add(f"{address} {name}")
             continue
         found[f"{name}. IN {'A' if address.version == 4 else 'AAAA'} {address}"] = True
+    return list(found)
+
+
+# ---- a zone file that is read
+
+TOKEN = re.compile(r'[ \t\r]+|;.*|([()])|("(?:[^"\\]|\\.)*"|(?:[^ \t\r;()"\\]|\\.)+)|(.)')
+TTL = re.compile(r"(\d+[smhdw]?)+", re.I)
+
+
+def entries(lines):
+    """The entries of a zone file: the line where one begins, whether a blank comes first, and its words. Parentheses join lines."""
+    words, depth, began, is_blank = [], 0, 1, False
+    for at, line in enumerate(lines, 1):
+        line = line.rstrip("\n")
+        if depth == 0:
+            words, began, is_blank = [], at, line[:1] in (" ", "\t")
+        for bracket, word, other in (found.groups() for found in TOKEN.finditer(line)):
+            if other or (bracket == ")" and depth == 0):
+                raise Refused(f"line {at}: not a line of a zone file")
+            depth += {"(": 1, ")": -1}.get(bracket, 0)
+            if word:
+                words.append(word)
+        if depth == 0 and words:
+            yield began, is_blank, words
+    if depth:
+        raise Refused(f"line {began}: a parenthesis is not closed")
+
+
+def absolute(name, origin):
+    """A name with all its labels and without the last period, in lower case."""
+    name = name.lower()
+    if name == "@":
+        return origin
+    return name.removesuffix(".") if name.endswith(".") else f"{name}.{origin}"
+
+
+def records_of(zone, lines):
+    """The line, owner, type and data of each record of the class IN."""
+    origin, owner = zone, None
+    for at, is_blank, words in entries(lines):
+        if words[0].upper() in ("$ORIGIN", "$TTL") and not is_blank:
+            if len(words) != 2:
+                raise Refused(f"line {at}: not a line of a zone file")
+            origin = absolute(words[1], origin) if words[0].upper() == "$ORIGIN" else origin
+            continue
+        if words[0].startswith("$"):
+            raise Refused(f"line {at}: {words[0]} is not read")
+        if not is_blank:
+            owner = absolute(words.pop(0), origin)
+        while words and (words[0].upper() == "IN" or TTL.fullmatch(words[0])):
+            words.pop(0)
+        if owner is None or len(words) < 2:
+            raise Refused(f"line {at}: not a line of a zone file")
+        yield at, owner, words[0].upper(), [absolute(word, origin) for word in words[1:]] if words[0].upper() == "PTR" else words[1:]
+
+
+def host_of(owner, zone):
+    """The address of the owner of a PTR record, also in a zone of RFC 2317."""
+    part, *rest = owner.split(".")
+    if rest and ".".join(rest) == zone and re.match(r"\d+-(2[5-9]|3[0-2])[.]", zone):
+        owner = ".".join([part, *rest[1:]])
+    return address_of(owner)
+
+
+def zone_pairs(zone, lines):
+    """The addresses and names of a zone file, each pair once."""
+    found = {}
+    for at, owner, kind, data in records_of(zone, lines):
+        if kind not in ("PTR", "A", "AAAA"):
+            continue
+        try:
+            address, name = (host_of(owner, zone), data[0]) if kind == "PTR" else (ipaddress.ip_address(data[0]), owner)
+        except (ValueError, Refused):
+            raise Refused(f"line {at}: a {kind} record without an address") from None
+        if len(data) != 1 or "\\" in name or (kind != "PTR" and address.version != (4 if kind == "A" else 6)):
+            raise Refused(f"line {at}: not the {kind} record of a host")
+        found[f"{address},{name}"] = True
     return list(found)
 
 
@@ -261,6 +344,7 @@ def put(zone, asked, records):
     print(f"{path}: serial {serial}, {len(records)} records")
 
 
+STATUSES = {"active", "reserved", "deprecated", "dhcp", "slaac"}
 KNOWN = ("--zone", "--primary", "--contact", "--ns", "--ttl", "--serial", "--into", "--misfits")
 
 
@@ -293,6 +377,8 @@ def make(kind, words):
             raise Usage
         table = "" if found["--table"] == "global" else found["--table"]
         statuses = found["--status"].split(",") if "--status" in found else []
+        if not set(statuses) <= STATUSES:
+            raise Usage
         records = forward_records(zone, table, statuses, sys.stdin, misfits)
     if misfits and "--misfits" not in found:
         raise Refused(f"{min(misfits)}: the name does not fit the zone")
@@ -301,6 +387,13 @@ def make(kind, words):
     if misfits:
         print(f"zone_files.py: {len(misfits)} names left out", file=sys.stderr)
     put(zone, asked, records)
+
+
+def read_zone(words):
+    found = options(words, ("--zone",))
+    if "--zone" not in found:
+        raise Usage
+    print("\n".join(["address,dns_name", *zone_pairs(found["--zone"].lower().removesuffix("."), sys.stdin)]))
 
 
 def list_zones(prefix, words):
@@ -323,6 +416,8 @@ def main(words):
     try:
         if words[:1] == ["list"] and len(words) > 1:
             list_zones(words[1], words[2:])
+        elif words[:1] == ["read"]:
+            read_zone(words[1:])
         elif words[:1] in (["reverse"], ["forward"]):
             make(words[0], words[1:])
         else:
