@@ -33,8 +33,9 @@ BUILT = {"ipamd": ("IPAMD", "./build"), "poold": ("POOLD", "./build poold")}
 SHOWN_BY = {
     "ansible": "ansible-playbook", "bind9": "named", "bind9-dnsutils": "dig", "bind9-utils": "named-checkzone", "binutils": "strip", "chromium": "chromium",
     "chromium-driver": "chromedriver", "curl": "curl", "debootstrap": "debootstrap", "dpkg-dev": "dpkg-shlibdeps", "firefox-esr": "firefox-esr", "gcc": "cc",
-    "iprange": "iprange", "libnginx-mod-http-js": "/usr/lib/nginx/modules/ngx_http_js_module.so", "lintian": "lintian", "nginx-light": "nginx",
-    "nodejs": "node", "openssl": "openssl", "postgresql": "psql", "rustc": "rustc", "socat": "socat", "sqlite3": "sqlite3",
+    "iprange": "iprange", "knot": "knotd", "knot-dnssecutils": "kzonecheck", "libnginx-mod-http-js": "/usr/lib/nginx/modules/ngx_http_js_module.so",
+    "lintian": "lintian", "nginx-light": "nginx", "nodejs": "node", "nsd": "nsd", "openssl": "openssl",
+    "pdns-backend-bind": "/usr/lib/x86_64-linux-gnu/pdns/libbindbackend.so", "postgresql": "psql", "rustc": "rustc", "socat": "socat", "sqlite3": "sqlite3",
     "systemd-container": "systemd-nspawn", "time": "/usr/bin/time", "util-linux": "runuser", "valgrind": "valgrind", "wrk": "wrk",
 }
 
