@@ -3,3 +3,5 @@
 
 #[cfg(test)]
 mod prefix_list_tests;
+#[cfg(test)]
+mod route_tests;

@@ -6,3 +6,6 @@ pub mod Numbers
 pub mod Lines
 pub mod Readings
 pub mod Written
+pub mod Choices
+pub mod Outer
+pub mod Picked

@@ -17,7 +17,7 @@ use std::alloc::{AllocError, Global};
 pub const STEP: u64 = 5;
 
 /// How many bytes a line has after its front, at most.
-pub const LINE_END: usize = 96;
+pub const LINE_END: usize = 128;
 
 /// The protocol as IOS names it.
 fn protocol(family: Family) -> &'static [u8]
@@ -67,8 +67,8 @@ pub fn push_front(
 }
 
 /// Appends bytes for which there is room.
-fn push_all(end: &mut ArrayVec<u8, LINE_END>, more: &[u8])
-    requires { array_vec_len end.old + length more.now ≤ 96 }
+pub(crate) fn push_all(end: &mut ArrayVec<u8, LINE_END>, more: &[u8])
+    requires { array_vec_len end.old + length more.now ≤ 128 }
     ensures items { end.new.items ≡ end.old.items ++ more.now }
     ensures len { array_vec_len end.new ≡ array_vec_len end.old + length more.now }
 {
@@ -79,7 +79,7 @@ fn push_all(end: &mut ArrayVec<u8, LINE_END>, more: &[u8])
 }
 
 /// Appends a line's own number.
-fn push_number(style: Style, number: u64, end: &mut ArrayVec<u8, LINE_END>)
+pub(crate) fn push_number(style: Style, number: u64, end: &mut ArrayVec<u8, LINE_END>)
     requires { array_vec_len end.old ≡ 0 }
     ensures items { end.new.items ≡ end.old.items ++ number_of style number }
     ensures len { array_vec_len end.new ≤ 28 }
