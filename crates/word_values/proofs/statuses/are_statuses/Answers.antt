@@ -1,0 +1,11 @@
+use Rattle.std.proofs.Common.{rules}
+use Rattle.std.proofs.lemmas.Iterator.Search.{all_from_yields_List}
+use Rattle.std.proofs.lemmas.Iterator.Splits.{YieldsList-from_slice_split}
+use Rattle.word_values.specs.Statuses.{is_comma, is_status}
+use Rattle.word_values.proofs.statuses.are_statuses.Goals as goal
+
+pub returns : goal.returns
+returns c =
+    all_from_yields_List is_status _ _ _ c.all.ensures.ran
+    (YieldsList-from_slice_split _ is_comma c.args.text.now c.split.ensures.rest c.split.ensures.done c.split.ensures.closure (λ x r q k. search rules))
+    (λ x b q k. search rules)
