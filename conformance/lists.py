@@ -106,7 +106,7 @@ class Bird:
     def let_in(self, routes):
         asked = "".join(f"eval {route} ~ '{NAME}'\n" for route in routes)
         found = run("birdc", "-s", f"{self.folder}/bird.ctl", given=asked)
-        return [verdict == "TRUE" for verdict in re.findall(r"\b(TRUE|FALSE)\b", found)]
+        return [verdict == "TRUE" for verdict in re.findall(r"TRUE|FALSE", found)]
 
     def end(self):
         stop(f"{self.folder}/bird.pid")
