@@ -127,9 +127,15 @@ def grammar():
     """The options of each command of a program."""
     found = {}
     for program, path in (("ipamd", "crates/command_grammar/src/lib.rt"), ("poold", "crates/pool_words/src/commands.rt")):
-        bodies = re.findall(r"fn (\w+)_command<.*?\n\{\n(.*?)\n\}", read(path), re.S)
-        own = {name: set(re.findall(r'(?:needed|option)\(alloc, "([\w-]+)"\)', body)) | (STORE if "stored(" in body else set()) for name, body in bodies}
-        found[program] = {name.replace("_", "-"): own["list" if "list_command(" in body else name] for name, body in bodies if name not in ("plain", "list")}
+        bodies = dict(re.findall(r"fn (\w+)_command<.*?\n\{\n(.*?)\n\}", read(path), re.S))
+
+        def own(name):
+            """The options that this function adds, and those that the function has which it calls."""
+            body = bodies[name]
+            called = [own(it) for it in re.findall(r"(\w+)_command\(", body) if it in bodies and it != "plain"]
+            return set(re.findall(r'(?:needed|option)\(alloc, "([\w-]+)"\)', body)).union(STORE if "stored(" in body else (), *called)
+
+        found[program] = {name.replace("_", "-"): own(name) for name in bodies if name not in ("plain", "list", "counted")}
     # `version` and `help` are those of both programs
     found["poold"].update((name, found["ipamd"][name]) for name in ("version", "help"))
     return found

@@ -31,12 +31,13 @@ DEBIAN_PYTHON = "/usr/bin/python3"
 BUILT = {"ipamd": ("IPAMD", "./build"), "poold": ("POOLD", "./build poold")}
 # The command or the file that shows that a Debian package is there. A package `python3-NAME` is a module of Debian's python3.
 SHOWN_BY = {
-    "ansible": "ansible-playbook", "bind9": "named", "bind9-dnsutils": "dig", "bind9-utils": "named-checkzone", "binutils": "strip", "chromium": "chromium",
-    "chromium-driver": "chromedriver", "curl": "curl", "debootstrap": "debootstrap", "dpkg-dev": "dpkg-shlibdeps", "firefox-esr": "firefox-esr", "gcc": "cc",
-    "iprange": "iprange", "knot": "knotd", "knot-dnssecutils": "kzonecheck", "libnginx-mod-http-js": "/usr/lib/nginx/modules/ngx_http_js_module.so",
-    "lintian": "lintian", "nginx-light": "nginx", "nodejs": "node", "nsd": "nsd", "openssl": "openssl",
-    "pdns-backend-bind": "/usr/lib/x86_64-linux-gnu/pdns/libbindbackend.so", "postgresql": "psql", "rustc": "rustc", "socat": "socat", "sqlite3": "sqlite3",
-    "systemd-container": "systemd-nspawn", "time": "/usr/bin/time", "util-linux": "runuser", "valgrind": "valgrind", "wrk": "wrk",
+    "ansible": "ansible-playbook", "bind9": "named", "bind9-dnsutils": "dig", "bind9-utils": "named-checkzone", "binutils": "strip", "bird2": "bird",
+    "chromium": "chromium", "chromium-driver": "chromedriver", "curl": "curl", "debootstrap": "debootstrap", "dpkg-dev": "dpkg-shlibdeps",
+    "firefox-esr": "firefox-esr", "frr": "vtysh", "gcc": "cc", "iprange": "iprange", "knot": "knotd", "knot-dnssecutils": "kzonecheck",
+    "libnginx-mod-http-js": "/usr/lib/nginx/modules/ngx_http_js_module.so", "lintian": "lintian", "nginx-light": "nginx", "nodejs": "node", "nsd": "nsd",
+    "openbgpd": "/usr/sbin/bgpd", "openssl": "openssl", "pdns-backend-bind": "/usr/lib/x86_64-linux-gnu/pdns/libbindbackend.so", "postgresql": "psql",
+    "rustc": "rustc", "socat": "socat", "sqlite3": "sqlite3", "systemd-container": "systemd-nspawn", "time": "/usr/bin/time", "util-linux": "runuser",
+    "valgrind": "valgrind", "wrk": "wrk",
 }
 
 

@@ -65,13 +65,17 @@ abbrev pub list_app : List ℕ → App
 list_app name = with_store (with_rule (with_rule (with_rule (with_rule (command_app name) (needed_rule (codes "table"))) (needed_rule (codes "family")))
     (needed_rule (codes "style"))) (needed_rule (codes "name")))
 
--- `prefix-list`
+-- also with `--status A,B`
+abbrev pub counted_app : List ℕ → App
+counted_app name = with_rule (list_app name) (option_rule (codes "status"))
+
+-- `prefix-list`, also with `--match M` and `--le N`
 unfoldable pub prefix_list_app : App
-prefix_list_app = list_app (codes "prefix-list")
+prefix_list_app = with_rule (with_rule (counted_app (codes "prefix-list")) (option_rule (codes "match"))) (option_rule (codes "le"))
 
 -- `prefix-check`
 unfoldable pub prefix_check_app : App
-prefix_check_app = list_app (codes "prefix-check")
+prefix_check_app = counted_app (codes "prefix-check")
 
 -- `reverse --prefix ID`
 unfoldable pub reverse_app : App

@@ -3,6 +3,7 @@ pub mod Vrfs
 pub mod Presence
 pub mod ReadBack
 pub mod Lines
+pub mod RouterTexts
 pub mod Stops
 pub mod Lists
 pub mod Checks

@@ -16,7 +16,7 @@ use Rattle.command_lists.proofs.Listed.{listed_are_of}
 
 module _ (asked : ListAsked) (old new : Stores) (state : State) (found : IsFound asked.store old state) where
   pub read_back : {T : Type 0} (items : T → List Cidr) (r : Result T TableStop) → OnOk r (is_there state asked.table ≡ true)
-      → IfOk r (λ v. items v ≡ table_blocks state asked.table asked.family) → IfOk r (λ v. IsRead asked old (items v))
+      → IfOk r (λ v. items v ≡ table_blocks state asked.table asked.family asked.counted) → IfOk r (λ v. IsRead asked old (items v))
   read_back items (Ok v) there blocks = record { state = state; found = found; there = there; blocks_are = blocks }
   read_back items (Err stop) there blocks = tt
 
@@ -35,6 +35,6 @@ module _ (asked : ListAsked) (old new : Stores) (state : State) (found : IsFound
 
 -- the blocks are of the family
 pub read_are_of : {T : Type 0} (asked : ListAsked) (state : State) (items : T → List Cidr) (r : Result T TableStop)
-    → IfOk r (λ v. items v ≡ table_blocks state asked.table asked.family) → IfOk r (λ v. AreOf asked.family (items v))
-read_are_of asked state items (Ok v) is = subst (AreOf asked.family) (sym is) (listed_are_of (table_named asked.table) asked.family state.prefixes.rows)
+    → IfOk r (λ v. items v ≡ table_blocks state asked.table asked.family asked.counted) → IfOk r (λ v. AreOf asked.family (items v))
+read_are_of asked state items (Ok v) is = subst (AreOf asked.family) (sym is) (listed_are_of (table_named asked.table) asked.family asked.counted state.prefixes.rows)
 read_are_of asked state items (Err stop) is = tt

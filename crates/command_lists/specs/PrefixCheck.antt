@@ -18,7 +18,7 @@ use Rattle.command_lists.specs.PrefixList.{IsLoadedTable, IsAbsent, NamesAbsent,
 abbrev pub IsCheckText : ListAsked → Outside → Outside → List ℕ → Type 0
 IsCheckText asked old new text =
     (state : State) × (list : List Cidr) × IsLoadedTable asked old state × GivesList asked old.streams.input new.streams.input list
-    × IsDifferenceText (table_blocks state asked.table asked.family) list text
+    × IsDifferenceText (table_blocks state asked.table asked.family asked.counted) list text
 
 -- the difference is on the output, and the messages were left alone
 pub record PrintsDifference (asked : ListAsked) (old new : Outside) : Type 0 where

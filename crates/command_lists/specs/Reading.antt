@@ -1,6 +1,7 @@
 -- What is known of a table on its way out of a store, and where that stops.
-use Rattle.std.specs.Prelude.{◌≡◌, ℕ, List, true, Result, Ok, Err}
-use Rattle.inet_num.specs.Net.{Cidr}
+use Rattle.std.specs.Prelude.{◌≡◌, ℕ, Bool, List, [], ◌∷◌, ◌++◌, map, codes, true, false, if◌then◌else◌, Result, Ok, Err}
+use Rattle.inet_num.specs.declared.Family.{Family}
+use Rattle.inet_num.specs.Net.{Address, Cidr}
 use Rattle.ipam_data.specs.declared.kinds.Kind.{Kind}
 use Rattle.ipam_data.specs.declared.replies.View.{View}
 use Rattle.ipam_data.specs.declared.replies.Refusal.{Refusal}
@@ -13,8 +14,16 @@ use Rattle.stored_tables.specs.declared.opening.OpenFault.TheVariants.{Keeper}
 use Rattle.stored_tables.specs.Opening.{IsOfTables}
 use Rattle.ipam_keeper.specs.Keeping.{Rose, started}
 use Rattle.register_core.specs.Opened.{IsOpened, IsUnopened}
-use Rattle.prefix_list.specs.Lists.{addresses_of_list, addresses_beyond}
-use Rattle.prefix_list.specs.Styles.{list_text_of}
+use Rattle.prefix_list.specs.declared.routes.Entry.{Entry}
+use Rattle.prefix_list.specs.declared.styles.ListForm.{ListForm}
+use Rattle.prefix_list.specs.declared.styles.ListForm.TheVariants.{Plain}
+use Rattle.prefix_list.specs.Lists.{addresses_of_list, addresses_beyond, AreOf}
+use Rattle.prefix_list.specs.Routes.{exactly, AreExact, AreOutermost}
+use Rattle.prefix_list.specs.Entries.{entries_from, end_text}
+use Rattle.command_words.specs.declared.asked.StyleName.{StyleName}
+use Rattle.command_words.specs.declared.asked.StyleName.TheVariants as style
+use Rattle.command_words.specs.declared.asked.Matching.{Matching}
+use Rattle.command_words.specs.declared.asked.Matching.TheVariants.{Addresses, Routes, Longer}
 use Rattle.command_words.specs.declared.asked.ListAsked.{ListAsked}
 use Rattle.command_words.specs.declared.asked.Store.{Store}
 use Rattle.command_words.specs.declared.asked.TableName.{TableName}
@@ -25,7 +34,7 @@ use Rattle.command_lists.specs.declared.table.TableStop.TheVariants.{Opening, Ab
 use Rattle.command_lists.specs.declared.list.RouterList.{RouterList}
 use Rattle.command_lists.specs.declared.check.Difference.{Difference}
 use Rattle.command_lists.specs.Tables.{is_there, table_blocks, IsAbsentIn}
-use Rattle.command_lists.specs.Texts.{style_named, AreFewest, numbered_lines}
+use Rattle.command_lists.specs.Texts.{form_named, AreFewest, IsTableText}
 use Rattle.command_lists.specs.Inputs.{GivesList}
 
 -- ---- the VRF
@@ -60,7 +69,7 @@ pub record IsRead (asked : ListAsked) (old : Stores) (blocks : List Cidr) : Type
   pub state : State
   pub found : IsFound asked.store old state
   pub there : is_there state asked.table ≡ true
-  pub blocks_are : blocks ≡ table_blocks state asked.table asked.family
+  pub blocks_are : blocks ≡ table_blocks state asked.table asked.family asked.counted
 
 -- the opening was refused so
 pub record IsOpenStop (store : Store) (old new : Stores) (fault : OpenFault) : Type 0 where
@@ -75,17 +84,47 @@ IsStopped asked old new Memory = Unit {0}
 
 -- ---- the list
 
--- the list has the fewest blocks of the table, and its lines are those of the style
+-- the list's text: what it begins with, the entries, and what it ends with
+abbrev pub router_text : ListForm → RouterList → List ℕ
+router_text form list = (list.head.items ++ entries_from form list.opening.items 5 list.entries.items) ++ list.end.items
+
+-- a line for each entry that is missing, and then one for each that is beyond
+abbrev pub marked_entries : List Entry → List Entry → List ℕ
+marked_entries missing beyond = entries_from Plain (codes "missing ") 5 missing ++ entries_from Plain (codes "beyond ") 5 beyond
+
+-- what was picked of the prefixes of a table
+abbrev pub ArePicked : Matching → Family → List Cidr → List Entry → Type 0
+ArePicked Addresses family prefixes entries =
+    (blocks : List Cidr) × AreFewest (addresses_of_list prefixes) blocks × AreOf family blocks × (entries ≡ map exactly blocks)
+ArePicked Routes family prefixes entries = AreExact prefixes entries
+ArePicked (Longer most) family prefixes entries = AreOutermost most prefixes entries
+
+-- the list has no text but its entries
+abbrev pub is_bare : StyleName → Matching → Bool
+is_bare style.Plain Addresses = true
+is_bare style.Ios Addresses = true
+is_bare style.Junos Addresses = true
+is_bare s m = false
+
+-- what the text ends with
+abbrev pub end_asked : ListAsked → List Entry → List ℕ
+end_asked asked entries =
+    if is_bare asked.style asked.matching then [] else end_text (form_named asked.style asked.matching) asked.name asked.family entries
+
+-- the list's text is that of the table's prefixes
 pub record IsRouterList (asked : ListAsked) (old : Stores) (list : RouterList) : Type 0 where
   pub state : State
   pub found : IsFound asked.store old state
   pub there : is_there state asked.table ≡ true
-  pub fewest : AreFewest (addresses_of_list (table_blocks state asked.table asked.family)) list.blocks.items
-  pub text : numbered_lines (style_named asked.style) list.front.items 5 list.blocks.items ≡ list_text_of (style_named asked.style) asked.name list.blocks.items
+  pub of_table : IsTableText asked state (router_text (form_named asked.style asked.matching) list)
+
+-- the entries are those of the fewest blocks of the addresses
+abbrev pub IsExactly : (Address → Bool) → List Entry → Type 0
+IsExactly set entries = (blocks : List Cidr) × AreFewest set blocks × (entries ≡ map exactly blocks)
 
 -- the input gave a list, and the difference has what the table and the list have beyond each other
 pub record IsCompared (asked : ListAsked) (table : List Cidr) (old new : Told) (found : Difference) : Type 0 where
   pub list : List Cidr
   pub given : GivesList asked old new list
-  pub missing : AreFewest (addresses_beyond table list) found.missing.items
-  pub beyond : AreFewest (addresses_beyond list table) found.beyond.items
+  pub missing : IsExactly (addresses_beyond table list) found.missing.items
+  pub beyond : IsExactly (addresses_beyond list table) found.beyond.items

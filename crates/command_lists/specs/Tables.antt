@@ -6,10 +6,13 @@ use Rattle.inet_num.specs.Blocks.{same_family}
 use Rattle.ipam_data.specs.declared.kinds.Table.{Table}
 use Rattle.ipam_data.specs.declared.kinds.Table.TheVariants.{Global as GlobalTable, Of}
 use Rattle.ipam_data.specs.declared.prefix.Prefix.{Prefix}
+use Rattle.ipam_data.specs.declared.prefix.PrefixStatus.{PrefixStatus}
+use Rattle.ipam_data.specs.declared.prefix.PrefixStatus.TheVariants as status
 use Rattle.ipam_data.specs.RowList.{row_at}
 use Rattle.ipam_data.specs.Rows.{vrf_id}
 use Rattle.ipam_data.specs.State.{State}
 use Rattle.ipam_data.specs.Tables.{table_of, same_table}
+use Rattle.word_values.specs.declared.statuses.Statuses.{Statuses}
 use Rattle.command_words.specs.declared.asked.TableName.{TableName}
 use Rattle.command_words.specs.declared.asked.TableName.TheVariants.{Global, Vrf}
 
@@ -27,14 +30,21 @@ is_there s (Vrf n) = is_some (row_at vrf_id s.vrfs.rows n)
 abbrev pub IsAbsentIn : State → TableName → ℕ → Type 0
 IsAbsentIn s table n = (table ≡ Vrf n) × (row_at vrf_id s.vrfs.rows n ≡ None)
 
--- the prefix is in the table, and its block is of the family
-abbrev pub is_listed : Table → Family → Prefix → Bool
-is_listed table family row = same_table (table_of row.vrf) table && same_family row.block.family family
+-- the status is one of those that count
+abbrev pub is_counted : Statuses → PrefixStatus → Bool
+is_counted counted status.Container = counted.container
+is_counted counted status.Active = counted.active
+is_counted counted status.Reserved = counted.reserved
+is_counted counted status.Deprecated = counted.deprecated
 
--- the blocks of those of the prefixes that are in the table and of the family, in their order
-abbrev pub blocks_listed : Table → Family → List Prefix → List Cidr
-blocks_listed table family rows = map (λ (row : Prefix). row.block) (filter (is_listed table family) rows)
+-- the prefix is in the table, its block is of the family, and its status counts
+abbrev pub is_listed : Table → Family → Statuses → Prefix → Bool
+is_listed table family counted row = same_table (table_of row.vrf) table && same_family row.block.family family && is_counted counted row.status
 
--- the blocks of all prefixes of a table and a family, in the order of their ids: containers and deprecated ones too
-abbrev pub table_blocks : State → TableName → Family → List Cidr
-table_blocks s table family = blocks_listed (table_named table) family s.prefixes.rows
+-- the blocks of those of the prefixes, in their order
+abbrev pub blocks_listed : Table → Family → Statuses → List Prefix → List Cidr
+blocks_listed table family counted rows = map (λ (row : Prefix). row.block) (filter (is_listed table family counted) rows)
+
+-- the blocks of the prefixes of a table and a family whose status counts, in the order of their ids
+abbrev pub table_blocks : State → TableName → Family → Statuses → List Cidr
+table_blocks s table family counted = blocks_listed (table_named table) family counted s.prefixes.rows

@@ -1,6 +1,7 @@
 -- What the two commands print: the fewest blocks of a table in a router's style, and what a table and a list have beyond each other.
-use Rattle.std.specs.Prelude.{◌≡◌, ℕ, ◌+◌, Bool, List, [], ◌∷◌, ◌++◌, codes}
+use Rattle.std.specs.Prelude.{◌≡◌, ℕ, Bool, List, ◌∷◌, [], ◌++◌, map, codes}
 use Rattle.std.specs.List.{flat_map, AllByRecursion}
+use Rattle.inet_num.specs.declared.Family.{Family}
 use Rattle.inet_num.specs.Net.{Address, Cidr, IsBlock}
 use Rattle.inet_num.specs.Free.{InOrder}
 use Rattle.inet_num.specs.Text.{block_text_of}
@@ -8,17 +9,38 @@ use Rattle.ipam_data.specs.State.{State}
 use Rattle.prefix_list.specs.declared.styles.Style.{Style}
 use Rattle.prefix_list.specs.declared.styles.Style.TheVariants as style
 use Rattle.prefix_list.specs.Lists.{addresses_of_list, addresses_beyond, HasJust, NoneIsShorter}
-use Rattle.prefix_list.specs.Styles.{end_of, list_text_of}
+use Rattle.prefix_list.specs.Styles.{list_text_of}
+use Rattle.prefix_list.specs.declared.routes.Entry.{Entry}
+use Rattle.prefix_list.specs.declared.styles.ListForm.{ListForm}
+use Rattle.prefix_list.specs.declared.styles.ListForm.TheVariants as form
+use Rattle.prefix_list.specs.Entries.{entry_text, entries_text}
+use Rattle.prefix_list.specs.Routes.{exactly, AreExact, AreOutermost}
 use Rattle.command_words.specs.declared.asked.ListAsked.{ListAsked}
 use Rattle.command_words.specs.declared.asked.StyleName.{StyleName}
-use Rattle.command_words.specs.declared.asked.StyleName.TheVariants.{Plain, Ios, Junos}
+use Rattle.command_words.specs.declared.asked.StyleName.TheVariants.{Plain, Ios, Junos, IosXr, Bird, OpenBgpd}
+use Rattle.command_words.specs.declared.asked.Matching.{Matching}
+use Rattle.command_words.specs.declared.asked.Matching.TheVariants.{Addresses, Routes, Longer}
 use Rattle.command_lists.specs.Tables.{table_blocks}
 
--- the style of this name
+-- the style of this name in which a list is read; lists of the other three are not read, and `prefix-check` is never asked for one
 abbrev pub style_named : StyleName → Style
 style_named Plain = style.Plain
 style_named Ios = style.Ios
 style_named Junos = style.Junos
+style_named IosXr = style.Plain
+style_named Bird = style.Plain
+style_named OpenBgpd = style.Plain
+
+-- the form in which a list of this style is written
+abbrev pub form_named : StyleName → Matching → ListForm
+form_named Plain matching = form.Plain
+form_named Ios matching = form.Ios
+form_named Junos Addresses = form.Junos
+form_named Junos Routes = form.Junos
+form_named Junos (Longer most) = form.RouteFilter
+form_named IosXr matching = form.IosXr
+form_named Bird matching = form.Bird
+form_named OpenBgpd matching = form.OpenBgpd
 
 -- the blocks are the fewest of a set of addresses: in address order, no address twice, just the addresses of the set, and no shorter
 -- list of blocks has them
@@ -30,11 +52,28 @@ pub record AreFewest (set : Address → Bool) (blocks : List Cidr) : Type 0 wher
 
 -- ---- `prefix-list`
 
--- the text of the list of a state: the style's lines of the fewest blocks of the table's prefixes
+-- the text of blocks as addresses: in three styles the lines alone, so that a list without blocks has no text
+abbrev pub addresses_text : StyleName → List ℕ → Family → List Cidr → List ℕ
+addresses_text Plain name family blocks = list_text_of style.Plain name blocks
+addresses_text Ios name family blocks = list_text_of style.Ios name blocks
+addresses_text Junos name family blocks = list_text_of style.Junos name blocks
+addresses_text IosXr name family blocks = entries_text form.IosXr name family (map exactly blocks)
+addresses_text Bird name family blocks = entries_text form.Bird name family (map exactly blocks)
+addresses_text OpenBgpd name family blocks = entries_text form.OpenBgpd name family (map exactly blocks)
+
+-- the text of a list of these prefixes: of the fewest blocks of their addresses; of the prefixes, each once; or of the outermost ones, up to a length
+abbrev pub IsMatchText : Matching → ListAsked → List Cidr → List ℕ → Type 0
+IsMatchText Addresses asked prefixes text =
+    (blocks : List Cidr) × AreFewest (addresses_of_list prefixes) blocks × (text ≡ addresses_text asked.style asked.name asked.family blocks)
+IsMatchText Routes asked prefixes text =
+    (entries : List Entry) × AreExact prefixes entries × (text ≡ entries_text (form_named asked.style Routes) asked.name asked.family entries)
+IsMatchText (Longer most) asked prefixes text =
+    (entries : List Entry) × AreOutermost most prefixes entries
+    × (text ≡ entries_text (form_named asked.style (Longer most)) asked.name asked.family entries)
+
+-- the text of the list of a state: of the table's prefixes that count
 abbrev pub IsTableText : ListAsked → State → List ℕ → Type 0
-IsTableText asked s text =
-    (blocks : List Cidr) × AreFewest (addresses_of_list (table_blocks s asked.table asked.family)) blocks
-    × (text ≡ list_text_of (style_named asked.style) asked.name blocks)
+IsTableText asked s text = IsMatchText asked.matching asked (table_blocks s asked.table asked.family asked.counted) text
 
 -- ---- `prefix-check`
 
@@ -53,13 +92,8 @@ IsDifferenceText table list text =
     (missing beyond : List Cidr) × AreFewest (addresses_beyond table list) missing × AreFewest (addresses_beyond list table) beyond
     × (text ≡ difference_text missing beyond)
 
--- ---- lines as they are written
+-- ---- entries as they are written
 
--- a front, and what a line of the style has after it
-abbrev pub numbered_line : Style → List ℕ → ℕ → Cidr → List ℕ
-numbered_line style front n b = front ++ end_of style n b
-
--- such a line for each block, the first with this number
-abbrev pub numbered_lines : Style → List ℕ → ℕ → List Cidr → List ℕ
-numbered_lines style front n [] = []
-numbered_lines style front n (b ∷ bs) = numbered_line style front n b ++ numbered_lines style front (n + 5) bs
+-- an opening, and what an entry has after it
+abbrev pub opened_entry : ListForm → List ℕ → ℕ → Entry → List ℕ
+opened_entry form opening n e = opening ++ entry_text form n e

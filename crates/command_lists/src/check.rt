@@ -4,9 +4,8 @@ ghost use Rattle.std.specs.Prelude.{◌≡◌, ◌≤◌, ◌⊎◌, IfOk, IfErr
 ghost use Rattle.prefix_list.specs.Lists.{ShareFamily, AreOf, addresses_beyond};
 ghost use Rattle.command_streams.specs.Streams.{EndsWith, streams, told};
 ghost use Rattle.command_store.specs.Outside.{Stores, AreSame, outside, stores};
-ghost use Rattle.command_lists.specs.Texts.{AreFewest, difference_text};
 ghost use Rattle.command_lists.specs.Inputs.{IsInputStop};
-ghost use Rattle.command_lists.specs.Reading.{IsRead, IsCompared};
+ghost use Rattle.command_lists.specs.Reading.{IsRead, IsExactly, IsCompared, marked_entries};
 ghost use Rattle.command_lists.specs.PrefixCheck.{IsPrefixCheck};
 
 use crate::pieces::write_difference;
@@ -18,24 +17,33 @@ use command_words::ListAsked;
 use inet_num::Block;
 use ipam_edge::{Sink, Source};
 use ipam_keeper::keeper::KeeperOpener;
-use prefix_list::uncovered;
+use prefix_list::{Entry, exact_entries, uncovered};
 use std::alloc::{AllocError, Global};
 
-/// The fewest blocks of the addresses that only the table has, and of those that only the list has.
+/// The entries of the fewest blocks of the addresses that only the table has, and of those that only the list has.
 #[derive(Drop)]
 pub struct Difference {
-    missing: Vec<Block>,
-    beyond: Vec<Block>,
+    missing: Vec<Entry>,
+    beyond: Vec<Entry>,
+}
+
+/// The entries of the fewest blocks of the addresses of `have` that are not in `by`. `Err` means out of memory.
+fn exactly_beyond(alloc: Global, have: &[Block], by: &[Block]) -> Result<Vec<Entry>, AllocError>
+    requires { ShareFamily have.now by.now }
+    ensures { IfOk result (λ v. IsExactly (addresses_beyond have.now by.now) v.items) }
+{
+    let blocks = uncovered(alloc, have, by)?;
+    exact_entries(alloc, &blocks)
 }
 
 /// What a table and a list have beyond each other. `Err` means out of memory.
 fn difference_of(alloc: Global, table: &[Block], list: &[Block]) -> Result<Difference, AllocError>
     requires { ShareFamily table.now list.now }
-    ensures missing { IfOk result (λ d. AreFewest (addresses_beyond table.now list.now) d.missing.items) }
-    ensures beyond { IfOk result (λ d. AreFewest (addresses_beyond list.now table.now) d.beyond.items) }
+    ensures missing { IfOk result (λ d. IsExactly (addresses_beyond table.now list.now) d.missing.items) }
+    ensures beyond { IfOk result (λ d. IsExactly (addresses_beyond list.now table.now) d.beyond.items) }
 {
-    let missing = uncovered(alloc, table, list)?;
-    let beyond = uncovered(alloc, list, table)?;
+    let missing = exactly_beyond(alloc, table, list)?;
+    let beyond = exactly_beyond(alloc, list, table)?;
     Ok(Difference { missing, beyond })
 }
 
@@ -60,7 +68,7 @@ fn compare<So: Source>(
 /// Prints a difference, and gives the status.
 fn print_difference<Si: Sink>(output: &mut Si, found: &Difference) -> u8
     ensures ends { EndsWith (told Si.written Si.faults output.old) (told Si.written Si.faults output.new)
-        (difference_text found.now.missing.items found.now.beyond.items) 0 result }
+        (marked_entries found.now.missing.items found.now.beyond.items) 0 result }
     ensures later { Si.faults output.old ≤ Si.faults output.new }
 {
     match write_difference(output, &found.missing, &found.beyond) {

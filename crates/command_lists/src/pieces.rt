@@ -1,87 +1,118 @@
-//! Lines of blocks, written by pieces of a buffer.
+//! Lists of entries, written through a buffer.
 
+ghost use Rattle.std.specs.Prelude.{◌++◌};
 ghost use Rattle.ipam_edge.specs.Faults.{HasCause};
 ghost use Rattle.ipam_edge.specs.Writing.{WritesAll};
 ghost use Rattle.text_pieces.specs.Pieces.{Puts};
-ghost use Rattle.command_lists.specs.Texts.{numbered_line, numbered_lines, difference_text};
+ghost use Rattle.prefix_list.specs.Entries.{entries_from};
+ghost use Rattle.command_lists.specs.Texts.{opened_entry};
+ghost use Rattle.command_lists.specs.Reading.{marked_entries, router_text};
 
+use crate::list::RouterList;
 use arrayvec::ArrayVec;
-use inet_num::Block;
 use ipam_edge::{Failed, Sink, write_all};
-use prefix_list::{STEP, Style, line_end};
-use text_pieces::{ROOM, put_both};
+use prefix_list::{Entry, ListForm, STEP, entry_end};
+use text_pieces::{ROOM, put, put_both};
 
-/// Puts the line of a block after the piece: a front, and what a line of the style has after it.
-fn put_line<Si: Sink>(
+/// Puts an entry into the buffer: an opening, and what an entry of the form has after it.
+fn put_entry<Si: Sink>(
     output: &mut Si,
     piece: &mut ArrayVec<u8, ROOM>,
-    style: Style,
-    front: &[u8],
+    form: ListForm,
+    opening: &[u8],
     number: u64,
-    block: Block,
+    entry: &Entry,
 ) -> Result<(), Failed>
-    ensures told { Puts (Si.written output.old) (Si.written output.new) piece.old.items piece.new.items (numbered_line style front.now number block) result }
+    ensures told { Puts (Si.written output.old) (Si.written output.new) piece.old.items piece.new.items (opened_entry form opening.now number entry.now) result }
     ensures cause { HasCause (Si.faults output.old) (Si.faults output.new) result }
 {
-    let end = line_end(style, number, block);
-    put_both(output, piece, front, end.as_slice())
+    let end = entry_end(form, number, entry);
+    put_both(output, piece, opening, end.as_slice())
 }
 
-/// Puts a line for each block after the piece.
-fn put_lines<Si: Sink>(
+/// Puts entries into the buffer.
+fn put_entries<Si: Sink>(
     output: &mut Si,
     piece: &mut ArrayVec<u8, ROOM>,
-    style: Style,
-    front: &[u8],
-    blocks: &[Block],
+    form: ListForm,
+    opening: &[u8],
+    entries: &[Entry],
 ) -> Result<(), Failed>
-    ensures told { Puts (Si.written output.old) (Si.written output.new) piece.old.items piece.new.items (numbered_lines style front.now 5 blocks.now) result }
+    ensures told { Puts (Si.written output.old) (Si.written output.new) piece.old.items piece.new.items (entries_from form opening.now 5 entries.now) result }
     ensures cause { HasCause (Si.faults output.old) (Si.faults output.new) result }
 {
     let mut number = STEP;
-    'each: for block in blocks {
-        put_line(output, piece, style, front, number, *block)?;
+    'each: for entry in entries {
+        put_entry(output, piece, form, opening, number, entry)?;
         number += STEP;
     }
     Ok(())
 }
 
-/// Writes a line for each block. It takes no memory but its own buffer.
-pub(crate) fn write_blocks<Si: Sink>(
+/// Puts a list for a router into the buffer, but what it ends with.
+fn put_begun<Si: Sink>(
     output: &mut Si,
-    style: Style,
-    front: &[u8],
-    blocks: &[Block],
+    piece: &mut ArrayVec<u8, ROOM>,
+    form: ListForm,
+    list: &RouterList,
 ) -> Result<(), Failed>
-    ensures told { WritesAll (Si.written output.old) (Si.written output.new) result (numbered_lines style front.now 5 blocks.now) }
+    ensures told { Puts (Si.written output.old) (Si.written output.new) piece.old.items piece.new.items
+        (list.now.head.items ++ entries_from form list.now.opening.items 5 list.now.entries.items) result }
+    ensures cause { HasCause (Si.faults output.old) (Si.faults output.new) result }
+{
+    put(output, piece, &list.head)?;
+    put_entries(output, piece, form, &list.opening, &list.entries)
+}
+
+/// Puts a list for a router into the buffer.
+fn put_list<Si: Sink>(
+    output: &mut Si,
+    piece: &mut ArrayVec<u8, ROOM>,
+    form: ListForm,
+    list: &RouterList,
+) -> Result<(), Failed>
+    ensures told { Puts (Si.written output.old) (Si.written output.new) piece.old.items piece.new.items (router_text form list.now) result }
+    ensures cause { HasCause (Si.faults output.old) (Si.faults output.new) result }
+{
+    put_begun(output, piece, form, list)?;
+    put(output, piece, &list.end)
+}
+
+/// Writes a list for a router. It takes no memory but its own buffer.
+pub(crate) fn write_list<Si: Sink>(
+    output: &mut Si,
+    form: ListForm,
+    list: &RouterList,
+) -> Result<(), Failed>
+    ensures told { WritesAll (Si.written output.old) (Si.written output.new) result (router_text form list.now) }
     ensures cause { HasCause (Si.faults output.old) (Si.faults output.new) result }
 {
     let mut piece = ArrayVec::<u8, ROOM>::new();
-    put_lines(output, &mut piece, style, front, blocks)?;
+    put_list(output, &mut piece, form, list)?;
     write_all(output, piece.as_slice())
 }
 
-/// Puts a line for each block that is missing after the piece, and then one for each that is beyond.
+/// Puts a line for each entry that is missing into the buffer, and then one for each that is beyond.
 fn put_difference<Si: Sink>(
     output: &mut Si,
     piece: &mut ArrayVec<u8, ROOM>,
-    missing: &[Block],
-    beyond: &[Block],
+    missing: &[Entry],
+    beyond: &[Entry],
 ) -> Result<(), Failed>
-    ensures told { Puts (Si.written output.old) (Si.written output.new) piece.old.items piece.new.items (difference_text missing.now beyond.now) result }
+    ensures told { Puts (Si.written output.old) (Si.written output.new) piece.old.items piece.new.items (marked_entries missing.now beyond.now) result }
     ensures cause { HasCause (Si.faults output.old) (Si.faults output.new) result }
 {
-    put_lines(output, piece, Style::Plain, b"missing ", missing)?;
-    put_lines(output, piece, Style::Plain, b"beyond ", beyond)
+    put_entries(output, piece, ListForm::Plain, b"missing ", missing)?;
+    put_entries(output, piece, ListForm::Plain, b"beyond ", beyond)
 }
 
-/// Writes a line for each block that is missing, and then one for each that is beyond. It takes no memory but its own buffer.
+/// Writes a line for each entry that is missing, and then one for each that is beyond. It takes no memory but its own buffer.
 pub(crate) fn write_difference<Si: Sink>(
     output: &mut Si,
-    missing: &[Block],
-    beyond: &[Block],
+    missing: &[Entry],
+    beyond: &[Entry],
 ) -> Result<(), Failed>
-    ensures told { WritesAll (Si.written output.old) (Si.written output.new) result (difference_text missing.now beyond.now) }
+    ensures told { WritesAll (Si.written output.old) (Si.written output.new) result (marked_entries missing.now beyond.now) }
     ensures cause { HasCause (Si.faults output.old) (Si.faults output.new) result }
 {
     let mut piece = ArrayVec::<u8, ROOM>::new();

@@ -40,14 +40,17 @@ impl From<AllocError> for InputStop {
     }
 }
 
-/// The style of this name.
-pub(crate) fn style_named(style: StyleName) -> Style
+/// The style of this name in which a list is read. Lists of the last three are not read, and `prefix-check` is never asked for one.
+fn style_named(style: StyleName) -> Style
     ensures { result ≡ style_of_name style }
 {
     match style {
         StyleName::Plain => Style::Plain,
         StyleName::Ios => Style::Ios,
         StyleName::Junos => Style::Junos,
+        StyleName::IosXr => Style::Plain,
+        StyleName::Bird => Style::Plain,
+        StyleName::OpenBgpd => Style::Plain,
     }
 }
 

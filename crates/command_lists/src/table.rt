@@ -4,15 +4,15 @@ ghost use Rattle.std.specs.Prelude.{◌≡◌, ◌≤◌, ◌⊎◌, ◌<◌, �
 ghost use Rattle.prefix_list.specs.Lists.{AreOf};
 ghost use Rattle.command_words.specs.declared.asked.TableName.TheVariants.{Vrf};
 ghost use Rattle.command_store.specs.Outside.{AreSame, stores};
-ghost use Rattle.command_lists.specs.Tables.{table_named as table_of_name, is_there, is_listed, blocks_listed, table_blocks};
+ghost use Rattle.command_lists.specs.Tables.{table_named as table_of_name, is_there, is_counted, is_listed, blocks_listed, table_blocks};
 ghost use Rattle.command_lists.specs.Reading.{IsStopBy, IsAnswer, IsTableStop, IsRead, IsStopped};
 
 use command_store::open_store;
-use command_words::{ListAsked, TableName};
+use command_words::{ListAsked, Statuses, TableName};
 use inet_num::{Block, Family, is_one_family};
 use ipam_data::calls::Call;
 use ipam_data::kinds::{Kind, Table, is_one_table};
-use ipam_data::prefix::Prefix;
+use ipam_data::prefix::{Prefix, PrefixStatus};
 use ipam_data::replies::{Refusal, Reply};
 use ipam_keeper::keeper::{Keeper, KeeperOpener};
 use register_core::Register;
@@ -116,23 +116,38 @@ fn ask_table<K: Keeper>(register: &mut Register<K>, table: TableName) -> Result<
     }
 }
 
-/// Whether a prefix is in the table, and its block is of the family.
-fn is_listed(table: Table, family: Family, row: &Prefix) -> bool
-    ensures { result ≡ is_listed table family row.now }
+/// Whether the status is one of those that count.
+fn is_counted(counted: Statuses, status: PrefixStatus) -> bool
+    ensures { result ≡ is_counted counted status }
 {
-    is_one_table(Table::of(row.vrf), table) && is_one_family(row.block.family(), family)
+    match status {
+        PrefixStatus::Container => counted.container,
+        PrefixStatus::Active => counted.active,
+        PrefixStatus::Reserved => counted.reserved,
+        PrefixStatus::Deprecated => counted.deprecated,
+    }
 }
 
-/// Puts the block of a prefix after the others if it is in the table and of the family.
+/// Whether a prefix is in the table, its block is of the family, and its status counts.
+fn is_listed(table: Table, family: Family, counted: Statuses, row: &Prefix) -> bool
+    ensures { result ≡ is_listed table family counted row.now }
+{
+    is_one_table(Table::of(row.vrf), table)
+        && is_one_family(row.block.family(), family)
+        && is_counted(counted, row.status)
+}
+
+/// Puts the block of a prefix after the others if it is in the table and of the family, and its status counts.
 fn keep_listed(
     blocks: &mut Vec<Block>,
     table: Table,
     family: Family,
+    counted: Statuses,
     row: &Prefix,
 ) -> Result<(), AllocError>
-    ensures { OnOk result (blocks.new.items ≡ blocks.old.items ++ blocks_listed table family (row.now ∷ [])) }
+    ensures { OnOk result (blocks.new.items ≡ blocks.old.items ++ blocks_listed table family counted (row.now ∷ [])) }
 {
-    if is_listed(table, family, row) {
+    if is_listed(table, family, counted, row) {
         blocks.push(row.block)?;
     }
     Ok(())
@@ -156,20 +171,21 @@ fn prefix_count<K: Keeper>(register: &Register<K>) -> u32
     register.prefixes().len()
 }
 
-/// The blocks of all prefixes of a table and a family, in one pass over the prefixes.
+/// The blocks of the prefixes of a table and a family whose status counts, in one pass over the prefixes.
 fn blocks_of<K: Keeper>(
     alloc: Global,
     register: &Register<K>,
     table: Table,
     family: Family,
+    counted: Statuses,
 ) -> Result<Vec<Block>, AllocError>
-    ensures { IfOk result (λ v. v.items ≡ blocks_listed table family register.now.state.prefixes.rows) }
+    ensures { IfOk result (λ v. v.items ≡ blocks_listed table family counted register.now.state.prefixes.rows) }
 {
     let mut blocks = Vec::new(alloc);
     let count = prefix_count(register);
     'prefixes: for index in 0..count {
         let row = prefix_at(register, index);
-        keep_listed(&mut blocks, table, family, row)?;
+        keep_listed(&mut blocks, table, family, counted, row)?;
     }
     Ok(blocks)
 }
@@ -179,17 +195,18 @@ fn blocks_in<K: Keeper>(
     alloc: Global,
     table: TableName,
     family: Family,
+    counted: Statuses,
     register: &mut Register<K>,
 ) -> Result<Vec<Block>, TableStop>
     ensures there { OnOk result (is_there register.old.state table ≡ true) }
-    ensures blocks { IfOk result (λ v. v.items ≡ table_blocks register.old.state table family) }
+    ensures blocks { IfOk result (λ v. v.items ≡ table_blocks register.old.state table family counted) }
     ensures stop { IfErr result (IsTableStop register.old.state table (K.faults register.old.keeper) (K.faults register.new.keeper)) }
     ensures told { K.told register.new.keeper ≡ K.told register.old.keeper }
     ensures later { K.faults register.old.keeper ≤ K.faults register.new.keeper }
     ensures still { IsErrOf result (TableStop.Opening OpenFault.Keeper) ⊎ (K.faults register.new.keeper ≡ K.faults register.old.keeper) }
 {
     ask_table(register, table)?;
-    let blocks = blocks_of(alloc, register, table_named(table), family)?;
+    let blocks = blocks_of(alloc, register, table_named(table), family, counted)?;
     Ok(blocks)
 }
 
@@ -210,7 +227,13 @@ pub(crate) fn read_table<O: KeeperOpener>(
     match open_store(alloc, &asked.store, opener) {
         Ok(register) => {
             let mut register = register;
-            let blocks = blocks_in(alloc, asked.table, asked.family, &mut register);
+            let blocks = blocks_in(
+                alloc,
+                asked.table,
+                asked.family,
+                asked.counted,
+                &mut register,
+            );
             opener.done(register.into_keeper());
             blocks
         }

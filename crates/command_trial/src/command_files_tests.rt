@@ -100,6 +100,14 @@ const CASES: [&str; 18] = [
 0|prefix-list --table global --family 4 --style plain --name OFFICE --db a||10.0.0.0/23;10.0.2.0/24;|
 0|prefix-list --table global --family 4 --style junos --name OFFICE --db a||set policy-options prefix-list OFFICE 10.0.0.0/23;set policy-options prefix-list OFFICE 10.0.2.0/24;|
 0|prefix-list --table global --family 6 --style ios --name OFFICE --db a|||
+0|prefix-list --table global --family 4 --style ios --name OFFICE --match routes --db a||ip prefix-list OFFICE seq 5 permit 10.0.0.0/24;ip prefix-list OFFICE seq 10 permit 10.0.1.0/24;ip prefix-list OFFICE seq 15 permit 10.0.1.128/25;ip prefix-list OFFICE seq 20 permit 10.0.2.0/24;|
+0|prefix-list --table global --family 4 --style ios --name OFFICE --match longer --le 24 --db a||ip prefix-list OFFICE seq 5 permit 10.0.0.0/24;ip prefix-list OFFICE seq 10 permit 10.0.1.0/24;ip prefix-list OFFICE seq 15 permit 10.0.2.0/24;|
+0|prefix-list --table global --family 4 --style junos --name OFFICE --match longer --le 25 --db a||set policy-options route-filter-list OFFICE 10.0.0.0/24 upto /25;set policy-options route-filter-list OFFICE 10.0.1.0/24 upto /25;set policy-options route-filter-list OFFICE 10.0.2.0/24 upto /25;|
+0|prefix-list --table global --family 4 --style plain --name OFFICE --match longer --db a||10.0.0.0/24 le 32;10.0.1.0/24 le 32;10.0.2.0/24 le 32;|
+0|prefix-list --table global --family 6 --style ios --name OFFICE --match routes --db a||ipv6 prefix-list OFFICE seq 5 deny ::/0 le 128;|
+0|prefix-list --table global --family 6 --style iosxr --name OFFICE --db a||prefix-set OFFICE;end-set;|
+0|prefix-list --table global --family 4 --style plain --name OFFICE --status reserved,deprecated --db a|||
+0|prefix-check --table global --family 4 --style plain --name OFFICE --status reserved --db a|10.0.0.0/24;|beyond 10.0.0.0/24;|
 0|prefix-check --table global --family 4 --style plain --name OFFICE --db a|10.0.0.0/24;10.0.2.0/23;|missing 10.0.1.0/24;beyond 10.0.3.0/24;|
 0|prefix-check --table global --family 4 --style ios --name OFFICE --db a|ip prefix-list OFFICE seq 7 permit 10.0.2.0/24;;ip prefix-list OFFICE seq 7 permit 10.0.0.0/23||
 0|prefix-check --table global --family 4 --style plain --name OFFICE --db a|<4194304:;>|missing 10.0.0.0/23;missing 10.0.2.0/24;|
@@ -113,6 +121,10 @@ const CASES: [&str; 18] = [
 0|prefix-list --table global --family 4 --style plain --name X --db a||0.0.0.0/0;|
 0|prefix-list --table global --family 6 --style ios --name X --db a||ipv6 prefix-list X seq 5 permit 2001:db8::/32;|
 0|prefix-list --table global --family 6 --style plain --name X --db a||2001:db8::/32;|
+0|prefix-list --table global --family 4 --style plain --name X --status container --db a||0.0.0.0/1;|
+0|prefix-list --table global --family 4 --style plain --name X --match longer --le 8 --status deprecated,active --db a||128.0.0.0/1 le 8;|
+0|prefix-list --table global --family 6 --style openbgpd --name X --db a||prefix-set "X" {;  2001:db8::/32;};|
+0|prefix-list --table global --family 6 --style openbgpd --name X --match longer --le 48 --db a||prefix-set "X" {;  2001:db8::/33 prefixlen 33 - 48,;  2001:db8:8000::/33 prefixlen 33 - 48;};|
 0|prefix-list --table 1 --family 4 --style plain --name X --db a|||
 0|prefix-check --table 1 --family 6 --style junos --name X --db a|set policy-options prefix-list X 2001:db8::/32;|beyond 2001:db8::/32;|
 1|prefix-check --table global --family 6 --style junos --name X --db a|set policy-options prefix-list Y 2001:db8::/32;||line 1: not of the style;

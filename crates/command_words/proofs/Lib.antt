@@ -1,3 +1,4 @@
 pub mod Found
 pub mod Unique
 pub mod Help
+pub mod Matches

@@ -5,7 +5,7 @@ use Rattle.std.proofs.lemmas.Fmt.{decimal_injective, digits_decimal}
 use Rattle.std.proofs.lemmas.Str.Parse.{digit_at, numerals_by_value, tells_digits}
 use Rattle.inet_num.specs.declared.Family.{Family}
 use Rattle.inet_num.specs.declared.Family.TheVariants.{V4, V6}
-use Rattle.inet_num.specs.Net.{Cidr}
+use Rattle.inet_num.specs.Net.{Cidr, width_of}
 use Rattle.inet_num.proofs.Readings.{reading_is_one}
 use Rattle.clap.specs.Walk.{Row}
 use Rattle.clap.specs.Words.{first_of}
@@ -19,8 +19,13 @@ use Rattle.command_words.specs.declared.asked.Mirroring.{Mirroring}
 use Rattle.command_words.specs.declared.asked.TableName.{TableName}
 use Rattle.command_words.specs.declared.asked.TableName.TheVariants.{Global, Vrf}
 use Rattle.command_words.specs.declared.asked.StyleName.{StyleName}
-use Rattle.command_words.specs.declared.asked.StyleName.TheVariants.{Plain, Ios, Junos}
+use Rattle.command_words.specs.declared.asked.StyleName.TheVariants.{Plain, Ios, Junos, IosXr, Bird, OpenBgpd}
 use Rattle.command_words.specs.declared.asked.ListAsked.{ListAsked}
+use Rattle.command_words.specs.declared.asked.Matching.{Matching}
+use Rattle.command_words.specs.declared.asked.Matching.TheVariants as matching
+use Rattle.word_values.specs.declared.statuses.Statuses.{Statuses}
+use Rattle.word_values.specs.Statuses.{IsStatusesValue}
+use Rattle.command_words.specs.Matching.{IsMatchValue}
 use Rattle.command_words.specs.declared.asked.Command.{Command}
 use Rattle.command_words.specs.declared.asked.Command.TheVariants as command
 use Rattle.command_words.specs.declared.asked.CommandName.{CommandName}
@@ -117,6 +122,9 @@ one_style : (s t : StyleName) → sum (style_word s) ≡ sum (style_word t) → 
 one_style Plain Plain e = refl
 one_style Ios Ios e = refl
 one_style Junos Junos e = refl
+one_style IosXr IosXr e = refl
+one_style Bird Bird e = refl
+one_style OpenBgpd OpenBgpd e = refl
 one_style s t e = absurd (omega arith)
 
 styles_are_one : (text : Option (List ℕ)) (s t : StyleName) → IsStyleValue text s → IsStyleValue text t → s ≡ t
@@ -125,6 +133,37 @@ styles_are_one text s t h k = one_style s t (ap sum (one_of_two (style_word s) (
 one_name : (text : Option (List ℕ)) (s t : List ℕ) → IsNameValue text s → IsNameValue text t → s ≡ t
 one_name None s t h k = absurd h
 one_name (Some text) s t h k = h.0 ∙ sym k.0
+
+none_is_some : (text : Option (List ℕ)) (word : List ℕ) → text ≡ None → text ≡ Some word → ⊥
+none_is_some text word h k = cc
+
+not_one : (one other : List ℕ) → (sum one ≡ sum other → ⊥) → Some one ≡ Some other → ⊥
+not_one one other differ e = differ (ap sum (one_of_two one other e))
+
+-- `addresses`, or nothing, is no other word
+not_addresses : (text : Option (List ℕ)) (other : List ℕ) → (text ≡ None) ⊎ (text ≡ Some (codes "addresses")) → text ≡ Some other → (sum (codes "addresses") ≡ sum other → ⊥) → ⊥
+not_addresses text other (inl none) is differ = none_is_some text other none is
+not_addresses text other (inr named) is differ = not_one (codes "addresses") other differ (sym named ∙ is)
+
+width_below : (family : Family) → width_of family < 2 ^ 64
+width_below V4 = omega arith
+width_below V6 = omega arith
+
+one_match : (family : Family) (text most : Option (List ℕ)) (m n : Matching) → IsMatchValue family text most m → IsMatchValue family text most n → m ≡ n
+one_match family text most matching.Addresses matching.Addresses h k = refl
+one_match family text most matching.Routes matching.Routes h k = refl
+one_match family text most (matching.Longer i) (matching.Longer j) h k =
+    ap matching.Longer (one_number_or (width_of family) (width_of family) most i j (width_below family) h.1 k.1)
+one_match family text most matching.Addresses matching.Routes h k = absurd (not_addresses text (codes "routes") h.0 k.0 (λ e. omega arith))
+one_match family text most matching.Addresses (matching.Longer j) h k = absurd (not_addresses text (codes "longer") h.0 k.0 (λ e. omega arith))
+one_match family text most matching.Routes matching.Addresses h k = absurd (not_addresses text (codes "routes") k.0 h.0 (λ e. omega arith))
+one_match family text most matching.Routes (matching.Longer j) h k = absurd (not_one (codes "routes") (codes "longer") (λ e. omega arith) (sym h.0 ∙ k.0))
+one_match family text most (matching.Longer i) matching.Addresses h k = absurd (not_addresses text (codes "longer") k.0 h.0 (λ e. omega arith))
+one_match family text most (matching.Longer i) matching.Routes h k = absurd (not_one (codes "longer") (codes "routes") (λ e. omega arith) (sym h.0 ∙ k.0))
+
+one_statuses : (text : Option (List ℕ)) (s t : Statuses) → IsStatusesValue text s → IsStatusesValue text t → s ≡ t
+one_statuses None s t h k = h ∙ sym k
+one_statuses (Some text) s t h k = h.1 ∙ sym k.1
 
 one_store : (rows : List Row) (s t : Store) → IsStore rows s → IsStore rows t → s ≡ t
 one_store rows s t h k =
@@ -160,12 +199,19 @@ one_list rows a b h k =
     let family : a.family ≡ b.family = families_are_one (first_of (codes "family") rows) a.family b.family h.family k.family in
     let style : a.style ≡ b.style = styles_are_one (first_of (codes "style") rows) a.style b.style h.style k.style in
     let name : a.name ≡ b.name = one_name (first_of (codes "name") rows) a.name b.name h.name k.name in
+    let matching : a.matching ≡ b.matching =
+    one_match b.family (first_of (codes "match") rows) (first_of (codes "le") rows) a.matching b.matching
+    (subst (λ (f : Family). IsMatchValue f (first_of (codes "match") rows) (first_of (codes "le") rows) a.matching) family h.matching) k.matching in
+    let counted : a.counted ≡ b.counted = one_statuses (first_of (codes "status") rows) a.counted b.counted h.counted k.counted in
     let store : a.store ≡ b.store = one_store rows a.store b.store h.store k.store in
-    let first : a ≡ record b { style = a.style; name = a.name; store = a.store } =
+    let first : a ≡ record b { style = a.style; name = a.name; matching = a.matching; counted = a.counted; store = a.store } =
     ap₂ (λ (t : TableName) (f : Family). record a { table = t; family = f }) table family in
-    let second : record b { style = a.style; name = a.name; store = a.store } ≡ record b { store = a.store } =
-    ap₂ (λ (s : StyleName) (n : List ℕ). record b { style = s; name = n; store = a.store }) style name in
-    first ∙ second ∙ ap (λ (s : Store). record b { store = s }) store
+    let second : record b { style = a.style; name = a.name; matching = a.matching; counted = a.counted; store = a.store }
+    ≡ record b { matching = a.matching; counted = a.counted; store = a.store } =
+    ap₂ (λ (s : StyleName) (n : List ℕ). record b { style = s; name = n; matching = a.matching; counted = a.counted; store = a.store }) style name in
+    let third : record b { matching = a.matching; counted = a.counted; store = a.store } ≡ record b { store = a.store } =
+    ap₂ (λ (m : Matching) (c : Statuses). record b { matching = m; counted = c; store = a.store }) matching counted in
+    first ∙ second ∙ third ∙ ap (λ (s : Store). record b { store = s }) store
 
 -- the sum of a name's letters, its first one twice: it tells the commands' names apart
 abbrev pub mark : List ℕ → ℕ
@@ -189,9 +235,6 @@ one_command names.Version names.Version e = refl
 one_command names.Help names.Help e = refl
 one_command n m e = absurd (omega arith)
 
-none_given : (text : Option (List ℕ)) (word : List ℕ) → text ≡ None → text ≡ Some word → ⊥
-none_given text word h k = cc
-
 about_mark : (t : Topic) → (mark (name_of (command.About t)) ≡ mark (codes "version")) ⊎ (mark (name_of (command.About t)) ≡ mark (codes "help"))
 about_mark topic.Version = inl refl
 about_mark topic.Commands = inr refl
@@ -208,7 +251,7 @@ one_named words (command.Import i s) (command.Import j t) e h k = ap₂ command.
 one_named words (command.Export i s) (command.Export j t) e h k = ap₂ command.Export (kinds_are_one _ i j h.0 k.0) (one_store _ s t h.1 k.1)
 one_named words (command.Report q s) (command.Report r t) e h k = ap₂ command.Report (one_report _ _ q r h.0 k.0) (one_store _ s t h.1 k.1)
 one_named words (command.PrefixList a) (command.PrefixList b) e h k = ap command.PrefixList (one_list _ a b h k)
-one_named words (command.PrefixCheck a) (command.PrefixCheck b) e h k = ap command.PrefixCheck (one_list _ a b h k)
+one_named words (command.PrefixCheck a) (command.PrefixCheck b) e h k = ap command.PrefixCheck (one_list _ a b h.0 k.0)
 one_named words (command.Reverse m s) (command.Reverse n t) e h k = ap₂ command.Reverse (one_number most_id _ m n (omega arith) h.0 k.0) (one_store _ s t h.1 k.1)
 one_named words command.ReverseRead command.ReverseRead e h k = refl
 one_named words (command.Migrate d p) (command.Migrate e q) same h k = ap₂ command.Migrate (one_text _ d e h.0 k.0) (one_given_answer _ p q h.1 k.1)
@@ -216,8 +259,8 @@ one_named words (command.Load m w) (command.Load n v) e h k =
     ap₂ command.Load (one_number most_claims _ m n (omega arith) h.0 k.0) (one_number_or 1 most_workers _ w v (omega arith) h.1 k.1)
 one_named words (command.About topic.Version) (command.About topic.Version) e h k = refl
 one_named words (command.About topic.Commands) (command.About topic.Commands) e h k = refl
-one_named words (command.About topic.Commands) (command.About (topic.Command n)) e h k = absurd (none_given _ (command_word n) h k)
-one_named words (command.About (topic.Command n)) (command.About topic.Commands) e h k = absurd (none_given _ (command_word n) k h)
+one_named words (command.About topic.Commands) (command.About (topic.Command n)) e h k = absurd (none_is_some _ (command_word n) h k)
+one_named words (command.About (topic.Command n)) (command.About topic.Commands) e h k = absurd (none_is_some _ (command_word n) k h)
 one_named words (command.About (topic.Command n)) (command.About (topic.Command m)) e h k =
     ap (λ (x : CommandName). command.About (topic.Command x)) (one_command n m (ap mark (one_of_two (command_word n) (command_word m) (sym h ∙ k))))
 one_named words (command.About t) other e h k = absurd (elim (about_mark t) [ inl i ↦ omega arith | inr i ↦ omega arith ])

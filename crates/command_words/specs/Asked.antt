@@ -1,5 +1,5 @@
 -- Which command the arguments ask for: its name comes first, the arguments are some that it takes, and they give its values.
-use Rattle.std.specs.Prelude.{◌≡◌, ℕ, List, ◌∷◌, Option, MatchOption, codes}
+use Rattle.std.specs.Prelude.{◌≡◌, ℕ, true, List, ◌∷◌, Option, MatchOption, codes}
 use Rattle.clap.specs.Simple.{App}
 use Rattle.clap.specs.Walk.{Row}
 use Rattle.clap.specs.Words.{first_of}
@@ -14,7 +14,9 @@ use Rattle.command_words.specs.declared.asked.CommandName.TheVariants as names
 use Rattle.command_words.specs.declared.asked.Topic.{Topic}
 use Rattle.command_words.specs.declared.asked.Topic.TheVariants.{Version, Commands, Command as OfCommand}
 use Rattle.command_grammar.specs.Grammar.{Takes, given, free_app, session_app, serve_app, mirror_app, import_app, export_app, report_app, prefix_list_app, prefix_check_app, reverse_app, reverse_read_app, migrate_app, load_app, version_app, help_app}
-use Rattle.command_words.specs.Values.{most_workers, most_readers, most_connections, most_claims, most_id, IsBlockValue, IsNumberValue, IsNumberOr, IsTextValue, IsTextOrNone, IsYesValue, IsAnswerValue, IsKindValue, IsReportValue, IsTableValue, IsFamilyValue, IsStyleValue, IsNameValue, IsTopicValue, command_word, main_name}
+use Rattle.word_values.specs.Statuses.{IsStatusesValue}
+use Rattle.command_words.specs.Matching.{IsMatchValue}
+use Rattle.command_words.specs.Values.{most_workers, most_readers, most_connections, most_claims, most_id, IsBlockValue, IsNumberValue, IsNumberOr, IsTextValue, IsTextOrNone, IsYesValue, IsAnswerValue, IsKindValue, IsReportValue, IsTableValue, IsFamilyValue, IsStyleValue, IsNameValue, IsTopicValue, is_read, command_word, main_name}
 
 -- which command it is
 abbrev pub name_in : Command → CommandName
@@ -84,6 +86,8 @@ pub record IsListAsked (rows : List Row) (asked : ListAsked) : Type 0 where
   pub family : IsFamilyValue (first_of (codes "family") rows) asked.family
   pub style : IsStyleValue (first_of (codes "style") rows) asked.style
   pub name : IsNameValue (first_of (codes "name") rows) asked.name
+  pub matching : IsMatchValue asked.family (first_of (codes "match") rows) (first_of (codes "le") rows) asked.matching
+  pub counted : IsStatusesValue (first_of (codes "status") rows) asked.counted
   pub store : IsStore rows asked.store
 
 -- what was given are the values of the command
@@ -96,7 +100,7 @@ HasValues rows (Import kind store) = IsKindValue (first_of (codes "kind") rows) 
 HasValues rows (Export kind store) = IsKindValue (first_of (codes "kind") rows) kind × IsStore rows store
 HasValues rows (Report report store) = IsReportValue (first_of (codes "name") rows) (first_of (codes "prefix") rows) report × IsStore rows store
 HasValues rows (PrefixList asked) = IsListAsked rows asked
-HasValues rows (PrefixCheck asked) = IsListAsked rows asked
+HasValues rows (PrefixCheck asked) = IsListAsked rows asked × (is_read asked.style ≡ true)
 HasValues rows (Reverse prefix store) = IsNumberValue most_id (first_of (codes "prefix") rows) prefix × IsStore rows store
 HasValues rows ReverseRead = Unit {0}
 HasValues rows (Migrate db populated) = IsTextValue (first_of (codes "db") rows) db × IsAnswerValue (first_of (codes "populated") rows) populated

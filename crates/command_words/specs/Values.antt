@@ -17,7 +17,7 @@ use Rattle.command_words.specs.declared.asked.Topic.TheVariants.{Version, Comman
 use Rattle.command_words.specs.declared.asked.TableName.{TableName}
 use Rattle.command_words.specs.declared.asked.TableName.TheVariants.{Global, Vrf}
 use Rattle.command_words.specs.declared.asked.StyleName.{StyleName}
-use Rattle.command_words.specs.declared.asked.StyleName.TheVariants.{Plain, Ios, Junos}
+use Rattle.command_words.specs.declared.asked.StyleName.TheVariants.{Plain, Ios, Junos, IosXr, Bird, OpenBgpd}
 
 -- the most readers of a mirror
 abbrev pub most_readers : ℕ
@@ -85,6 +85,18 @@ abbrev pub style_word : StyleName → List ℕ
 style_word Plain = codes "plain"
 style_word Ios = codes "ios"
 style_word Junos = codes "junos"
+style_word IosXr = codes "iosxr"
+style_word Bird = codes "bird"
+style_word OpenBgpd = codes "openbgpd"
+
+-- a list of this style is read too
+abbrev pub is_read : StyleName → Bool
+is_read Plain = true
+is_read Ios = true
+is_read Junos = true
+is_read IosXr = false
+is_read Bird = false
+is_read OpenBgpd = false
 
 -- a style by its name
 abbrev pub IsStyleValue : Option (List ℕ) → StyleName → Type 0

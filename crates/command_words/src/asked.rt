@@ -1,7 +1,7 @@
 //! What the program can be asked for.
 
 use inet_num::{Block, Family};
-use word_values::WordText;
+use word_values::{Statuses, WordText};
 
 /// A kind of record, by the name that its paths have.
 #[derive(Clone, Copy, Debug)]
@@ -62,15 +62,31 @@ pub enum StyleName {
     Plain,
     Ios,
     Junos,
+    IosXr,
+    Bird,
+    OpenBgpd,
 }
 
-/// A prefix list of the blocks of one family in a table of a register: its style and its name.
+/// What a prefix list lets in.
+#[derive(Clone, Copy, Debug)]
+pub enum Matching {
+    /// The addresses, as the fewest blocks.
+    Addresses,
+    /// The prefixes alone.
+    Routes,
+    /// What is inside a prefix and no longer than this.
+    Longer(u8),
+}
+
+/// A prefix list of the prefixes of one family in a table of a register: its style, its name and what it lets in.
 #[derive(Debug, Drop)]
 pub struct ListAsked {
     pub table: TableName,
     pub family: Family,
     pub style: StyleName,
     pub name: WordText,
+    pub matching: Matching,
+    pub counted: Statuses,
     pub store: Store,
 }
 

@@ -7,6 +7,7 @@ ghost use Rattle.command_words.specs.Asked.{Asks, IsNoCommand, WordsAskForOne};
 mod about;
 mod asked;
 mod lists;
+mod matching;
 mod migrating;
 mod mirroring;
 mod readers;
@@ -15,8 +16,8 @@ mod zones;
 
 use about::{command_named, read_help, read_version};
 pub use asked::{
-    Command, CommandName, KindName, ListAsked, Mirroring, Report, Serving, Store, StyleName,
-    TableName, Topic,
+    Command, CommandName, KindName, ListAsked, Matching, Mirroring, Report, Serving, Store,
+    StyleName, TableName, Topic,
 };
 use lists::{read_prefix_check, read_prefix_list};
 use migrating::read_migrate;
@@ -25,7 +26,7 @@ use readers::{
     read_export, read_free, read_import, read_load, read_report, read_serve, read_session,
 };
 use std::alloc::{AllocError, Global};
-pub use word_values::WordText;
+pub use word_values::{Statuses, WordText};
 use word_values::{first_word, main_name};
 use zones::{read_reverse, read_reverse_read};
 

@@ -2,17 +2,18 @@
 
 ghost use Rattle.std.specs.Prelude.{◌≡◌, ◌≢◌, ℕ, Option, List, Some, codes, map, option_map, IfOk, MatchOption};
 ghost use Rattle.clap.specs.Words.{found_of, rows_of};
-ghost use Rattle.command_words.specs.Values.{IsTableValue, IsFamilyValue, IsStyleValue, IsNameValue, family_word, style_word};
+ghost use Rattle.command_words.specs.Values.{IsTableValue, IsFamilyValue, IsStyleValue, IsNameValue, is_read, family_word, style_word};
 ghost use Rattle.command_words.specs.Asked.{IsListAsked, IsReadAs};
 
 use crate::asked::{Command, ListAsked, StyleName, TableName};
+use crate::matching::match_value;
 use crate::values::{MOST_ID, store_value};
 use clap::ArgMatches;
 use command_grammar::{parse, prefix_check_command, prefix_list_command, value};
 use inet_num::Family;
 use list_name::is_list_name;
 use std::alloc::{AllocError, Global};
-use word_values::{WordText, is_word, number_of};
+use word_values::{WordText, is_word, number_of, statuses_value};
 
 /// The table that the text names.
 fn table_named(text: &str) -> Option<TableName>
@@ -73,6 +74,15 @@ fn style_named(text: &str) -> Option<StyleName>
     if is_word(text, "junos") {
         return Some(StyleName::Junos);
     }
+    if is_word(text, "iosxr") {
+        return Some(StyleName::IosXr);
+    }
+    if is_word(text, "bird") {
+        return Some(StyleName::Bird);
+    }
+    if is_word(text, "openbgpd") {
+        return Some(StyleName::OpenBgpd);
+    }
     None
 }
 
@@ -115,6 +125,12 @@ fn list_value<'a>(alloc: Global, matches: &ArgMatches<'a>) -> Result<Option<List
     let Some(name) = name_value(alloc, value(matches, "name"))? else {
         return Ok(None);
     };
+    let Some(matching) = match_value(family, value(matches, "match"), value(matches, "le")) else {
+        return Ok(None);
+    };
+    let Some(counted) = statuses_value(value(matches, "status")) else {
+        return Ok(None);
+    };
     let Some(store) = store_value(alloc, matches)? else {
         return Ok(None);
     };
@@ -123,6 +139,8 @@ fn list_value<'a>(alloc: Global, matches: &ArgMatches<'a>) -> Result<Option<List
         family,
         style,
         name,
+        matching,
+        counted,
         store,
     }))
 }
@@ -145,6 +163,20 @@ pub(crate) fn read_prefix_list<'a>(
     Ok(Some(Command::PrefixList(asked)))
 }
 
+/// Whether a list of this style is read too.
+fn is_read(style: StyleName) -> bool
+    ensures { result ≡ is_read style }
+{
+    match style {
+        StyleName::Plain => true,
+        StyleName::Ios => true,
+        StyleName::Junos => true,
+        StyleName::IosXr => false,
+        StyleName::Bird => false,
+        StyleName::OpenBgpd => false,
+    }
+}
+
 /// Reads the words of `prefix-check`. `Err` means out of memory.
 #[tactic(auto, using(command_grammar::proofs::Plain::prefix_check_is_plain))]
 pub(crate) fn read_prefix_check<'a>(
@@ -160,5 +192,8 @@ pub(crate) fn read_prefix_check<'a>(
     let Some(asked) = list_value(alloc, &matches)? else {
         return Ok(None);
     };
+    if !is_read(asked.style) {
+        return Ok(None);
+    }
     Ok(Some(Command::PrefixCheck(asked)))
 }

@@ -88,11 +88,14 @@ Prints a report: tree (the prefixes), utilization (how full prefixes are), or fr
 /// What `prefix-list` takes.
 const PREFIX_LIST: &str =
     "usage: ipamd prefix-list --table T --family F --style S --name NAME [OPTIONS]
-Prints the prefixes of a table, as the fewest blocks, in the form of a router.
+Prints the prefixes of a table as a list for a router.
   --table global|ID      the global table, or that of the VRF with this id
   --family 4|6           IPv4 or IPv6
-  --style plain|ios|junos the form of the list
+  --style S              the form of the list: plain, ios, junos, iosxr, bird or openbgpd
   --name NAME            the name of the list
+  --match M              addresses: the fewest blocks; routes: each prefix; longer: also what is inside a prefix (addresses)
+  --le N                 for longer alone: up to this length (32 or 128)
+  --status A,B           which prefixes count, of container, active, reserved, deprecated (all)
   --db FILE              the SQLite file of the register; without it an empty register in memory
   --global-unique yes|no whether the global table refuses a block or an address that it has already (yes)
 ";
@@ -105,6 +108,7 @@ Compares a list of a router, on standard input, with the prefixes of a table.
   --family 4|6           IPv4 or IPv6
   --style plain|ios|junos the form of the list
   --name NAME            the name of the list
+  --status A,B           which prefixes count, of container, active, reserved, deprecated (all)
   --db FILE              the SQLite file of the register; without it an empty register in memory
   --global-unique yes|no whether the global table refuses a block or an address that it has already (yes)
 ";

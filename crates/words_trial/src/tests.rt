@@ -108,13 +108,46 @@ prefix-list --table global --family 4 --style plain --name -a | None
 prefix-list --table global --family 4 --style plain --name 012345678901234567890123456789012345678901234567890123456789abcde | None
 prefix-list --table global --family 4 --style plain --name N --db= | None
 prefix-list --table global --family 4 --style plain --name N --global-unique maybe | None
-prefix-list --table global --family 4 --style plain --name N | Some(PrefixList(ListAsked { table: Global, family: V4, style: Plain, name: WordText { string: \"N\" }, store: Store { db: None, global_unique: true } }))
-prefix-list --name 012345678901234567890123456789012345678901234567890123456789abcd --style ios --family 6 --table 1 | Some(PrefixList(ListAsked { table: Vrf(1), family: V6, style: Ios, name: WordText { string: \"012345678901234567890123456789012345678901234567890123456789abcd\" }, store: Store { db: None, global_unique: true } }))
-prefix-list --global-unique no --name=-a_Z --style=junos --family=6 --table=4294967295 --db f | Some(PrefixList(ListAsked { table: Vrf(4294967295), family: V6, style: Junos, name: WordText { string: \"-a_Z\" }, store: Store { db: Some(WordText { string: \"f\" }), global_unique: false } }))
+prefix-list --table global --family 4 --style plain --name N | Some(PrefixList(ListAsked { table: Global, family: V4, style: Plain, name: WordText { string: \"N\" }, matching: Addresses, counted: Statuses { container: true, active: true, reserved: true, deprecated: true }, store: Store { db: None, global_unique: true } }))
+prefix-list --name 012345678901234567890123456789012345678901234567890123456789abcd --style ios --family 6 --table 1 | Some(PrefixList(ListAsked { table: Vrf(1), family: V6, style: Ios, name: WordText { string: \"012345678901234567890123456789012345678901234567890123456789abcd\" }, matching: Addresses, counted: Statuses { container: true, active: true, reserved: true, deprecated: true }, store: Store { db: None, global_unique: true } }))
+prefix-list --global-unique no --name=-a_Z --style=junos --family=6 --table=4294967295 --db f | Some(PrefixList(ListAsked { table: Vrf(4294967295), family: V6, style: Junos, name: WordText { string: \"-a_Z\" }, matching: Addresses, counted: Statuses { container: true, active: true, reserved: true, deprecated: true }, store: Store { db: Some(WordText { string: \"f\" }), global_unique: false } }))
+prefix-list --table global --family 4 --style plain --name N --match addresses | Some(PrefixList(ListAsked { table: Global, family: V4, style: Plain, name: WordText { string: \"N\" }, matching: Addresses, counted: Statuses { container: true, active: true, reserved: true, deprecated: true }, store: Store { db: None, global_unique: true } }))
+prefix-list --table global --family 4 --style plain --name N --match routes | Some(PrefixList(ListAsked { table: Global, family: V4, style: Plain, name: WordText { string: \"N\" }, matching: Routes, counted: Statuses { container: true, active: true, reserved: true, deprecated: true }, store: Store { db: None, global_unique: true } }))
+prefix-list --table global --family 4 --style plain --name N --match longer | Some(PrefixList(ListAsked { table: Global, family: V4, style: Plain, name: WordText { string: \"N\" }, matching: Longer(32), counted: Statuses { container: true, active: true, reserved: true, deprecated: true }, store: Store { db: None, global_unique: true } }))
+prefix-list --table global --family 6 --style plain --name N --match longer | Some(PrefixList(ListAsked { table: Global, family: V6, style: Plain, name: WordText { string: \"N\" }, matching: Longer(128), counted: Statuses { container: true, active: true, reserved: true, deprecated: true }, store: Store { db: None, global_unique: true } }))
+prefix-list --table global --family 4 --style plain --name N --match longer --le 24 | Some(PrefixList(ListAsked { table: Global, family: V4, style: Plain, name: WordText { string: \"N\" }, matching: Longer(24), counted: Statuses { container: true, active: true, reserved: true, deprecated: true }, store: Store { db: None, global_unique: true } }))
+prefix-list --table global --family 6 --style plain --name N --le=64 --match=longer | Some(PrefixList(ListAsked { table: Global, family: V6, style: Plain, name: WordText { string: \"N\" }, matching: Longer(64), counted: Statuses { container: true, active: true, reserved: true, deprecated: true }, store: Store { db: None, global_unique: true } }))
+prefix-list --table global --family 4 --style plain --name N --match longer --le 33 | None
+prefix-list --table global --family 6 --style plain --name N --match longer --le 129 | None
+prefix-list --table global --family 4 --style plain --name N --match longer --le 0 | None
+prefix-list --table global --family 4 --style plain --name N --match longer --le 024 | None
+prefix-list --table global --family 4 --style plain --name N --le 24 | None
+prefix-list --table global --family 4 --style plain --name N --match routes --le 24 | None
+prefix-list --table global --family 4 --style plain --name N --match addresses --le 24 | None
+prefix-list --table global --family 4 --style plain --name N --match Longer | None
+prefix-list --table global --family 4 --style plain --name N --match= | None
+prefix-list --table global --family 4 --style plain --name N --match routes --match routes | None
+prefix-list --table global --family 4 --style plain --name N --match longer --le 24 --le 24 | None
+prefix-list --table global --family 4 --style plain --name N --status active,reserved,deprecated | Some(PrefixList(ListAsked { table: Global, family: V4, style: Plain, name: WordText { string: \"N\" }, matching: Addresses, counted: Statuses { container: false, active: true, reserved: true, deprecated: true }, store: Store { db: None, global_unique: true } }))
+prefix-list --table global --family 4 --style plain --name N --status container | Some(PrefixList(ListAsked { table: Global, family: V4, style: Plain, name: WordText { string: \"N\" }, matching: Addresses, counted: Statuses { container: true, active: false, reserved: false, deprecated: false }, store: Store { db: None, global_unique: true } }))
+prefix-list --table global --family 4 --style plain --name N --status active,active | Some(PrefixList(ListAsked { table: Global, family: V4, style: Plain, name: WordText { string: \"N\" }, matching: Addresses, counted: Statuses { container: false, active: true, reserved: false, deprecated: false }, store: Store { db: None, global_unique: true } }))
+prefix-list --table global --family 4 --style plain --name N --status active, | None
+prefix-list --table global --family 4 --style plain --name N --status= | None
+prefix-list --table global --family 4 --style plain --name N --status Active | None
+prefix-list --table global --family 4 --style plain --name N --status active,dhcp | None
+prefix-list --table global --family 4 --style plain --name N --status active --status active | None
+prefix-list --table global --family 4 --style iosxr --name N | Some(PrefixList(ListAsked { table: Global, family: V4, style: IosXr, name: WordText { string: \"N\" }, matching: Addresses, counted: Statuses { container: true, active: true, reserved: true, deprecated: true }, store: Store { db: None, global_unique: true } }))
+prefix-list --table global --family 4 --style bird --name N --match longer --le 24 | Some(PrefixList(ListAsked { table: Global, family: V4, style: Bird, name: WordText { string: \"N\" }, matching: Longer(24), counted: Statuses { container: true, active: true, reserved: true, deprecated: true }, store: Store { db: None, global_unique: true } }))
+prefix-list --table global --family 4 --style openbgpd --name N | Some(PrefixList(ListAsked { table: Global, family: V4, style: OpenBgpd, name: WordText { string: \"N\" }, matching: Addresses, counted: Statuses { container: true, active: true, reserved: true, deprecated: true }, store: Store { db: None, global_unique: true } }))
+prefix-check --table global --family 4 --style plain --name N --status active | Some(PrefixCheck(ListAsked { table: Global, family: V4, style: Plain, name: WordText { string: \"N\" }, matching: Addresses, counted: Statuses { container: false, active: true, reserved: false, deprecated: false }, store: Store { db: None, global_unique: true } }))
+prefix-check --table global --family 4 --style plain --name N --match routes | None
+prefix-check --table global --family 4 --style bird --name N | None
+prefix-check --table global --family 4 --style iosxr --name N | None
+prefix-check --table global --family 4 --style openbgpd --name N | None
 prefix-check --table global --family 4 --style plain | None
 prefix-check --table 0 --family 4 --style plain --name N | None
-prefix-check --table 7 --family 4 --style ios --name OFFICE | Some(PrefixCheck(ListAsked { table: Vrf(7), family: V4, style: Ios, name: WordText { string: \"OFFICE\" }, store: Store { db: None, global_unique: true } }))
-prefix-check --db f --global-unique no --table global --family 6 --style junos --name OFFICE | Some(PrefixCheck(ListAsked { table: Global, family: V6, style: Junos, name: WordText { string: \"OFFICE\" }, store: Store { db: Some(WordText { string: \"f\" }), global_unique: false } }))
+prefix-check --table 7 --family 4 --style ios --name OFFICE | Some(PrefixCheck(ListAsked { table: Vrf(7), family: V4, style: Ios, name: WordText { string: \"OFFICE\" }, matching: Addresses, counted: Statuses { container: true, active: true, reserved: true, deprecated: true }, store: Store { db: None, global_unique: true } }))
+prefix-check --db f --global-unique no --table global --family 6 --style junos --name OFFICE | Some(PrefixCheck(ListAsked { table: Global, family: V6, style: Junos, name: WordText { string: \"OFFICE\" }, matching: Addresses, counted: Statuses { container: true, active: true, reserved: true, deprecated: true }, store: Store { db: Some(WordText { string: \"f\" }), global_unique: false } }))
 reverse | None
 reverse 1 | None
 reverse --prefix 0 | None

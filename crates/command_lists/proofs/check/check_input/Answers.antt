@@ -1,7 +1,9 @@
 use Rattle.std.proofs.Common.{refl, arith, subst, List}
 use Rattle.std.proofs.Math.Logic.{⊎_map}
 use Rattle.inet_num.specs.Net.{Cidr}
-use Rattle.command_lists.specs.Texts.{IsDifferenceText, difference_text}
+use Rattle.command_lists.specs.Texts.{IsDifferenceText}
+use Rattle.command_lists.specs.Reading.{marked_entries}
+use Rattle.command_lists.proofs.RouterTexts.{marked_is}
 use Rattle.command_lists.proofs.Checks.{of_printed, of_no_list}
 use Rattle.command_lists.proofs.Stops.{not_want, of_input_stop, quiet_input_stop}
 use Rattle.command_lists.proofs.check.check_input.Goals as goal
@@ -17,8 +19,13 @@ returns-in-Ok g c = λ old new read same still.
       found.list,
       record { loaded = read.found; there = read.there },
       found.given,
-      subst (λ (bs : List Cidr). IsDifferenceText bs found.list (difference_text c.in-Ok.found.missing.items c.in-Ok.found.beyond.items)) read.blocks_are
-          (c.in-Ok.found.missing.items, c.in-Ok.found.beyond.items, found.missing, found.beyond, refl),
+      subst (λ (bs : List Cidr). IsDifferenceText bs found.list (marked_entries c.in-Ok.found.missing.items c.in-Ok.found.beyond.items)) read.blocks_are (
+        found.missing.0,
+        found.beyond.0,
+        found.missing.1,
+        found.beyond.1,
+        marked_is c.in-Ok.found.missing.items c.in-Ok.found.beyond.items found.missing.0 found.beyond.0 found.missing.2 found.beyond.2,
+      ),
     ) c.print_difference.ensures.ends refl
 
 pub returns-in-Err : goal.returns-in-Err

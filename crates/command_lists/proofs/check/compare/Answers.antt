@@ -1,7 +1,7 @@
 use Rattle.std.proofs.Common.{sym, subst, List}
 use Rattle.inet_num.specs.Net.{Cidr}
 use Rattle.prefix_list.specs.Lists.{addresses_beyond, AreOf}
-use Rattle.command_lists.specs.Texts.{AreFewest}
+use Rattle.command_lists.specs.Reading.{IsExactly}
 use Rattle.command_lists.proofs.check.compare.Goals as goal
 
 pub difference_of-requires : goal.difference_of-requires
@@ -13,6 +13,6 @@ returns-clause-compared g c =
     record {
       list = c.in_ok-list.list.items;
       given = c.in_ok-list.ensures.list;
-      missing = subst (λ (bs : List Cidr). AreFewest (addresses_beyond table bs) c.in_ok-found.found.missing.items) c.deref.ensures.value c.in_ok-found.ensures.missing;
-      beyond = subst (λ (bs : List Cidr). AreFewest (addresses_beyond bs table) c.in_ok-found.found.beyond.items) c.deref.ensures.value c.in_ok-found.ensures.beyond;
+      missing = subst (λ (bs : List Cidr). IsExactly (addresses_beyond table bs) c.in_ok-found.found.missing.items) c.deref.ensures.value c.in_ok-found.ensures.missing;
+      beyond = subst (λ (bs : List Cidr). IsExactly (addresses_beyond bs table) c.in_ok-found.found.beyond.items) c.deref.ensures.value c.in_ok-found.ensures.beyond;
     }

@@ -10,7 +10,7 @@ returns-in-Ok g c = λ input.
     of_printed c.args.asked.now _ _ _ c.list_of.ensures.same
     (record { streams = record { input = omega arith; output = c.print_list.ensures.later; errors = omega arith }; stores = c.list_of.ensures.later })
     (λ five. absurd (not_want _ _ _ _ c.print_list.ensures.ends five))
-    _ (list.state, record { loaded = list.found; there = list.there }, (c.in-Ok.list.blocks.items, list.fewest, list.text)) c.print_list.ensures.ends refl refl
+    _ (list.state, record { loaded = list.found; there = list.there }, list.of_table) c.print_list.ensures.ends refl refl
 
 pub returns-in-Err : goal.returns-in-Err
 returns-in-Err g c = λ input.
