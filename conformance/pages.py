@@ -241,6 +241,9 @@ POOL_STEPS = [
     pools("""curl -s -d '{"name":"voice"}' $U/vlan-groups/3/available-vlans/""", r'\A\{"group":3,"id":5,"name":"voice","vid":100\}\Z'),
     pools("curl -s $U/vlan-groups/3/vlans/", r'\A\[\{"group":3,"id":5,"name":"voice","vid":100\}\]\Z'),
     pools("curl -s -X DELETE $U/vlans/5/", r"\A\Z"),
+    pools("""curl -s -d '{"asn":64520,"name":"edge"}' $U/asn-ranges/1/asns/""", r'\A\{"asn":64520,"id":6,"name":"edge","range":1\}\Z'),
+    pools("""curl -s -d '[{"vid":110,"name":"voice"},{"vid":120,"name":"data"}]' $U/vlan-groups/3/vlans/""",
+          r'\A\[\{"group":3,"id":7,"name":"voice","vid":110\},\{"group":3,"id":8,"name":"data","vid":120\}\]\Z'),
     None,
     clients("./poold serve --bind 127.0.0.1:8081 --workers 4 &", "", stays=True),
     clients("curl -s --retry 9 --retry-connrefused -o /dev/null http://127.0.0.1:8081/", r"\A\Z"),
@@ -275,6 +278,7 @@ ELSE = [
     ("docs/OPERATING.md", "5 * ", "a line of cron, which conformance/run copies runs"),
     ("docs/OPERATING.md", "10 * ", "a line of cron, which conformance/run copies runs"),
     ("docs/OPERATING.md", "15 * ", "a line of cron, which conformance/run copies runs"),
+    ("docs/OPERATING.md", "ipamd-from", "conformance/run copies runs it"),
     ("docs/OPERATING.md", "HTTP/1.1 507", "conformance/run full_log sees it"),
     ("docs/OPERATING.md", '{"code":"limit"', "conformance/run full_log sees it"),
 ] + ([] if os.access(POOLD, os.X_OK) else [
