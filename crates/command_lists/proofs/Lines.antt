@@ -67,11 +67,11 @@ module _ (form : ListForm) (opening : List ℕ) where
 alone : (form : ListForm) (b : Cidr) → length_text form (exactly b) ≡ alone_text form
 alone form b = (let same : (b.len == b.len) ≡ true = grind (arith, nat_tests) in rw same refl)
 
-regroup : (f n t r : List ℕ) → (f ++ (n ++ (t ++ ([] ++ 10 ∷ [])))) ++ r ≡ (f ++ (n ++ t)) ++ 10 ∷ r
+regroup : (f n t r : List ℕ) → (f ++ (n ++ t ++ [] ++ 10 ∷ [])) ++ r ≡ (f ++ (n ++ t)) ++ 10 ∷ r
 regroup f n t r = simp append_assoc
 
-one_alone : (form : ListForm) (opening : List ℕ) (n : ℕ) (b : Cidr) → opened_entry form opening n (exactly b) ≡ opening ++ (place_text form n ++ (block_text_of b ++ (alone_text form ++ close_of form)))
-one_alone form opening n b = ap (λ (t : List ℕ). opening ++ (place_text form n ++ (block_text_of b ++ (t ++ close_of form)))) (alone form b)
+one_alone : (form : ListForm) (opening : List ℕ) (n : ℕ) (b : Cidr) → opened_entry form opening n (exactly b) ≡ opening ++ (place_text form n ++ block_text_of b ++ alone_text form ++ close_of form)
+one_alone form opening n b = ap (λ (t : List ℕ). opening ++ (place_text form n ++ block_text_of b ++ t ++ close_of form)) (alone form b)
 
 -- in three styles entries of one length are the lines of their blocks
 pub plain_lines : (name : List ℕ) (family : Family) (n : ℕ) (bs : List Cidr) → AreOf family bs → entries_from Plain (opening_of Plain name family) n (map exactly bs) ≡ lines_from style.Plain name n bs
@@ -104,5 +104,5 @@ lines_of_word word n (b ∷ bs) =
     ap (λ (t : List ℕ). opened_entry Plain word n (exactly b) ++ t) (lines_of_word word (n + 5) bs)
     ∙ ap (λ (t : List ℕ). t ++ flat_map (marked_line word) bs) (one_alone Plain word n b ∙ whole word (block_text_of b))
   where
-    whole : (f t : List ℕ) → f ++ ([] ++ (t ++ ([] ++ 10 ∷ []))) ≡ f ++ t ++ 10 ∷ []
+    whole : (f t : List ℕ) → f ++ ([] ++ t ++ [] ++ 10 ∷ []) ≡ f ++ t ++ 10 ∷ []
     whole f t = simp append_assoc
