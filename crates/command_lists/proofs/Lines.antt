@@ -1,5 +1,5 @@
 -- Entries with an opening and a number: one more of them, and what they are in a style and behind a word.
-use Rattle.std.proofs.Common.{◌≡◌, ℕ, ◌+◌, ◌*◌, ◌<◌, ◌==◌, refl, sym, ◌∙◌, ap, subst, arith, true, List, [], ◌∷◌, ◌++◌, length, map, take, drop, get_or, Option, Result, append_assoc, append-nil, take-append-drop}
+use Rattle.std.proofs.Common.{◌≡◌, ℕ, ◌+◌, ◌*◌, ◌<◌, ◌==◌, refl, sym, ◌∙◌, ap, subst, arith, true, List, [], ◌∷◌, ◌++◌, length, map, take, drop, get_or, Option, append_assoc, append-nil, take-append-drop}
 use Rattle.std.specs.List.{flat_map}
 use Rattle.std.proofs.lemmas.Bool.Decides.{nat_tests}
 use Rattle.std.proofs.lemmas.List.{take_more, length-take-le}
@@ -14,9 +14,9 @@ use Rattle.prefix_list.specs.declared.styles.ListForm.TheVariants.{Plain, Ios, J
 use Rattle.prefix_list.specs.Lists.{AreOf}
 use Rattle.prefix_list.specs.Styles.{front_of, number_of, lines_from}
 use Rattle.prefix_list.specs.Routes.{exactly}
-use Rattle.prefix_list.specs.Entries.{opening_of, place_text, length_text, alone_text, close_of, entry_text, entries_from}
+use Rattle.prefix_list.specs.Entries.{opening_of, place_text, length_text, alone_text, close_of, entries_from}
 use Rattle.command_lists.specs.Texts.{opened_entry, marked_line}
-use Rattle.text_pieces.specs.Pieces.{Passes, Puts}
+use Rattle.text_pieces.specs.Pieces.{Passes}
 use Rattle.text_pieces.proofs.Passing.{passes_both, front_both, front_first}
 
 module _ (form : ListForm) (opening : List ℕ) where
