@@ -1,5 +1,5 @@
 -- Entries with an opening and a number: one more of them, and what they are in a style and behind a word.
-use Rattle.std.proofs.Common.{◌≡◌, ℕ, ◌+◌, ◌*◌, ◌<◌, ◌==◌, refl, sym, ◌∙◌, ap, subst, arith, true, List, [], ◌∷◌, ◌++◌, length, map, take, drop, get_or, Option, Result, append_assoc, append-nil, take-append-drop}
+use Rattle.std.proofs.Common.{◌≡◌, ℕ, ◌+◌, ◌*◌, ◌<◌, ◌==◌, refl, sym, ◌∙◌, ap, subst, arith, true, List, [], ◌∷◌, ◌++◌, length, map, take, drop, get_or, Option, append_assoc, append-nil, take-append-drop}
 use Rattle.std.specs.List.{flat_map}
 use Rattle.std.proofs.lemmas.Bool.Decides.{nat_tests}
 use Rattle.std.proofs.lemmas.List.{take_more, length-take-le}
@@ -14,9 +14,9 @@ use Rattle.prefix_list.specs.declared.styles.ListForm.TheVariants.{Plain, Ios, J
 use Rattle.prefix_list.specs.Lists.{AreOf}
 use Rattle.prefix_list.specs.Styles.{front_of, number_of, lines_from}
 use Rattle.prefix_list.specs.Routes.{exactly}
-use Rattle.prefix_list.specs.Entries.{opening_of, place_text, length_text, alone_text, close_of, entry_text, entries_from}
+use Rattle.prefix_list.specs.Entries.{opening_of, place_text, length_text, alone_text, close_of, entries_from}
 use Rattle.command_lists.specs.Texts.{opened_entry, marked_line}
-use Rattle.text_pieces.specs.Pieces.{Passes, Puts}
+use Rattle.text_pieces.specs.Pieces.{Passes}
 use Rattle.text_pieces.proofs.Passing.{passes_both, front_both, front_first}
 
 module _ (form : ListForm) (opening : List ℕ) where
@@ -67,11 +67,11 @@ module _ (form : ListForm) (opening : List ℕ) where
 alone : (form : ListForm) (b : Cidr) → length_text form (exactly b) ≡ alone_text form
 alone form b = (let same : (b.len == b.len) ≡ true = grind (arith, nat_tests) in rw same refl)
 
-regroup : (f n t r : List ℕ) → (f ++ (n ++ (t ++ ([] ++ 10 ∷ [])))) ++ r ≡ (f ++ (n ++ t)) ++ 10 ∷ r
+regroup : (f n t r : List ℕ) → (f ++ (n ++ t ++ [] ++ 10 ∷ [])) ++ r ≡ (f ++ (n ++ t)) ++ 10 ∷ r
 regroup f n t r = simp append_assoc
 
-one_alone : (form : ListForm) (opening : List ℕ) (n : ℕ) (b : Cidr) → opened_entry form opening n (exactly b) ≡ opening ++ (place_text form n ++ (block_text_of b ++ (alone_text form ++ close_of form)))
-one_alone form opening n b = ap (λ (t : List ℕ). opening ++ (place_text form n ++ (block_text_of b ++ (t ++ close_of form)))) (alone form b)
+one_alone : (form : ListForm) (opening : List ℕ) (n : ℕ) (b : Cidr) → opened_entry form opening n (exactly b) ≡ opening ++ (place_text form n ++ block_text_of b ++ alone_text form ++ close_of form)
+one_alone form opening n b = ap (λ (t : List ℕ). opening ++ (place_text form n ++ block_text_of b ++ t ++ close_of form)) (alone form b)
 
 -- in three styles entries of one length are the lines of their blocks
 pub plain_lines : (name : List ℕ) (family : Family) (n : ℕ) (bs : List Cidr) → AreOf family bs → entries_from Plain (opening_of Plain name family) n (map exactly bs) ≡ lines_from style.Plain name n bs
@@ -104,5 +104,5 @@ lines_of_word word n (b ∷ bs) =
     ap (λ (t : List ℕ). opened_entry Plain word n (exactly b) ++ t) (lines_of_word word (n + 5) bs)
     ∙ ap (λ (t : List ℕ). t ++ flat_map (marked_line word) bs) (one_alone Plain word n b ∙ whole word (block_text_of b))
   where
-    whole : (f t : List ℕ) → f ++ ([] ++ (t ++ ([] ++ 10 ∷ []))) ≡ f ++ t ++ 10 ∷ []
+    whole : (f t : List ℕ) → f ++ ([] ++ t ++ [] ++ 10 ∷ []) ≡ f ++ t ++ 10 ∷ []
     whole f t = simp append_assoc

@@ -1,21 +1,19 @@
 -- The text of a list for a router, of what was picked of the prefixes of a table.
-use Rattle.std.proofs.Common.{◌≡◌, ℕ, refl, sym, ◌∙◌, ap, subst, List, [], ◌++◌, map, codes, append-nil}
+use Rattle.std.proofs.Common.{◌≡◌, ℕ, refl, sym, ◌∙◌, ap, subst, List, ◌++◌, map, codes, append-nil}
 use Rattle.std.specs.List.{flat_map}
-use Rattle.inet_num.specs.declared.Family.{Family}
 use Rattle.inet_num.specs.Net.{Cidr}
 use Rattle.prefix_list.specs.declared.routes.Entry.{Entry}
-use Rattle.prefix_list.specs.declared.styles.ListForm.{ListForm}
 use Rattle.prefix_list.specs.declared.styles.ListForm.TheVariants.{Plain}
 use Rattle.prefix_list.specs.Lists.{AreOf}
 use Rattle.prefix_list.specs.Routes.{exactly}
-use Rattle.prefix_list.specs.Entries.{head_of, opening_of, entries_from, end_text}
+use Rattle.prefix_list.specs.Entries.{head_of, opening_of, entries_from}
 use Rattle.command_words.specs.declared.asked.ListAsked.{ListAsked}
 use Rattle.command_words.specs.declared.asked.StyleName.{StyleName}
 use Rattle.command_words.specs.declared.asked.StyleName.TheVariants as style
 use Rattle.command_words.specs.declared.asked.Matching.{Matching}
 use Rattle.command_words.specs.declared.asked.Matching.TheVariants.{Addresses, Routes, Longer}
 use Rattle.command_lists.specs.Texts.{form_named, addresses_text, marked_line, difference_text, IsMatchText}
-use Rattle.command_lists.specs.Reading.{marked_entries, ArePicked, is_bare, end_asked}
+use Rattle.command_lists.specs.Reading.{marked_entries, ArePicked, end_asked}
 use Rattle.command_lists.proofs.Lines.{plain_lines, ios_lines, junos_lines, lines_of_word}
 
 module _ (asked : ListAsked) (prefixes : List Cidr) where

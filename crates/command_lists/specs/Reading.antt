@@ -1,5 +1,5 @@
 -- What is known of a table on its way out of a store, and where that stops.
-use Rattle.std.specs.Prelude.{◌≡◌, ℕ, Bool, List, [], ◌∷◌, ◌++◌, map, codes, true, false, if◌then◌else◌, Result, Ok, Err}
+use Rattle.std.specs.Prelude.{◌≡◌, ℕ, Bool, List, [], ◌++◌, map, codes, true, false, if◌then◌else◌, Result, Ok, Err}
 use Rattle.inet_num.specs.declared.Family.{Family}
 use Rattle.inet_num.specs.Net.{Address, Cidr}
 use Rattle.ipam_data.specs.declared.kinds.Kind.{Kind}
