@@ -16,13 +16,13 @@ pub record Held : Type 0 where
 abbrev pub with_member : Pools → Member → Pools
 with_member s m = record { ranges = s.ranges; members = appended member_id s.members m; spent = s.spent + 1 }
 
--- a range of this one's id is there, and is of its kind
+-- there is a range of this one's id, and it is of its kind
 pub record KeepsItsKind (s : Pools) (range : NumberRange) : Type 0 where
   pub old : NumberRange
   pub there : row_at range_id s.ranges.rows range.id ≡ Some old
   pub kind : old.kind ≡ range.kind
 
--- a member of this one's id is there, is of its range and has its number
+-- there is a member of this one's id, of its range and with its number
 pub record KeepsItsNumber (s : Pools) (m : Member) : Type 0 where
   pub old : Member
   pub there : row_at member_id s.members.rows m.id ≡ Some old

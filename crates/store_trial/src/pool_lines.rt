@@ -135,7 +135,7 @@ fn cut_of(word: &str) -> Result<Option<u32>, AllocError> {
     Ok(Some(number_of(Some(word))?))
 }
 
-/// The part of a line behind so many bars, which is empty if there are fewer.
+/// The part of a line after so many bars, which is empty if there are fewer.
 fn last_part(line: &str, index: usize) -> &str {
     line.split('|').nth(index).unwrap_or("")
 }
