@@ -1,5 +1,5 @@
 -- An edit is as it was asked for, in the words of the law.
-use Rattle.std.proofs.Common.{◌≡◌, ◌≢◌, ℕ, List, Option, Some, None, refl, ap, sym, ◌∙◌}
+use Rattle.std.proofs.Common.{◌≡◌, ℕ, List, Option, Some, None, refl, ap, sym, ◌∙◌}
 use Rattle.ipam_data.specs.Checks.{first as first_of}
 use Rattle.ipam_data.specs.RowList.{row_at, with_row}
 use Rattle.ipam_data.proofs.Kept.{found_there, put_found}

@@ -8,7 +8,6 @@ use Rattle.ipam_json.specs.Bodies.{IsObjectText, IsNoObjectText}
 use Rattle.ipam_json.specs.Outcomes.{OrMemory, field, given, given_member}
 use Rattle.pool_json.specs.declared.bodies.RequestRefusal.{RequestRefusal}
 use Rattle.pool_json.specs.declared.bodies.RequestRefusal.TheVariants.{Common}
-use Rattle.pool_json.specs.declared.bodies.RangeDraft.{RangeDraft}
 use Rattle.pool_json.specs.Bodies.{IsOfObject, OrWant, drafted}
 use Rattle.pool_json.specs.Edits.{edit_by, or_common}
 

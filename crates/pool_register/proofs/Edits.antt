@@ -1,7 +1,8 @@
 -- What edits and reads of one row come to, by what their checks come to.
-use Rattle.std.proofs.Common.{◌≡◌, ℕ, List, [], ◌∷◌, Option, Some, None, refl, ap, sym, ◌∙◌, is_some, subst, Bool, true, false, if◌then◌else◌}
+use Rattle.std.proofs.Common.{◌≡◌, ◌≤◌, ℕ, arith, List, [], ◌∷◌, Option, Some, None, refl, ap, sym, ◌∙◌, subst}
 use Rattle.ipam_data.specs.Checks.{first as first_of, most_spent}
-use Rattle.ipam_data.specs.RowList.{row_at}
+use Rattle.ipam_data.specs.RowList.{Rises, row_at}
+use Rattle.ipam_data.proofs.RowLists.{rises_above}
 use Rattle.ipam_data.proofs.Kept.{found_there}
 use Rattle.ipam_data.proofs.Verdicts.{none_head, none_rest}
 use Rattle.number_pools.specs.declared.rows.PoolKind.{PoolKind}
@@ -13,12 +14,12 @@ use Rattle.number_pools.specs.declared.calls.PoolRefusal.TheVariants.{Absent}
 use Rattle.number_pools.specs.declared.calls.PoolCall.TheVariants as call
 use Rattle.number_pools.specs.declared.calls.PoolReply.{PoolReply}
 use Rattle.number_pools.specs.declared.calls.PoolReply.TheVariants.{ChangedMember, ChangedRange, OneMember, OneRange, Refused}
-use Rattle.number_pools.specs.Rows.{Pools, member_id, range_id}
+use Rattle.number_pools.specs.Rows.{Pools, member_id}
 use Rattle.number_pools.specs.Steps.{edit_member_checks, edit_member_step, edit_range_checks, edit_range_step, edited_member, edited_member_step, edited_range, edited_range_step, is_name_of_other, is_out_of_bounds, is_too_small, member_at, no_log, one_member_step, one_range_step, plain_pool_step, range_at, with_edited_member, with_edited_range}
 use Rattle.number_pools.proofs.StepLaws.{found_range, member_there}
 use Rattle.pool_rows.specs.Held.{KeepsItsKind, KeepsItsNumber}
 use Rattle.pool_register.specs.declared.planned.Planned.{Planned}
-use Rattle.pool_register.specs.declared.planned.Planned.TheVariants.{Change, Read}
+use Rattle.pool_register.specs.declared.planned.Planned.TheVariants.{Change}
 use Rattle.pool_register.specs.declared.planned.Update.TheVariants.{EditMember, EditRange}
 use Rattle.pool_register.specs.Planned.{CanEditMember, CanEditRange, IsPlanned, IsPlannedAs}
 use Rattle.pool_register.proofs.Plans.{no_more, unless_none, unless_some}
@@ -91,3 +92,13 @@ pub edit_member_planned : (s : Pools) (kind : PoolKind) (id : ℕ) (name : Optio
     → member_at s kind id ≡ Some m → new ≡ edited_member m name → IsPlannedAs s (edited_member_step s new) p → IsPlanned s (call.EditMember kind id name) p
 edit_member_planned s kind id name m new p at e h =
     subst (λ (step : Pools × PoolReply). IsPlannedAs s step p) (ap (edited_member_step s) e ∙ sym (ap (edit_member_step s id name) at)) h
+
+-- ---- what is put in the place of another
+
+-- an id under which a row is found is at least 1
+pub id_from_one : {T : Type 0} (id : T → ℕ) (xs : List T) (old : T) (n : ℕ) → Rises id 0 xs → row_at id xs n ≡ Some old → 1 ≤ n
+id_from_one id xs old n r e =
+    let f = found_there id xs n old e in
+    let a = rises_above id 0 xs old r f.0 in
+    let b = f.1 in
+    omega arith

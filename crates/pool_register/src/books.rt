@@ -65,8 +65,8 @@ fn reserve(rows: &mut PoolRows, update: &Update) -> Result<(), AllocError>
         Update::Claim(made) => rows.reserve_members(made.as_slice().len() as u32),
         Update::CutRange(_) => Ok(()),
         Update::CutMember(_) => Ok(()),
-        Update::EditRange(_) => rows.reserve_range(),
-        Update::EditMember(_) => rows.reserve_one_member(),
+        Update::EditRange(_) => rows.reserve_range_edit(),
+        Update::EditMember(_) => rows.reserve_member_edit(),
     }
 }
 

@@ -266,12 +266,25 @@ impl PoolRows {
         self.spent += 1;
     }
 
-    /// Makes room for one member in the place of another. `Err` means out of memory.
-    pub fn reserve_one_member(&mut self) -> Result<(), AllocError>
-        requires { length self.old.pools.members.rows + 1 < 2 ^ 30 }
+    /// Makes room for a range in the place of another. `Err` means out of memory, or as many ranges as can be held.
+    pub fn reserve_range_edit(&mut self) -> Result<(), AllocError>
+        ensures pools { self.new.pools ≡ self.old.pools }
+        ensures ok { OnOk result (1 ≤ self.new.range_room) }
+    {
+        if self.ranges.len() as usize >= MOST_HELD {
+            return Err(AllocError);
+        }
+        self.ranges.reserve(1)
+    }
+
+    /// Makes room for a member in the place of another. `Err` means out of memory, or as many members as can be held.
+    pub fn reserve_member_edit(&mut self) -> Result<(), AllocError>
         ensures pools { self.new.pools ≡ self.old.pools }
         ensures ok { OnOk result (1 ≤ self.new.member_room) }
     {
+        if self.members.len() as usize >= MOST_HELD {
+            return Err(AllocError);
+        }
         self.members.reserve(1)
     }
 

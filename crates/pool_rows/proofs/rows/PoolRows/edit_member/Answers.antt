@@ -1,4 +1,4 @@
-use Rattle.std.proofs.Common.{ap, sym, subst, List}
+use Rattle.std.proofs.Common.{sym, subst, List}
 use Rattle.number_pools.specs.declared.rows.Member.{Member}
 use Rattle.number_pools.specs.Keys.{AreKeys}
 use Rattle.number_pools.specs.Rows.{member_id}

@@ -1,4 +1,4 @@
-use Rattle.std.proofs.Common.{ap, sym, subst, List, inl}
+use Rattle.std.proofs.Common.{sym, subst, List}
 use Rattle.number_pools.specs.declared.rows.NumberRange.{NumberRange}
 use Rattle.number_pools.specs.Keys.{AreKeys}
 use Rattle.pool_rows.specs.Held.{Held, KeepsItsKind}
