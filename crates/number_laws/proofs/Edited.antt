@@ -23,10 +23,13 @@ range_edited s kind id name first last (Some r) at fine = go (first_of (edit_ran
   where
     new : NumberRange
     new = edited_range r name first last
+
     f : (row_at range_id s.ranges.rows id ≡ Some r) × (r.kind ≡ kind)
     f = found (row_at range_id s.ranges.rows id) kind r at
+
     own : r.id ≡ id
     own = (found_there range_id s.ranges.rows id r f.0).1
+
     go : (why : Check) → ((w : PoolRefusal) → ¬ ((unless why s (with_edited_range s new) (ChangedRange new)).1 ≡ Refused w))
         → EditedRange s kind id name first last (unless why s (with_edited_range s new) (ChangedRange new))
     go (Some w) fine = absurd (fine w refl)
@@ -47,10 +50,13 @@ member_edited s kind id name (Some m) at fine = go (first_of (edit_member_checks
   where
     new : Member
     new = edited_member m name
+
     f : row_at member_id s.members.rows id ≡ Some m
     f = member_there s kind id m at
+
     own : m.id ≡ id
     own = (found_there member_id s.members.rows id m f).1
+
     go : (why : Check) → ((w : PoolRefusal) → ¬ ((unless why s (with_edited_member s new) (ChangedMember new)).1 ≡ Refused w))
         → EditedMember s id name (unless why s (with_edited_member s new) (ChangedMember new))
     go (Some w) fine = absurd (fine w refl)

@@ -47,6 +47,7 @@ same_pool ranges old row there kind m = go (row.id == m.range) refl
   where
     own : old.id ≡ row.id
     own = (found_there range_id ranges row.id old there).1
+
     go : (t : Bool) → (row.id == m.range) ≡ t → pool_at (with_row range_id ranges row) m ≡ pool_at ranges m
     go true t =
         let q : row.id ≡ m.range = grind (arith, nat_tests, t) in

@@ -177,7 +177,6 @@ step_answers s (call.Record kind id list items) = go (range_at s.ranges.rows kin
     go (Some range) =
         unless_answer (first_of (record_checks s range items)) s (with_record s range items) (Claimed (recorded s range items))
         (first_rule (record_checks s range items) (limit_rule (nat_le (length items) MOST_CLAIMED) Items MOST_CLAIMED, (unfit_rule s range [] (numbers_of items), (limit_rule (nat_le (length s.members.rows + length items) MOST_MEMBERS) MemberCount MOST_MEMBERS, (limit_rule (nat_le (s.members.next + length items) last_next) Ids LAST_ID, (limit_rule (nat_le (s.spent + length items) most_spent) Log most_spent, tt)))))) refl
-
 step_answers s (call.OneRange kind id) = go (range_at s.ranges.rows kind id)
   where
     go : (o : Option NumberRange) → IsAnswer (kind_of (one_range_step s id o).1)
