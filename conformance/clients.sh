@@ -1,6 +1,7 @@
 #!/usr/bin/env bash
 # The scripts of examples/ and the pictures of docs/: curl's
-# day; pynetbox over poold; the moves from NetBox, phpIPAM and a spreadsheet, with what they print and the CSV files that they write; and that docs/layers.svg
+# day; pynetbox over poold; the moves from NetBox, phpIPAM and a spreadsheet, with what they print and the CSV files that they write (those of AS numbers and
+# VLANs were written by hand), and those of AS numbers and VLANs into pools; and that docs/layers.svg
 # and docs/tree.svg are still what their scripts draw. Each has a register of its own. What runs behind nginx (pynetbox, Ansible) is in conformance/netbox.py.
 #     conformance/run clients [PORT]
 set -euo pipefail
@@ -45,12 +46,24 @@ stop() {
 # a move twice: its status, what the first says last, and what the second does; and its CSV files
 move() {
     local source=$1 path=$2 csv=$3 wanted=$4 made=$5 again=$6 status=0
-    python3 "$top/examples/move.py" "$source" "$top/$path" --to "$url" > "$folder/out" 2> "$folder/err" || status=$?
+    python3 "$top/examples/move.py" "$source" "$top/$path" --to "$url" "${@:7}" > "$folder/out" 2> "$folder/err" || status=$?
     [ "$status" = "$wanted" ] && [ "$(tail -n 1 "$folder/out")" = "$made" ] || fail "the move from $source, status $status: $(cat "$folder/out" "$folder/err")"
     status=0
-    python3 "$top/examples/move.py" "$source" "$top/$path" --csv "$folder/$source" --to "$url" > "$folder/out" 2> "$folder/err" || status=$?
+    python3 "$top/examples/move.py" "$source" "$top/$path" --csv "$folder/$source" --to "$url" "${@:7}" > "$folder/out" 2> "$folder/err" || status=$?
     [ "$status" = "$wanted" ] && [ "$(tail -n 1 "$folder/out")" = "$again" ] || fail "the second move from $source, status $status: $(cat "$folder/out" "$folder/err")"
     diff -r "$folder/$source" "$top/$csv" > "$folder/diff" || fail "the CSV files of $source: $(head -n 5 "$folder/diff")"
+}
+
+# a move of AS numbers and VLANs twice: its status, what the first says last, and what the second does
+move_numbers() {
+    local source=$1 path=$2 wanted=$3 made=$4 again=$5 status line
+    program=$pools start
+    for line in "$made" "$again"; do
+        status=0
+        python3 "$top/examples/move.py" "$source" "$path" --pools "$url" "${@:6}" > "$folder/out" 2> "$folder/err" || status=$?
+        [ "$status" = "$wanted" ] && [ "$(tail -n 1 "$folder/out")" = "pools: $line" ] || fail "the numbers of $source, status $status: $(cat "$folder/out" "$folder/err")"
+    done
+    stop
 }
 
 # a client by pynetbox: its words; its last line is said
@@ -66,12 +79,16 @@ program=$pools start
 client client_pools.py "$url"
 stop
 start --db "$folder/moved.db"
-move netbox examples/netbox examples/netbox/csv 0 "made 24, present 0, refused 0" "made 0, present 24, refused 0"
+move netbox examples/netbox examples/netbox/csv 0 "made 24, present 0, refused 0" "made 0, present 24, refused 0" --group other --asn-range private
 move phpipam examples/phpipam examples/phpipam/csv 1 "made 18, present 0, refused 1" "made 0, present 18, refused 1"
 stop
 "$program" report tree --db "$folder/moved.db" | python3 "$top/docs/tree.py" | cmp - "$top/docs/tree.svg" || fail "docs/tree.svg is not what docs/tree.py draws"
 start
 move spreadsheet examples/spreadsheet.csv examples/spreadsheet-csv 1 "made 23, present 1, refused 1" "made 0, present 24, refused 1"
 stop
+printf 'Network,Mask,Name,Use,Status,Remark,VLAN,Site,ASN\n10.0.1.0,24,LAN 1,,,,10,Depot,\n2001:db8:1::,64,LAN 1,,,,10,Depot,\n10.0.2.0,24,Phones,,,,20,,\n,,edge 2,,,,,,64530\n,,"edge, 1",,,,,,64520\n' > "$folder/sheet.csv"
+move_numbers netbox "$top/examples/netbox" 0 "made 11, present 0, refused 0" "made 0, present 11, refused 0" --group other --asn-range private
+move_numbers phpipam "$top/examples/phpipam" 1 "made 5, present 0, refused 1" "made 0, present 5, refused 1"
+move_numbers spreadsheet "$folder/sheet.csv" 0 "made 7, present 0, refused 0" "made 0, present 7, refused 0" --group other --asn-range edges
 python3 "$top/docs/layers.py" --check
-echo "clients: three moves, twice each, and both pictures as they should be"
+echo "clients: three moves and three of numbers, twice each, and both pictures as they should be"

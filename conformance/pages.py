@@ -252,6 +252,7 @@ ELSE = [
     ("docs/CLIENTS.md", "REQUESTS_CA_BUNDLE", "conformance/run netbox runs it, on another port"),
     ("docs/CLIENTS.md", "apt-get install", "the machine's packages"),
     ("docs/CLIENTS.md", "ansible-playbook", "conformance/run netbox runs it, on another port"),
+    ("docs/USING-POOLS.md", "python3 examples/move.py", "conformance/run clients runs it, over empty pools"),
     ("docs/OPERATING.md", "curl -s -H", "no NetBox is at hand"),
     ("docs/OPERATING.md", "apt install", "conformance/systemd.sh runs it"),
     ("docs/OPERATING.md", "./build", "the program is built already, or by --build"),

@@ -1,12 +1,16 @@
 #!/usr/bin/env python3
-"""Moves a register's space here from NetBox, from phpIPAM or from a spreadsheet: VRFs, roles, prefixes and addresses.
+"""Moves a register's space here from NetBox, from phpIPAM or from a spreadsheet: VRFs, roles, prefixes and addresses; and AS numbers and VLANs into pools.
 
-    move.py netbox DIR [--csv DIR] [--to URL]         DIR has prefixes.json and ip-addresses.json, as NetBox's REST API answers them
-    move.py phpipam DIR [--csv DIR] [--to URL]        DIR has vrf.json, subnets.json and addresses.json, as phpIPAM's API answers them
-    move.py spreadsheet FILE [--csv DIR] [--to URL]   a CSV with the columns network, mask, name, use, status, remark
+    move.py netbox DIR [OPTIONS]         DIR has prefixes.json and ip-addresses.json, as NetBox's REST API answers them, and asn-ranges.json, asns.json,
+                                         vlan-groups.json and vlans.json, if there are any
+    move.py phpipam DIR [OPTIONS]        DIR has vrf.json, subnets.json and addresses.json, as phpIPAM's API answers them, and l2domains.json and
+                                         vlans.json, if there are any
+    move.py spreadsheet FILE [OPTIONS]   a CSV with the columns network, mask, name, use, status, remark, and vlan, site and asn, if there are any
 
---csv writes a CSV file of each kind. --to makes the rows in the register that is served at URL, as http://127.0.0.1:8080: each that is not there yet. What is
-refused is named on standard error, and the rest goes on; the status is 1 then. The same command again makes what is still missing.
+--csv DIR writes a CSV file of each kind. --to URL makes the rows in the register that is served at URL, as http://127.0.0.1:8080, and --pools URL those of
+the pools in what `poold` serves there: each row that is not there yet. What is refused is named on standard error, and the rest goes on; the status is 1
+then. The same command again makes what is still missing. A VLAN without a group goes into one that is named for its site, else into --group NAME. AS numbers
+go into --asn-range NAME.
 """
 import argparse
 import csv
@@ -15,6 +19,7 @@ import json
 import os
 import sys
 
+import move_pools
 from register import Refused, Register
 
 COLUMNS = {
@@ -28,11 +33,12 @@ KEYS = {"vrfs": ("name",), "roles": ("name",), "prefixes": ("prefix", "vrf"), "i
 
 
 class Office:
-    """What was read: rows by kind, with names in place of references, and a count of what the register has no place for."""
+    """What was read: rows by kind, with names in place of references, those of the pools too, and a count of what has no place here."""
 
-    def __init__(self):
+    def __init__(self, group=None, asn_range=None):
         self.rows = {kind: [] for kind in COLUMNS}
         self.left_out = {}
+        self.numbers = move_pools.Numbers(self.leave_out, group, asn_range)
 
     def add(self, kind, **row):
         self.rows[kind].append({name: row.get(name) for name in COLUMNS[kind] if row.get(name) not in (None, "")})
@@ -60,9 +66,13 @@ def text_of(value):
 NO_PLACE = ["tenant", "site", "scope", "vlan", "nat_inside", "assigned_object", "comments", "tags", "custom_fields"]
 
 
-def results_of(folder, name):
-    with open(os.path.join(folder, name)) as file:
-        return json.load(file)["results"]
+def answers_of(folder, name, member, needed=True):
+    """The rows of an answer that was kept as a file; none if there is no such file, and it is not needed."""
+    path = os.path.join(folder, name)
+    if not needed and not os.path.exists(path):
+        return []
+    with open(path) as file:
+        return json.load(file)[member]
 
 
 def netbox_common(office, row):
@@ -73,15 +83,14 @@ def netbox_common(office, row):
     return {"vrf": vrf, "status": row["status"]["value"], "description": text_of(row["description"])}
 
 
-def read_netbox(folder):
-    office = Office()
-    for row in results_of(folder, "prefixes.json"):
+def read_netbox(office, folder):
+    for row in answers_of(folder, "prefixes.json", "results"):
         role = row["role"] and office.name("roles", row["role"]["name"], slug=row["role"]["slug"])
         office.add("prefixes", prefix=row["prefix"], role=role, is_pool=row["is_pool"], mark_utilized=row["mark_utilized"], **netbox_common(office, row))
-    for row in results_of(folder, "ip-addresses.json"):
+    for row in answers_of(folder, "ip-addresses.json", "results"):
         role = row["role"] and row["role"]["value"]
         office.add("ip-addresses", address=row["address"], role=role, dns_name=row["dns_name"], **netbox_common(office, row))
-    return office
+    move_pools.read_netbox(office.numbers, lambda kind: answers_of(folder, f"{kind}.json", "results", needed=False))
 
 
 # ---- phpIPAM: subnets that name the subnet that they lie in, and addresses that name their subnet
@@ -89,15 +98,10 @@ def read_netbox(folder):
 TAGS = {"1": "deprecated", "2": "active", "3": "reserved", "4": "dhcp"}
 
 
-def data_of(folder, name):
-    with open(os.path.join(folder, name)) as file:
-        return json.load(file)["data"]
-
-
-def read_phpipam(folder):
-    office = Office()
-    vrfs = {row["vrfId"]: office.name("vrfs", row["name"], rd=row["rd"], description=text_of(row["description"])) for row in data_of(folder, "vrf.json")}
-    subnets = {row["id"]: row for row in data_of(folder, "subnets.json")}
+def read_phpipam(office, folder):
+    vrfs = {row["vrfId"]: office.name("vrfs", row["name"], rd=row["rd"], description=text_of(row["description"]))
+            for row in answers_of(folder, "vrf.json", "data")}
+    subnets = {row["id"]: row for row in answers_of(folder, "subnets.json", "data")}
     parents = {row["masterSubnetId"] for row in subnets.values()}
     for row in subnets.values():
         if row["isFolder"] == "1":
@@ -105,14 +109,14 @@ def read_phpipam(folder):
             continue
         office.add("prefixes", prefix=f"{row['subnet']}/{row['mask']}", vrf=vrfs.get(row["vrfId"]), status="container" if row["id"] in parents else "active",
                    mark_utilized=row["isFull"] == "1", is_pool=row["isPool"] == "1", description=text_of(row["description"]))
-    for row in data_of(folder, "addresses.json"):
+    for row in answers_of(folder, "addresses.json", "data"):
         subnet = subnets[row["subnetId"]]
         for name in ("mac", "owner", "note"):
             if row.get(name):
                 office.leave_out(name)
         office.add("ip-addresses", address=f"{row['ip']}/{subnet['mask']}", vrf=vrfs.get(subnet["vrfId"]), status=TAGS[row["tag"]], dns_name=row["hostname"],
                    description=text_of(row["description"]))
-    return office
+    move_pools.read_phpipam(office.numbers, lambda kind: answers_of(folder, f"{kind}.json", "data", needed=False))
 
 
 # ---- a spreadsheet: a line is a network, or one address where its mask is empty
@@ -120,13 +124,16 @@ def read_phpipam(folder):
 STATUSES = {"": "active", "used": "active", "reserved": "reserved", "old": "deprecated"}
 
 
-def read_spreadsheet(path):
-    office, networks = Office(), []
+def read_spreadsheet(office, path):
+    networks = []
     with open(path, newline="", encoding="utf-8-sig") as file:
         lines = list(csv.DictReader(file))
     for line in lines:
         line = {name.strip().lower(): (value or "").strip() for name, value in line.items()}
         status, words = STATUSES[line["status"].lower()], text_of(line["remark"])
+        move_pools.read_line(office.numbers, line)
+        if not line["network"]:
+            continue
         if line["mask"]:
             # a mask is a length or a netmask; an address of the network stands often where its first one should
             network = ipaddress.ip_network(f"{line['network']}/{line['mask']}", strict=False)
@@ -138,7 +145,6 @@ def read_spreadsheet(path):
         around = max((one for one in networks if address in one), key=lambda one: one.prefixlen, default=None)
         length = around.prefixlen if around else address.max_prefixlen
         office.add("ip-addresses", address=f"{address}/{length}", status=status, dns_name=line["name"], description=words)
-    return office
 
 
 # ---- what is done with it
@@ -151,6 +157,7 @@ def write_csv(office, folder):
             writer.writeheader()
             for row in office.rows[kind]:
                 writer.writerow({name: str(value).lower() if isinstance(value, bool) else value for name, value in row.items()})
+    move_pools.write_csv(office.numbers, folder)
 
 
 def key_of(kind, row):
@@ -183,23 +190,35 @@ def make_all(office, register):
     return made, present, refused
 
 
+def words():
+    found = argparse.ArgumentParser(description=__doc__, formatter_class=argparse.RawDescriptionHelpFormatter)
+    found.add_argument("source", choices=["netbox", "phpipam", "spreadsheet"])
+    found.add_argument("path")
+    for option in ("--csv", "--to", "--pools", "--group", "--asn-range"):
+        found.add_argument(option)
+    return found.parse_args()
+
+
 def main():
-    words = argparse.ArgumentParser(description=__doc__, formatter_class=argparse.RawDescriptionHelpFormatter)
-    words.add_argument("source", choices=["netbox", "phpipam", "spreadsheet"])
-    words.add_argument("path")
-    words.add_argument("--csv")
-    words.add_argument("--to")
-    given = words.parse_args()
-    office = {"netbox": read_netbox, "phpipam": read_phpipam, "spreadsheet": read_spreadsheet}[given.source](given.path)
-    print(", ".join(f"{len(rows)} {kind}" for kind, rows in office.rows.items()))
+    given, refused = words(), 0
+    office = Office(given.group, given.asn_range)
+    {"netbox": read_netbox, "phpipam": read_phpipam, "spreadsheet": read_spreadsheet}[given.source](office, given.path)
+    office.numbers.close()
+    rows = {**office.rows, **{kind: found for kind, found in office.numbers.rows.items() if found}}
+    print(", ".join(f"{len(found)} {kind}" for kind, found in rows.items()))
     if office.left_out:
         print("left out: " + ", ".join(f"{what} of {count}" for what, count in sorted(office.left_out.items())))
     if given.csv:
         write_csv(office, given.csv)
+    if given.pools:
+        making = move_pools.make_all(office.numbers, Register(given.pools))
+        print(f"pools: made {making.made}, present {making.present}, refused {making.refused}")
+        refused += making.refused
     if given.to:
-        made, present, refused = make_all(office, Register(given.to))
-        print(f"made {made}, present {present}, refused {refused}")
-        sys.exit(1 if refused else 0)
+        made, present, wrong = make_all(office, Register(given.to))
+        print(f"made {made}, present {present}, refused {wrong}")
+        refused += wrong
+    sys.exit(1 if refused else 0)
 
 
 if __name__ == "__main__":

@@ -149,6 +149,10 @@ range_name before r x e c k =
     let named : has_name r.kind r.name x ≡ true = rw (← k.0, ← k.1, kind_is r.kind) ((bytes_eq-Decides r.name r.name).1 refl) in
     let q : true ≡ false = sym named ∙ none_passes (has_name r.kind r.name) before x h c in cc
 
+-- ranges of which none breaks a rule are in the order of their ids
+pub ranges_rise : (ranges : List NumberRange) → least_broken range_id breaks_range [] None ranges ≡ None → Rises range_id 0 ranges
+ranges_rise ranges e = good_rises range_id breaks_range range_order [] ranges (none_broken range_id breaks_range [] None ranges e).1
+
 -- ---- members
 
 module _ (ranges : List NumberRange) where

@@ -12,7 +12,7 @@ use Rattle.placed_book.proofs.Orders.{count_alike, count_no, count_yes}
 use Rattle.number_pools.specs.declared.rows.NumberRange.{NumberRange}
 use Rattle.number_pools.specs.declared.rows.Member.{Member}
 use Rattle.number_pools.specs.Rows.{member_id, range_id}
-use Rattle.number_pools.specs.Free.{is_held, pool_at}
+use Rattle.number_pools.specs.Free.{is_held, pool_at, pool_found}
 use Rattle.number_pools.specs.Keys.{AreKeys, key_block, key_of, pool_size}
 use Rattle.number_pools.proofs.Frees.{AreNumbers}
 use Rattle.number_pools.proofs.Kept.{keys_more}
@@ -60,6 +60,21 @@ tree_held : (ranges : List NumberRange) (before : List Member) (m : Member) (hel
     → nat_lt 0 (times_of held (key_block ranges m)) ≡ is_held ranges before (pool_at ranges m) m.number
 tree_held ranges before m held all lt keys =
     ap (nat_lt 0) (sym (count_alike (is_same (key_block ranges m)) (map (key_block ranges) before) held keys)) ∙ counted_held ranges before m all lt
+
+-- ---- a range that was looked up
+
+-- the block of the number, by the range that was found
+pub key_by_range : (ranges : List NumberRange) (m : Member) (range : Option NumberRange) (key : Cidr) → range ≡ row_at range_id ranges m.range
+    → key ≡ record { family = V6; first = key_of (pool_found range m.range) m.number; len = 128 } → key ≡ key_block ranges m
+key_by_range ranges m range key r k = k ∙ ap (λ (o : Option NumberRange). let block : Cidr = record { family = V6; first = key_of (pool_found o m.range) m.number; len = 128 } in block) r
+
+-- what the tree says, by the range and the block that were found
+pub told_by_range : (ranges : List NumberRange) (m : Member) (range : Option NumberRange) (key : Cidr) (broken : Bool) (highest : ℕ) (held : List Cidr) → range ≡ row_at range_id ranges m.range
+    → key ≡ key_block ranges m → broken ≡ (nat_le m.id highest || is_outside range m.number || nat_lt 0 (times_of held key))
+    → broken ≡ (nat_le m.id highest || is_outside (row_at range_id ranges m.range) m.number || nat_lt 0 (times_of held (key_block ranges m)))
+told_by_range ranges m range key broken highest held r k e =
+    e ∙ ap (λ (o : Option NumberRange). nat_le m.id highest || is_outside o m.number || nat_lt 0 (times_of held key)) r
+    ∙ ap (λ (b : Cidr). nat_le m.id highest || is_outside (row_at range_id ranges m.range) m.number || nat_lt 0 (times_of held b)) k
 
 -- ---- the pass over members
 

@@ -3,10 +3,13 @@
 ghost use Rattle.std.specs.Prelude.{◌≡◌, ◌<◌, ◌≤◌, ◌^◌, ◌||◌, [], None, IfOk, length};
 ghost use Rattle.std.specs.List.{list_any};
 ghost use Rattle.inet_num.specs.declared.Family.TheVariants.{V6};
+ghost use Rattle.ipam_data.specs.RowList.{Rises};
 ghost use Rattle.number_pools.specs.Rows.{member_id, range_id};
 ghost use Rattle.pool_opening.specs.Faults.{breaks_member, breaks_range, is_bad_next, is_not_above, least_broken};
 
-use crate::rules::{breaks_by_tree, breaks_range, greater, key_of_member, lesser_if, number_fits};
+use crate::rules::{
+    breaks_by_tree, breaks_range, greater, key_of_member, lesser_if, number_fits, range_of,
+};
 use block_space::Space;
 use inet_num::Family;
 use number_pools::{MOST_HELD, Member, NumberRange};
@@ -30,8 +33,9 @@ pub(crate) fn bad_range(ranges: &[NumberRange]) -> Option<u32>
     found
 }
 
-/// The least id of a member that breaks a rule given those before it, by a tree that is empty at first.
+/// The least id of a member that breaks a rule given those before it, by a tree that is empty at first. Each looks its range up once.
 fn pass_members(ranges: &[NumberRange], members: &[Member], taken: &mut Tree) -> Option<u32>
+    requires ordered { Rises range_id 0 ranges.now }
     requires empty { taken.old.blocks ≡ [] }
     requires family { taken.old.family ≡ V6 }
     requires room { length members.now ≤ taken.old.spare }
@@ -44,8 +48,13 @@ fn pass_members(ranges: &[NumberRange], members: &[Member], taken: &mut Tree) ->
     'row: while at < members.len() {
         let member = &members[at];
         number_fits(member);
-        let key = key_of_member(ranges, member);
-        found = lesser_if(breaks_by_tree(ranges, taken, top, member), member.id, found);
+        let range = range_of(ranges, member.range);
+        let key = key_of_member(range, member);
+        found = lesser_if(
+            breaks_by_tree(range, key, taken, top, member),
+            member.id,
+            found,
+        );
         top = greater(top, member.id);
         taken.insert(key);
         at += 1;
@@ -59,6 +68,7 @@ pub(crate) fn bad_member(
     ranges: &[NumberRange],
     members: &[Member],
 ) -> Result<Option<u32>, AllocError>
+    requires { Rises range_id 0 ranges.now }
     ensures { IfOk result (λ found. found ≡ least_broken member_id (breaks_member ranges.now) [] None members.now) }
 {
     if members.len() > MOST_HELD {

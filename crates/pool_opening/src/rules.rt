@@ -4,9 +4,9 @@ ghost use Rattle.std.specs.Prelude.{◌≡◌, ◌||◌, ◌<◌, nat_le, nat_lt
 ghost use Rattle.std.specs.List.{list_any};
 ghost use Rattle.inet_num.specs.declared.Family.TheVariants.{V6};
 ghost use Rattle.block_space.specs.Listed.{times_of};
-ghost use Rattle.ipam_data.specs.RowList.{row_at};
+ghost use Rattle.ipam_data.specs.RowList.{Rises, row_at};
 ghost use Rattle.number_pools.specs.Free.{pool_found};
-ghost use Rattle.number_pools.specs.Keys.{key_block, pool_size};
+ghost use Rattle.number_pools.specs.Keys.{key_of, pool_size};
 ghost use Rattle.number_pools.specs.Rows.{range_id};
 ghost use Rattle.number_pools.specs.Steps.{has_name, in_bounds, same_kind};
 ghost use Rattle.pool_opening.specs.Faults.{breaks_range, greater, is_outside, lesser_if, top_of};
@@ -85,11 +85,15 @@ pub(crate) fn breaks_range(before: &[NumberRange], top: u32, range: &NumberRange
         || !in_bounds(range.kind, range.first, range.last)
 }
 
-/// The range of an id.
-fn range_of(ranges: &[NumberRange], id: u32) -> Option<&NumberRange>
+/// The range of an id, by halving.
+pub(crate) fn range_of(ranges: &[NumberRange], id: u32) -> Option<&NumberRange>
+    requires { Rises range_id 0 ranges.now }
     ensures { option_copied result ≡ row_at range_id ranges.now id }
 {
-    ranges.iter().find(|range| range.id == id)
+    match ranges.binary_search_by_key(&id, |range| range.id) {
+        Ok(at) => Some(&ranges[at]),
+        Err(_) => None,
+    }
 }
 
 /// Whether a number is none of a range, or the range is not there.
@@ -112,29 +116,26 @@ fn pool_found(range: Option<&NumberRange>, id: u32) -> u32
     }
 }
 
-/// The block of the number of a member.
-pub(crate) fn key_of_member(ranges: &[NumberRange], member: &Member) -> Block
-    ensures { result ≡ key_block ranges.now member.now }
+/// The block of the number of a member, whose range is given.
+pub(crate) fn key_of_member(range: Option<&NumberRange>, member: &Member) -> Block
+    ensures { result ≡ record { family = V6; first = key_of (pool_found (option_copied range.entry) member.now.range) member.now.number; len = 128 } }
 {
-    key_at(
-        pool_found(range_of(ranges, member.range), member.range),
-        member.number,
-    )
+    key_at(pool_found(range, member.range), member.number)
 }
 
-/// Whether a member breaks a rule given those before it, whose greatest id is given and whose numbers the tree holds.
+/// Whether a member, whose range and block are given, breaks a rule given those before it, whose greatest id is given and whose numbers the
+/// tree holds.
 pub(crate) fn breaks_by_tree(
-    ranges: &[NumberRange],
+    range: Option<&NumberRange>,
+    key: Block,
     taken: &Tree,
     top: u32,
     member: &Member,
 ) -> bool
-    requires { taken.now.family ≡ V6 }
-    ensures { result ≡ (nat_le member.now.id top || is_outside (row_at range_id ranges.now member.now.range) member.now.number || nat_lt 0 (times_of taken.now.blocks (key_block ranges.now member.now))) }
+    requires { key.family ≡ taken.now.family }
+    ensures { result ≡ (nat_le member.now.id top || is_outside (option_copied range.entry) member.now.number || nat_lt 0 (times_of taken.now.blocks key)) }
 {
-    member.id <= top
-        || is_outside(range_of(ranges, member.range), member.number)
-        || taken.times(key_of_member(ranges, member)) > 0
+    member.id <= top || is_outside(range, member.number) || taken.times(key) > 0
 }
 
 /// A number of a member is below the size of a pool. A law.
