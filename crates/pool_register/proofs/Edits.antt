@@ -1,5 +1,5 @@
 -- What edits and reads of one row come to, by what their checks come to.
-use Rattle.std.proofs.Common.{◌≡◌, ◌≤◌, ℕ, arith, List, [], ◌∷◌, Option, Some, None, refl, ap, sym, ◌∙◌, subst}
+use Rattle.std.proofs.Common.{◌≡◌, ◌≤◌, ℕ, ◌+◌, arith, List, [], ◌∷◌, Option, Some, None, refl, ap, sym, ◌∙◌, subst}
 use Rattle.ipam_data.specs.Checks.{first as first_of, most_spent}
 use Rattle.ipam_data.specs.RowList.{Rises, row_at}
 use Rattle.ipam_data.proofs.RowLists.{rises_above}
