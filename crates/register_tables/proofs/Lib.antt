@@ -3,3 +3,4 @@ pub mod Putting
 pub mod Mapped
 pub mod Beside
 pub mod Firsts
+pub mod Places

@@ -1,5 +1,5 @@
 -- What the tables in memory of a register hold: the books of all kinds with their room, the next ids, the setting and the log items spent.
-use Rattle.std.specs.Prelude.{◌≡◌, ℕ, ◌≤◌, ◌==◌, Bool, true, false, List, Option, Some, None, length, count_by}
+use Rattle.std.specs.Prelude.{◌≡◌, ℕ, ◌+◌, ◌^◌, ◌<◌, ◌≤◌, ◌==◌, Bool, true, false, List, Option, Some, None, length, count_by}
 use Rattle.ipam_data.specs.declared.vrf.Vrf.{Vrf}
 use Rattle.ipam_data.specs.declared.rir.Rir.{Rir}
 use Rattle.ipam_data.specs.declared.role.Role.{Role}
@@ -106,12 +106,12 @@ pub record HasRoom (held : Held) (views : List View) : Type 0 where
   pub addresses : count_by (is_of Addresses) views ≤ held.addresses.spare
   pub address_tables : (t : Table) → count_by (is_in Addresses t) views ≤ spare_of held.addresses.tables t
 
--- no kind has more rows than this
-pub record HasAtMost (most : ℕ) (held : Held) : Type 0 where
-  pub vrfs : length held.vrfs.rows ≤ most
-  pub rirs : length held.rirs.rows ≤ most
-  pub roles : length held.roles.rows ≤ most
-  pub aggregates : length held.aggregates.rows ≤ most
-  pub prefixes : length held.prefixes.rows ≤ most
-  pub ranges : length held.ranges.rows ≤ most
-  pub addresses : length held.addresses.rows ≤ most
+-- each kind has a place for so many rows more: a book has fewer than 2^30
+pub record HasPlaces (more : ℕ) (held : Held) : Type 0 where
+  pub vrfs : length held.vrfs.rows + more < 2 ^ 30
+  pub rirs : length held.rirs.rows + more < 2 ^ 30
+  pub roles : length held.roles.rows + more < 2 ^ 30
+  pub aggregates : length held.aggregates.rows + more < 2 ^ 30
+  pub prefixes : length held.prefixes.rows + more < 2 ^ 30
+  pub ranges : length held.ranges.rows + more < 2 ^ 30
+  pub addresses : length held.addresses.rows + more < 2 ^ 30

@@ -17,6 +17,7 @@ mod figures;
 mod planned;
 mod references;
 mod room;
+mod shortage;
 
 use aggregates::{AggregateBook, RirBook, RoleBook};
 use ip_addresses::AddressBook;
@@ -29,6 +30,7 @@ pub use planned::Planned;
 use prefix_rules::PrefixBook;
 use radix_tree::Tree;
 pub use references::{missing_rir, missing_role, missing_vrf};
+pub use shortage::Shortage;
 use std::alloc::Global;
 use std::marker::Model;
 use vrf_table::VrfBook;

@@ -1,22 +1,24 @@
 //! Room for the rows of an update.
 
-ghost use Rattle.std.specs.Prelude.{◌≡◌, ℕ, ◌<◌, ◌≤◌, ◌+◌, ◌^◌, ◌==◌, ◌∷◌, [], true, false, OnOk, OnErr, length, count_by};
+ghost use Rattle.std.specs.Prelude.{◌≡◌, ℕ, ◌<◌, ◌≤◌, ◌+◌, ◌^◌, ◌==◌, ◌∷◌, [], true, MatchBool, OnOk, OnErr, IfErr, length, count_by};
 ghost use Rattle.ipam_data.specs.Updates.{with_view, IsFit};
 ghost use Rattle.ipam_data.specs.declared.kinds.Table.{Table as SeenTable};
 ghost use Rattle.placed_book.specs.Book.{spare_of, IsInOrder};
 ghost use Rattle.register_tables.specs.Counts.{counted};
-ghost use Rattle.register_tables.specs.Held.{state_of, kind_of, is_of, table_in, is_in, HasRoom, HasAtMost};
+ghost use Rattle.register_tables.specs.declared.shortage.Shortage.TheVariants.{Memory};
+ghost use Rattle.register_tables.specs.Held.{state_of, kind_of, is_of, table_in, is_in, HasPlaces, HasRoom};
 
 use crate::RowTables;
 use crate::counts::{Counts, counted, counts_of};
+use crate::shortage::Shortage;
 use ipam_data::kinds::{Kind, Table, is_one_kind};
 use ipam_data::replies::View;
 use placed_book::{Book, Located, PlacedBook};
 use radix_tree::Tree;
 use std::alloc::{AllocError, Global};
 
-/// How many rows an update may put, and a kind may have before one more is put: more of them want more memory than there is.
-const MOST_PUTS: u32 = 500_000_000;
+/// How many places a book has: it has fewer rows than this.
+const PLACES: usize = 1_073_741_824;
 
 /// The kind of a row.
 fn kind_of_view(view: &View) -> Kind
@@ -136,16 +138,35 @@ fn reserve_tables<T: Located + Drop>(
     Ok(())
 }
 
+/// Whether a book with so many rows has places for so many more.
+fn has_places(len: u32, more: usize) -> bool
+    ensures { MatchBool result (len + more < 2 ^ 30) (2 ^ 30 ≤ len + more) }
+{
+    more < PLACES && len as usize + more < PLACES
+}
+
 impl RowTables {
-    /// Makes room for rows that are to be put. `Err` means out of memory, and leaves the rows.
-    pub fn reserve(&mut self, views: &[View]) -> Result<(), AllocError>
-        requires few { HasAtMost 500000000 self.old }
+    /// Makes room for rows that are to be put. `Err` leaves the rows. It is `Places` exactly if a kind has no place for so many rows
+    /// more.
+    pub fn reserve(&mut self, views: &[View]) -> Result<(), Shortage>
+        ensures state { state_of self.new ≡ state_of self.old }
+        ensures ok { OnOk result (HasRoom self.new views.now) }
+        ensures places { OnOk result (HasPlaces (length views.now) self.old) }
+        ensures err { IfErr result (λ shortage. HasPlaces (length views.now) self.old → shortage ≡ Memory) }
+    {
+        if !self.has_places(views.len()) {
+            return Err(Shortage::Places);
+        }
+        self.reserve_all(views)?;
+        Ok(())
+    }
+
+    /// Makes room for rows, for which there are places. `Err` means out of memory, and leaves the rows.
+    fn reserve_all(&mut self, views: &[View]) -> Result<(), AllocError>
+        requires places { HasPlaces (length views.now) self.old }
         ensures state { state_of self.new ≡ state_of self.old }
         ensures ok { OnOk result (HasRoom self.new views.now) }
     {
-        if views.len() > MOST_PUTS as usize {
-            return Err(AllocError);
-        }
         self.vrfs.reserve(count_of_kind(views, Kind::Vrfs) as u32)?;
         self.rirs.reserve(count_of_kind(views, Kind::Rirs) as u32)?;
         self.roles
@@ -163,37 +184,36 @@ impl RowTables {
         reserve_tables(self.alloc, &mut self.addresses, Kind::Addresses, views)
     }
 
-    /// Whether a kind has so many rows that one more wants more memory than there is.
-    fn is_huge(&self) -> bool
-        ensures { result ≡ false → HasAtMost 500000000 self.now }
+    /// Whether each kind has places for so many rows more.
+    fn has_places(&self, more: usize) -> bool
+        ensures yes { result ≡ true → HasPlaces more self.now }
+        ensures no { HasPlaces more self.now → result ≡ true }
     {
-        self.vrfs.len() > MOST_PUTS
-            || self.rirs.len() > MOST_PUTS
-            || self.roles.len() > MOST_PUTS
-            || self.aggregates.len() > MOST_PUTS
-            || self.prefixes.len() > MOST_PUTS
-            || self.ranges.len() > MOST_PUTS
-            || self.addresses.len() > MOST_PUTS
+        has_places(self.vrfs.len(), more)
+            && has_places(self.rirs.len(), more)
+            && has_places(self.roles.len(), more)
+            && has_places(self.aggregates.len(), more)
+            && has_places(self.prefixes.len(), more)
+            && has_places(self.ranges.len(), more)
+            && has_places(self.addresses.len(), more)
     }
 
     /// Makes room for a row.
-    fn reserve_one(&mut self, view: &View) -> Result<(), AllocError>
-        requires few { HasAtMost 500000000 self.old }
+    fn reserve_one(&mut self, view: &View) -> Result<(), Shortage>
         ensures state { state_of self.new ≡ state_of self.old }
         ensures ok { OnOk result (HasRoom self.new (view.now ∷ [])) }
+        ensures err { IfErr result (λ shortage. HasPlaces 1 self.old → shortage ≡ Memory) }
     {
         self.reserve(std::slice::from_ref(view))
     }
 
-    /// Takes room for a row, and puts it. `Err` means out of memory, and the state is then unchanged.
-    pub fn admit(&mut self, view: View) -> Result<(), AllocError>
+    /// Takes room for a row, and puts it. `Err` leaves the state. It is `Places` only if a kind has no place for one row more.
+    pub fn admit(&mut self, view: View) -> Result<(), Shortage>
         requires fits { IsFit (state_of self.old) view }
         ensures ok { OnOk result (state_of self.new ≡ with_view (state_of self.old) view) }
         ensures err { OnErr result (state_of self.new ≡ state_of self.old) }
+        ensures places { IfErr result (λ shortage. HasPlaces 1 self.old → shortage ≡ Memory) }
     {
-        if self.is_huge() {
-            return Err(AllocError);
-        }
         self.reserve_one(&view)?;
         self.put(view);
         Ok(())

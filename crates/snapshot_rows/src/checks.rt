@@ -3,7 +3,7 @@ ghost use Rattle.std.specs.Prelude.{◌≡◌, ℕ, ◌<◌, ◌≤◌, true, fa
 ghost use Rattle.ipam_data.specs.RowList.{row_at, row_after};
 ghost use Rattle.ipam_data.specs.State.{State};
 ghost use Rattle.ipam_data.specs.Updates.{with_view, IsFit, AreFit, AreKept};
-ghost use Rattle.register_tables.specs.Held.{state_of, HasAtMost};
+ghost use Rattle.register_tables.specs.Held.{state_of};
 ghost use Rattle.snapshot_rows.specs.Ahead.{IsAhead};
 
 use ipam_data::kinds::Kind;
@@ -90,19 +90,3 @@ pub(crate) fn ids_are_kept(ids: &[(Kind, u32)])
 fn id_is_kept(id: u32)
     ensures { id < 4294967296 }
 {}
-
-/// How many rows a kind may have before one more is put, as `RowTables::reserve` asks.
-const MOST_ROWS: u32 = 500_000_000;
-
-/// Whether a kind has so many rows that no more are put.
-pub(crate) fn is_huge(tables: &RowTables) -> bool
-    ensures { result ≡ false → HasAtMost MOST_ROWS tables.now }
-{
-    tables.vrfs().len() > MOST_ROWS
-        || tables.rirs().len() > MOST_ROWS
-        || tables.roles().len() > MOST_ROWS
-        || tables.aggregates().len() > MOST_ROWS
-        || tables.prefixes().len() > MOST_ROWS
-        || tables.ranges().len() > MOST_ROWS
-        || tables.addresses().len() > MOST_ROWS
-}

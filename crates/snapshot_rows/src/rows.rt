@@ -7,7 +7,7 @@ ghost use Rattle.register_plans.specs.Pages.{only_if};
 ghost use Rattle.snapshot_rows.specs.Lists.{lists_of, is_listed, after_update, IsReplyTo};
 ghost use Rattle.ipam_data.specs.declared.update.Update.{Update};
 
-use crate::checks::{all_fit, ids_are_kept, is_huge};
+use crate::checks::{all_fit, ids_are_kept};
 use ipam_data::calls::{Call, Filter};
 use ipam_data::kinds::Kind;
 use ipam_data::replies::{Reply, View, Views};
@@ -98,7 +98,7 @@ impl SnapshotRows {
     }
 
     /// Takes an update in: its rows and cuts of the two kinds. `Err` leaves the rows. It means out of memory, or an update that no
-    /// register makes: a row whose id is 0, or is not there and not above all ids so far; or rows next to more than 500,000,000 of a kind.
+    /// register makes: a row whose id is 0, or is not there and not above all ids so far; or 2^30 rows of a kind.
     pub fn take_in(&mut self, change: &Update) -> Result<(), AllocError>
         ensures ok { OnOk result (self.new ≡ after_update self.old change.now) }
         ensures err { OnErr result (self.new ≡ self.old) }
@@ -106,7 +106,7 @@ impl SnapshotRows {
         let alloc = self.tables.allocator();
         let puts = listed_of(alloc, change.puts.as_slice())?;
         let cuts = change.cuts.copy(alloc)?;
-        if !all_fit(&self.tables, puts.as_slice()) || is_huge(&self.tables) {
+        if !all_fit(&self.tables, puts.as_slice()) {
             return Err(AllocError);
         }
         self.tables.reserve(puts.as_slice())?;
