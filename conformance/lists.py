@@ -79,7 +79,7 @@ class Frr:
         os.chmod(f"{folder}/frr.conf", 0o644)
         run("vtysh", "-C", "-f", f"{folder}/frr.conf")
         run("/usr/lib/frr/ripd", "-f", f"{folder}/frr.conf", "--vty_socket", folder, "-i", f"{folder}/ripd.pid", "-P", "0", "-z", f"{folder}/none", "-d")
-        wait_for(f"{folder}/ripd.vty")
+        wait_for(lambda: os.path.exists(f"{folder}/ripd.vty"), "ripd")
 
     def let_in(self, routes):
         asked = [word for route in routes for word in ("-c", f"debug prefix-list {NAME} match {route}")]
@@ -87,8 +87,7 @@ class Frr:
         return [verdict == "PERMIT" for verdict in re.findall(r"yields (PERMIT|DENY) for", found)]
 
     def end(self):
-        stop(f"{self.folder}/ripd.pid")
-        wait_for(f"{self.folder}/ripd.vty", gone=True)
+        stop(f"{self.folder}/ripd.pid", f"{self.folder}/ripd.vty")
 
 
 class Bird:
@@ -101,7 +100,7 @@ class Bird:
             file.write(f"router id 192.0.2.1;\n{text}protocol device {{}}\n")
         run("bird", "-p", "-c", f"{folder}/bird.conf")
         run("bird", "-c", f"{folder}/bird.conf", "-s", f"{folder}/bird.ctl", "-P", f"{folder}/bird.pid")
-        wait_for(f"{folder}/bird.ctl")
+        wait_for(lambda: os.path.exists(f"{folder}/bird.ctl"), "bird")
 
     def let_in(self, routes):
         asked = "".join(f"eval {route} ~ '{NAME}'\n" for route in routes)
@@ -109,22 +108,34 @@ class Bird:
         return [verdict == "TRUE" for verdict in re.findall(r"TRUE|FALSE", found)]
 
     def end(self):
-        stop(f"{self.folder}/bird.pid")
-        wait_for(f"{self.folder}/bird.ctl", gone=True)
+        stop(f"{self.folder}/bird.pid", f"{self.folder}/bird.ctl")
 
 
-def wait_for(path, gone=False):
+def wait_for(holds, what):
     end = time.monotonic() + 20
-    while os.path.exists(path) == gone:
+    while not holds():
         if time.monotonic() > end:
-            raise SystemExit(f"{path} did not {'go' if gone else 'come'}")
+            raise SystemExit(f"{what}: nothing came of it in 20 seconds")
         time.sleep(0.05)
 
 
-def stop(file):
-    """Ends the daemon that this program started."""
+def has_ended(number):
+    """Whether a process is gone, or waits to be taken away."""
+    try:
+        with open(f"/proc/{number}/stat", encoding="utf-8") as file:
+            return file.read().rsplit(")", 1)[1].split()[0] == "Z"
+    except FileNotFoundError:
+        return True
+
+
+def stop(file, socket):
+    """Ends the daemon that this program started, and removes its socket if it left it."""
     with open(file, encoding="utf-8") as it:
-        os.kill(int(it.read()), 15)
+        number = int(it.read())
+    os.kill(number, 15)
+    wait_for(lambda: has_ended(number), f"the end of {file}")
+    if os.path.exists(socket):
+        os.unlink(socket)
 
 
 def read_by_openbgpd(folder, text):

@@ -121,7 +121,7 @@ fn text_of(alloc: Global, column: &str) -> Result<Text, AllocError> {
 }
 
 /// The blocks of a plain list.
-fn plain_blocks(alloc: Global, family: Family, column: &str) -> Result<Vec<Block>, Fail>
+pub(crate) fn plain_blocks(alloc: Global, family: Family, column: &str) -> Result<Vec<Block>, Fail>
     ensures { IfOk result (λ v. AreOf family v.items) }
 {
     let bytes = bytes_of(alloc, column)?;

@@ -1,9 +1,7 @@
 //! The entries of lists by a table: those for routes, those for longer ones, and each form as text.
 
-ghost use Rattle.std.specs.Prelude.{◌≡◌, IfOk};
-ghost use Rattle.prefix_list.specs.Lists.{AreOf};
-
-use inet_num::{Block, Family, read_block};
+use crate::prefix_list_tests::plain_blocks;
+use inet_num::Family;
 use prefix_list::{
     Entry, ListForm, entry_end, exact_entries, outermost, push_end, push_head, push_opening,
     route_entries,
@@ -11,31 +9,31 @@ use prefix_list::{
 use std::alloc::Global;
 use std::test::Fail;
 
-/// A case to a line: a form, a family, the greatest length (or `routes`, or `blocks`), blocks, and the text. `;` is a line feed in a text.
+/// A case to a line: a form, a family, the greatest length (or `routes`, or `blocks`), blocks, and the text. `;` is a line feed.
 const CASES: &str =
-    "plain|4|routes|10.0.1.0/24 10.0.0.0/24 10.0.0.0/8 10.0.1.0/24|10.0.0.0/8;10.0.0.0/24;10.0.1.0/24;
-plain|4|24|10.0.1.0/24 10.0.0.0/24|10.0.0.0/24;10.0.1.0/24;
-plain|4|32|10.0.1.0/24 10.0.0.0/24 10.0.1.128/25|10.0.0.0/24 le 32;10.0.1.0/24 le 32;
-plain|4|24|10.0.0.0/8 10.0.0.0/25 172.16.0.0/12 10.0.0.0/24|10.0.0.0/8 le 24;172.16.0.0/12 le 24;
-plain|4|16|10.0.0.0/24|
-plain|6|48|2001:db8::/32 2001:db8:1::/48 2001:db9::/64|2001:db8::/32 le 48;
-ios|4|routes|10.0.1.0/24 10.0.0.0/24|ip prefix-list N seq 5 permit 10.0.0.0/24;ip prefix-list N seq 10 permit 10.0.1.0/24;
-ios|4|24|10.0.0.0/8 172.16.0.0/24|ip prefix-list N seq 5 permit 10.0.0.0/8 le 24;ip prefix-list N seq 10 permit 172.16.0.0/24;
+    "plain|4|routes|10.0.1.0/24;10.0.0.0/24;10.0.0.0/8;10.0.1.0/24;|10.0.0.0/8;10.0.0.0/24;10.0.1.0/24;
+plain|4|24|10.0.1.0/24;10.0.0.0/24;|10.0.0.0/24;10.0.1.0/24;
+plain|4|32|10.0.1.0/24;10.0.0.0/24;10.0.1.128/25;|10.0.0.0/24 le 32;10.0.1.0/24 le 32;
+plain|4|24|10.0.0.0/8;10.0.0.0/25;172.16.0.0/12;10.0.0.0/24;|10.0.0.0/8 le 24;172.16.0.0/12 le 24;
+plain|4|16|10.0.0.0/24;|
+plain|6|48|2001:db8::/32;2001:db8:1::/48;2001:db9::/64;|2001:db8::/32 le 48;
+ios|4|routes|10.0.1.0/24;10.0.0.0/24;|ip prefix-list N seq 5 permit 10.0.0.0/24;ip prefix-list N seq 10 permit 10.0.1.0/24;
+ios|4|24|10.0.0.0/8;172.16.0.0/24;|ip prefix-list N seq 5 permit 10.0.0.0/8 le 24;ip prefix-list N seq 10 permit 172.16.0.0/24;
 ios|4|routes||ip prefix-list N seq 5 deny 0.0.0.0/0 le 32;
 ios|6|64||ipv6 prefix-list N seq 5 deny ::/0 le 128;
-junos|4|routes|10.0.1.0/24 10.0.0.0/24|set policy-options prefix-list N 10.0.0.0/24;set policy-options prefix-list N 10.0.1.0/24;
+junos|4|routes|10.0.1.0/24;10.0.0.0/24;|set policy-options prefix-list N 10.0.0.0/24;set policy-options prefix-list N 10.0.1.0/24;
 junos|6|routes||set policy-options prefix-list N;
-filter|4|24|10.0.0.0/8 172.16.0.0/24|set policy-options route-filter-list N 10.0.0.0/8 upto /24;set policy-options route-filter-list N 172.16.0.0/24 exact;
-filter|4|32|10.0.0.0/8 172.16.0.1/32|set policy-options route-filter-list N 10.0.0.0/8 orlonger;set policy-options route-filter-list N 172.16.0.1/32 exact;
+filter|4|24|10.0.0.0/8;172.16.0.0/24;|set policy-options route-filter-list N 10.0.0.0/8 upto /24;set policy-options route-filter-list N 172.16.0.0/24 exact;
+filter|4|32|10.0.0.0/8;172.16.0.1/32;|set policy-options route-filter-list N 10.0.0.0/8 orlonger;set policy-options route-filter-list N 172.16.0.1/32 exact;
 filter|4|32||set policy-options route-filter-list N 0.0.0.0/0 orlonger reject;
-iosxr|4|24|10.0.0.0/8 172.16.0.0/24|prefix-set N;  10.0.0.0/8 le 24,;  172.16.0.0/24;end-set;
+iosxr|4|24|10.0.0.0/8;172.16.0.0/24;|prefix-set N;  10.0.0.0/8 le 24,;  172.16.0.0/24;end-set;
 iosxr|4|24||prefix-set N;end-set;
-bird|4|24|10.0.0.0/8 172.16.0.0/24|define 'N' = [;  10.0.0.0/8{8,24},;  172.16.0.0/24;];;
-bird|6|routes|2001:db8::/32|define 'N' = [;  2001:db8::/32;];;
+bird|4|24|10.0.0.0/8;172.16.0.0/24;|define 'N' = [;  10.0.0.0/8{8,24},;  172.16.0.0/24;];;
+bird|6|routes|2001:db8::/32;|define 'N' = [;  2001:db8::/32;];;
 bird|4|24||define 'N' = [;];;
-openbgpd|4|24|10.0.0.0/8 172.16.0.0/24|prefix-set \"N\" {;  10.0.0.0/8 prefixlen 8 - 24,;  172.16.0.0/24;};
+openbgpd|4|24|10.0.0.0/8;172.16.0.0/24;|prefix-set \"N\" {;  10.0.0.0/8 prefixlen 8 - 24,;  172.16.0.0/24;};
 openbgpd|6|24||prefix-set \"N\" {;};
-openbgpd|4|blocks|10.0.0.0/24 10.0.1.0/24|prefix-set \"N\" {;  10.0.0.0/24,;  10.0.1.0/24;};";
+openbgpd|4|blocks|10.0.0.0/24;10.0.1.0/24;|prefix-set \"N\" {;  10.0.0.0/24,;  10.0.1.0/24;};";
 
 /// The form of a column.
 fn form_of(column: &str) -> ListForm {
@@ -50,19 +48,16 @@ fn form_of(column: &str) -> ListForm {
     }
 }
 
-/// The blocks of a column, all of the family.
-fn blocks_of(alloc: Global, family: Family, column: &str) -> Result<Vec<Block>, Fail>
-    ensures { IfOk result (λ v. AreOf family v.items) }
-{
-    let mut blocks = Vec::new(alloc);
-    for word in column.split(' ') {
-        if let Ok(block) = read_block(word.as_bytes()) {
-            if block.family().is(family) {
-                blocks.push(block)?;
-            }
-        }
-    }
-    Ok(blocks)
+/// The entries for the routes of a column's blocks.
+fn routes_of(alloc: Global, family: Family, column: &str) -> Result<Vec<Entry>, Fail> {
+    let blocks = plain_blocks(alloc, family, column)?;
+    Ok(route_entries(alloc, &blocks)?)
+}
+
+/// The entries for all that is inside a column's blocks, up to a length.
+fn longer_of(alloc: Global, family: Family, most: u8, column: &str) -> Result<Vec<Entry>, Fail> {
+    let blocks = plain_blocks(alloc, family, column)?;
+    Ok(outermost(alloc, most, &blocks)?)
 }
 
 /// The entries that are asked for.
@@ -72,12 +67,11 @@ fn entries_of(
     family: Family,
     column: &str,
 ) -> Result<Vec<Entry>, Fail> {
-    let blocks = blocks_of(alloc, family, column)?;
-    Ok(match asked {
-        "routes" => route_entries(alloc, &blocks)?,
-        "blocks" => exact_entries(alloc, &blocks)?,
-        number => outermost(alloc, number.parse::<u8>().unwrap_or(0), &blocks)?,
-    })
+    match asked {
+        "routes" => routes_of(alloc, family, column),
+        "blocks" => Ok(exact_entries(alloc, &plain_blocks(alloc, family, column)?)?),
+        number => longer_of(alloc, family, number.parse::<u8>().unwrap_or(0), column),
+    }
 }
 
 /// The text of entries.
