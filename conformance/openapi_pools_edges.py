@@ -10,7 +10,7 @@ from conformance.openapi_edges import API, Edge, Edges, request
 
 # what is claimed by an item, what a range is made of, and which number is recorded
 VALID = {"NewRange": {"name": "n", "start": 7, "end": 9}, "AsnClaim": {}, "VlanClaim": {"name": "n"}, "NewAsns": {"asn": 64513, "name": "n"},
-         "NewVlans": {"vid": 10, "name": "n"}}
+         "NewVlans": {"vid": 10, "name": "n"}, "RangeEdit": {"name": "n", "start": 7, "end": 9}, "AsnEdit": {"name": "n"}, "VlanEdit": {"name": "n"}}
 # the first and the last number of the range and of the group that are recorded in
 RECORDED = {"asn-ranges": (64512, 65534), "vlan-groups": (1, 4094)}
 # what the pools of the edges begin with: a range and a group without members, which can be deleted, and one of each with a member
@@ -56,10 +56,10 @@ class PoolEdges(Edges):
         """Ranges from the first number to the last, and past both; and a name that is taken."""
         if "start" not in item["properties"]:
             return
-        most = self.most(place.operation["tags"][0])
+        most, done = self.most(place.operation["tags"][0]), 200 if place.operation["operationId"].startswith("edit") else 201
         for first, last in ((1, 1), (1, 2), (2, 1), (1, most), (most, most), (most, most - 1), (0, most), (1, most + 1), (most + 1, most + 1)):
             code = "field" if last > 4294967295 else "bounds" if not 1 <= first <= last <= most else None
-            yield place.edge(f"from {first} to {last}", {"name": "n", "start": first, "end": last}, self.document.status(code) if code else 201, code)
+            yield place.edge(f"from {first} to {last}", {"name": "n", "start": first, "end": last}, self.document.status(code) if code else done, code)
         yield place.edge("with a name that is taken", {**place.base, "name": "two"}, 400, "name_taken")
 
     def own_edges(self):

@@ -4,7 +4,7 @@ Names, their order and limits are those of model/plain_pools.py; what is the sam
 """
 from model.openapi_document import (ID_OF_PATH, ID_PARAMETER, MOST_FIELDS, MOST_LISTED, OTHERS, REFUSALS, answers, claim, closed, content, fields, listed,
                               other_answers, ref, refusals, shared_headers, text, version)
-from model.plain_pools import CHOSEN, ITEM, MOST_MEMBERS, MOST_NUMBER, MOST_RANGES, RANGE, WORDS
+from model.plain_pools import CHOSEN, EDIT, ITEM, MOST_MEMBERS, MOST_NUMBER, MOST_RANGES, RANGE, WORDS
 from model.plain_register import MOST_ANSWERS, MOST_BODY, MOST_HEAD, MOST_ITEMS, MOST_LOG
 from model.plain_texts import MOST_DEPTH, MOST_ID, REQUIRED
 
@@ -33,7 +33,7 @@ BOOK = [one for one in REFUSALS if one[0] in ALIKE] + [
     ("name_taken", 400, f"^the name is that of {ID}$", True, "Another range, or another group, has this name."),
     ("bounds", 400, f"^(?:first and last do not fit|{ONE_NUMBER} is not in the range)$", True,
      "`start` is 0, `end` is below `start`, or `end` is above the greatest number of the kind; or a number that is to be recorded is not in the range."),
-    ("in_use", 409, f"^named by member {ID}$", True, "The range or group that is to be deleted has members."),
+    ("in_use", 409, f"^named by member {ID}$", True, "The range or group that is to be deleted has members, or an edit leaves some outside its bounds."),
     ("taken", 409, f"^{ONE_NUMBER} is that of (?:member {ID}|an earlier item)$", True, "A member of the pool, or an earlier item of the body, has the number."),
     ("no_space", 409, "^no space for claim (?:0|[1-9][0-9]{0,2})$", True, "Only so many numbers are free, and the claim has more items."),
     ("limit", 507, f"^(?:{'|'.join(MOST)}) would exceed [1-9][0-9]*$", True, "A limit is reached."),
@@ -53,8 +53,8 @@ def members_of(kind):
     return shown if kind == "vlan" else {**shown, "required": [name for name in shown["required"] if name != "name"]}
 
 
-def body(members):
-    needed = [name for name, _, default in members if default is REQUIRED]
+def body(members, whole=True):
+    needed = [name for name, _, default in members if whole and default is REQUIRED]
     known = {"name": ref("Name"), **{name: ref("Number") for name in ("start", "end", "asn", "vid")}}
     properties = {name: known[name] if name != "name" or default is REQUIRED else ref("NameOrNone") for name, _, default in members}
     return {"type": "object", "x-refused": {"type": "bad_json"}, "properties": properties, **({"required": needed} if needed else {})}
@@ -65,13 +65,13 @@ def schemas():
              "NameOrNone": text(0, 100, description="Characters are counted, not bytes. An empty name is none, and is not shown."),
              "Id": whole(1, MOST_ID + 1, description=f"The id of a row. No row has an id above {MOST_ID}."), "RowId": whole(1, MOST_ID),
              "Number": whole(0, 4294967295, description="It has to be at least 1, and at most the greatest number of the kind (else `bounds`)."),
-             "NewRange": body(RANGE)}
+             "NewRange": body(RANGE), "RangeEdit": body(RANGE, whole=False)}
     for kind, (one, member) in ONE.items():
         row = {"id": ref("RowId"), "name": ref("Name"), "start": whole(1, MOST_NUMBER[kind]), "end": whole(1, MOST_NUMBER[kind])}
         item, chosen = member + "ClaimItem", "New" + member
         found |= {one: closed(row), one + "s": {"type": "array", "maxItems": MOST_RANGES, "items": ref(one)}, member: members_of(kind),
                   member + "s": {"type": "array", "maxItems": MOST_MEMBERS, "items": ref(member)}, item: body(ITEM[kind]), member + "Claim": claim(item),
-                  chosen: body(CHOSEN[kind]), chosen + "s": claim(chosen),
+                  member + "Edit": body(EDIT[kind], whole=False), chosen: body(CHOSEN[kind]), chosen + "s": claim(chosen),
                   "Claimed" + member + "s": {"description": "One object for one object, a list for a list.",
                                              "oneOf": [ref(member), {"type": "array", "minItems": 1, "maxItems": MOST_ITEMS, "items": ref(member)}]},
                   "Available" + member + "s": {"type": "array", "maxItems": MOST_LISTED, "items": whole(1, MOST_NUMBER[kind])}}
@@ -111,6 +111,10 @@ def paths_of(kind):
                               asked="NewRange")},
         base + "{id}/": {
             "parameters": [ID_PARAMETER],
+            "get": operation(kind, f"get{one}", "Get one", 200, ref(one), THERE),
+            "patch": operation(kind, f"edit{one}", "Change its name, its first or its last number; what is absent stays", 200, ref(one),
+                               {"bad_json": None, **named, **THERE, "name_taken": None, "bounds": ["first and last do not fit"], "in_use": None, "keeper": None, **limits("log")},
+                               asked="RangeEdit"),
             "delete": operation(kind, f"delete{one}", "Delete one that has no members", 204, None, {**THERE, "in_use": None, "keeper": None, **limits("log")})},
         base + f"{{id}}/available-{members}/": {
             "parameters": [ID_PARAMETER],
@@ -123,6 +127,9 @@ def paths_of(kind):
                               asked=f"New{member}s")},
         f"/api/ipam/{members}/{{id}}/": {
             "parameters": [ID_PARAMETER],
+            "get": operation(kind, f"get{member}", "Get one", 200, ref(member), THERE),
+            "patch": operation(kind, f"edit{member}", "Change its name, if one is given", 200, ref(member),
+                               {"bad_json": None, **fields(["name"]), **THERE, "keeper": None, **limits("log")}, asked=member + "Edit"),
             "delete": operation(kind, f"delete{member}", "Give a number back", 204, None, {**THERE, "keeper": None, **limits("log")})},
     }
 
@@ -138,7 +145,7 @@ def document():
         "components": {
             "schemas": schemas(),
             "parameters": {"id": {**ID_OF_PATH, "description": "The id of a row. Any other text makes another path (404 `no_route`)."}},
-            "headers": shared_headers(["GET, POST", "DELETE"]),
+            "headers": shared_headers(["GET, POST", "GET, PATCH, DELETE"]),
             "responses": other_answers(BOOK),
         },
         **OTHERS,

@@ -25,6 +25,8 @@ MOST_RANGES, MOST_MEMBERS = 1000, 100000
 # of each kind: its ranges and its members, as paths name them, and the member that says of what range a member is, and its number
 WORDS = {"asn": ("asn-ranges", "asns", "range", "asn"), "vlan": ("vlan-groups", "vlans", "group", "vid")}
 RANGE = [("name", a_text(1, 100), REQUIRED), ("start", a_number(0, 4294967295), REQUIRED), ("end", a_number(0, 4294967295), REQUIRED)]
+# what an edit may give a range or a member; what it does not give stays
+EDIT = {True: RANGE, "asn": [("name", a_text(0, 100), "")], "vlan": [("name", a_text(1, 100), REQUIRED)]}
 ITEM = {"asn": [], "vlan": [("name", a_text(1, 100), REQUIRED)]}
 # what an item is that records a chosen number
 CHOSEN = {"asn": [("asn", a_number(0, 4294967295), REQUIRED), ("name", a_text(0, 100), "")],
@@ -44,6 +46,12 @@ class Pools:
 
     def range_of(self, kind, number):
         found = [row for row in self.ranges if row["id"] == number and row["kind"] == kind]
+        if not found:
+            raise self.absent(number)
+        return found[0]
+
+    def member_of(self, kind, number):
+        found = [member for member in self.members if member["id"] == number and self.kind_of(member) == kind]
         if not found:
             raise self.absent(number)
         return found[0]
@@ -68,12 +76,19 @@ class Pools:
 
     # -- the calls
 
-    def add_range(self, kind, draft):
-        for row in self.ranges:
+    def check_range(self, kind, draft, others):
+        for row in others:
             if row["kind"] == kind and row["name"] == draft["name"]:
                 raise Refused(400, "name_taken", f"the name is that of {row['id']}", asked=True)
         if not 1 <= draft["start"] <= draft["end"] <= MOST_NUMBER[kind]:
             raise Refused(400, "bounds", "first and last do not fit", asked=True)
+
+    def check_unused(self, held):
+        if held:
+            raise Refused(409, "in_use", f"named by member {min(held)}", asked=True)
+
+    def add_range(self, kind, draft):
+        self.check_range(kind, draft, self.ranges)
         self.check_room("ranges", self.ranges, MOST_RANGES, self.next_range, 1)
         row = dict(draft, id=self.next_range, kind=kind)
         self.ranges.append(row)
@@ -83,20 +98,33 @@ class Pools:
 
     def cut_range(self, kind, number):
         row = self.range_of(kind, number)
-        held = [member["id"] for member in self.members if member["range"] == number]
-        if held:
-            raise Refused(409, "in_use", f"named by member {min(held)}", asked=True)
+        self.check_unused([member["id"] for member in self.members if member["range"] == number])
         self.check_log(1)
         self.ranges.remove(row)
         self.accept()
 
     def cut_member(self, kind, number):
-        found = [member for member in self.members if member["id"] == number and self.kind_of(member) == kind]
-        if not found:
-            raise self.absent(number)
+        member = self.member_of(kind, number)
         self.check_log(1)
-        self.members.remove(found[0])
+        self.members.remove(member)
         self.accept()
+
+    def edit_range(self, kind, number, given):
+        row = self.range_of(kind, number)
+        new = dict(row, **given)
+        self.check_range(kind, new, [other for other in self.ranges if other is not row])
+        self.check_unused([member["id"] for member in self.members if member["range"] == number and not new["start"] <= member["number"] <= new["end"]])
+        self.check_log(1)
+        row.update(given)
+        self.accept()
+        return self.range_view(row)
+
+    def edit_member(self, kind, number, given):
+        member = self.member_of(kind, number)
+        self.check_log(1)
+        member.update(given)
+        self.accept()
+        return self.member_view(kind, member)
 
     def taken(self, row):
         """The member of each number that is taken. No two ranges of ASNs give out one number; each group of VLANs has its own numbers."""
@@ -179,8 +207,8 @@ class PoolService(Service):
         if match and not (match[2] and int(match[2]) > MOST_ID + 1):
             number = match[2] and int(match[2])
             for kind, (ranges, members, _, _) in WORDS.items():
-                parts = {(ranges, False, None): ["GET", "POST"], (ranges, True, None): ["DELETE"], (ranges, True, f"available-{members}"): ["GET", "POST"],
-                         (ranges, True, members): ["GET", "POST"], (members, True, None): ["DELETE"]}
+                parts = {(ranges, False, None): ["GET", "POST"], (ranges, True, None): ["GET", "PATCH", "DELETE"], (ranges, True, f"available-{members}"): ["GET", "POST"],
+                         (ranges, True, members): ["GET", "POST"], (members, True, None): ["GET", "PATCH", "DELETE"]}
                 methods = parts.get((match[1], number is not None, match[3]))
                 if methods:
                     return kind, match[1] == ranges, number, match[3], methods
@@ -195,6 +223,11 @@ class PoolService(Service):
         if method == "DELETE":
             (pools.cut_range if is_range else pools.cut_member)(kind, number)
             return 204, None
+        if method == "PATCH":
+            given = read_members(self.read_object(body), EDIT[is_range or kind], whole=False)
+            return 200, (pools.edit_range if is_range else pools.edit_member)(kind, number, given)
+        if number is not None and not asked:
+            return 200, pools.range_view(pools.range_of(kind, number)) if is_range else pools.member_view(kind, pools.member_of(kind, number))
         if number is None:
             if method == "GET":
                 return 200, pools.list_ranges(kind)
@@ -224,7 +257,11 @@ ROWS = [
     ("GET", "asn-ranges/3/asns/", None, 404, {"code": "not_found", "detail": "3 is not there"}),
     ("GET", "asn-ranges/3/vlans/", None, 404, {"code": "no_route", "detail": "no such path"}),
     ("GET", "asn-ranges/9/available-asns/?limit=x", None, 400, {"code": "field", "detail": "limit is missing or malformed"}),
-    ("GET", "asn-ranges/1/", None, 405, {"code": "method", "detail": "the path does not have this method"}),
+    ("GET", "asn-ranges/1/", None, 200, {"end": 64514, "id": 1, "name": "a", "start": 64512}),
+    ("GET", "vlan-groups/1/", None, 404, {"code": "not_found", "detail": "1 is not there"}),
+    ("GET", "asns/2/", None, 200, {"asn": 64513, "id": 2, "range": 1}),
+    ("GET", "asns/3/", None, 404, {"code": "not_found", "detail": "3 is not there"}),
+    ("PUT", "asn-ranges/1/", {}, 405, {"code": "method", "detail": "the path does not have this method"}),
     ("POST", "asn-ranges/", {"name": "a", "start": 0, "end": 1}, 400, {"code": "name_taken", "detail": "the name is that of 1"}),
     ("POST", "asn-ranges/", {"name": "c", "start": 0, "end": 1}, 400, {"code": "bounds", "detail": "first and last do not fit"}),
     ("POST", "asn-ranges/", {"name": "c", "start": 2, "end": 1}, 400, {"code": "bounds", "detail": "first and last do not fit"}),
@@ -262,6 +299,23 @@ ROWS = [
     ("DELETE", "asns/1/", None, 404, {"code": "not_found", "detail": "1 is not there"}),
     ("GET", "asn-ranges/1/asns/", None, 200, [{"asn": 64513, "id": 2, "range": 1}, {"asn": 64514, "id": 5, "range": 1}]),
     ("POST", "asn-ranges/1/available-asns/", {}, 201, {"asn": 64512, "id": 8, "range": 1}),
+    ("PATCH", "vlans/4/", {"name": "data", "vid": 2}, 200, {"group": 4, "id": 4, "name": "data", "vid": 1}),
+    ("PATCH", "vlans/4/", {"name": ""}, 400, {"code": "field", "detail": "name is missing or malformed"}),
+    ("PATCH", "vlans/5/", {"name": "data"}, 404, {"code": "not_found", "detail": "5 is not there"}),
+    ("PATCH", "asns/5/", {"name": "edge"}, 200, {"asn": 64514, "id": 5, "name": "edge", "range": 1}),
+    ("PATCH", "asns/5/", {}, 200, {"asn": 64514, "id": 5, "name": "edge", "range": 1}),
+    ("PATCH", "asns/5/", {"name": ""}, 200, {"asn": 64514, "id": 5, "range": 1}),
+    ("PATCH", "asns/5/", [], 400, {"code": "bad_json", "detail": "the body is not the JSON that is asked for"}),
+    ("PATCH", "asn-ranges/9/", {"name": "a", "start": 9, "end": 8}, 404, {"code": "not_found", "detail": "9 is not there"}),
+    ("PATCH", "asn-ranges/2/", {"name": "a", "start": 9, "end": 8}, 400, {"code": "name_taken", "detail": "the name is that of 1"}),
+    ("PATCH", "asn-ranges/1/", {"name": "a", "start": 64515}, 400, {"code": "bounds", "detail": "first and last do not fit"}),
+    ("PATCH", "vlan-groups/4/", {"end": 4095}, 400, {"code": "bounds", "detail": "first and last do not fit"}),
+    ("PATCH", "asn-ranges/1/", {"start": 64514}, 409, {"code": "in_use", "detail": "named by member 2"}),
+    ("PATCH", "asn-ranges/1/", {"end": 64513}, 409, {"code": "in_use", "detail": "named by member 5"}),
+    ("PATCH", "asn-ranges/1/", {"end": 64513, "start": -1}, 400, {"code": "field", "detail": "start is missing or malformed"}),
+    ("PATCH", "vlan-groups/4/", {"end": 3, "name": "c"}, 200, {"end": 3, "id": 4, "name": "c", "start": 1}),
+    ("GET", "vlan-groups/4/available-vlans/", None, 200, [2, 3]),
+    ("PATCH", "vlan-groups/4/", {}, 200, {"end": 3, "id": 4, "name": "c", "start": 1}),
     ("DELETE", "vlans/4/", None, 204, None),
     ("DELETE", "vlan-groups/4/", None, 204, None),
     ("GET", "vlan-groups/", None, 200, [{"end": 4094, "id": 3, "name": "a", "start": 1}]),
@@ -283,7 +337,7 @@ def check_row(row, place, answer):
     has_place = not (status >= 400 and wanted["code"] in ("no_route", "method", "bad_json", "field"))
     if re.findall(rb"\r\nIpam-Place: ([0-9]+)", head) != [str(place).encode()] * has_place:
         sys.exit(f"plain_pools: {method} {path} {body}: another place than {place}: {answer!r}")
-    return place + (status in (201, 204))
+    return place + (status in (201, 204) or method == "PATCH" and status == 200)
 
 
 def conversation():

@@ -76,6 +76,18 @@ class Talker:
         items = [self.chosen(kind, number) for _ in range(self.pick.choice([1, 2, 2, 3, 4]) if self.chance(0.97) else self.pick.choice([0, 1000, 1001]))]
         return items if self.chance(0.98) else items + [self.pick.choice([5, [], None])]
 
+    def range_edit(self, kind, number):
+        """Other bounds for a range: mostly some of what there is, a little more or a little less."""
+        row = next((row for row in self.pools.ranges if row["id"] == number), {"start": 1, "end": 9})
+        body = {name: self.value(row[name] + self.pick.choice([-2, -1, 0, 1, 2, 4])) for name in ("start", "end") if self.chance(0.5)}
+        if self.chance(0.4):
+            body["name"] = self.value(self.pick.choice(NAMES) + str(self.pick.randrange(3)))
+        return dict(body, **{"x": self.pick.choice(NOT_WELL)}) if self.chance(0.1) else body
+
+    def member_edit(self, kind):
+        body = {"name": self.value(self.pick.choice(NAMES if kind == "vlan" else NAMES + [""]))} if self.chance(0.9) else {}
+        return dict(body, **{WORDS[kind][3]: self.pick.choice(NOT_WELL)}) if self.chance(0.1) else body
+
     def text(self, body):
         text = json.dumps(body, ensure_ascii=self.chance(0.3), separators=self.pick.choice([(",", ":"), (", ", ": ")]))
         if self.chance(0.01):
@@ -98,20 +110,24 @@ class Talker:
         kind = self.kind()
         ranges, members, _, _ = WORDS[kind]
         few = len(self.pools.ranges) < 4
-        asked = self.pick.choices(["make", "list", "cut range", "cut member", "free", "claim", "given", "record"], [8 if few else 3, 1, 0.7, 5, 5, 10, 2, 8])[0]
+        asked = self.pick.choices(["make", "list", "cut range", "cut member", "free", "claim", "given", "record", "range", "member", "edit range", "edit member"],
+                                  [8 if few else 3, 1, 0.7, 5, 5, 10, 2, 8, 1, 1, 4, 3])[0]
         method, body = "GET", b""
         if asked in ("make", "list"):
             target = f"/api/ipam/{ranges}/"
             if asked == "make":
                 method, body = "POST", self.text(self.draft(kind))
-        elif asked == "cut member":
-            method, target = "DELETE", f"/api/ipam/{members}/{self.row(self.member_id(kind))}/"
+        elif asked in ("cut member", "member", "edit member"):
+            method = {"cut member": "DELETE", "edit member": "PATCH"}.get(asked, "GET")
+            target = f"/api/ipam/{members}/{self.row(self.member_id(kind))}/"
+            body = self.text(self.member_edit(kind)) if asked == "edit member" else b""
         else:
-            part = {"cut range": "", "given": members + "/", "record": members + "/"}.get(asked, f"available-{members}/")
+            part = {"cut range": "", "range": "", "edit range": "", "given": members + "/", "record": members + "/"}.get(asked, f"available-{members}/")
             number = self.range_id(kind)
             target = f"/api/ipam/{ranges}/{self.row(number)}/{part}"
-            method = {"cut range": "DELETE", "claim": "POST", "record": "POST"}.get(asked, "GET")
-            body = self.text(self.claim(kind)) if asked == "claim" else self.text(self.record(kind, number)) if asked == "record" else b""
+            method = {"cut range": "DELETE", "edit range": "PATCH", "claim": "POST", "record": "POST"}.get(asked, "GET")
+            said = {"claim": lambda: self.claim(kind), "record": lambda: self.record(kind, number), "edit range": lambda: self.range_edit(kind, number)}.get(asked)
+            body = self.text(said()) if said else b""
         if self.chance(0.02):
             method = self.pick.choice(["GET", "POST", "DELETE", "PATCH", "PUT", "HEAD", "get"])
         if self.chance(0.01):

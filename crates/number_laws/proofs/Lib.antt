@@ -3,3 +3,4 @@ pub mod Meetings
 pub mod Made
 pub mod Least
 pub mod Recorded
+pub mod Edited

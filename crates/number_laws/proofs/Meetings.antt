@@ -93,21 +93,22 @@ never_meet s history i j one other x y h l p q m n pools =
     let lawful_first : IsLawfulPools first = steps_keep (replay s (take i history)) one (lawful_at history i s h) in
     let lawful_last : IsLawfulPools last = steps_keep before other lawful in
     let own = lawful_first.within x m.0 in
-    let there : IsThere x own.0 (replay s (take (suc i) history)) = subst (IsThere x own.0) (sym (after_call history i s one p)) (record { member = m.0; range = own.1 }) in
+    let there : IsThere x own.0 (replay s (take (suc i) history)) = subst (IsThere x own.0) (sym (after_call history i s one p)) (record { now = x; same = record { id = refl; range = refl; number = refl }; member = m.0; row = own.0; range = own.1; kind = refl }) in
     let within = place_within history j other q in
     elim (kept_to x own.0 history (suc i) j s (omega arith) (omega arith) h there) [
       | inr b ↦ inr (given_back x own.0 s history i j b)
       | inl k ↦ elim (stays x own.0 before other lawful k) [
         | inr g ↦ absurd (n.1 y (none_given before x.id (member_at before g.kind x.id) y (subst (λ (c : PoolCall). Contains (plain_pool_step before c).0.members.rows y) g.is n.0)) refl)
         | inl a ↦ inl (λ same. (
-            let pool : pool_at last.ranges.rows x ≡ pool_at last.ranges.rows y = one_pool first last x y own.0 own.1 a.range pools in
-            n.1 x k.member (lawful_last.numbers x y a.member n.0 (pool, same))))
+            let pool : pool_at last.ranges.rows x ≡ pool_at last.ranges.rows y = one_pool first last x y own.0 a.row own.1 a.range a.kind pools in
+            let now : pool_at last.ranges.rows a.now ≡ pool_at last.ranges.rows x = ap (λ (k : ℕ). pool_found (row_at range_id last.ranges.rows k) k) a.same.range in
+            n.1 k.now k.member (k.same.id ∙ sym a.same.id ∙ lawful_last.numbers a.now y a.member n.0 (now ∙ pool, a.same.number ∙ same))))
       ]
     ]
   where
-    one_pool : (first last : Pools) (x y : Member) (r : NumberRange) → row_at range_id first.ranges.rows x.range ≡ Some r → row_at range_id last.ranges.rows x.range ≡ Some r
+    one_pool : (first last : Pools) (x y : Member) (r row : NumberRange) → row_at range_id first.ranges.rows x.range ≡ Some r → row_at range_id last.ranges.rows x.range ≡ Some row → row.kind ≡ r.kind
         → (x.range ≡ y.range) ⊎ (IsOfAsns first x.range × IsOfAsns last y.range) → pool_at last.ranges.rows x ≡ pool_at last.ranges.rows y
-    one_pool first last x y r e f (inl same) = ap (λ (n : ℕ). pool_found (row_at range_id last.ranges.rows n) n) same
-    one_pool first last x y r e f (inr both) =
-        let is : both.0.0 ≡ r = (let k : Some both.0.0 ≡ Some r = sym both.0.1 ∙ e in cc) in
-        asn_pool last x (r, f, ap (λ (q : NumberRange). q.kind) (sym is) ∙ both.0.2) ∙ sym (asn_pool last y both.1)
+    one_pool first last x y r row e f k (inl same) = ap (λ (n : ℕ). pool_found (row_at range_id last.ranges.rows n) n) same
+    one_pool first last x y r row e f k (inr both) =
+        let is : both.0.0 ≡ r = (let q : Some both.0.0 ≡ Some r = sym both.0.1 ∙ e in cc) in
+        asn_pool last x (row, f, k ∙ ap (λ (q : NumberRange). q.kind) (sym is) ∙ both.0.2) ∙ sym (asn_pool last y both.1)

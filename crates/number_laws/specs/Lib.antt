@@ -1,3 +1,4 @@
 pub mod Histories
 pub mod Claims
 pub mod Records
+pub mod Edits

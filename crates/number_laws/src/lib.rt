@@ -2,6 +2,7 @@
 #![tactic(auto)]
 
 ghost use Rattle.number_laws.specs.Claims.{ClaimsAreNew};
+ghost use Rattle.number_laws.specs.Edits.{EditsAreAsAsked};
 ghost use Rattle.number_laws.specs.Histories.{NumbersNeverMeet};
 ghost use Rattle.number_laws.specs.Records.{RecordsAreChosen};
 
@@ -20,4 +21,9 @@ pub fn claims_are_new()
 /// under an id that no member had.
 pub fn records_are_chosen()
     ensures { RecordsAreChosen }
+{}
+
+/// An edit that is not refused edits the row that was asked for, and it alone: no number changes hands.
+pub fn edits_are_as_asked()
+    ensures { EditsAreAsAsked }
 {}

@@ -1,11 +1,11 @@
 -- A conversation with pools, worked out by evaluation.
-use Rattle.std.proofs.Common.{◌≡◌, List, [], ◌∷◌, ◌++◌, true, false, refl}
+use Rattle.std.proofs.Common.{◌≡◌, List, [], ◌∷◌, ◌++◌, true, false, Some, None, refl}
 use Rattle.inet_num.specs.Count.{numbers_from}
 use Rattle.number_pools.specs.declared.rows.PoolKind.TheVariants.{Asn, Vlan}
 use Rattle.number_pools.specs.declared.calls.PoolCall.{PoolCall}
 use Rattle.number_pools.specs.declared.calls.PoolCall.TheVariants as call
 use Rattle.number_pools.specs.declared.calls.PoolReply.{PoolReply}
-use Rattle.number_pools.specs.declared.calls.PoolReply.TheVariants.{Made, Claimed, Members, Numbers, Refused}
+use Rattle.number_pools.specs.declared.calls.PoolReply.TheVariants.{Made, Claimed, ChangedMember, ChangedRange, Members, Numbers, OneMember, OneRange, Refused}
 use Rattle.number_pools.specs.declared.calls.PoolRefusal.TheVariants.{Absent, NameTaken, Bounds, InUse, NoSpace, Outside, Taken, Repeated}
 use Rattle.number_pools.specs.Rows.{Pools, empty_pools}
 use Rattle.number_pools.specs.Steps.{plain_pool_step}
@@ -114,3 +114,38 @@ is_taken = refl
 twice : answer recorded (call.Record Asn 1 true (record { number = 64513; name = [] } ∷ record { number = 64513; name = [] } ∷ [])) ≡ Refused (Repeated 64513)
 unfolding numbers_from
 twice = refl
+
+-- a range and a member are read under an id of their kind
+one : answer recorded (call.OneRange Asn 1) ≡ OneRange (record { id = 1; kind = Asn; name = 97 ∷ []; first = 64512; last = 64514 })
+one = refl
+
+one_member : answer recorded (call.OneMember Asn 1) ≡ OneMember (record { id = 1; range = 1; number = 64512; name = 98 ∷ [] })
+one_member = refl
+
+one_of_other : answer recorded (call.OneMember Vlan 1) ≡ Refused (Absent 1)
+one_of_other = refl
+
+-- an edit leaves what it does not give
+renamed : answer recorded (call.EditMember Asn 1 (Some (99 ∷ []))) ≡ ChangedMember (record { id = 1; range = 1; number = 64512; name = 99 ∷ [] })
+renamed = refl
+
+left : answer recorded (call.EditMember Asn 1 None) ≡ ChangedMember (record { id = 1; range = 1; number = 64512; name = 98 ∷ [] })
+left = refl
+
+longer : answer recorded (call.EditRange Asn 1 None None (Some 64515)) ≡ ChangedRange (record { id = 1; kind = Asn; name = 97 ∷ []; first = 64512; last = 64515 })
+longer = refl
+
+-- the name of another range comes before bounds that do not fit, these before a member outside them, and its own name is free to a range
+name_of_other : answer (recorded ++ call.AddRange Asn (98 ∷ []) 1 2 ∷ []) (call.EditRange Asn 1 (Some (98 ∷ [])) (Some 9) (Some 8)) ≡ Refused (NameTaken 2)
+name_of_other = refl
+
+no_bounds : answer recorded (call.EditRange Asn 1 (Some (97 ∷ [])) (Some 64516) None) ≡ Refused Bounds
+no_bounds = refl
+
+outside : answer recorded (call.EditRange Asn 1 None (Some 64513) None) ≡ Refused (InUse 1)
+outside = refl
+
+-- what an edit adds is given out
+more_free : answer (recorded ++ call.EditRange Asn 1 None None (Some 64515) ∷ []) (call.Available Asn 1 50) ≡ Numbers (64513 ∷ 64514 ∷ 64515 ∷ [])
+unfolding numbers_from
+more_free = refl

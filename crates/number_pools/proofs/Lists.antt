@@ -1,10 +1,10 @@
 -- Rows of any kind, however many: what stays when one is put behind all, and when one is taken out.
-use Rattle.std.proofs.Common.{◌≡◌, ◌≢◌, ℕ, ◌+◌, ◌≤◌, ◌==◌, ◌||◌, ◌⊎◌, Bool, true, false, not, cond, List, [], ◌∷◌, length, Option, Some, refl, ap, sym, ◌∙◌, arith, if◌then◌else◌, inl, inr, Contains}
+use Rattle.std.proofs.Common.{◌≡◌, ◌≢◌, ℕ, ◌+◌, ◌≤◌, ◌==◌, ◌||◌, ◌⊎◌, Bool, true, false, not, cond, List, [], ◌∷◌, length, IsSome, Option, Some, refl, ap, sym, ◌∙◌, arith, if◌then◌else◌, inl, inr, Contains}
 use Rattle.std.specs.List.{list_any}
 use Rattle.std.proofs.lemmas.Bool.Decides.{nat_tests}
-use Rattle.ipam_data.specs.RowList.{RowList, IsRowList, row_at, with_row, without, appended, cleared_of, last_next}
-use Rattle.ipam_data.proofs.RowLists.{eq_false, contains_cases, row_list-appended}
-use Rattle.ipam_data.proofs.Kept.{row_list-cleared}
+use Rattle.ipam_data.specs.RowList.{RowList, IsRowList, row_at, with_row, without, Rises, appended, cleared_of, replaced, last_next}
+use Rattle.ipam_data.proofs.RowLists.{eq_false, contains_cases, rises_above, row_list-appended}
+use Rattle.ipam_data.proofs.Kept.{row_list-cleared, row_list-replaced}
 use Rattle.number_pools.specs.Lawful.{AreNumbered}
 
 -- what a test does not find, no row of the list passes
@@ -51,3 +51,17 @@ module _ {T : Type 0} (id : T → ℕ) where
 
   pub numbered-cleared : (row_list : RowList T) (n : ℕ) → AreNumbered id row_list → AreNumbered id (cleared_of id row_list n)
   numbered-cleared row_list n h = as_numbered (length row_list.rows) (cleared_of id row_list n) (row_list-cleared id (length row_list.rows) n row_list (as_row_list row_list h))
+
+  pub numbered-replaced : (row_list : RowList T) (row : T) → AreNumbered id row_list → IsSome (row_at id row_list.rows (id row)) → AreNumbered id (replaced id row_list row)
+  numbered-replaced row_list row h there = as_numbered (length row_list.rows) (replaced id row_list row) (row_list-replaced id (length row_list.rows) row_list row (as_row_list row_list h) there)
+
+  -- two rows of one id are one
+  pub one_of_id : (low : ℕ) (xs : List T) (x y : T) → Rises id low xs → Contains xs x → Contains xs y → id x ≡ id y → x ≡ y
+  one_of_id low [] x y r c d e = let l = c.1 in absurd (omega arith)
+  one_of_id low (z ∷ zs) x y r c d e = go (contains_cases z x zs c) (contains_cases z y zs d) (λ a b. one_of_id (id z) zs x y r.1 a b e)
+    where
+      go : (z ≡ x) ⊎ Contains zs x → (z ≡ y) ⊎ Contains zs y → (Contains zs x → Contains zs y → x ≡ y) → x ≡ y
+      go (inl a) (inl b) ih = sym a ∙ b
+      go (inl a) (inr b) ih = let q = ap id a in let k = rises_above id (id z) zs y r.1 b in absurd (omega arith)
+      go (inr a) (inl b) ih = let q = ap id b in let k = rises_above id (id z) zs x r.1 a in absurd (omega arith)
+      go (inr a) (inr b) ih = ih a b

@@ -1,13 +1,13 @@
 -- Whatever is asked of lawful pools, they stay lawful.
-use Rattle.std.proofs.Common.{◌≡◌, ◌≢◌, ℕ, ◌+◌, ◌-◌, ◌<◌, ◌≤◌, ◌&&◌, Bool, true, false, nat_le, List, [], ◌∷◌, length, take, find, Option, Some, None, refl, ap, sym, ◌∙◌, arith, if◌then◌else◌, Contains}
+use Rattle.std.proofs.Common.{◌≡◌, ◌≢◌, ℕ, ◌+◌, ◌-◌, ◌<◌, ◌≤◌, ◌==◌, ◌&&◌, not, Bool, true, false, is_some, nat_le, List, [], ◌∷◌, length, take, find, Option, Some, None, refl, ap, sym, ◌∙◌, arith, if◌then◌else◌, Contains}
 use Rattle.std.proofs.lemmas.Bool.Decides.{nat_tests}
 use Rattle.std.proofs.lemmas.List.{length-map}
 use Rattle.std.proofs.lemmas.Slice.Eq.{bytes_eq-Decides}
 use Rattle.ipam_data.specs.declared.kinds.TheConstants.{LAST_ID}
 use Rattle.ipam_data.specs.Checks.{first as first_of, most_spent}
-use Rattle.ipam_data.specs.RowList.{row_at, with_row, without, least, AllAre, IsApart, last_next}
+use Rattle.ipam_data.specs.RowList.{is_rival, row_at, with_row, without, least, AllAre, IsApart, last_next}
 use Rattle.ipam_data.proofs.RowLists.{eq_true, find_none, id_below}
-use Rattle.ipam_data.proofs.Kept.{all-with, all-without, apart-with, apart-without, found_there, none_from_map}
+use Rattle.ipam_data.proofs.Kept.{all-with, all-without, apart-unrivalled, apart-with, apart-without, found_there, none_from_map, put_found}
 use Rattle.ipam_data.proofs.Verdicts.{none_head, none_rest, test_holds}
 use Rattle.number_pools.specs.declared.rows.PoolKind.{PoolKind}
 use Rattle.number_pools.specs.declared.rows.PoolKind.TheVariants.{Asn, Vlan}
@@ -20,15 +20,16 @@ use Rattle.number_pools.specs.declared.calls.Quantity.TheVariants.{Claims, Items
 use Rattle.number_pools.specs.declared.calls.PoolRefusal.TheVariants.{NameTaken, InUse, Limit, Bounds}
 use Rattle.number_pools.specs.declared.calls.PoolCall.TheVariants as call
 use Rattle.number_pools.specs.declared.calls.PoolReply.{PoolReply}
-use Rattle.number_pools.specs.declared.calls.PoolReply.TheVariants.{Made, Gone, Claimed}
+use Rattle.number_pools.specs.declared.calls.PoolReply.TheVariants.{Made, Gone, Claimed, ChangedRange, ChangedMember}
 use Rattle.number_pools.specs.Rows.{Pools, member_id, most_of, range_id}
 use Rattle.number_pools.specs.Free.{free_numbers, pool_at, pool_found}
 use Rattle.number_pools.specs.Lawful.{HaveOneName, HoldOneNumber, IsInBounds, IsInRange, IsLawfulPools}
 use Rattle.number_pools.specs.Laws.{EmptyIsLawful, StepsKeepLawful}
-use Rattle.number_pools.proofs.Lists.{numbered-appended, numbered-cleared, row_at_else, row_at_beside}
+use Rattle.number_pools.proofs.Lists.{numbered-appended, numbered-cleared, numbered-replaced, row_at_else, row_at_beside}
 use Rattle.number_pools.proofs.Given.{AreMembers, AreFree, all_given, free_from, free_open, some_free}
 use Rattle.number_pools.proofs.Fits.{are_open}
-use Rattle.number_pools.specs.Steps.{Check, add_checks, claim_checks, claimed, cut_member_checks, cut_range_checks, cut_range_step, cut_member_step, members_step, available_step, claim_step, record_checks, record_step, recorded, names_of, numbers_of, unfit, with_record, has_name, in_bounds, is_in_use, is_name_taken, is_of_range, is_out_of_bounds, is_short, made_range, member_at, no_ids, no_log, plain_pool_step, range_at, of_kind, same_kind, too_many, unless, with_claim, with_range, without_member, without_range}
+use Rattle.number_pools.proofs.Kept.{same_pool}
+use Rattle.number_pools.specs.Steps.{Check, edit_member_checks, edit_member_step, edit_range_checks, edit_range_step, edited_member, edited_range, has_one_name, is_cut_off, is_name_of_other, is_too_small, is_within, of_kind_of, one_member_step, one_range_step, with_edited_member, with_edited_range, add_checks, claim_checks, claimed, cut_member_checks, cut_range_checks, cut_range_step, cut_member_step, members_step, available_step, claim_step, record_checks, record_step, recorded, names_of, numbers_of, unfit, with_record, has_name, in_bounds, is_in_use, is_name_taken, is_of_range, is_out_of_bounds, is_short, made_range, member_at, no_ids, no_log, plain_pool_step, range_at, of_kind, same_kind, too_many, unless, with_claim, with_range, without_member, without_range}
 
 -- ---- what it says that no check refuses
 
@@ -45,10 +46,10 @@ both true b e = (refl, e)
 both false b e = cc
 
 -- the range is in its bounds
-are_bounds : (s : Pools) (kind : PoolKind) (name : List ℕ) (first last : ℕ) → is_out_of_bounds kind first last ≡ None → IsInBounds (made_range s kind name first last)
-are_bounds s kind name first last e =
-    let h = both (nat_le 1 first && nat_le first last) (nat_le last (most_of kind)) (test_holds (in_bounds kind first last) Bounds e) in
-    let k = both (nat_le 1 first) (nat_le first last) h.0 in
+are_bounds : (r : NumberRange) → is_out_of_bounds r.kind r.first r.last ≡ None → IsInBounds r
+are_bounds r e =
+    let h = both (nat_le 1 r.first && nat_le r.first r.last) (nat_le r.last (most_of r.kind)) (test_holds (in_bounds r.kind r.first r.last) Bounds e) in
+    let k = both (nat_le 1 r.first) (nat_le r.first r.last) h.0 in
     let a = k.0 in let b = k.1 in let c = h.1 in
     (grind (arith, nat_tests), grind (arith, nat_tests), grind (arith, nat_tests))
 
@@ -150,10 +151,64 @@ record_made s range items h there ids log fit =
     let made = all_given s.ranges.rows s.members range (numbers_of items) (names_of items) members there (omega arith) (are_open s range [] (numbers_of items) fit).0 in
     record { ranges = h.ranges; members = made.numbered; names = h.names; bounds = h.bounds; within = made.within; numbers = made.numbers; spent = log }
 
+-- a member of the range that is not cut off holds one of its numbers
+not_cut_off : (s : Pools) (row : NumberRange) (m : Member) → is_too_small s row ≡ None → Contains s.members.rows m → m.range ≡ row.id → (row.first ≤ m.number) × (m.number ≤ row.last)
+not_cut_off s row m e c own =
+    let f = find_none (is_cut_off row) s.members.rows m (none_from_map member_id (find (is_cut_off row) s.members.rows) (none_from_map InUse (least member_id (is_cut_off row) s.members.rows) e)) c in
+    let t : (true && not (is_within row m.number)) ≡ false = rw (eq_true m.range row.id own) at f in
+    let w = both (nat_le row.first m.number) (nat_le m.number row.last) (not_false (is_within row m.number) t) in
+    let a = w.0 in let b = w.1 in
+    (grind (arith, nat_tests), grind (arith, nat_tests))
+  where
+    not_false : (b : Bool) → not b ≡ false → b ≡ true
+    not_false true e = refl
+    not_false false e = cc
+
+-- a range in the place of one of its kind
+module _ (s : Pools) (old row : NumberRange) (h : IsLawfulPools s) (there : row_at range_id s.ranges.rows row.id ≡ Some old) (kind : old.kind ≡ row.kind) where
+  range_edited : s.spent + 1 ≤ most_spent → is_name_of_other s row ≡ None → IsInBounds row → is_too_small s row ≡ None → IsLawfulPools (with_edited_range s row)
+  range_edited log unrivalled bounds large = record {
+    ranges = numbered-replaced range_id s.ranges row h.ranges (rw there refl);
+    members = h.members;
+    names = apart-unrivalled range_id HaveOneName has_one_name s.ranges.rows row (λ x y k. (sym k.0, sym k.1)) (λ x k. is_named row x k) (none_from_map NameTaken (least range_id (is_rival range_id has_one_name row) s.ranges.rows) unrivalled) h.names;
+    bounds = all-with range_id IsInBounds s.ranges.rows row h.bounds bounds;
+    within = λ m c. in_range m c (row.id == m.range) refl;
+    numbers = λ x y c d k. h.numbers x y c d (sym (same_pool s.ranges.rows old row there kind x) ∙ k.0 ∙ same_pool s.ranges.rows old row there kind y, k.1);
+    spent = log;
+  }
+    where
+      in_range : (m : Member) → Contains s.members.rows m → (t : Bool) → (row.id == m.range) ≡ t → IsInRange (with_row range_id s.ranges.rows row) m
+      in_range m c true t =
+          let q : row.id ≡ m.range = grind (arith, nat_tests, t) in
+          let w = not_cut_off s row m large c (sym q) in
+          (row, ap (row_at range_id (with_row range_id s.ranges.rows row)) (sym q) ∙ put_found range_id s.ranges.rows row, w.0, w.1)
+      in_range m c false t =
+          let d : row.id ≢ m.range = (λ q. let b : true ≡ false = sym (eq_true row.id m.range q) ∙ t in cc) in
+          let r = h.within m c in
+          (r.0, row_at_else range_id s.ranges.rows row m.range d ∙ r.1, r.2, r.3)
+
+-- a member in the place of one of its number
+member_edited : (s : Pools) (old row : Member) → IsLawfulPools s → row_at member_id s.members.rows row.id ≡ Some old → old.range ≡ row.range → old.number ≡ row.number → s.spent + 1 ≤ most_spent
+    → IsLawfulPools (with_edited_member s row)
+member_edited s old row h there range number log =
+    let f = found_there member_id s.members.rows row.id old there in
+    let pool : pool_at s.ranges.rows old ≡ pool_at s.ranges.rows row = ap (λ (n : ℕ). pool_found (row_at range_id s.ranges.rows n) n) range in
+    let w = h.within old f.0 in
+    let low = w.2 in let high = w.3 in
+    record {
+      ranges = h.ranges;
+      members = numbered-replaced member_id s.members row h.members (rw there refl);
+      names = h.names;
+      bounds = h.bounds;
+      within = all-with member_id (IsInRange s.ranges.rows) s.members.rows row h.within (w.0, ap (row_at range_id s.ranges.rows) (sym range) ∙ w.1, omega arith, omega arith);
+      numbers = apart-with member_id (HoldOneNumber s.ranges.rows) s.members.rows row (λ x y k. (sym k.0, sym k.1)) (λ x c k. h.numbers x old c f.0 (sym k.0 ∙ sym pool, sym k.1 ∙ sym number) ∙ f.1) h.numbers;
+      spent = log;
+    }
+
 -- ---- the steps
 
 -- the range that was asked for is found under its own id
-found_range : (s : Pools) (kind : PoolKind) (id : ℕ) (range : NumberRange) → range_at s.ranges.rows kind id ≡ Some range → row_at range_id s.ranges.rows range.id ≡ Some range
+pub found_range : (s : Pools) (kind : PoolKind) (id : ℕ) (range : NumberRange) → range_at s.ranges.rows kind id ≡ Some range → row_at range_id s.ranges.rows range.id ≡ Some range
 found_range s kind id range e = go (row_at range_id s.ranges.rows id) refl e
   where
     go : (o : Option NumberRange) → row_at range_id s.ranges.rows id ≡ o → of_kind kind o ≡ Some range → row_at range_id s.ranges.rows range.id ≡ Some range
@@ -186,7 +241,7 @@ add_lawful s kind name first last h =
     let e3 = none_rest many (ids ∷ log ∷ []) e2 in
     let e4 = none_rest ids (log ∷ []) e3 in
     range_added s row h refl (ids_fit s.ranges.next 1 (none_head ids (log ∷ []) e3)) (log_fits s 1 (none_head log [] e4))
-    (are_bounds s kind name first last (none_head out (many ∷ ids ∷ log ∷ []) e1))
+    (are_bounds row (none_head out (many ∷ ids ∷ log ∷ []) e1))
     (λ x c. none_named s kind name x (none_head taken (out ∷ many ∷ ids ∷ log ∷ []) e) c))
 
 cut_range_lawful : (s : Pools) (kind : PoolKind) (id : ℕ) → IsLawfulPools s → IsLawfulPools (plain_pool_step s (call.CutRange kind id)).0
@@ -258,6 +313,62 @@ record_lawful s kind id list items h = go (range_at s.ranges.rows kind id) refl
         record_made s range items h (found_range s kind id range o) (ids_fit s.members.next n (none_head ids (log ∷ []) e3))
         (log_fits s n (none_head log [] (none_rest ids (log ∷ []) e3))) (none_head fit (many ∷ ids ∷ log ∷ []) e1))
 
+-- the member that was asked for has the id
+pub member_there : (s : Pools) (kind : PoolKind) (id : ℕ) (m : Member) → member_at s kind id ≡ Some m → row_at member_id s.members.rows id ≡ Some m
+member_there s kind id m e = go (row_at member_id s.members.rows id) e
+  where
+    go : (o : Option Member) → of_kind_of s.ranges.rows kind o ≡ Some m → o ≡ Some m
+    go None e = cc
+    go (Some x) e = inner (is_some (range_at s.ranges.rows kind x.range)) e
+      where
+        inner : (t : Bool) → (if t then Some x else None) ≡ Some m → Some x ≡ Some m
+        inner true e = e
+        inner false e = cc
+
+edit_range_lawful : (s : Pools) (kind : PoolKind) (id : ℕ) (name : Option (List ℕ)) (first last : Option ℕ) → IsLawfulPools s → IsLawfulPools (plain_pool_step s (call.EditRange kind id name first last)).0
+edit_range_lawful s kind id name first last h = go (range_at s.ranges.rows kind id) refl
+  where
+    go : (o : Option NumberRange) → range_at s.ranges.rows kind id ≡ o → IsLawfulPools (edit_range_step s id name first last o).0
+    go None o = h
+    go (Some range) o =
+        let row = edited_range range name first last in
+        let other = is_name_of_other s row in
+        let out = is_out_of_bounds row.kind row.first row.last in
+        let small = is_too_small s row in
+        let log = no_log s 1 in
+        either (first_of (edit_range_checks s row)) s (with_edited_range s row) (ChangedRange row) h (λ e.
+        let e1 = none_rest other (out ∷ small ∷ log ∷ []) e in
+        let e2 = none_rest out (small ∷ log ∷ []) e1 in
+        let e3 = none_rest small (log ∷ []) e2 in
+        range_edited s range row h (found_range s kind id range o) refl (log_fits s 1 (none_head log [] e3)) (none_head other (out ∷ small ∷ log ∷ []) e)
+        (are_bounds row (none_head out (small ∷ log ∷ []) e1)) (none_head small (log ∷ []) e2))
+
+edit_member_lawful : (s : Pools) (kind : PoolKind) (id : ℕ) (name : Option (List ℕ)) → IsLawfulPools s → IsLawfulPools (plain_pool_step s (call.EditMember kind id name)).0
+edit_member_lawful s kind id name h = go (member_at s kind id) refl
+  where
+    go : (o : Option Member) → member_at s kind id ≡ o → IsLawfulPools (edit_member_step s id name o).0
+    go None o = h
+    go (Some m) o =
+        let row = edited_member m name in
+        let at = member_there s kind id m o in
+        let own : m.id ≡ id = (found_there member_id s.members.rows id m at).1 in
+        either (first_of (edit_member_checks s)) s (with_edited_member s row) (ChangedMember row) h (λ e.
+        member_edited s m row h (ap (row_at member_id s.members.rows) own ∙ at) refl refl (log_fits s 1 (none_head (no_log s 1) [] e)))
+
+one_range_lawful : (s : Pools) (kind : PoolKind) (id : ℕ) → IsLawfulPools s → IsLawfulPools (plain_pool_step s (call.OneRange kind id)).0
+one_range_lawful s kind id h = go (range_at s.ranges.rows kind id)
+  where
+    go : (o : Option NumberRange) → IsLawfulPools (one_range_step s id o).0
+    go None = h
+    go (Some range) = h
+
+one_member_lawful : (s : Pools) (kind : PoolKind) (id : ℕ) → IsLawfulPools s → IsLawfulPools (plain_pool_step s (call.OneMember kind id)).0
+one_member_lawful s kind id h = go (member_at s kind id)
+  where
+    go : (o : Option Member) → IsLawfulPools (one_member_step s id o).0
+    go None = h
+    go (Some m) = h
+
 pub steps_keep : StepsKeepLawful
 steps_keep s (call.AddRange kind name first last) h = add_lawful s kind name first last h
 steps_keep s (call.CutRange kind id) h = cut_range_lawful s kind id h
@@ -267,6 +378,10 @@ steps_keep s (call.CutMember kind id) h = cut_member_lawful s kind id h
 steps_keep s (call.Available kind id limit) h = available_lawful s kind id limit h
 steps_keep s (call.Claim kind id list names) h = claim_lawful s kind id list names h
 steps_keep s (call.Record kind id list items) h = record_lawful s kind id list items h
+steps_keep s (call.OneRange kind id) h = one_range_lawful s kind id h
+steps_keep s (call.OneMember kind id) h = one_member_lawful s kind id h
+steps_keep s (call.EditRange kind id name first last) h = edit_range_lawful s kind id name first last h
+steps_keep s (call.EditMember kind id name) h = edit_member_lawful s kind id name h
 
 pub empty : EmptyIsLawful
 empty = record {

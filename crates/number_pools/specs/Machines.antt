@@ -6,7 +6,7 @@ use Rattle.number_pools.specs.declared.calls.PoolRefusal.TheVariants.{Absent, Na
 use Rattle.number_pools.specs.declared.calls.PoolCall.{PoolCall}
 use Rattle.number_pools.specs.declared.calls.PoolCall.TheVariants as call
 use Rattle.number_pools.specs.declared.calls.PoolReply.{PoolReply}
-use Rattle.number_pools.specs.declared.calls.PoolReply.TheVariants.{Made, Gone, Claimed, Ranges, Members, Numbers, Refused}
+use Rattle.number_pools.specs.declared.calls.PoolReply.TheVariants.{Made, Gone, Claimed, ChangedRange, ChangedMember, OneRange, OneMember, Ranges, Members, Numbers, Refused}
 
 abbrev pub refusal_kind : PoolRefusal → ReplyKind
 refusal_kind (Absent id) = plain
@@ -25,6 +25,10 @@ abbrev pub kind_of : PoolReply → ReplyKind
 kind_of (Made range) = accepted
 kind_of Gone = accepted
 kind_of (Claimed members) = accepted
+kind_of (ChangedRange range) = accepted
+kind_of (ChangedMember member) = accepted
+kind_of (OneRange range) = plain
+kind_of (OneMember member) = plain
 kind_of (Ranges rows) = plain
 kind_of (Members rows) = plain
 kind_of (Numbers numbers) = plain
@@ -40,3 +44,7 @@ IsTaken (call.CutMember kind id) = Unit {0}
 IsTaken (call.Available kind id limit) = Unit {0}
 IsTaken (call.Claim kind id list names) = 1 ≤ length names
 IsTaken (call.Record kind id list items) = 1 ≤ length items
+IsTaken (call.OneRange kind id) = Unit {0}
+IsTaken (call.OneMember kind id) = Unit {0}
+IsTaken (call.EditRange kind id name first last) = Unit {0}
+IsTaken (call.EditMember kind id name) = Unit {0}

@@ -1,10 +1,11 @@
 -- The plain pools: what a call leads to, on plain lists. A check is a refusal or nothing; of the checks of a call, in their order, the
 -- first that refuses is answered, and the state stays.
-use Rattle.std.specs.Prelude.{ℕ, ◌+◌, ◌==◌, ◌&&◌, Bool, true, false, nat_le, List, [], ◌∷◌, ◌++◌, filter, fold, is_some, map, take, length, Option, Some, None, option_map, bytes_eq, if◌then◌else◌}
+use Rattle.std.specs.Prelude.{ℕ, ◌+◌, ◌==◌, ◌&&◌, not, Bool, true, false, nat_le, List, [], ◌∷◌, ◌++◌, filter, fold, is_some, map, take, length, Option, Some, None, option_map, bytes_eq, if◌then◌else◌}
 use Rattle.std.specs.List.{list_any}
 use Rattle.ipam_data.specs.declared.kinds.TheConstants.{LAST_ID}
 use Rattle.ipam_data.specs.Checks.{first as first_of, most_spent}
-use Rattle.ipam_data.specs.RowList.{appended, cleared_of, last_next, least, row_at}
+use Rattle.ipam_data.specs.Plans.{edited}
+use Rattle.ipam_data.specs.RowList.{appended, cleared_of, last_next, least, least_rival, replaced, row_at}
 use Rattle.number_pools.specs.declared.rows.PoolKind.{PoolKind}
 use Rattle.number_pools.specs.declared.rows.PoolKind.TheVariants.{Asn, Vlan}
 use Rattle.number_pools.specs.declared.rows.NumberRange.{NumberRange}
@@ -18,7 +19,7 @@ use Rattle.number_pools.specs.declared.calls.PoolRefusal.TheVariants.{Absent, Na
 use Rattle.number_pools.specs.declared.calls.PoolCall.{PoolCall}
 use Rattle.number_pools.specs.declared.calls.PoolCall.TheVariants as call
 use Rattle.number_pools.specs.declared.calls.PoolReply.{PoolReply}
-use Rattle.number_pools.specs.declared.calls.PoolReply.TheVariants.{Made, Gone, Claimed, Ranges, Members, Numbers, Refused}
+use Rattle.number_pools.specs.declared.calls.PoolReply.TheVariants.{Made, Gone, Claimed, ChangedRange, ChangedMember, OneRange, OneMember, Ranges, Members, Numbers, Refused}
 use Rattle.number_pools.specs.Rows.{Pools, member_id, most_of, range_id}
 use Rattle.number_pools.specs.Free.{free_numbers, holds, pool_of}
 
@@ -45,6 +46,10 @@ ranges_of ranges kind = filter (λ r. same_kind r.kind kind) ranges
 -- the range of this kind has the name
 abbrev pub has_name : PoolKind → List ℕ → NumberRange → Bool
 has_name kind name r = same_kind r.kind kind && bytes_eq r.name name
+
+-- two ranges of one kind and one name
+abbrev pub has_one_name : NumberRange → NumberRange → Bool
+has_one_name range other = has_name range.kind range.name other
 
 -- the member is one of the range of this id
 abbrev pub is_of_range : ℕ → Member → Bool
@@ -97,9 +102,13 @@ is_in_use s id = option_map InUse (least member_id (is_of_range id) s.members.ro
 abbrev pub is_short : ℕ → ℕ → Check
 is_short free wanted = if nat_le wanted free then None else Some (NoSpace free)
 
+-- the number is one of the range
+abbrev pub is_within : NumberRange → ℕ → Bool
+is_within range n = nat_le range.first n && nat_le n range.last
+
 -- the number is none of the range
 abbrev pub is_outside : NumberRange → ℕ → Check
-is_outside range n = if nat_le range.first n && nat_le n range.last then None else Some (Outside n)
+is_outside range n = if is_within range n then None else Some (Outside n)
 
 -- a member of the range's pool holds the number: the one of the least id
 abbrev pub is_number_taken : Pools → NumberRange → ℕ → Check
@@ -143,6 +152,33 @@ names_of items = map (λ c. c.name) items
 abbrev pub record_checks : Pools → NumberRange → List Chosen → List Check
 record_checks s range items = too_many Items MOST_CLAIMED (length items) ∷ unfit s range [] (numbers_of items) ∷ member_limits s (length items)
 
+-- the range after an edit, and the member: what is not given stays
+abbrev pub edited_range : NumberRange → Option (List ℕ) → Option ℕ → Option ℕ → NumberRange
+edited_range range name first last =
+    record { id = range.id; kind = range.kind; name = edited name range.name; first = edited first range.first; last = edited last range.last }
+
+abbrev pub edited_member : Member → Option (List ℕ) → Member
+edited_member m name = record { id = m.id; range = m.range; number = m.number; name = edited name m.name }
+
+-- another range of the kind has the name: the one of the least id
+abbrev pub is_name_of_other : Pools → NumberRange → Check
+is_name_of_other s range = option_map NameTaken (least_rival range_id has_one_name s.ranges.rows range)
+
+-- the member is one of the range, and its number is none
+abbrev pub is_cut_off : NumberRange → Member → Bool
+is_cut_off range m = is_of_range range.id m && not (is_within range m.number)
+
+-- the range has members outside its bounds: the one of the least id
+abbrev pub is_too_small : Pools → NumberRange → Check
+is_too_small s range = option_map InUse (least member_id (is_cut_off range) s.members.rows)
+
+-- the checks of an edit that leads to this range
+abbrev pub edit_range_checks : Pools → NumberRange → List Check
+edit_range_checks s range = is_name_of_other s range ∷ is_out_of_bounds range.kind range.first range.last ∷ is_too_small s range ∷ no_log s 1 ∷ []
+
+abbrev pub edit_member_checks : Pools → List Check
+edit_member_checks s = no_log s 1 ∷ []
+
 -- ---- what a call that is not refused does
 
 -- members with these names, from this id on, that hold these numbers of a range
@@ -183,6 +219,12 @@ with_record s range items = with_made s (recorded s range items) (length items)
 abbrev pub without_member : Pools → ℕ → Pools
 without_member s id = record { ranges = s.ranges; members = cleared_of member_id s.members id; spent = s.spent + 1 }
 
+abbrev pub with_edited_range : Pools → NumberRange → Pools
+with_edited_range s range = record { ranges = replaced range_id s.ranges range; members = s.members; spent = s.spent + 1 }
+
+abbrev pub with_edited_member : Pools → Member → Pools
+with_edited_member s m = record { ranges = s.ranges; members = replaced member_id s.members m; spent = s.spent + 1 }
+
 -- ---- the steps
 
 -- refused, or with the state and the reply after the change
@@ -220,6 +262,30 @@ abbrev pub record_step : Pools → ℕ → List Chosen → Option NumberRange �
 record_step s id items None = (s, Refused (Absent id))
 record_step s id items (Some range) = unless (first_of (record_checks s range items)) s (with_record s range items) (Claimed (recorded s range items))
 
+abbrev pub one_range_step : Pools → ℕ → Option NumberRange → Pools × PoolReply
+one_range_step s id None = (s, Refused (Absent id))
+one_range_step s id (Some range) = (s, OneRange range)
+
+abbrev pub one_member_step : Pools → ℕ → Option Member → Pools × PoolReply
+one_member_step s id None = (s, Refused (Absent id))
+one_member_step s id (Some m) = (s, OneMember m)
+
+-- an edit that leads to this range
+abbrev pub edited_range_step : Pools → NumberRange → Pools × PoolReply
+edited_range_step s range = unless (first_of (edit_range_checks s range)) s (with_edited_range s range) (ChangedRange range)
+
+abbrev pub edit_range_step : Pools → ℕ → Option (List ℕ) → Option ℕ → Option ℕ → Option NumberRange → Pools × PoolReply
+edit_range_step s id name first last None = (s, Refused (Absent id))
+edit_range_step s id name first last (Some range) = edited_range_step s (edited_range range name first last)
+
+-- an edit that leads to this member
+abbrev pub edited_member_step : Pools → Member → Pools × PoolReply
+edited_member_step s m = unless (first_of (edit_member_checks s)) s (with_edited_member s m) (ChangedMember m)
+
+abbrev pub edit_member_step : Pools → ℕ → Option (List ℕ) → Option Member → Pools × PoolReply
+edit_member_step s id name None = (s, Refused (Absent id))
+edit_member_step s id name (Some m) = edited_member_step s (edited_member m name)
+
 -- the plain step. Whether a claim or chosen numbers were given as a list is given to whoever writes its answer, and changes nothing.
 abbrev pub plain_pool_step : Pools → PoolCall → Pools × PoolReply
 plain_pool_step s (call.AddRange kind name first last) = add_step s kind name first last
@@ -230,3 +296,7 @@ plain_pool_step s (call.CutMember kind id) = cut_member_step s id (member_at s k
 plain_pool_step s (call.Available kind id limit) = available_step s id limit (range_at s.ranges.rows kind id)
 plain_pool_step s (call.Claim kind id list names) = claim_step s id names (range_at s.ranges.rows kind id)
 plain_pool_step s (call.Record kind id list items) = record_step s id items (range_at s.ranges.rows kind id)
+plain_pool_step s (call.OneRange kind id) = one_range_step s id (range_at s.ranges.rows kind id)
+plain_pool_step s (call.OneMember kind id) = one_member_step s id (member_at s kind id)
+plain_pool_step s (call.EditRange kind id name first last) = edit_range_step s id name first last (range_at s.ranges.rows kind id)
+plain_pool_step s (call.EditMember kind id name) = edit_member_step s id name (member_at s kind id)

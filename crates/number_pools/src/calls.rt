@@ -78,7 +78,7 @@ pub enum PoolRefusal {
     NameTaken(u32),
     /// The first and the last number are not in order, or not from 1 to the greatest of the kind.
     Bounds,
-    /// The range has members, of which this one has the least id.
+    /// The range has members, or has some outside the bounds that it is to have: of them this one has the least id.
     InUse(u32),
     /// Only so many numbers are free, and the claim has more items.
     NoSpace(u32),
@@ -154,9 +154,33 @@ pub enum PoolCall {
         list: bool,
         items: Listed<Chosen>,
     },
+    /// Reads one range of a kind.
+    OneRange {
+        kind: PoolKind,
+        id: u32,
+    },
+    /// Reads one member of a range of a kind.
+    OneMember {
+        kind: PoolKind,
+        id: u32,
+    },
+    /// Gives a range of a kind another name, first or last number. What is not given stays.
+    EditRange {
+        kind: PoolKind,
+        id: u32,
+        name: Option<Text>,
+        first: Option<u32>,
+        last: Option<u32>,
+    },
+    /// Gives a member of a range of a kind another name, if one is given.
+    EditMember {
+        kind: PoolKind,
+        id: u32,
+        name: Option<Text>,
+    },
 }
 
-/// What pools answer. The first three are the accepted changes.
+/// What pools answer. The first five are the accepted changes.
 #[derive(Debug, Drop)]
 pub enum PoolReply {
     /// The range that was made.
@@ -165,6 +189,14 @@ pub enum PoolReply {
     Gone,
     /// The members that were made, in the order of the names or the items.
     Claimed(Listed<Member>),
+    /// The range as it is now.
+    ChangedRange(NumberRange),
+    /// The member as it is now.
+    ChangedMember(Member),
+    /// The range of the id.
+    OneRange(NumberRange),
+    /// The member of the id.
+    OneMember(Member),
     /// The ranges of the kind, in the order of their ids.
     Ranges(Listed<NumberRange>),
     /// The members of the range, in the order of their ids.

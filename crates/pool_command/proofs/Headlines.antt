@@ -18,7 +18,7 @@ use Rattle.machine_serving.specs.Serve.{IsLeft, IsServe, IsServed, ServesStore, 
 use Rattle.http_lanes.specs.declared.listening.Listening.{Listening}
 use Rattle.machine_serving.specs.Views.{ListenerView, NobodyCame}
 use Rattle.number_pools.specs.declared.calls.PoolCall.{PoolCall}
-use Rattle.number_pools.specs.declared.calls.PoolCall.TheVariants.{Claim, Record}
+use Rattle.number_pools.specs.declared.calls.PoolCall.TheVariants.{Claim, EditMember, EditRange, Record}
 use Rattle.number_pools.specs.declared.calls.PoolRefusal.{PoolRefusal}
 use Rattle.number_pools.specs.declared.calls.PoolRefusal.TheVariants.{Absent, NameTaken, Bounds, InUse, NoSpace, Outside, Taken, Repeated, Limit, Keeper as KeeperRefusal, Memory as MemoryRefusal}
 use Rattle.number_pools.specs.declared.calls.PoolReply.{PoolReply}
@@ -28,6 +28,7 @@ use Rattle.number_pools.specs.Machines.{kind_of, refusal_kind}
 use Rattle.number_pools.specs.Rows.{Pools}
 use Rattle.number_pools.specs.Steps.{plain_pool_step}
 use Rattle.number_laws.specs.Claims.{ClaimsAreNew}
+use Rattle.number_laws.specs.Edits.{EditsAreAsAsked}
 use Rattle.number_laws.specs.Records.{RecordsAreChosen}
 use Rattle.number_laws.specs.Histories.{IsGiven, IsOfAsns, NumbersNeverMeet}
 use Rattle.number_laws.specs.Histories as laws
@@ -46,7 +47,7 @@ use Rattle.pool_words.specs.declared.asked.Command.TheVariants.{Session, Serve, 
 use Rattle.pool_words.specs.declared.asked.Serving.{Serving}
 use Rattle.pool_words.proofs.Unique.{words_ask_for_one}
 use Rattle.pool_command.specs.Clauses.{IsUnused, place_of}
-use Rattle.pool_command.specs.Headline.{Alone, GetsTheLeast, RecordsTheChosen, HasHeadline, HasHeadlines, Headline, NumbersApart, Served, ServedCounted, pools_after}
+use Rattle.pool_command.specs.Headline.{Alone, EditsAsAsked, GetsTheLeast, RecordsTheChosen, HasHeadline, HasHeadlines, Headline, NumbersApart, Served, ServedCounted, pools_after}
 use Rattle.pool_command.specs.Runs.{Answers, PoolOutside, Runs}
 
 -- ---- the two ways to say a history
@@ -78,6 +79,7 @@ pub record Laws : Type 0 where
   pub never : NumbersNeverMeet
   pub new : ClaimsAreNew
   pub chosen : RecordsAreChosen
+  pub edited : EditsAreAsAsked
   pub steps : StepsKeepLawful
 
 lawful_at : StepsKeepLawful → (s : Seen) (history : List (ℕ × PoolCall)) (n : ℕ) → IsLawfulPools s.pools → IsLawfulPools (pools_after s history n)
@@ -115,6 +117,15 @@ chosen_at : RecordsAreChosen → (opening : Seen) (history : List (ℕ × PoolCa
     → IsChange pool_protocol opening (take n history) call → RecordsTheChosen (pools_after opening history n) call
 chosen_at law opening history n call h change = records_chosen law (pools_after opening history n) call h (sym (ap kind_of change.same) ∙ change.kind)
 
+edits_as_asked : EditsAreAsAsked → (s : Pools) (call : PoolCall) → kind_of (plain_pool_step s call).1 ≡ accepted → EditsAsAsked s call
+edits_as_asked law s (EditRange kind id name first last) a = law.ranges s kind id name first last (λ why e. no_refusal why (sym (ap kind_of e) ∙ a))
+edits_as_asked law s (EditMember kind id name) a = law.members s kind id name (λ why e. no_refusal why (sym (ap kind_of e) ∙ a))
+edits_as_asked law s call a = tt
+
+edited_at : EditsAreAsAsked → (opening : Seen) (history : List (ℕ × PoolCall)) (n : ℕ) (call : PoolCall)
+    → IsChange pool_protocol opening (take n history) call → EditsAsAsked (pools_after opening history n) call
+edited_at law opening history n call change = edits_as_asked law (pools_after opening history n) call (sym (ap kind_of change.same) ∙ change.kind)
+
 numbers_apart : NumbersNeverMeet → (opening : Seen) (history : List (ℕ × PoolCall)) → IsLawfulPools opening.pools → NumbersApart opening history
 numbers_apart never opening history is i j one other x y l p q c d of =
     never opening.pools (calls_of history) i j one.1 other.1 x y is l (call_there history i one p) (call_there history j other q)
@@ -138,6 +149,7 @@ headline laws_hold opening history callers h are =
       lawful = λ n. lawful_at laws_hold.steps opening history n h;
       least = λ n who call at. least_at laws_hold.new opening history n call (lawful_at laws_hold.steps opening history n h) (changes n who call at);
       chosen = λ n who call at. chosen_at laws_hold.chosen opening history n call (lawful_at laws_hold.steps opening history n h) (changes n who call at);
+      edited = λ n who call at. edited_at laws_hold.edited opening history n call (changes n who call at);
       apart = numbers_apart laws_hold.never opening history h;
     }
 

@@ -8,7 +8,7 @@ use Rattle.machine_serving.specs.Serve.{entries_line}
 use Rattle.machine_serving.specs.Views.{ListenerView, NobodyCame}
 use Rattle.command_streams.specs.Streams.{Gains}
 use Rattle.number_pools.specs.declared.calls.PoolCall.{PoolCall}
-use Rattle.number_pools.specs.declared.calls.PoolCall.TheVariants.{Claim, Record}
+use Rattle.number_pools.specs.declared.calls.PoolCall.TheVariants.{Claim, EditMember, EditRange, Record}
 use Rattle.number_pools.specs.declared.calls.PoolReply.{PoolReply}
 use Rattle.number_pools.specs.declared.rows.Member.{Member}
 use Rattle.number_pools.specs.Lawful.{IsLawfulPools}
@@ -16,6 +16,7 @@ use Rattle.number_pools.specs.Rows.{Pools}
 use Rattle.number_pools.specs.Steps.{plain_pool_step}
 use Rattle.number_laws.specs.Claims.{GotNumbers}
 use Rattle.number_laws.specs.Records.{RecordedNumbers}
+use Rattle.number_laws.specs.Edits.{EditedMember, EditedRange}
 use Rattle.number_laws.specs.Histories.{IsGiven, IsGivenBack, IsOfAsns}
 use Rattle.pool_register.specs.Kept.{Seen, seen_step}
 use Rattle.pool_service.specs.Protocol.{pool_protocol}
@@ -40,6 +41,12 @@ abbrev pub RecordsTheChosen : Pools → PoolCall → Type 0
 RecordsTheChosen s (Record kind id list items) = RecordedNumbers s kind id items (plain_pool_step s (Record kind id list items))
 RecordsTheChosen s call = Unit {0}
 
+-- an edit edited the row that was asked for, and it alone
+abbrev pub EditsAsAsked : Pools → PoolCall → Type 0
+EditsAsAsked s (EditRange kind id name first last) = EditedRange s kind id name first last (plain_pool_step s (EditRange kind id name first last))
+EditsAsAsked s (EditMember kind id name) = EditedMember s id name (plain_pool_step s (EditMember kind id name))
+EditsAsAsked s call = Unit {0}
+
 -- the numbers that two entries gave out or recorded differ, if both are of one range (as a group of VLANs is), or of any two ranges of ASNs, unless an
 -- entry between the two gave the first one back
 abbrev pub NumbersApart : Seen → List (ℕ × PoolCall) → Type 0
@@ -56,10 +63,11 @@ pub record Headline (opening : Seen) (history : List (ℕ × PoolCall)) (callers
   pub entries : (n : ℕ) (who : ℕ) (call : PoolCall) → slice_get history n ≡ Some (who, call) → IsChange pool_protocol opening (take n history) call
   -- after each entry no two members of a pool hold one number, those of the opening too, and each holds one of its range
   pub lawful : (n : ℕ) → IsLawfulPools (pools_after opening history n)
-  -- a claim got the least that no member of its pool held; a chosen number is one that no member held; and no two entries gave out or recorded
+  -- a claim got the least that no member of its pool held; a chosen number is one that no member held; an edit left the numbers of all members; and no two entries gave out or recorded
   -- one number, unless it was given back between
   pub least : (n : ℕ) (who : ℕ) (call : PoolCall) → slice_get history n ≡ Some (who, call) → GetsTheLeast (pools_after opening history n) call
   pub chosen : (n : ℕ) (who : ℕ) (call : PoolCall) → slice_get history n ≡ Some (who, call) → RecordsTheChosen (pools_after opening history n) call
+  pub edited : (n : ℕ) (who : ℕ) (call : PoolCall) → slice_get history n ≡ Some (who, call) → EditsAsAsked (pools_after opening history n) call
   pub apart : NumbersApart opening history
 
 -- the pools of a store had these callers

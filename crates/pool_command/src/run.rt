@@ -13,7 +13,7 @@ use crate::session::{run_session, serve_words};
 use command_streams::{MEMORY, USAGE, end_with};
 use ipam_edge::{Sink, Source};
 use ipam_listen::Listener;
-use number_laws::{claims_are_new, numbers_never_meet, records_are_chosen};
+use number_laws::{claims_are_new, edits_are_as_asked, numbers_never_meet, records_are_chosen};
 use number_pools::laws::steps_keep_lawful;
 use pool_keeper::keeper::PoolOpener;
 use pool_words::{Command, read_words};
@@ -122,6 +122,7 @@ pub fn run_pools<
     numbers_never_meet();
     claims_are_new();
     records_are_chosen();
+    edits_are_as_asked();
     steps_keep_lawful();
     run_read(rt, alloc, words, input, output, errors, listener, opener)
 }

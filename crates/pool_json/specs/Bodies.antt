@@ -37,10 +37,14 @@ drafted (Ok name) (Some first) (Some last) = Ok (record { name = name; first = f
 abbrev pub range_draft : Data → Result RangeDraft RequestRefusal
 range_draft d = drafted (read_member Name name_of d) (number_of (get (codes "start") d)) (number_of (get (codes "end") d))
 
+-- what a body asks for that is to be an object, which is read by this
+abbrev pub IsOfObject : {A : Type 0} → (Data → Result A RequestRefusal) → List ℕ → Result A RequestRefusal → Type 0
+IsOfObject read body answer =
+    ((d : Data) × IsObjectText body d × (read d ≡ answer)) ⊎ (IsNoObjectText body × (answer ≡ Err (Common BadJson)))
+
 -- what the body of a new range asks for
 abbrev pub IsRangeBody : List ℕ → Result RangeDraft RequestRefusal → Type 0
-IsRangeBody body answer =
-    ((d : Data) × IsObjectText body d × (range_draft d ≡ answer)) ⊎ (IsNoObjectText body × (answer ≡ Err (Common BadJson)))
+IsRangeBody body answer = IsOfObject range_draft body answer
 
 -- the name that an object of a claim gives: one of VLANs has a name, which is required; of one of ASNs nothing is read, and the name
 -- is empty

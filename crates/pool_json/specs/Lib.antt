@@ -1,4 +1,5 @@
 pub mod Bodies
+pub mod Edits
 pub mod Records
 pub mod Words
 pub mod Rows

@@ -9,7 +9,7 @@ use Rattle.number_pools.specs.declared.rows.PoolKind.TheVariants.{Asn, Vlan}
 use Rattle.number_pools.specs.declared.rows.Member.{Member}
 use Rattle.number_pools.specs.declared.calls.PoolRefusal.{PoolRefusal}
 use Rattle.number_pools.specs.declared.calls.PoolReply.{PoolReply}
-use Rattle.number_pools.specs.declared.calls.PoolReply.TheVariants.{Made, Gone, Claimed, Ranges, Members, Numbers, Refused}
+use Rattle.number_pools.specs.declared.calls.PoolReply.TheVariants.{Made, Gone, Claimed, ChangedRange, ChangedMember, OneRange, OneMember, Ranges, Members, Numbers, Refused}
 use Rattle.pool_json.specs.declared.bodies.RequestRefusal.{RequestRefusal}
 use Rattle.pool_json.specs.declared.bodies.RequestRefusal.TheVariants.{Common, Start, End, Number}
 use Rattle.pool_json.specs.declared.replies.Shape.{Shape}
@@ -34,6 +34,10 @@ abbrev pub reply_data : Shape → PoolReply → Option Data
 reply_data shape (Made range) = Some (range_data range)
 reply_data shape Gone = None
 reply_data shape (Claimed rows) = claimed_data shape.kind shape.list rows
+reply_data shape (ChangedRange range) = Some (range_data range)
+reply_data shape (ChangedMember row) = Some (member_data shape.kind row)
+reply_data shape (OneRange range) = Some (range_data range)
+reply_data shape (OneMember row) = Some (member_data shape.kind row)
 reply_data shape (Ranges rows) = Some (list_data range_data rows)
 reply_data shape (Members rows) = Some (list_data (member_data shape.kind) rows)
 reply_data shape (Numbers numbers) = Some (list_data number_data numbers)

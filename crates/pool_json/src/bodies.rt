@@ -35,7 +35,7 @@ pub struct RangeDraft {
 }
 
 /// The object that a body is.
-fn read_object(alloc: Global, body: &[u8]) -> Result<Value, Refusal>
+pub(crate) fn read_object(alloc: Global, body: &[u8]) -> Result<Value, Refusal>
     ensures ok { IfOk result (λ v. IsObjectText body.now (view v)) }
     ensures err { IfErr result (λ e. (e ≡ Memory) ⊎ (IsNoObjectText body.now × (e ≡ BadJson))) }
 {

@@ -1,6 +1,6 @@
 //! Laws of the definitions: each function is empty, and its contract is the law.
 
-ghost use Rattle.pool_json.specs.Laws.{ClaimIsOne, RangeBodyIsOne, RecordIsOne, RowsAreInOrder};
+ghost use Rattle.pool_json.specs.Laws.{ClaimIsOne, EditIsOne, RangeBodyIsOne, RecordIsOne, RowsAreInOrder};
 
 /// The body of a range asks for one thing.
 pub fn range_body_is_one()
@@ -15,6 +15,11 @@ pub fn claim_is_one()
 /// The body of a call that records asks for one thing.
 pub fn record_is_one()
     ensures { RecordIsOne }
+{}
+
+/// The body of an edit asks for one thing.
+pub fn edit_is_one()
+    ensures { EditIsOne }
 {}
 
 /// The members of a row are in the byte order of their names.

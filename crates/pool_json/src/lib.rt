@@ -4,6 +4,7 @@
 mod bodies;
 mod claims;
 mod details;
+mod edits;
 mod laws;
 mod members;
 mod records;
@@ -13,6 +14,7 @@ mod rows;
 pub use bodies::{RangeDraft, RequestRefusal, read_range};
 pub use claims::read_claim;
 pub use details::{code, detail, quantity_name};
-pub use laws::{claim_is_one, range_body_is_one, record_is_one, rows_are_in_order};
+pub use edits::{RangeEdit, read_member_edit, read_range_edit};
+pub use laws::{claim_is_one, edit_is_one, range_body_is_one, record_is_one, rows_are_in_order};
 pub use records::read_record;
 pub use replies::{Shape, reply_bytes, request_refusal_bytes};

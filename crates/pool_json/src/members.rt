@@ -1,14 +1,16 @@
 //! Members of the object that a body is: a name, and whole numbers.
 
-ghost use Rattle.std.specs.Prelude.{◌≡◌, Some, IfOk, IfErr, option_map};
+ghost use Rattle.std.specs.Prelude.{◌≡◌, Some, IfOk, IfErr, is_some, option_map};
 ghost use Rattle.serde_json.specs.Find.{get};
 ghost use Rattle.serde_json.specs.View.{view};
 ghost use Rattle.ipam_data.specs.declared.replies.FieldName.TheVariants.{Name as NameField};
 ghost use Rattle.ipam_data.specs.declared.replies.Refusal.TheVariants.{Memory};
 ghost use Rattle.ipam_json.specs.Members.{is_plain, name_of};
-ghost use Rattle.ipam_json.specs.Outcomes.{OrMemory, field, read_member};
+ghost use Rattle.ipam_json.specs.Outcomes.{OrMemory, field, read_given, read_member, value_of};
 ghost use Rattle.pool_json.specs.Bodies.{asn_name_of, asn_named, number_of, number_within};
+ghost use Rattle.pool_json.specs.Edits.{given_number, number_or};
 
+use crate::bodies::RequestRefusal;
 use ipam_data::replies::{FieldName, Refusal};
 use ipam_data::text::{NameBounds, Tested};
 use serde_json::Value;
@@ -104,5 +106,67 @@ pub(crate) fn number(body: &Value, name: &str) -> Option<u32>
     match member(body, name) {
         Some(value) => number_in(value),
         None => None,
+    }
+}
+
+// ---- members of an edit, which may be absent
+
+/// Whether the object has a name.
+fn has_name(body: &Value) -> bool
+    ensures { result ≡ is_some (value_of NameField (view body.now)) }
+{
+    match member(body, "name") {
+        Some(_) => true,
+        None => false,
+    }
+}
+
+/// The name of a row, if it is given.
+pub(crate) fn given_name(alloc: Global, body: &Value) -> Result<Option<Text>, Refusal>
+    ensures { OrMemory (λ r. read_given NameField name_of (view body.now) ≡ r) result }
+{
+    if !has_name(body) {
+        return Ok(None);
+    }
+    match name(alloc, body) {
+        Ok(name) => Ok(Some(name)),
+        Err(refusal) => Err(refusal),
+    }
+}
+
+/// The name of an AS number, if it is given. It may be empty.
+pub(crate) fn given_asn_name(alloc: Global, body: &Value) -> Result<Option<Text>, Refusal>
+    ensures { OrMemory (λ r. read_given NameField asn_name_of (view body.now) ≡ r) result }
+{
+    if !has_name(body) {
+        return Ok(None);
+    }
+    match asn_name(alloc, body) {
+        Ok(name) => Ok(Some(name)),
+        Err(refusal) => Err(refusal),
+    }
+}
+
+/// The number that a value is, or this refusal.
+fn number_or(value: &Value, why: RequestRefusal) -> Result<Option<u32>, RequestRefusal>
+    ensures { result ≡ number_or why (number_of (Some (view value.now))) }
+{
+    match number_in(value) {
+        Some(number) => Ok(Some(number)),
+        None => Err(why),
+    }
+}
+
+/// A number of a range, if it is given. One that is no number is this refusal.
+pub(crate) fn given_number(
+    body: &Value,
+    name: &str,
+    why: RequestRefusal,
+) -> Result<Option<u32>, RequestRefusal>
+    ensures { result ≡ given_number why (get name.now (view body.now)) }
+{
+    match member(body, name) {
+        Some(value) => number_or(value, why),
+        None => Ok(None),
     }
 }

@@ -14,13 +14,20 @@ without_first id None rows = rows
 without_first id (Some n) [] = []
 without_first id (Some n) (x ∷ xs) = if id x == n then xs else x ∷ without_first id (Some n) xs
 
--- the tables after a change: the rows of its cuts go, its new rows are after all others, and its next ids are set
+-- with this row in the place of the first one of its id, if there is a row and such a one
+abbrev pub with_changed : {T : Type 0} → (T → ℕ) → Option T → List T → List T
+with_changed id None rows = rows
+with_changed id (Some row) [] = []
+with_changed id (Some row) (x ∷ xs) = if id x == id row then row ∷ xs else x ∷ with_changed id (Some row) xs
+
+-- the tables after a change: the rows of its cuts go, its changed rows are in their places, its new rows are after all others, and its next
+-- ids are set
 abbrev pub changed : PoolChange → PoolTables → PoolTables
 changed change tables = record {
   next_range = change.next_range;
   next_member = change.next_member;
-  ranges = without_first range_id change.cut_range tables.ranges ++ change.new_ranges;
-  members = without_first member_id change.cut_member tables.members ++ change.new_members;
+  ranges = with_changed range_id change.changed_range (without_first range_id change.cut_range tables.ranges) ++ change.new_ranges;
+  members = with_changed member_id change.changed_member (without_first member_id change.cut_member tables.members) ++ change.new_members;
 }
 
 -- the tables that represent pools; log items are not stored

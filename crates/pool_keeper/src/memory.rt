@@ -8,8 +8,10 @@ ghost use Rattle.pool_keeper.specs.Keeping.{IsTold};
 ghost use Rattle.pool_keeper.specs.Memory.{is_failing, counted, holding};
 
 use crate::keeper::PoolKeeper;
-use crate::rows::{cut_member, cut_range, push_all};
-use crate::tables::{PoolChange, PoolTables, copy_members, copy_ranges};
+use crate::rows::{change_member, change_range, cut_member, cut_range, push_all};
+use crate::tables::{
+    PoolChange, PoolTables, copy_members, copy_one_member, copy_one_range, copy_ranges,
+};
 use ipam_keeper::keeper::KeepFault;
 use number_pools::{Listed, Member, NumberRange};
 use std::alloc::AllocError;
@@ -104,10 +106,14 @@ impl MemoryPools {
         let alloc = *self.fails.allocator();
         let ranges = copy_ranges(alloc, change.new_ranges.as_slice())?;
         let members = copy_members(alloc, change.new_members.as_slice())?;
+        let range = copy_one_range(&change.changed_range)?;
+        let member = copy_one_member(&change.changed_member)?;
         self.ranges.reserve(ranges.len())?;
         self.members.reserve(members.len())?;
         cut_range(&mut self.ranges, change.cut_range);
         cut_member(&mut self.members, change.cut_member);
+        change_range(&mut self.ranges, range);
+        change_member(&mut self.members, member);
         push_all(&mut self.ranges, ranges);
         push_all(&mut self.members, members);
         self.next_range = change.next_range;

@@ -3,7 +3,7 @@
 ghost use Rattle.std.specs.Prelude.{◌≡◌, ◌+◌, ◌==◌, ◌≤◌, ◌++◌, vec_len, vec_capacity};
 ghost use Rattle.std.specs.List.{position};
 ghost use Rattle.number_pools.specs.Rows.{member_id, range_id};
-ghost use Rattle.pool_keeper.specs.Stored.{without_first};
+ghost use Rattle.pool_keeper.specs.Stored.{with_changed, without_first};
 
 use number_pools::{Member, NumberRange};
 
@@ -51,6 +51,36 @@ pub(crate) fn cut_member(rows: &mut Vec<Member>, id: Option<u32>)
         Some(at) => {
             rows.remove(at);
         }
+        None => {}
+    }
+}
+
+/// Puts a range in the place of the first one of its id, if there is a range to put and such a one. It takes no memory, and leaves all room.
+pub(crate) fn change_range(rows: &mut Vec<NumberRange>, row: Option<NumberRange>)
+    ensures rows { rows.new.items ≡ with_changed range_id row rows.old.items }
+    ensures len { vec_len rows.new ≡ vec_len rows.old }
+    ensures capacity { vec_capacity rows.new ≡ vec_capacity rows.old }
+{
+    let Some(row) = row else {
+        return;
+    };
+    match range_place(rows.as_slice(), row.id) {
+        Some(at) => rows[at] = row,
+        None => {}
+    }
+}
+
+/// Puts a member in the place of the first one of its id, if there is a member to put and such a one. It takes no memory, and leaves all room.
+pub(crate) fn change_member(rows: &mut Vec<Member>, row: Option<Member>)
+    ensures rows { rows.new.items ≡ with_changed member_id row rows.old.items }
+    ensures len { vec_len rows.new ≡ vec_len rows.old }
+    ensures capacity { vec_capacity rows.new ≡ vec_capacity rows.old }
+{
+    let Some(row) = row else {
+        return;
+    };
+    match member_place(rows.as_slice(), row.id) {
+        Some(at) => rows[at] = row,
         None => {}
     }
 }

@@ -17,7 +17,7 @@ pub struct PoolTables {
     pub members: Listed<Member>,
 }
 
-/// An edit of stored pools: the row of each list that is removed, those that are put, and the next ids.
+/// An edit of stored pools: the row of each list that is removed, the one that is another, those that are put, and the next ids.
 #[derive(Debug, Drop)]
 pub struct PoolChange {
     /// The next range's id after the change.
@@ -28,6 +28,10 @@ pub struct PoolChange {
     pub new_members: Listed<Member>,
     pub cut_range: Option<u32>,
     pub cut_member: Option<u32>,
+    /// The range as it is to be, in the place of the one of its id.
+    pub changed_range: Option<NumberRange>,
+    /// The member as it is to be, in the place of the one of its id.
+    pub changed_member: Option<Member>,
 }
 
 /// The tables without rows, whose next ids are 1. They take no memory.
@@ -65,6 +69,26 @@ pub(crate) fn copy_members(alloc: Global, rows: &[Member]) -> Result<Vec<Member>
         items.push(row.copy()?)?;
     }
     Ok(items)
+}
+
+/// The same range again, if there is one. `Err` means out of memory.
+pub(crate) fn copy_one_range(row: &Option<NumberRange>) -> Result<Option<NumberRange>, AllocError>
+    ensures { IfOk result (λ o. o ≡ row.now) }
+{
+    match row {
+        Some(row) => Ok(Some(row.copy()?)),
+        None => Ok(None),
+    }
+}
+
+/// The same member again, if there is one. `Err` means out of memory.
+pub(crate) fn copy_one_member(row: &Option<Member>) -> Result<Option<Member>, AllocError>
+    ensures { IfOk result (λ o. o ≡ row.now) }
+{
+    match row {
+        Some(row) => Ok(Some(row.copy()?)),
+        None => Ok(None),
+    }
 }
 
 impl PoolTables {

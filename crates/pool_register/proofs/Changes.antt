@@ -1,7 +1,7 @@
 -- A change of stored pools leads from their tables to those of the pools behind the update.
 use Rattle.std.proofs.Common.{◌≡◌, ◌↔◌, ℕ, ◌+◌, ◌==◌, Bool, true, false, not, cond, List, [], ◌∷◌, ◌++◌, append-nil, append_assoc, fold, length, Option, Some, None, option_map, IsSome, refl, ap, sym, ◌∙◌, subst, arith, if◌then◌else◌}
 use Rattle.std.proofs.lemmas.Bool.Decides.{nat_tests}
-use Rattle.ipam_data.specs.RowList.{AllBelow, Rises, RowList, appended, with_row, without}
+use Rattle.ipam_data.specs.RowList.{AllBelow, Rises, RowList, appended, row_at, with_row, without}
 use Rattle.ipam_data.proofs.Placed.{below_more, below_with, over_from_rises, without_over}
 use Rattle.ipam_data.proofs.Kept.{none_above}
 use Rattle.placed_book.proofs.RowPlaces.{with_row_new}
@@ -10,9 +10,9 @@ use Rattle.number_pools.specs.Rows.{Pools, member_id, range_id}
 use Rattle.number_pools.specs.Lawful.{IsLawfulPools}
 use Rattle.pool_keeper.specs.declared.tables.PoolTables.{PoolTables}
 use Rattle.pool_keeper.specs.declared.tables.PoolChange.{PoolChange}
-use Rattle.pool_keeper.specs.Stored.{Tells, changed, tables_of, without_first}
+use Rattle.pool_keeper.specs.Stored.{Tells, changed, tables_of, with_changed, without_first}
 use Rattle.pool_register.specs.declared.planned.Update.{Update}
-use Rattle.pool_register.specs.declared.planned.Update.TheVariants.{AddRange, CutRange, CutMember, Claim}
+use Rattle.pool_register.specs.declared.planned.Update.TheVariants.{AddRange, CutRange, CutMember, Claim, EditRange, EditMember}
 use Rattle.pool_register.specs.Planned.{AreFrom, CanUpdate, change_of, updated}
 
 module _ {T : Type 0} (id : T → ℕ) where
@@ -27,6 +27,16 @@ module _ {T : Type 0} (id : T → ℕ) where
           let e : id x ≡ n = grind (arith, nat_tests, t) in
           sym (without_over id n xs (over_from_rises id n xs (subst (λ (k : ℕ). Rises id k xs) e r.1)))
       go false t ih = ap (λ (ys : List T). x ∷ ys) ih
+
+  -- a row in the place of one of its id
+  in_place : (xs : List T) (old row : T) → row_at id xs (id row) ≡ Some old → with_changed id (Some row) xs ≡ with_row id xs row
+  in_place [] old row e = cc
+  in_place (x ∷ xs) old row e = go (id x == id row) e (in_place xs old row)
+    where
+      go : (t : Bool) → cond t (Some x) (row_at id xs (id row)) ≡ Some old → (row_at id xs (id row) ≡ Some old → with_changed id (Some row) xs ≡ with_row id xs row)
+          → (if t then row ∷ xs else x ∷ with_changed id (Some row) xs) ≡ (if t then row ∷ xs else x ∷ with_row id xs row)
+      go true e ih = refl
+      go false e ih = ap (λ (ys : List T). x ∷ ys) (ih e)
 
   -- a row above all stands behind all
   behind : (xs : List T) (row : T) → AllBelow id (id row) xs → with_row id xs row ≡ xs ++ row ∷ []
@@ -59,6 +69,10 @@ changed_is s (CutMember id) h can =
 changed_is s (Claim made) h can =
     let put = all_behind s.members made h.members.below can.id in
     λ i. record { next_range = s.ranges.next; next_member = sym put.next i; ranges = append-nil s.ranges.rows i; members = sym put.rows i }
+changed_is s (EditRange range) h can =
+    λ i. record { next_range = s.ranges.next; next_member = s.members.next; ranges = (append-nil (with_changed range_id (Some range) s.ranges.rows) ∙ in_place range_id s.ranges.rows can.keeps.old range can.keeps.there) i; members = append-nil s.members.rows i }
+changed_is s (EditMember m) h can =
+    λ i. record { next_range = s.ranges.next; next_member = s.members.next; ranges = append-nil s.ranges.rows i; members = (append-nil (with_changed member_id (Some m) s.members.rows) ∙ in_place member_id s.members.rows can.keeps.old m can.keeps.there) i }
 
 -- where the tables are told, they are told of the new pools
 pub told_after : (old inner new : Pools) (u : Update) (change : PoolChange) (told after : Option PoolTables) → inner ≡ old → IsLawfulPools inner → CanUpdate old u → new ≡ updated old u

@@ -4,7 +4,7 @@ use Rattle.std.specs.List.{list_any}
 use Rattle.history_lock.specs.Replies.{ReplyKind, accepted, fault, memory, plain, grown}
 use Rattle.ipam_data.specs.declared.kinds.TheConstants.{LAST_ID}
 use Rattle.ipam_data.specs.Checks.{first as first_of, most_spent}
-use Rattle.ipam_data.specs.RowList.{last_next, least}
+use Rattle.ipam_data.specs.RowList.{last_next, least, least_rival}
 use Rattle.number_pools.specs.declared.rows.NumberRange.{NumberRange}
 use Rattle.number_pools.specs.declared.rows.Member.{Member}
 use Rattle.number_pools.specs.declared.calls.Quantity.{Quantity}
@@ -15,16 +15,16 @@ use Rattle.number_pools.specs.declared.calls.PoolRefusal.TheVariants.{Absent, Na
 use Rattle.number_pools.specs.declared.calls.PoolCall.{PoolCall}
 use Rattle.number_pools.specs.declared.calls.PoolCall.TheVariants as call
 use Rattle.number_pools.specs.declared.calls.PoolReply.{PoolReply}
-use Rattle.number_pools.specs.declared.calls.PoolReply.TheVariants.{Made, Gone, Claimed, Refused}
+use Rattle.number_pools.specs.declared.calls.PoolReply.TheVariants.{Made, Gone, Claimed, ChangedRange, ChangedMember, Refused}
 use Rattle.number_pools.specs.Machines.{kind_of, refusal_kind}
 use Rattle.number_pools.specs.Rows.{Pools, member_id, range_id}
 use Rattle.number_pools.specs.Free.{free_numbers, holds, pool_of}
 use Rattle.number_pools.specs.Lawful.{IsLawfulPools}
-use Rattle.number_pools.specs.Steps.{Check, add_checks, available_step, claim_checks, claim_step, claimed, cut_member_checks, cut_member_step, cut_range_checks, cut_range_step, has_name, in_bounds, is_number_taken, is_of_range, is_outside, is_repeated, made_range, member_at, members_step, numbers_of, plain_pool_step, range_at, record_checks, record_step, recorded, unfit, unless, with_claim, with_range, with_record, without_member, without_range}
+use Rattle.number_pools.specs.Steps.{Check, edit_member_checks, edit_member_step, edit_range_checks, edit_range_step, edited_member, edited_range, has_one_name, is_cut_off, one_member_step, one_range_step, with_edited_member, with_edited_range, add_checks, available_step, claim_checks, claim_step, claimed, cut_member_checks, cut_member_step, cut_range_checks, cut_range_step, has_name, in_bounds, is_number_taken, is_of_range, is_outside, is_repeated, made_range, member_at, members_step, numbers_of, plain_pool_step, range_at, record_checks, record_step, recorded, unfit, unless, with_claim, with_range, with_record, without_member, without_range}
 use Rattle.pool_keeper.specs.declared.tables.PoolTables.{PoolTables}
 use Rattle.pool_keeper.specs.Stored.{Tells}
 use Rattle.pool_register.specs.declared.planned.Update.{Update}
-use Rattle.pool_register.specs.declared.planned.Update.TheVariants.{AddRange, CutRange, CutMember, Claim}
+use Rattle.pool_register.specs.declared.planned.Update.TheVariants.{AddRange, CutRange, CutMember, Claim, EditRange, EditMember}
 use Rattle.pool_register.specs.declared.planned.Planned.{Planned}
 use Rattle.pool_register.specs.declared.stop.Stop.{Stop}
 use Rattle.pool_register.specs.declared.stop.Stop.TheVariants as no
@@ -53,6 +53,8 @@ reply_accepted (AddRange range) = refl
 reply_accepted (CutRange id) = refl
 reply_accepted (CutMember id) = refl
 reply_accepted (Claim made) = refl
+reply_accepted (EditRange range) = refl
+reply_accepted (EditMember m) = refl
 
 -- after a refusal the history is as before
 pub refused_stays : (why : PoolRefusal) (entry : ℕ × PoolCall) (log : List (ℕ × PoolCall)) → grown (refusal_kind why) entry log ≡ log
@@ -175,6 +177,31 @@ step_answers s (call.Record kind id list items) = go (range_at s.ranges.rows kin
     go (Some range) =
         unless_answer (first_of (record_checks s range items)) s (with_record s range items) (Claimed (recorded s range items))
         (first_rule (record_checks s range items) (limit_rule (nat_le (length items) MOST_CLAIMED) Items MOST_CLAIMED, (unfit_rule s range [] (numbers_of items), (limit_rule (nat_le (length s.members.rows + length items) MOST_MEMBERS) MemberCount MOST_MEMBERS, (limit_rule (nat_le (s.members.next + length items) last_next) Ids LAST_ID, (limit_rule (nat_le (s.spent + length items) most_spent) Log most_spent, tt)))))) refl
+step_answers s (call.OneRange kind id) = go (range_at s.ranges.rows kind id)
+  where
+    go : (o : Option NumberRange) → IsAnswer (kind_of (one_range_step s id o).1)
+    go None = tt
+    go (Some range) = tt
+step_answers s (call.OneMember kind id) = go (member_at s kind id)
+  where
+    go : (o : Option Member) → IsAnswer (kind_of (one_member_step s id o).1)
+    go None = tt
+    go (Some m) = tt
+step_answers s (call.EditRange kind id name first last) = go (range_at s.ranges.rows kind id)
+  where
+    go : (o : Option NumberRange) → IsAnswer (kind_of (edit_range_step s id name first last o).1)
+    go None = tt
+    go (Some range) =
+        let row = edited_range range name first last in
+        unless_answer (first_of (edit_range_checks s row)) s (with_edited_range s row) (ChangedRange row)
+        (first_rule (edit_range_checks s row) (name_rule (least_rival range_id has_one_name s.ranges.rows row), (bounds_rule (in_bounds row.kind row.first row.last), (use_rule (least member_id (is_cut_off row) s.members.rows), (limit_rule (nat_le (s.spent + 1) most_spent) Log most_spent, tt))))) refl
+step_answers s (call.EditMember kind id name) = go (member_at s kind id)
+  where
+    go : (o : Option Member) → IsAnswer (kind_of (edit_member_step s id name o).1)
+    go None = tt
+    go (Some m) =
+        let row = edited_member m name in
+        unless_answer (first_of (edit_member_checks s)) s (with_edited_member s row) (ChangedMember row) (first_rule (edit_member_checks s) (limit_rule (nat_le (s.spent + 1) most_spent) Log most_spent, tt)) refl
 
 -- so it never answers that the keeper failed
 pub no_keeper : (s : Pools) (called : PoolCall) → (plain_pool_step s called).1 ≢ Refused Keeper

@@ -1,4 +1,5 @@
 pub mod Changes
+pub mod Edits
 pub mod Keeping
 pub mod MachineFits
 pub mod Loads

@@ -6,7 +6,7 @@ use Rattle.number_pools.specs.declared.calls.PoolCall.{PoolCall}
 use Rattle.number_pools.specs.declared.calls.PoolRefusal.{PoolRefusal}
 use Rattle.number_pools.specs.declared.calls.PoolRefusal.TheVariants.{Absent, NameTaken, Bounds, InUse, NoSpace, Outside, Taken, Repeated, Limit, Keeper, Memory}
 use Rattle.number_pools.specs.declared.calls.PoolReply.{PoolReply}
-use Rattle.number_pools.specs.declared.calls.PoolReply.TheVariants.{Made, Gone, Claimed, Ranges, Members, Numbers, Refused}
+use Rattle.number_pools.specs.declared.calls.PoolReply.TheVariants.{Made, Gone, Claimed, ChangedRange, ChangedMember, OneRange, OneMember, Ranges, Members, Numbers, Refused}
 use Rattle.number_pools.specs.Machines.{kind_of, refusal_kind}
 use Rattle.number_pools.specs.Rows.{Pools}
 use Rattle.number_pools.specs.Steps.{plain_pool_step}
@@ -50,6 +50,10 @@ is_changed : (reply : PoolReply) → kind_of reply ≡ accepted → is_change re
 is_changed (Made range) e = refl
 is_changed Gone e = refl
 is_changed (Claimed members) e = refl
+is_changed (ChangedRange range) e = refl
+is_changed (ChangedMember member) e = refl
+is_changed (OneRange range) e = cc
+is_changed (OneMember member) e = cc
 is_changed (Ranges rows) e = cc
 is_changed (Members rows) e = cc
 is_changed (Numbers numbers) e = cc

@@ -8,14 +8,14 @@ use Rattle.number_pools.specs.declared.rows.Member.{Member}
 use Rattle.number_pools.specs.declared.calls.TheConstants.{MOST_RANGES, MOST_MEMBERS}
 use Rattle.number_pools.specs.declared.calls.PoolCall.{PoolCall}
 use Rattle.number_pools.specs.declared.calls.PoolReply.{PoolReply}
-use Rattle.number_pools.specs.declared.calls.PoolReply.TheVariants.{Made, Gone, Claimed, Refused as RefusedReply}
+use Rattle.number_pools.specs.declared.calls.PoolReply.TheVariants.{Made, Gone, Claimed, ChangedRange, ChangedMember, Refused as RefusedReply}
 use Rattle.number_pools.specs.Machines.{kind_of}
 use Rattle.number_pools.specs.Rows.{Pools}
-use Rattle.number_pools.specs.Steps.{plain_pool_step, with_made, with_range, without_member, without_range}
-use Rattle.pool_rows.specs.Held.{Held}
+use Rattle.number_pools.specs.Steps.{plain_pool_step, with_edited_member, with_edited_range, with_made, with_range, without_member, without_range}
+use Rattle.pool_rows.specs.Held.{Held, KeepsItsKind, KeepsItsNumber}
 use Rattle.pool_keeper.specs.declared.tables.PoolChange.{PoolChange}
 use Rattle.pool_register.specs.declared.planned.Update.{Update}
-use Rattle.pool_register.specs.declared.planned.Update.TheVariants.{AddRange, CutRange, CutMember, Claim}
+use Rattle.pool_register.specs.declared.planned.Update.TheVariants.{AddRange, CutRange, CutMember, Claim, EditRange, EditMember}
 use Rattle.pool_register.specs.declared.planned.Planned.{Planned}
 use Rattle.pool_register.specs.declared.planned.Planned.TheVariants.{Refused, Read, Change}
 
@@ -31,6 +31,8 @@ updated s (AddRange range) = with_range s range
 updated s (CutRange id) = without_range s id
 updated s (CutMember id) = without_member s id
 updated s (Claim made) = with_members s made
+updated s (EditRange range) = with_edited_range s range
+updated s (EditMember m) = with_edited_member s m
 
 -- the reply that gives it
 abbrev pub reply_of : Update → PoolReply
@@ -38,17 +40,30 @@ reply_of (AddRange range) = Made range
 reply_of (CutRange id) = Gone
 reply_of (CutMember id) = Gone
 reply_of (Claim made) = Claimed made
+reply_of (EditRange range) = ChangedRange range
+reply_of (EditMember m) = ChangedMember m
+
+-- the change that makes no rows, cuts none and has none in the place of another
+abbrev pub no_change : Pools → PoolChange
+no_change s = record {
+  next_range = s.ranges.next;
+  next_member = s.members.next;
+  new_ranges = [];
+  new_members = [];
+  cut_range = None;
+  cut_member = None;
+  changed_range = None;
+  changed_member = None;
+}
 
 -- the change of stored pools that it makes
 abbrev pub change_of : Pools → Update → PoolChange
-change_of s (AddRange range) =
-    record { next_range = s.ranges.next + 1; next_member = s.members.next; new_ranges = range ∷ []; new_members = []; cut_range = None; cut_member = None }
-change_of s (CutRange id) =
-    record { next_range = s.ranges.next; next_member = s.members.next; new_ranges = []; new_members = []; cut_range = Some id; cut_member = None }
-change_of s (CutMember id) =
-    record { next_range = s.ranges.next; next_member = s.members.next; new_ranges = []; new_members = []; cut_range = None; cut_member = Some id }
-change_of s (Claim made) =
-    record { next_range = s.ranges.next; next_member = s.members.next + length made; new_ranges = []; new_members = made; cut_range = None; cut_member = None }
+change_of s (AddRange range) = record (no_change s) { next_range = s.ranges.next + 1; new_ranges = range ∷ [] }
+change_of s (CutRange id) = record (no_change s) { cut_range = Some id }
+change_of s (CutMember id) = record (no_change s) { cut_member = Some id }
+change_of s (Claim made) = record (no_change s) { next_member = s.members.next + length made; new_members = made }
+change_of s (EditRange range) = record (no_change s) { changed_range = Some range }
+change_of s (EditMember m) = record (no_change s) { changed_member = Some m }
 
 -- ---- which updates can be made
 
@@ -76,11 +91,23 @@ pub record CanClaim (s : Pools) (made : List Member) : Type 0 where
   pub ids : s.members.next + length made ≤ last_next
   pub log : s.spent + length made ≤ most_spent
 
+-- the range is in the place of one of its kind
+pub record CanEditRange (s : Pools) (range : NumberRange) : Type 0 where
+  pub keeps : KeepsItsKind s range
+  pub log : s.spent + 1 ≤ most_spent
+
+-- the member is in the place of one that holds its number
+pub record CanEditMember (s : Pools) (m : Member) : Type 0 where
+  pub keeps : KeepsItsNumber s m
+  pub log : s.spent + 1 ≤ most_spent
+
 abbrev pub CanUpdate : Pools → Update → Type 0
 CanUpdate s (AddRange range) = CanAddRange s range
 CanUpdate s (CutRange id) = CanCutRange s id
 CanUpdate s (CutMember id) = s.spent + 1 ≤ most_spent
 CanUpdate s (Claim made) = CanClaim s made
+CanUpdate s (EditRange range) = CanEditRange s range
+CanUpdate s (EditMember m) = CanEditMember s m
 
 -- there is room in memory for it
 abbrev pub HasRoom : Held → Update → Type 0
@@ -88,6 +115,8 @@ HasRoom held (AddRange range) = 1 ≤ held.range_room
 HasRoom held (CutRange id) = Unit {0}
 HasRoom held (CutMember id) = Unit {0}
 HasRoom held (Claim made) = (length made ≤ held.member_room) × (length made ≤ held.key_room)
+HasRoom held (EditRange range) = 1 ≤ held.range_room
+HasRoom held (EditMember m) = 1 ≤ held.member_room
 
 -- ---- a plan
 

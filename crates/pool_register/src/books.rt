@@ -65,6 +65,8 @@ fn reserve(rows: &mut PoolRows, update: &Update) -> Result<(), AllocError>
         Update::Claim(made) => rows.reserve_members(made.as_slice().len() as u32),
         Update::CutRange(_) => Ok(()),
         Update::CutMember(_) => Ok(()),
+        Update::EditRange(_) => rows.reserve_range_edit(),
+        Update::EditMember(_) => rows.reserve_member_edit(),
     }
 }
 
@@ -80,6 +82,8 @@ fn put(rows: &mut PoolRows, update: Update)
         Update::CutRange(id) => rows.cut_range(id),
         Update::CutMember(id) => rows.cut_member(id),
         Update::Claim(made) => put_members(rows, made.into_vec()),
+        Update::EditRange(range) => rows.edit_range(range),
+        Update::EditMember(member) => rows.edit_member(member),
     }
 }
 
@@ -92,6 +96,8 @@ fn reply_to(alloc: Global, update: &Update) -> Result<PoolReply, AllocError>
         Update::CutRange(_) => Ok(PoolReply::Gone),
         Update::CutMember(_) => Ok(PoolReply::Gone),
         Update::Claim(made) => Ok(PoolReply::Claimed(Listed::of(copies(alloc, made.as_slice())?))),
+        Update::EditRange(range) => Ok(PoolReply::ChangedRange(range.copy()?)),
+        Update::EditMember(member) => Ok(PoolReply::ChangedMember(member.copy()?)),
     }
 }
 

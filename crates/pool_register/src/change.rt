@@ -1,7 +1,7 @@
 //! Updates as changes of stored pools.
 
 ghost use Rattle.std.specs.Prelude.{◌≡◌, [], ◌∷◌, IfOk};
-ghost use Rattle.pool_register.specs.Planned.{CanUpdate, change_of};
+ghost use Rattle.pool_register.specs.Planned.{CanUpdate, change_of, no_change};
 
 use crate::lists::copies;
 use crate::planned::Update;
@@ -10,22 +10,19 @@ use pool_keeper::tables::PoolChange;
 use pool_rows::PoolRows;
 use std::alloc::{AllocError, Global};
 
-/// The change that cuts a range, a member or neither, and makes none.
-fn cut_change(
-    alloc: Global,
-    rows: &PoolRows,
-    cut_range: Option<u32>,
-    cut_member: Option<u32>,
-) -> PoolChange
-    ensures { result ≡ record { next_range = rows.now.pools.ranges.next; next_member = rows.now.pools.members.next; new_ranges = []; new_members = []; cut_range = cut_range; cut_member = cut_member } }
+/// The change that makes no rows, cuts none and has none in the place of another.
+fn no_change(alloc: Global, rows: &PoolRows) -> PoolChange
+    ensures { result ≡ no_change rows.now.pools }
 {
     PoolChange {
         next_range: rows.next_range(),
         next_member: rows.next_member(),
         new_ranges: Listed::of(Vec::new(alloc)),
         new_members: Listed::of(Vec::new(alloc)),
-        cut_range,
-        cut_member,
+        cut_range: None,
+        cut_member: None,
+        changed_range: None,
+        changed_member: None,
     }
 }
 
@@ -47,27 +44,21 @@ pub(crate) fn change_of(
     requires { CanUpdate rows.now.pools update.now }
     ensures { IfOk result (λ c. c ≡ change_of rows.now.pools update.now) }
 {
+    let mut change = no_change(alloc, rows);
     match update {
-        Update::AddRange(range) => Ok(PoolChange {
-            next_range: rows.next_range() + 1,
-            next_member: rows.next_member(),
-            new_ranges: one_range(alloc, range)?,
-            new_members: Listed::of(Vec::new(alloc)),
-            cut_range: None,
-            cut_member: None,
-        }),
-        Update::CutRange(id) => Ok(cut_change(alloc, rows, Some(*id), None)),
-        Update::CutMember(id) => Ok(cut_change(alloc, rows, None, Some(*id))),
+        Update::AddRange(range) => {
+            change.new_ranges = one_range(alloc, range)?;
+            change.next_range = rows.next_range() + 1;
+        }
+        Update::CutRange(id) => change.cut_range = Some(*id),
+        Update::CutMember(id) => change.cut_member = Some(*id),
         Update::Claim(made) => {
             let members = made.as_slice();
-            Ok(PoolChange {
-                next_range: rows.next_range(),
-                next_member: rows.next_member() + members.len() as u32,
-                new_ranges: Listed::of(Vec::new(alloc)),
-                new_members: Listed::of(copies(alloc, members)?),
-                cut_range: None,
-                cut_member: None,
-            })
+            change.new_members = Listed::of(copies(alloc, members)?);
+            change.next_member = rows.next_member() + members.len() as u32;
         }
+        Update::EditRange(range) => change.changed_range = Some(range.copy()?),
+        Update::EditMember(member) => change.changed_member = Some(member.copy()?),
     }
+    Ok(change)
 }

@@ -43,12 +43,28 @@ pub(crate) fn has_range(rows: &PoolRows, kind: PoolKind, id: u32) -> bool
     }
 }
 
+/// The member with this id, if its range is of the kind.
+pub(crate) fn member_at(rows: &PoolRows, kind: PoolKind, id: u32) -> Option<&Member>
+    ensures { option_copied result ≡ member_at rows.now.pools kind id }
+{
+    match rows.member(id) {
+        Some(member) => {
+            if has_range(rows, kind, member.range) {
+                Some(member)
+            } else {
+                None
+            }
+        }
+        None => None,
+    }
+}
+
 /// Whether there is a member with this id, whose range is of the kind.
 pub(crate) fn has_member(rows: &PoolRows, kind: PoolKind, id: u32) -> bool
     ensures { result ≡ is_some (member_at rows.now.pools kind id) }
 {
-    match rows.member(id) {
-        Some(member) => has_range(rows, kind, member.range),
+    match member_at(rows, kind, id) {
+        Some(_) => true,
         None => false,
     }
 }
@@ -119,7 +135,7 @@ fn in_use(members: &[Member], id: u32) -> Option<PoolRefusal>
 }
 
 /// The refusal if a range would not be in its bounds.
-fn out_of_bounds(kind: PoolKind, first: u32, last: u32) -> Option<PoolRefusal>
+pub(crate) fn out_of_bounds(kind: PoolKind, first: u32, last: u32) -> Option<PoolRefusal>
     ensures { result ≡ is_out_of_bounds kind first last }
 {
     if in_bounds(kind, first, last) {

@@ -4,6 +4,7 @@
 mod books;
 mod change;
 mod checks;
+mod edit;
 mod lists;
 mod machine;
 mod numbers;

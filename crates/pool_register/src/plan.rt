@@ -12,6 +12,7 @@ use crate::checks::{
     add_refusal, cut_member_refusal, cut_range_refusal, has_member, has_range, member_limit,
     range_at, too_many,
 };
+use crate::edit::{plan_edit_member, plan_edit_range, read_member, read_range};
 use crate::lists::{made_members, members_of, ranges_of};
 use crate::numbers::{free_of, numbers_of};
 use crate::planned::{Planned, Update};
@@ -202,5 +203,15 @@ pub fn plan(alloc: Global, rows: &PoolRows, call: &PoolCall) -> Result<Planned, 
             list: _,
             items,
         } => plan_record(alloc, rows, *kind, *id, items),
+        PoolCall::OneRange { kind, id } => read_range(rows, *kind, *id),
+        PoolCall::OneMember { kind, id } => read_member(rows, *kind, *id),
+        PoolCall::EditRange {
+            kind,
+            id,
+            name,
+            first,
+            last,
+        } => plan_edit_range(rows, *kind, *id, name, *first, *last),
+        PoolCall::EditMember { kind, id, name } => plan_edit_member(rows, *kind, *id, name),
     }
 }

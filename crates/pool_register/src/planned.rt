@@ -16,6 +16,10 @@ pub enum Update {
     CutMember(u32),
     /// These members are made.
     Claim(Listed<Member>),
+    /// This range is in the place of the one of its id.
+    EditRange(NumberRange),
+    /// This member is in the place of the one of its id.
+    EditMember(Member),
 }
 
 /// What a call leads to: a refusal, a reply that changes nothing, or a change, which is made if a keeper stores it.

@@ -8,7 +8,7 @@ use Rattle.ipam_json.specs.Replies.{refusal_text}
 use Rattle.number_pools.specs.declared.calls.PoolRefusal.{PoolRefusal}
 use Rattle.number_pools.specs.declared.calls.PoolRefusal.TheVariants as pool
 use Rattle.number_pools.specs.declared.calls.PoolReply.{PoolReply}
-use Rattle.number_pools.specs.declared.calls.PoolReply.TheVariants.{Made, Gone, Claimed, Ranges, Members, Numbers, Refused}
+use Rattle.number_pools.specs.declared.calls.PoolReply.TheVariants.{Made, Gone, Claimed, ChangedRange, ChangedMember, OneRange, OneMember, Ranges, Members, Numbers, Refused}
 use Rattle.pool_json.specs.declared.bodies.RequestRefusal.{RequestRefusal}
 use Rattle.pool_json.specs.declared.bodies.RequestRefusal.TheVariants.{Common, Start, End, Number}
 use Rattle.pool_json.specs.declared.replies.Shape.{Shape}
@@ -44,6 +44,10 @@ abbrev pub status_of : PoolReply → ℕ
 status_of (Made range) = 201
 status_of Gone = 204
 status_of (Claimed rows) = 201
+status_of (ChangedRange range) = 200
+status_of (ChangedMember row) = 200
+status_of (OneRange range) = 200
+status_of (OneMember row) = 200
 status_of (Ranges rows) = 200
 status_of (Members rows) = 200
 status_of (Numbers numbers) = 200

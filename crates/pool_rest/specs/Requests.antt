@@ -13,6 +13,8 @@ use Rattle.pool_json.specs.declared.bodies.RequestRefusal.{RequestRefusal}
 use Rattle.pool_json.specs.declared.bodies.RequestRefusal.TheVariants.{Common}
 use Rattle.pool_json.specs.declared.replies.Shape.{Shape}
 use Rattle.pool_json.specs.Bodies.{IsClaim, IsRangeBody}
+use Rattle.pool_json.specs.declared.edits.RangeEdit.{RangeEdit}
+use Rattle.pool_json.specs.Edits.{IsMemberEdit, IsRangeEdit}
 use Rattle.pool_json.specs.Records.{IsRecord}
 use Rattle.rest_query.specs.declared.asked.Available.TheVariants.{Addrs}
 use Rattle.rest_query.specs.Lists.{IsLimitAsked}
@@ -24,7 +26,7 @@ use Rattle.pool_rest.specs.declared.route.Base.TheVariants.{Ranges, Members}
 use Rattle.pool_rest.specs.declared.route.RangePart.{RangePart}
 use Rattle.pool_rest.specs.declared.route.RangePart.TheVariants.{Free, Given}
 use Rattle.pool_rest.specs.declared.route.Method.{Method}
-use Rattle.pool_rest.specs.declared.route.Method.TheVariants.{Get, Post, Delete}
+use Rattle.pool_rest.specs.declared.route.Method.TheVariants.{Get, Post, Patch, Delete}
 use Rattle.pool_rest.specs.Routes.{HasRoute, method_named}
 
 -- what a request asks for: a call and how its reply is written, or why it is refused before the pools
@@ -41,6 +43,10 @@ shape_of (call.CutMember kind id) = record { kind = kind; list = false }
 shape_of (call.Available kind id limit) = record { kind = kind; list = false }
 shape_of (call.Claim kind id list names) = record { kind = kind; list = list }
 shape_of (call.Record kind id list items) = record { kind = kind; list = list }
+shape_of (call.OneRange kind id) = record { kind = kind; list = false }
+shape_of (call.OneMember kind id) = record { kind = kind; list = false }
+shape_of (call.EditRange kind id name first last) = record { kind = kind; list = false }
+shape_of (call.EditMember kind id name) = record { kind = kind; list = false }
 
 abbrev pub asks : PoolCall → Asked
 asks c = Ok (c, shape_of c)
@@ -60,6 +66,7 @@ IsRangeAsked kind body asked = (draft : Result RangeDraft RequestRefusal) × IsR
 abbrev pub IsRangesAsked : PoolKind → Option Method → List ℕ → Asked → Type 0
 IsRangesAsked kind (Some Get) body asked = asked ≡ asks (call.Ranges kind)
 IsRangesAsked kind (Some Post) body asked = IsRangeAsked kind body asked
+IsRangesAsked kind (Some Patch) body asked = asked ≡ no_method
 IsRangesAsked kind (Some Delete) body asked = asked ≡ no_method
 IsRangesAsked kind None body asked = asked ≡ no_method
 
@@ -68,12 +75,33 @@ abbrev pub cut_call : Base → ℕ → PoolCall
 cut_call (Ranges kind) id = call.CutRange kind id
 cut_call (Members kind) id = call.CutMember kind id
 
--- what a method asks of a range or a member
-abbrev pub one_asked : Base → ℕ → Option Method → Asked
-one_asked base id (Some Get) = no_method
-one_asked base id (Some Post) = no_method
-one_asked base id (Some Delete) = asks (cut_call base id)
-one_asked base id None = no_method
+-- or is read
+abbrev pub one_call : Base → ℕ → PoolCall
+one_call (Ranges kind) id = call.OneRange kind id
+one_call (Members kind) id = call.OneMember kind id
+
+-- or is edited, if the body says how
+abbrev pub asks_range_edit : PoolKind → ℕ → Result RangeEdit RequestRefusal → Asked
+asks_range_edit kind id (Ok edit) = asks (call.EditRange kind id edit.name edit.first edit.last)
+asks_range_edit kind id (Err refusal) = Err refusal
+
+abbrev pub asks_member_edit : PoolKind → ℕ → Result (Option (List ℕ)) RequestRefusal → Asked
+asks_member_edit kind id (Ok name) = asks (call.EditMember kind id name)
+asks_member_edit kind id (Err refusal) = Err refusal
+
+abbrev pub IsEditAsked : Base → ℕ → List ℕ → Asked → Type 0
+IsEditAsked (Ranges kind) id body asked =
+    (edit : Result RangeEdit RequestRefusal) × IsRangeEdit body edit × (asked ≡ asks_range_edit kind id edit)
+IsEditAsked (Members kind) id body asked =
+    (name : Result (Option (List ℕ)) RequestRefusal) × IsMemberEdit kind body name × (asked ≡ asks_member_edit kind id name)
+
+-- what a method asks of a range or a member, with this body
+abbrev pub IsOneAsked : Base → ℕ → Option Method → List ℕ → Asked → Type 0
+IsOneAsked base id (Some Get) body asked = asked ≡ asks (one_call base id)
+IsOneAsked base id (Some Post) body asked = asked ≡ no_method
+IsOneAsked base id (Some Patch) body asked = IsEditAsked base id body asked
+IsOneAsked base id (Some Delete) body asked = asked ≡ asks (cut_call base id)
+IsOneAsked base id None body asked = asked ≡ no_method
 
 -- the free numbers, if the query gives how many
 abbrev pub asks_free : PoolKind → ℕ → Result ℕ Refusal → Asked
@@ -102,6 +130,7 @@ IsClaimAsked kind id body asked =
 abbrev pub IsFreeAsked : PoolKind → ℕ → Option Method → List ℕ → List ℕ → Asked → Type 0
 IsFreeAsked kind id (Some Get) query body asked = IsFreeListed kind id query asked
 IsFreeAsked kind id (Some Post) query body asked = IsClaimAsked kind id body asked
+IsFreeAsked kind id (Some Patch) query body asked = asked ≡ no_method
 IsFreeAsked kind id (Some Delete) query body asked = asked ≡ no_method
 IsFreeAsked kind id None query body asked = asked ≡ no_method
 
@@ -118,6 +147,7 @@ IsRecordAsked kind id body asked =
 abbrev pub IsGivenAsked : PoolKind → ℕ → Option Method → List ℕ → Asked → Type 0
 IsGivenAsked kind id (Some Get) body asked = asked ≡ asks (call.Members kind id)
 IsGivenAsked kind id (Some Post) body asked = IsRecordAsked kind id body asked
+IsGivenAsked kind id (Some Patch) body asked = asked ≡ no_method
 IsGivenAsked kind id (Some Delete) body asked = asked ≡ no_method
 IsGivenAsked kind id None body asked = asked ≡ no_method
 
@@ -129,7 +159,7 @@ IsPartAsked Given kind id method query body asked = IsGivenAsked kind id method 
 -- what a method asks of a route, with this query and this body
 abbrev pub IsAskedOf : Route → Option Method → List ℕ → List ℕ → Asked → Type 0
 IsAskedOf (Many kind) method query body asked = IsRangesAsked kind method body asked
-IsAskedOf (Single base id) method query body asked = asked ≡ one_asked base id method
+IsAskedOf (Single base id) method query body asked = IsOneAsked base id method body asked
 IsAskedOf (Within part kind id) method query body asked = IsPartAsked part kind id method query body asked
 
 -- a path without a route is refused whatever the method, the query and the body

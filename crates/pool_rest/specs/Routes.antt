@@ -10,7 +10,7 @@ use Rattle.pool_rest.specs.declared.route.Base.TheVariants.{Ranges, Members}
 use Rattle.pool_rest.specs.declared.route.RangePart.{RangePart}
 use Rattle.pool_rest.specs.declared.route.RangePart.TheVariants.{Free, Given}
 use Rattle.pool_rest.specs.declared.route.Method.{Method}
-use Rattle.pool_rest.specs.declared.route.Method.TheVariants.{Get, Post, Delete}
+use Rattle.pool_rest.specs.declared.route.Method.TheVariants.{Get, Post, Patch, Delete}
 
 -- ranges of numbers of autonomous systems, groups of VLANs, and the members of both, by their names in a path
 abbrev pub base_text : Base → List ℕ
@@ -63,9 +63,11 @@ abbrev pub method_named : List ℕ → Option Method
 method_named name =
     if bytes_eq name (codes "GET") then Some Get
     else (if bytes_eq name (codes "POST") then Some Post
-    else (if bytes_eq name (codes "DELETE") then Some Delete else None))
+    else (if bytes_eq name (codes "PATCH") then Some Patch
+    else (if bytes_eq name (codes "DELETE") then Some Delete else None)))
 
--- the methods of a route, as they are printed: ranges are listed and made, a range and a member are cut, what is free is listed and
+-- the methods of a route, as they are printed: ranges are listed and made, a range and a member are read, edited
+-- and cut, what is free is listed and
 -- claimed, and what is given out is listed
 abbrev pub part_methods : RangePart → List ℕ
 part_methods Free = codes "GET, POST"
@@ -73,5 +75,5 @@ part_methods Given = codes "GET, POST"
 
 abbrev pub methods_text : Route → List ℕ
 methods_text (Many kind) = codes "GET, POST"
-methods_text (Single base id) = codes "DELETE"
+methods_text (Single base id) = codes "GET, PATCH, DELETE"
 methods_text (Within part kind id) = part_methods part

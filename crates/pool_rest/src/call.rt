@@ -3,7 +3,7 @@
 ghost use Rattle.std.specs.Prelude.{◌≡◌, IfOk, false};
 ghost use Rattle.number_pools.specs.Machines.{IsTaken};
 ghost use Rattle.pool_json.specs.Bodies.{OrWant};
-ghost use Rattle.pool_rest.specs.Requests.{IsClaimAsked, IsFreeAsked, IsFreeListed, IsGivenAsked, IsPartAsked, IsRangeAsked, IsRangesAsked, IsRecordAsked, IsRequest};
+ghost use Rattle.pool_rest.specs.Requests.{IsClaimAsked, IsEditAsked, IsFreeAsked, IsFreeListed, IsGivenAsked, IsOneAsked, IsPartAsked, IsRangeAsked, IsRangesAsked, IsRecordAsked, IsRequest};
 ghost use Rattle.pool_rest.specs.Requests as spec;
 
 use crate::route::{Base, Method, RangePart, Route};
@@ -11,7 +11,9 @@ use crate::table::Routes;
 use ipam_data::calls::Answered;
 use ipam_data::replies::Refusal;
 use number_pools::{PoolCall, PoolKind};
-use pool_json::{RequestRefusal, Shape, read_claim, read_range, read_record};
+use pool_json::{
+    RequestRefusal, Shape, read_claim, read_member_edit, read_range, read_range_edit, read_record,
+};
 use rest_query::{Available, cut, read_limit};
 use std::alloc::Global;
 
@@ -41,6 +43,10 @@ pub fn shape_of(call: &PoolCall) -> Shape
             kind: *kind,
             list: *list,
         },
+        PoolCall::OneRange { kind, .. } => plain(*kind),
+        PoolCall::OneMember { kind, .. } => plain(*kind),
+        PoolCall::EditRange { kind, .. } => plain(*kind),
+        PoolCall::EditMember { kind, .. } => plain(*kind),
     }
 }
 
@@ -92,6 +98,7 @@ fn call_of_ranges(
     match method {
         Some(Method::Get) => Ok(asks(PoolCall::Ranges { kind })),
         Some(Method::Post) => call_of_draft(alloc, kind, body),
+        Some(Method::Patch) => Err(no_method()),
         Some(Method::Delete) => Err(no_method()),
         None => Err(no_method()),
     }
@@ -108,19 +115,87 @@ fn cut_call(base: Base, id: u32) -> PoolCall
     }
 }
 
+/// The call that reads a range or a member.
+fn one_call(base: Base, id: u32) -> PoolCall
+    ensures is { result ≡ spec.one_call base id }
+    ensures taken { IsTaken result }
+{
+    match base {
+        Base::Ranges(kind) => PoolCall::OneRange { kind, id },
+        Base::Members(kind) => PoolCall::OneMember { kind, id },
+    }
+}
+
+/// The edit of a range that a body asks for.
+fn call_of_range_edit(
+    alloc: Global,
+    kind: PoolKind,
+    id: u32,
+    body: &[u8],
+) -> Result<(PoolCall, Shape), RequestRefusal>
+    ensures asked { OrWant (IsEditAsked (Base.Ranges kind) id body.now) result }
+    ensures taken { IfOk result (λ asked. IsTaken asked.0) }
+{
+    match read_range_edit(alloc, body) {
+        Ok(edit) => Ok(asks(PoolCall::EditRange {
+            kind,
+            id,
+            name: edit.name,
+            first: edit.first,
+            last: edit.last,
+        })),
+        Err(refusal) => Err(refusal),
+    }
+}
+
+/// The edit of a member that a body asks for.
+fn call_of_member_edit(
+    alloc: Global,
+    kind: PoolKind,
+    id: u32,
+    body: &[u8],
+) -> Result<(PoolCall, Shape), RequestRefusal>
+    ensures asked { OrWant (IsEditAsked (Base.Members kind) id body.now) result }
+    ensures taken { IfOk result (λ asked. IsTaken asked.0) }
+{
+    match read_member_edit(alloc, kind, body) {
+        Ok(name) => Ok(asks(PoolCall::EditMember { kind, id, name })),
+        Err(refusal) => Err(refusal),
+    }
+}
+
+/// The edit that a body asks for.
+fn call_of_edit(
+    alloc: Global,
+    base: Base,
+    id: u32,
+    body: &[u8],
+) -> Result<(PoolCall, Shape), RequestRefusal>
+    ensures asked { OrWant (IsEditAsked base id body.now) result }
+    ensures taken { IfOk result (λ asked. IsTaken asked.0) }
+{
+    match base {
+        Base::Ranges(kind) => call_of_range_edit(alloc, kind, id, body),
+        Base::Members(kind) => call_of_member_edit(alloc, kind, id, body),
+    }
+}
+
 /// What a method asks of a range or a member.
 fn call_of_one(
+    alloc: Global,
     base: Base,
     id: u32,
     method: Option<Method>,
+    body: &[u8],
 ) -> Result<(PoolCall, Shape), RequestRefusal>
-    ensures asked { result ≡ spec.one_asked base id method }
+    ensures asked { OrWant (IsOneAsked base id method body.now) result }
     ensures taken { IfOk result (λ asked. IsTaken asked.0) }
 {
     match method {
-        Some(Method::Delete) => Ok(asks(cut_call(base, id))),
-        Some(Method::Get) => Err(no_method()),
+        Some(Method::Get) => Ok(asks(one_call(base, id))),
         Some(Method::Post) => Err(no_method()),
+        Some(Method::Patch) => call_of_edit(alloc, base, id, body),
+        Some(Method::Delete) => Ok(asks(cut_call(base, id))),
         None => Err(no_method()),
     }
 }
@@ -187,6 +262,7 @@ fn call_of_free(
     match method {
         Some(Method::Get) => call_of_limit(alloc, kind, id, query),
         Some(Method::Post) => call_of_claim(alloc, kind, id, body),
+        Some(Method::Patch) => Err(no_method()),
         Some(Method::Delete) => Err(no_method()),
         None => Err(no_method()),
     }
@@ -227,6 +303,7 @@ fn call_of_given(
     match method {
         Some(Method::Get) => Ok(asks(PoolCall::Members { kind, id })),
         Some(Method::Post) => call_of_record(alloc, kind, id, body),
+        Some(Method::Patch) => Err(no_method()),
         Some(Method::Delete) => Err(no_method()),
         None => Err(no_method()),
     }
@@ -268,7 +345,7 @@ pub fn read_call_by(
     match routes.route_of(path) {
         None => Err(RequestRefusal::Common(Refusal::NoRoute)),
         Some(Route::Many(kind)) => call_of_ranges(alloc, kind, Method::named(method), body),
-        Some(Route::Single(base, id)) => call_of_one(base, id, Method::named(method)),
+        Some(Route::Single(base, id)) => call_of_one(alloc, base, id, Method::named(method), body),
         Some(Route::Within(part, kind, id)) => {
             call_of_part(alloc, part, kind, id, Method::named(method), query, body)
         }

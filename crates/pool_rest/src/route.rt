@@ -97,6 +97,7 @@ pub enum Route {
 pub enum Method {
     Get,
     Post,
+    Patch,
     Delete,
 }
 
@@ -110,6 +111,9 @@ impl Method {
         }
         if name == b"POST".as_slice() {
             return Some(Method::Post);
+        }
+        if name == b"PATCH".as_slice() {
+            return Some(Method::Patch);
         }
         if name == b"DELETE".as_slice() {
             return Some(Method::Delete);
@@ -125,7 +129,7 @@ impl Route {
     {
         match self {
             Route::Many(_) => "GET, POST",
-            Route::Single(_, _) => "DELETE",
+            Route::Single(_, _) => "GET, PATCH, DELETE",
             Route::Within(part, _, _) => part.methods(),
         }
     }

@@ -15,10 +15,10 @@ use Rattle.placed_book.proofs.RowPlaces.{none_below, with_row_new, without_none}
 use Rattle.number_pools.specs.declared.rows.NumberRange.{NumberRange}
 use Rattle.number_pools.specs.declared.rows.Member.{Member}
 use Rattle.number_pools.specs.Rows.{Pools, member_id, range_id}
-use Rattle.number_pools.specs.Free.{pool_found}
+use Rattle.number_pools.specs.Free.{pool_at, pool_found}
 use Rattle.number_pools.specs.Keys.{AreKeys, key_block, key_of}
 use Rattle.number_pools.specs.Lawful.{IsLawfulPools}
-use Rattle.number_pools.proofs.Kept.{keys_fewer, keys_more}
+use Rattle.number_pools.proofs.Kept.{keys_fewer, keys_more, same_blocks, same_pool}
 use Rattle.number_pools.proofs.Lists.{row_at_beside, row_at_else}
 
 map_same : {X Y : Type 0} (f g : X → Y) (xs : List X) → ((x : X) → Contains xs x → f x ≡ g x) → map f xs ≡ map g xs
@@ -43,6 +43,21 @@ pub keys_without_range : (ranges : List NumberRange) (members : List Member) (id
     → AreKeys ranges members held → AreKeys (without range_id ranges id) members held
 keys_without_range ranges members id held unused keys =
     keys_beside ranges (without range_id ranges id) members held (λ m c. row_at_beside range_id ranges id m.range (unused m c)) keys
+
+-- a range in the place of one of its kind, and a member in the place of one that holds its number
+pub keys_with_edited_range : (ranges : List NumberRange) (members : List Member) (old row : NumberRange) (held : List Cidr) → row_at range_id ranges row.id ≡ Some old → old.kind ≡ row.kind
+    → AreKeys ranges members held → AreKeys (with_row range_id ranges row) members held
+keys_with_edited_range ranges members old row held there kind keys =
+    subst (λ (bs : List Cidr). IsPermutation bs held)
+    (sym (map_same (key_block (with_row range_id ranges row)) (key_block ranges) members
+    (λ m c. ap (λ (pool : ℕ). let b : Cidr = record { family = V6; first = key_of pool m.number; len = 128 } in b) (same_pool ranges old row there kind m)))) keys
+
+pub keys_with_edited_member : (ranges : List NumberRange) (members : List Member) (old new : Member) (held : List Cidr) → row_at member_id members new.id ≡ Some old → old.range ≡ new.range → old.number ≡ new.number
+    → AreKeys ranges members held → AreKeys ranges (with_row member_id members new) held
+keys_with_edited_member ranges members old new held there range number keys =
+    let pool : pool_at ranges new ≡ pool_at ranges old = ap (λ (n : ℕ). pool_found (row_at range_id ranges n) n) (sym range) in
+    let same : key_block ranges new ≡ key_block ranges old = (λ i. record { family = V6; first = key_of (pool i) (sym number i); len = 128 }) in
+    subst (λ (bs : List Cidr). IsPermutation bs held) (sym (same_blocks (key_block ranges) members old new there same)) keys
 
 pub keys_with_member : (ranges : List NumberRange) (members : List Member) (m : Member) (held new : List Cidr) → AllBelow member_id m.id members → AreKeys ranges members held
     → IsPermutation (key_block ranges m ∷ held) new → AreKeys ranges (with_row member_id members m) new

@@ -1,3 +1,4 @@
 pub mod Filling
 pub mod KeysStay
 pub mod Holders
+pub mod Places

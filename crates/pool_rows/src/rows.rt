@@ -10,9 +10,9 @@ ghost use Rattle.number_pools.specs.Rows.{empty_pools, member_id, range_id};
 ghost use Rattle.number_pools.specs.Free.{holds, pool_at, pool_of as pool_of_range};
 ghost use Rattle.number_pools.specs.Keys.{AreKeys, key_block};
 ghost use Rattle.number_pools.specs.Lawful.{AreNumbered, IsLawfulPools};
-ghost use Rattle.number_pools.specs.Steps.{with_range, without_member, without_range};
+ghost use Rattle.number_pools.specs.Steps.{with_edited_member, with_edited_range, with_range, without_member, without_range};
 ghost use Rattle.number_pools.specs.Limits.{AreFew};
-ghost use Rattle.pool_rows.specs.Held.{with_member};
+ghost use Rattle.pool_rows.specs.Held.{KeepsItsKind, KeepsItsNumber, with_member};
 
 use crate::keys::key_at;
 use crate::opening::book_of;
@@ -263,6 +263,52 @@ impl PoolRows {
     {
         self.ranges.put(range);
         self.next_range += 1;
+        self.spent += 1;
+    }
+
+    /// Makes room for a range in the place of another. `Err` means out of memory, or as many ranges as can be held.
+    pub fn reserve_range_edit(&mut self) -> Result<(), AllocError>
+        ensures pools { self.new.pools ≡ self.old.pools }
+        ensures ok { OnOk result (1 ≤ self.new.range_room) }
+    {
+        if self.ranges.len() as usize >= MOST_HELD {
+            return Err(AllocError);
+        }
+        self.ranges.reserve(1)
+    }
+
+    /// Makes room for a member in the place of another. `Err` means out of memory, or as many members as can be held.
+    pub fn reserve_member_edit(&mut self) -> Result<(), AllocError>
+        ensures pools { self.new.pools ≡ self.old.pools }
+        ensures ok { OnOk result (1 ≤ self.new.member_room) }
+    {
+        if self.members.len() as usize >= MOST_HELD {
+            return Err(AllocError);
+        }
+        self.members.reserve(1)
+    }
+
+    /// Puts a range in the place of the one of its id, which is of its kind. It takes no memory.
+    pub fn edit_range(&mut self, range: NumberRange)
+        requires keeps { KeepsItsKind self.old.pools range }
+        requires id { 1 ≤ range.id }
+        requires room { 1 ≤ self.old.range_room }
+        requires log { self.old.pools.spent + 1 ≤ most_spent }
+        ensures { self.new.pools ≡ with_edited_range self.old.pools range }
+    {
+        self.ranges.put(range);
+        self.spent += 1;
+    }
+
+    /// Puts a member in the place of the one of its id, which is of its range and has its number. It takes no memory.
+    pub fn edit_member(&mut self, member: Member)
+        requires keeps { KeepsItsNumber self.old.pools member }
+        requires id { 1 ≤ member.id }
+        requires room { 1 ≤ self.old.member_room }
+        requires log { self.old.pools.spent + 1 ≤ most_spent }
+        ensures { self.new.pools ≡ with_edited_member self.old.pools member }
+    {
+        self.members.put(member);
         self.spent += 1;
     }
 

@@ -314,6 +314,10 @@ fn reply(alloc: Global, number: u32) -> Result<PoolReply, AllocError> {
         21 => PoolReply::Refused(PoolRefusal::Taken(64512, 7)),
         22 => PoolReply::Refused(PoolRefusal::Repeated(64513)),
         23 => PoolReply::Refused(PoolRefusal::Limit(Quantity::Items, 1000)),
+        24 => PoolReply::ChangedRange(range(alloc)?),
+        25 => PoolReply::ChangedMember(member(alloc, 64512)?),
+        26 => PoolReply::OneRange(range(alloc)?),
+        27 => PoolReply::OneMember(member(alloc, 64512)?),
         _ => PoolReply::Refused(PoolRefusal::Memory),
     })
 }
@@ -343,6 +347,10 @@ const REPLIES: &str = "{\"end\":64514,\"id\":1,\"name\":\"lab\",\"start\":64512}
 {\"code\":\"taken\",\"detail\":\"number 64512 is that of member 7\"}
 {\"code\":\"taken\",\"detail\":\"number 64513 is that of an earlier item\"}
 {\"code\":\"limit\",\"detail\":\"items would exceed 1000\"}
+{\"end\":64514,\"id\":1,\"name\":\"lab\",\"start\":64512}
+{\"asn\":64512,\"id\":7,\"name\":\"a\\\"b\",\"range\":1}|{\"group\":1,\"id\":7,\"name\":\"a\\\"b\",\"vid\":64512}
+{\"end\":64514,\"id\":1,\"name\":\"lab\",\"start\":64512}
+{\"asn\":64512,\"id\":7,\"name\":\"a\\\"b\",\"range\":1}|{\"group\":1,\"id\":7,\"name\":\"a\\\"b\",\"vid\":64512}
 {\"code\":\"memory\",\"detail\":\"no memory\"}";
 
 #[test]

@@ -56,6 +56,29 @@ record vlan 3 1,5000=Taken(1, 3)
 record vlan 2 1=Absent(2)
 claim asn 2 1=64515
 members asn 2=64514 64515
+one asn 1=office 64512-64514
+one asn 3=Absent(3)
+one_member vlan 28=30 
+one_member asn 28=Absent(28)
+name_member vlan 28 voice=30 voice
+name_member vlan 28=30 voice
+name_member asn 28 voice=Absent(28)
+one_member vlan 28=30 voice
+edit asn 9 lab 1 2=Absent(9)
+edit asn 2 office 9 1=NameTaken(1)
+edit asn 2 site 9 1=Bounds
+edit asn 2 site 0 64515=Bounds
+edit vlan 3 office 1 4095=Bounds
+edit asn 2 site 64515 64520=InUse(27)
+edit asn 2 site 64514 64514=InUse(31)
+edit asn 2 lab 64514 64516=lab 64514-64516
+edit asn 2 lab=lab 64514-64516
+ranges asn=1 2
+claim asn 2 1=64516
+claim asn 2 1=NoSpace(0)
+edit asn 2 site 64514 64517=site 64514-64517
+claim asn 2 1=64517
+cut asn 2=InUse(27)
 ";
 
 /// The number of a word. If it is none, the line is wrong, and the test fails as for lack of memory.
@@ -90,6 +113,22 @@ fn chosen(alloc: Global, text: &str) -> Result<Listed<Chosen>, AllocError> {
         items.push(Chosen { number, name })?;
     }
     Ok(Listed::of(items))
+}
+
+/// The name that a word gives, if there is a word.
+fn named(alloc: Global, word: Option<&str>) -> Result<Option<Text>, AllocError> {
+    match word {
+        Some(word) => Ok(Some(Text::of(String::from_str(alloc, word)?))),
+        None => Ok(None),
+    }
+}
+
+/// The number that a word gives, if there is a word.
+fn numbered(word: Option<&str>) -> Result<Option<u32>, AllocError> {
+    match word {
+        Some(word) => Ok(Some(number(Some(word))?)),
+        None => Ok(None),
+    }
 }
 
 /// The call of a line.
@@ -128,6 +167,25 @@ fn call_of(alloc: Global, line: &str) -> Result<PoolCall, AllocError> {
             list: true,
             items: chosen(alloc, words.next().unwrap_or(""))?,
         });
+    }
+    if verb == "one" {
+        return Ok(PoolCall::OneRange { kind, id });
+    }
+    if verb == "one_member" {
+        return Ok(PoolCall::OneMember { kind, id });
+    }
+    if verb == "edit" {
+        return Ok(PoolCall::EditRange {
+            kind,
+            id,
+            name: named(alloc, words.next())?,
+            first: numbered(words.next())?,
+            last: numbered(words.next())?,
+        });
+    }
+    if verb == "name_member" {
+        let name = named(alloc, words.next())?;
+        return Ok(PoolCall::EditMember { kind, id, name });
     }
     let n = number(words.next())?;
     if verb == "free" {
@@ -177,12 +235,31 @@ fn listed(alloc: Global, numbers: &[u32]) -> Result<String, AllocError> {
     Ok(out)
 }
 
+/// A range in short.
+fn range_said(alloc: Global, range: &NumberRange) -> Result<String, AllocError> {
+    let name = range.name.as_str();
+    let first = range.first;
+    let last = range.last;
+    Ok(format!(in alloc; "{name} {first}-{last}")?)
+}
+
+/// A member in short.
+fn member_said(alloc: Global, member: &Member) -> Result<String, AllocError> {
+    let number = member.number;
+    let name = member.name.as_str();
+    Ok(format!(in alloc; "{number} {name}")?)
+}
+
 /// A reply in short.
 fn said(alloc: Global, reply: &PoolReply) -> Result<String, AllocError> {
     match reply {
         PoolReply::Made(range) => Ok(format!(in alloc; "made {}", range.id)?),
         PoolReply::Gone => Ok(String::from_str(alloc, "gone")?),
         PoolReply::Claimed(made) => numbers_of(alloc, made.as_slice()),
+        PoolReply::ChangedRange(range) => range_said(alloc, range),
+        PoolReply::ChangedMember(member) => member_said(alloc, member),
+        PoolReply::OneRange(range) => range_said(alloc, range),
+        PoolReply::OneMember(member) => member_said(alloc, member),
         PoolReply::Ranges(rows) => ids_of(alloc, rows.as_slice()),
         PoolReply::Members(rows) => numbers_of(alloc, rows.as_slice()),
         PoolReply::Numbers(free) => listed(alloc, free.as_slice()),

@@ -1,7 +1,8 @@
 //! Changes of the tables of a file.
 
 use crate::tables::{
-    ADD_MEMBER, ADD_RANGE, CUT_MEMBER, CUT_RANGE, NEXT_MEMBER, NEXT_RANGE, kind_text,
+    ADD_MEMBER, ADD_RANGE, CHANGE_MEMBER, CHANGE_RANGE, CUT_MEMBER, CUT_RANGE, NEXT_MEMBER,
+    NEXT_RANGE, kind_text,
 };
 use number_pools::{Member, NumberRange};
 use pool_keeper::tables::PoolChange;
@@ -16,6 +17,8 @@ pub(crate) struct Statements {
     add_member: Statement,
     cut_range: Statement,
     cut_member: Statement,
+    change_range: Statement,
+    change_member: Statement,
     set_number: Statement,
 }
 
@@ -26,6 +29,8 @@ pub(crate) fn prepare<S: Alter>(conn: &mut Connection<S>) -> Result<Statements, 
         add_member: prepare_text(conn, ADD_MEMBER)?,
         cut_range: prepare_text(conn, CUT_RANGE)?,
         cut_member: prepare_text(conn, CUT_MEMBER)?,
+        change_range: prepare_text(conn, CHANGE_RANGE)?,
+        change_member: prepare_text(conn, CHANGE_MEMBER)?,
         set_number: prepare_number(conn)?,
     })
 }
@@ -82,6 +87,40 @@ fn cut_row<S: Alter>(
     }
 }
 
+/// Gives the range of this id its name and its bounds, if there is a range.
+fn change_range<S: Alter>(
+    conn: &mut Connection<S>,
+    change: &Statement,
+    range: &Option<NumberRange>,
+) -> Result<(), StoreFault> {
+    let Some(range) = range else {
+        return Ok(());
+    };
+    let values = [
+        ValueRef::Text(range.name.as_str().as_bytes()),
+        value_of(range.first),
+        value_of(range.last),
+        value_of(range.id),
+    ];
+    run_with(conn, change, &values)
+}
+
+/// Gives the member of this id its name, if there is a member.
+fn change_member<S: Alter>(
+    conn: &mut Connection<S>,
+    change: &Statement,
+    member: &Option<Member>,
+) -> Result<(), StoreFault> {
+    let Some(member) = member else {
+        return Ok(());
+    };
+    let values = [
+        ValueRef::Text(member.name.as_str().as_bytes()),
+        value_of(member.id),
+    ];
+    run_with(conn, change, &values)
+}
+
 fn store_parts<S: Alter>(
     conn: &mut Connection<S>,
     statements: &Statements,
@@ -89,6 +128,8 @@ fn store_parts<S: Alter>(
 ) -> Result<(), StoreFault> {
     cut_row(conn, &statements.cut_range, change.cut_range)?;
     cut_row(conn, &statements.cut_member, change.cut_member)?;
+    change_range(conn, &statements.change_range, &change.changed_range)?;
+    change_member(conn, &statements.change_member, &change.changed_member)?;
     add_ranges(conn, &statements.add_range, change.new_ranges.as_slice())?;
     add_members(conn, &statements.add_member, change.new_members.as_slice())?;
     set_number(conn, &statements.set_number, NEXT_RANGE, change.next_range)?;
@@ -100,7 +141,7 @@ fn store_parts<S: Alter>(
     )
 }
 
-/// Stores a change in one transaction: its cuts, its rows, its next ids.
+/// Stores a change in one transaction: its cuts, its changed rows, its new rows, its next ids.
 pub(crate) fn store<S: Alter>(
     conn: &mut Connection<S>,
     statements: &Statements,

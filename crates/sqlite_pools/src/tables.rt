@@ -37,6 +37,13 @@ pub(crate) const CUT_RANGE: &str = "DELETE FROM ranges WHERE id = ?";
 /// Deletes a member.
 pub(crate) const CUT_MEMBER: &str = "DELETE FROM members WHERE id = ?";
 
+/// Gives a range another name and other bounds: its kind stays.
+pub(crate) const CHANGE_RANGE: &str =
+    "UPDATE ranges SET name = ?, first = ?, last = ? WHERE id = ?";
+
+/// Gives a member another name: its range and its number stay.
+pub(crate) const CHANGE_MEMBER: &str = "UPDATE members SET name = ? WHERE id = ?";
+
 /// A kind as it is stored.
 pub(crate) fn kind_text(kind: PoolKind) -> &'static str {
     match kind {

@@ -135,8 +135,18 @@ fn cut_of(word: &str) -> Result<Option<u32>, AllocError> {
     Ok(Some(number_of(Some(word))?))
 }
 
-/// The change of a line: after its first bar the ranges that are put, then the members that are put, the range and the member that are removed, and the
-/// next ids.
+/// The part of a line after so many bars, which is empty if there are fewer.
+fn last_part(line: &str, index: usize) -> &str {
+    line.split('|').nth(index).unwrap_or("")
+}
+
+/// The first of these, if there is one.
+fn first_of<T: Drop>(items: Listed<T>) -> Option<T> {
+    items.into_vec().into_iter().next()
+}
+
+/// The change of a line: after its first bar the ranges that are put, then the members that are put, the range and the member that are removed, the
+/// next ids, and the range and the member that are put in the place of others.
 pub(crate) fn change_of(alloc: Global, line: &str) -> Result<PoolChange, AllocError> {
     let next = part(line, 5)?;
     Ok(PoolChange {
@@ -146,5 +156,7 @@ pub(crate) fn change_of(alloc: Global, line: &str) -> Result<PoolChange, AllocEr
         new_members: members_of(alloc, part(line, 2)?)?,
         cut_range: cut_of(part(line, 3)?)?,
         cut_member: cut_of(part(line, 4)?)?,
+        changed_range: first_of(ranges_of(alloc, last_part(line, 6))?),
+        changed_member: first_of(members_of(alloc, last_part(line, 7))?),
     })
 }

@@ -43,7 +43,7 @@ const NUMBERS: &str =
     "INSERT INTO meta (name, value) VALUES ('next_ranges', 3), ('next_members', 7); ";
 
 /// Changes one after another, each with its answer: the ranges and the members that are put, the id of the range and of the member that is removed, the
-/// next ids. The first one makes what model/pool_tables.sql makes. If there are `many` they are members of the range 3.
+/// next ids, and the range and the member that are put in the place of others. The first one makes what model/pool_tables.sql makes. If there are `many` they are members of the range 3.
 const CHANGES: &str = "\
 done|2,asn,office,64512,64600;3,vlan,floor,10,4094;5,asn,lab \"x\",4200000000,4294967295;8,vlan,façade,7,9|11,2,64513,edge;12,3,20,voice;14,5,4294967294,core;20,8,1,d'or|||9,21
 Failed|9,vlan,garden,30,40;3,asn,again,1,2|21,9,31,lamp|5|12|30,31
@@ -55,6 +55,10 @@ done|10,vlan,back,70,80||10||11,37
 done||22,10,71,back||22|38,23
 done||many|||39,2000
 done|||2|11|40,41
+done|||||42,43|3,vlan,ground,9,4094|12,3,20,speech
+Failed|9,vlan,garden,30,40|||12|44,45|3,vlan,again,1,2|14,5,4294967294,again
+done||||14|46,47|99,asn,none,1,2|14,5,4294967294,gone
+done|11,asn,new,5,6||||48,49|11,asn,newer,5,7|
 ";
 
 /// What the arguments say, with what makes the tables and what sets the next ids in place of their names.
