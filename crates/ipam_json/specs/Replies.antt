@@ -36,12 +36,16 @@ view_data (AddressView row) = address_data row
 abbrev pub views_data : List View → Data
 views_data views = array (items_of (map view_data views))
 
-abbrev pub page_data : ℕ → List View → Links → Data
-page_data count views links = object (members (
+-- a page of a list: how many rows the list has, the links to the pages beside it, and its rows
+abbrev pub page_form : ℕ → Links → Data → Data
+page_form count links results = object (members (
     (codes "count", number_data count)
     ∷ (codes "next", text_data links.next)
     ∷ (codes "previous", text_data links.previous)
-    ∷ (codes "results", views_data views) ∷ []))
+    ∷ (codes "results", results) ∷ []))
+
+abbrev pub page_data : ℕ → List View → Links → Data
+page_data count views links = page_form count links (views_data views)
 
 -- things as an array
 abbrev pub list_data : {T : Type 0} → (T → Data) → List T → Data

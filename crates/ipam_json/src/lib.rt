@@ -29,3 +29,4 @@ pub use bodies::{read_body, read_edit};
 pub use fixed::fixed_refusal_bytes;
 pub use laws::{body_is_one, bounds_are_those, claim_is_one, edit_is_one, rows_are_in_order};
 pub use replies::{Links, RECORD_ROOM, refusal_bytes, reply_bytes, write_reply};
+pub use writing::put_link;

@@ -75,8 +75,8 @@ pub(crate) fn put_reference(
     }
 }
 
-/// Writes a member that is a link, or null.
-pub(crate) fn put_link(
+/// Writes a member that is a link, or null if there is none. `Err` means out of memory.
+pub fn put_link(
     writer: &mut Writer,
     name: &str,
     link: &Option<Text>,

@@ -209,3 +209,4 @@ module _ (x : Member) (r : NumberRange) where
   stays s (call.OneMember kind id) h p = inl (one_member_stays s id (member_at s kind id) p)
   stays s (call.EditRange kind id name first last) h p = inl (range_edited s kind id name first last (range_at s.ranges.rows kind id) refl p)
   stays s (call.EditMember kind id name) h p = inl (member_edited s kind id name (member_at s kind id) refl h p)
+  stays s (call.Page kind query) h p = inl p

@@ -382,6 +382,7 @@ steps_keep s (call.OneRange kind id) h = one_range_lawful s kind id h
 steps_keep s (call.OneMember kind id) h = one_member_lawful s kind id h
 steps_keep s (call.EditRange kind id name first last) h = edit_range_lawful s kind id name first last h
 steps_keep s (call.EditMember kind id name) h = edit_member_lawful s kind id name h
+steps_keep s (call.Page kind query) h = h
 
 pub empty : EmptyIsLawful
 empty = record {

@@ -6,7 +6,7 @@ use Rattle.number_pools.specs.declared.calls.PoolRefusal.TheVariants.{Absent, Na
 use Rattle.number_pools.specs.declared.calls.PoolCall.{PoolCall}
 use Rattle.number_pools.specs.declared.calls.PoolCall.TheVariants as call
 use Rattle.number_pools.specs.declared.calls.PoolReply.{PoolReply}
-use Rattle.number_pools.specs.declared.calls.PoolReply.TheVariants.{Made, Gone, Claimed, ChangedRange, ChangedMember, OneRange, OneMember, Ranges, Members, Numbers, Refused}
+use Rattle.number_pools.specs.declared.calls.PoolReply.TheVariants.{Made, Gone, Claimed, ChangedRange, ChangedMember, OneRange, OneMember, Ranges, Members, Numbers, Page, Refused}
 
 abbrev pub refusal_kind : PoolRefusal → ReplyKind
 refusal_kind (Absent id) = plain
@@ -32,6 +32,7 @@ kind_of (OneMember member) = plain
 kind_of (Ranges rows) = plain
 kind_of (Members rows) = plain
 kind_of (Numbers numbers) = plain
+kind_of (Page query count members) = plain
 kind_of (Refused why) = refusal_kind why
 
 -- the calls that pools take: a claim has at least one item, and so has a call that records
@@ -48,3 +49,4 @@ IsTaken (call.OneRange kind id) = Unit {0}
 IsTaken (call.OneMember kind id) = Unit {0}
 IsTaken (call.EditRange kind id name first last) = Unit {0}
 IsTaken (call.EditMember kind id name) = Unit {0}
+IsTaken (call.Page kind query) = Unit {0}

@@ -3,15 +3,16 @@
 use Rattle.std.specs.Prelude.{ℕ, ◌+◌, ◌==◌, ◌&&◌, not, Bool, true, false, nat_le, List, [], ◌∷◌, ◌++◌, filter, fold, is_some, map, take, length, Option, Some, None, option_map, bytes_eq, if◌then◌else◌}
 use Rattle.std.specs.List.{list_any}
 use Rattle.ipam_data.specs.declared.kinds.TheConstants.{LAST_ID}
-use Rattle.ipam_data.specs.Checks.{first as first_of, most_spent}
+use Rattle.ipam_data.specs.Checks.{asks, first as first_of, most_spent}
 use Rattle.ipam_data.specs.Plans.{edited}
-use Rattle.ipam_data.specs.RowList.{appended, cleared_of, last_next, least, least_rival, replaced, row_at}
+use Rattle.ipam_data.specs.RowList.{appended, cleared_of, last_next, least, least_rival, page, replaced, row_at}
 use Rattle.number_pools.specs.declared.rows.PoolKind.{PoolKind}
 use Rattle.number_pools.specs.declared.rows.PoolKind.TheVariants.{Asn, Vlan}
 use Rattle.number_pools.specs.declared.rows.NumberRange.{NumberRange}
 use Rattle.number_pools.specs.declared.rows.Member.{Member}
 use Rattle.number_pools.specs.declared.calls.TheConstants.{MOST_RANGES, MOST_MEMBERS, MOST_CLAIMED}
 use Rattle.number_pools.specs.declared.calls.Chosen.{Chosen}
+use Rattle.number_pools.specs.declared.calls.MemberQuery.{MemberQuery}
 use Rattle.number_pools.specs.declared.calls.Quantity.{Quantity}
 use Rattle.number_pools.specs.declared.calls.Quantity.TheVariants.{Claims, Items, Ranges as RangeCount, Members as MemberCount, Ids, Log}
 use Rattle.number_pools.specs.declared.calls.PoolRefusal.{PoolRefusal}
@@ -19,7 +20,7 @@ use Rattle.number_pools.specs.declared.calls.PoolRefusal.TheVariants.{Absent, Na
 use Rattle.number_pools.specs.declared.calls.PoolCall.{PoolCall}
 use Rattle.number_pools.specs.declared.calls.PoolCall.TheVariants as call
 use Rattle.number_pools.specs.declared.calls.PoolReply.{PoolReply}
-use Rattle.number_pools.specs.declared.calls.PoolReply.TheVariants.{Made, Gone, Claimed, ChangedRange, ChangedMember, OneRange, OneMember, Ranges, Members, Numbers, Refused}
+use Rattle.number_pools.specs.declared.calls.PoolReply.TheVariants.{Made, Gone, Claimed, ChangedRange, ChangedMember, OneRange, OneMember, Ranges, Members, Numbers, Page, Refused}
 use Rattle.number_pools.specs.Rows.{Pools, member_id, most_of, range_id}
 use Rattle.number_pools.specs.Free.{free_numbers, holds, pool_of}
 
@@ -66,6 +67,18 @@ of_kind_of ranges kind (Some m) = if is_some (range_at ranges kind m.range) then
 
 abbrev pub member_at : Pools → PoolKind → ℕ → Option Member
 member_at s kind id = of_kind_of s.ranges.rows kind (row_at member_id s.members.rows id)
+
+-- the member has each of the number, the range and the name that are asked for
+abbrev pub is_wanted : MemberQuery → Member → Bool
+is_wanted query m = asks query.number (λ n. m.number == n) && asks query.range (λ id. m.range == id) && asks query.name (λ name. bytes_eq m.name name)
+
+-- the member is one of a range of the kind, and has what is asked for
+abbrev pub is_listed : List NumberRange → PoolKind → MemberQuery → Member → Bool
+is_listed ranges kind query m = is_some (range_at ranges kind m.range) && is_wanted query m
+
+-- the members that a list has, in order
+abbrev pub listed_members : Pools → PoolKind → MemberQuery → List Member
+listed_members s kind query = filter (is_listed s.ranges.rows kind query) s.members.rows
 
 -- ---- what refuses a call
 
@@ -270,6 +283,10 @@ abbrev pub one_member_step : Pools → ℕ → Option Member → Pools × PoolRe
 one_member_step s id None = (s, Refused (Absent id))
 one_member_step s id (Some m) = (s, OneMember m)
 
+-- how many members the list has, and its page
+abbrev pub page_reply : Pools → PoolKind → MemberQuery → PoolReply
+page_reply s kind query = let all = listed_members s kind query in Page query (length all) (page query.limit query.offset all)
+
 -- an edit that leads to this range
 abbrev pub edited_range_step : Pools → NumberRange → Pools × PoolReply
 edited_range_step s range = unless (first_of (edit_range_checks s range)) s (with_edited_range s range) (ChangedRange range)
@@ -300,3 +317,4 @@ plain_pool_step s (call.OneRange kind id) = one_range_step s id (range_at s.rang
 plain_pool_step s (call.OneMember kind id) = one_member_step s id (member_at s kind id)
 plain_pool_step s (call.EditRange kind id name first last) = edit_range_step s id name first last (range_at s.ranges.rows kind id)
 plain_pool_step s (call.EditMember kind id name) = edit_member_step s id name (member_at s kind id)
+plain_pool_step s (call.Page kind query) = (s, page_reply s kind query)

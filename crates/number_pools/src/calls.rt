@@ -1,6 +1,9 @@
 //! What pools are asked, and what they answer.
 
+ghost use Rattle.std.specs.Prelude.{◌≡◌, IfOk};
+
 use crate::rows::{Member, NumberRange, PoolKind};
+use std::alloc::AllocError;
 use std::marker::Model;
 use stored_tables::tables::{Text, Texts};
 
@@ -28,8 +31,6 @@ impl<T> Model for Listed<T> {
 }
 
 impl<T> Listed<T> {
-    ghost use Rattle.std.specs.Prelude.{◌≡◌};
-
     /// The list of these. It takes no memory.
     pub fn of(items: Vec<T>) -> Listed<T>
         ensures { result ≡ items.items }
@@ -102,6 +103,40 @@ pub enum PoolRefusal {
 pub struct Chosen {
     pub number: u32,
     pub name: Text,
+}
+
+/// Which members of a kind a list has, and which of them are on the page that is shown. What is not given is not looked at.
+#[derive(Debug, Drop)]
+pub struct MemberQuery {
+    /// The number of each.
+    pub number: Option<u32>,
+    /// The id of the range of each.
+    pub range: Option<u32>,
+    /// The name of each.
+    pub name: Option<Text>,
+    /// How many members a page has at most.
+    pub limit: u32,
+    /// How many members of the list come before the page.
+    pub offset: u32,
+}
+
+impl MemberQuery {
+    /// The same query again. `Err` means out of memory.
+    pub fn copy(&self) -> Result<MemberQuery, AllocError>
+        ensures { IfOk result (λ q. q ≡ self.now) }
+    {
+        let name = match &self.name {
+            Some(name) => Some(name.copy()?),
+            None => None,
+        };
+        Ok(MemberQuery {
+            number: self.number,
+            range: self.range,
+            name,
+            limit: self.limit,
+            offset: self.offset,
+        })
+    }
 }
 
 /// What pools are asked.
@@ -178,6 +213,11 @@ pub enum PoolCall {
         id: u32,
         name: Option<Text>,
     },
+    /// Lists members of all ranges of a kind, a page at a time.
+    Page {
+        kind: PoolKind,
+        query: MemberQuery,
+    },
 }
 
 /// What pools answer. The first five are the accepted changes.
@@ -203,6 +243,12 @@ pub enum PoolReply {
     Members(Listed<Member>),
     /// Free numbers, in order.
     Numbers(Listed<u32>),
+    /// A page of a list: what was asked, how many members the list has, and those that are on the page, in the order of their ids.
+    Page {
+        query: MemberQuery,
+        count: u32,
+        members: Listed<Member>,
+    },
     /// The call is refused, and nothing is changed.
     Refused(PoolRefusal),
 }

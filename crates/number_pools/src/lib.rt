@@ -8,7 +8,7 @@ pub mod laws;
 mod rows;
 
 pub use calls::{
-    Chosen, Listed, MOST_CLAIMED, MOST_MEMBERS, MOST_RANGES, PoolCall, PoolRefusal, PoolReply,
+    Chosen, Listed, MOST_CLAIMED, MOST_MEMBERS, MOST_RANGES, MemberQuery, PoolCall, PoolRefusal, PoolReply,
     Quantity,
 };
 pub use claim::{Short, free_in, free_numbers, plan_claim, pool_of};

@@ -9,11 +9,12 @@ use Rattle.number_pools.specs.declared.rows.PoolKind.TheVariants.{Asn, Vlan}
 use Rattle.number_pools.specs.declared.rows.Member.{Member}
 use Rattle.number_pools.specs.declared.calls.PoolRefusal.{PoolRefusal}
 use Rattle.number_pools.specs.declared.calls.PoolReply.{PoolReply}
-use Rattle.number_pools.specs.declared.calls.PoolReply.TheVariants.{Made, Gone, Claimed, ChangedRange, ChangedMember, OneRange, OneMember, Ranges, Members, Numbers, Refused}
+use Rattle.number_pools.specs.declared.calls.PoolReply.TheVariants.{Made, Gone, Claimed, ChangedRange, ChangedMember, OneRange, OneMember, Ranges, Members, Numbers, Page, Refused}
 use Rattle.pool_json.specs.declared.bodies.RequestRefusal.{RequestRefusal}
-use Rattle.pool_json.specs.declared.bodies.RequestRefusal.TheVariants.{Common, Start, End, Number}
+use Rattle.pool_json.specs.declared.bodies.RequestRefusal.TheVariants.{Common, Start, End, Number, Range}
 use Rattle.pool_json.specs.declared.replies.Shape.{Shape}
 use Rattle.pool_json.specs.Rows.{member_data, range_data}
+use Rattle.pool_json.specs.Pages.{page_data}
 use Rattle.pool_json.specs.Words.{code_of, detail_of}
 
 -- a code and words for it
@@ -41,6 +42,7 @@ reply_data shape (OneMember row) = Some (member_data shape.kind row)
 reply_data shape (Ranges rows) = Some (list_data range_data rows)
 reply_data shape (Members rows) = Some (list_data (member_data shape.kind) rows)
 reply_data shape (Numbers numbers) = Some (list_data number_data numbers)
+reply_data shape (Page query count members) = Some (page_data shape.kind query count members)
 reply_data shape (Refused refusal) = Some (pool_refusal_data refusal)
 
 -- the text of a reply
@@ -52,9 +54,15 @@ abbrev pub number_words : PoolKind → List ℕ
 number_words Asn = codes "asn is missing or malformed"
 number_words Vlan = codes "vid is missing or malformed"
 
+-- in words that the range that a list asks for is malformed
+abbrev pub range_words : PoolKind → List ℕ
+range_words Asn = codes "range_id is missing or malformed"
+range_words Vlan = codes "group_id is missing or malformed"
+
 -- the text of a refusal before the pools are asked
 abbrev pub request_refusal_text : RequestRefusal → List ℕ
 request_refusal_text (Common refusal) = refusal_text refusal
 request_refusal_text Start = compact_text (words_data (codes "field") (codes "start is missing or malformed"))
 request_refusal_text End = compact_text (words_data (codes "field") (codes "end is missing or malformed"))
 request_refusal_text (Number kind) = compact_text (words_data (codes "field") (number_words kind))
+request_refusal_text (Range kind) = compact_text (words_data (codes "field") (range_words kind))

@@ -22,8 +22,10 @@ pub enum RequestRefusal {
     Start,
     /// The last number of a range is missing or malformed.
     End,
-    /// The number of an item of this kind is missing or malformed.
+    /// The number of an item of this kind is missing or malformed, or that of a list.
     Number(PoolKind),
+    /// The range that a list of this kind asks for is malformed.
+    Range(PoolKind),
 }
 
 /// The range that a body asks for. Whether its numbers fit is a rule of the pools.

@@ -17,8 +17,8 @@ use serde_json::Value;
 use std::alloc::Global;
 use stored_tables::tables::Text;
 
-/// The member of an item that gives its number.
-fn number_name(kind: PoolKind) -> &'static str
+/// The member of an item that gives its number, and the parameter of a query.
+pub fn number_name(kind: PoolKind) -> &'static str
     ensures { result.now ≡ number_name kind }
 {
     match kind {

@@ -3,11 +3,12 @@
 ghost use Rattle.std.specs.Prelude.{◌≡◌, IfOk};
 ghost use Rattle.serde_json.specs.Written.{compact_text};
 ghost use Rattle.ipam_json.specs.Written.{Puts, pieces_of, value_pieces};
-ghost use Rattle.pool_json.specs.Replies.{claimed_data, number_words, pool_refusal_data, reply_data, reply_text, request_refusal_text, words_data};
+ghost use Rattle.pool_json.specs.Replies.{claimed_data, number_words, pool_refusal_data, range_words, reply_data, reply_text, request_refusal_text, words_data};
 ghost use Rattle.pool_json.specs.Words.{detail_of};
 
 use crate::bodies::RequestRefusal;
 use crate::details::{code, detail};
+use crate::pages::put_page;
 use crate::rows::{put_member, put_members, put_numbers, put_range, put_ranges};
 use ipam_json::{RECORD_ROOM, refusal_bytes};
 use json::Writer;
@@ -88,6 +89,11 @@ fn put_reply(
         PoolReply::Ranges(rows) => put_ranges(writer, rows.as_slice()),
         PoolReply::Members(rows) => put_members(writer, shape.kind, rows.as_slice()),
         PoolReply::Numbers(numbers) => put_numbers(writer, numbers.as_slice()),
+        PoolReply::Page {
+            query,
+            count,
+            members,
+        } => put_page(alloc, writer, shape.kind, query, *count, members.as_slice()),
         PoolReply::Refused(refusal) => put_refusal(alloc, writer, *refusal),
     }
 }
@@ -121,6 +127,16 @@ fn number_words(kind: PoolKind) -> &'static str
     }
 }
 
+/// In words that the range that a list asks for is malformed.
+fn range_words(kind: PoolKind) -> &'static str
+    ensures { result.now ≡ range_words kind }
+{
+    match kind {
+        PoolKind::Asn => "range_id is missing or malformed",
+        PoolKind::Vlan => "group_id is missing or malformed",
+    }
+}
+
 /// The JSON text of a refusal before the pools are asked. `Err` means out of memory.
 pub fn request_refusal_bytes(alloc: Global, refusal: &RequestRefusal) -> Result<Vec<u8>, AllocError>
     ensures { IfOk result (λ v. v.items ≡ request_refusal_text refusal.now) }
@@ -130,5 +146,6 @@ pub fn request_refusal_bytes(alloc: Global, refusal: &RequestRefusal) -> Result<
         RequestRefusal::Start => words_bytes(alloc, "field", "start is missing or malformed"),
         RequestRefusal::End => words_bytes(alloc, "field", "end is missing or malformed"),
         RequestRefusal::Number(kind) => words_bytes(alloc, "field", number_words(*kind)),
+        RequestRefusal::Range(kind) => words_bytes(alloc, "field", range_words(*kind)),
     }
 }

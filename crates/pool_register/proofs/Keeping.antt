@@ -195,6 +195,7 @@ step_answers s (call.EditRange kind id name first last) = go (range_at s.ranges.
         let row = edited_range range name first last in
         unless_answer (first_of (edit_range_checks s row)) s (with_edited_range s row) (ChangedRange row)
         (first_rule (edit_range_checks s row) (name_rule (least_rival range_id has_one_name s.ranges.rows row), (bounds_rule (in_bounds row.kind row.first row.last), (use_rule (least member_id (is_cut_off row) s.members.rows), (limit_rule (nat_le (s.spent + 1) most_spent) Log most_spent, tt))))) refl
+step_answers s (call.Page kind query) = tt
 step_answers s (call.EditMember kind id name) = go (member_at s kind id)
   where
     go : (o : Option Member) → IsAnswer (kind_of (edit_member_step s id name o).1)

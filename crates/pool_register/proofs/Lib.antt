@@ -2,6 +2,7 @@ pub mod Changes
 pub mod Edits
 pub mod Keeping
 pub mod MachineFits
+pub mod Paged
 pub mod Loads
 pub mod Plans
 pub mod Putting

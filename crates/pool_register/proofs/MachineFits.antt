@@ -6,7 +6,7 @@ use Rattle.number_pools.specs.declared.calls.PoolCall.{PoolCall}
 use Rattle.number_pools.specs.declared.calls.PoolRefusal.{PoolRefusal}
 use Rattle.number_pools.specs.declared.calls.PoolRefusal.TheVariants.{Absent, NameTaken, Bounds, InUse, NoSpace, Outside, Taken, Repeated, Limit, Keeper, Memory}
 use Rattle.number_pools.specs.declared.calls.PoolReply.{PoolReply}
-use Rattle.number_pools.specs.declared.calls.PoolReply.TheVariants.{Made, Gone, Claimed, ChangedRange, ChangedMember, OneRange, OneMember, Ranges, Members, Numbers, Refused}
+use Rattle.number_pools.specs.declared.calls.PoolReply.TheVariants.{Made, Gone, Claimed, ChangedRange, ChangedMember, OneRange, OneMember, Ranges, Members, Numbers, Page, Refused}
 use Rattle.number_pools.specs.Machines.{kind_of, refusal_kind}
 use Rattle.number_pools.specs.Rows.{Pools}
 use Rattle.number_pools.specs.Steps.{plain_pool_step}
@@ -57,6 +57,7 @@ is_changed (OneMember member) e = cc
 is_changed (Ranges rows) e = cc
 is_changed (Members rows) e = cc
 is_changed (Numbers numbers) e = cc
+is_changed (Page query count members) e = cc
 is_changed (Refused why) e = change_of_kind why e
 
 -- .. and of a keeper that fails: it was asked to store a change

@@ -3,7 +3,7 @@ use Rattle.std.specs.Prelude.{◌≡◌, ℕ, Bool, true, false, List, fold, Opt
 use Rattle.history_lock.specs.Replies.{grown}
 use Rattle.number_pools.specs.declared.calls.PoolCall.{PoolCall}
 use Rattle.number_pools.specs.declared.calls.PoolReply.{PoolReply}
-use Rattle.number_pools.specs.declared.calls.PoolReply.TheVariants.{Made, Gone, Claimed, ChangedRange, ChangedMember, OneRange, OneMember, Ranges, Members, Numbers, Refused}
+use Rattle.number_pools.specs.declared.calls.PoolReply.TheVariants.{Made, Gone, Claimed, ChangedRange, ChangedMember, OneRange, OneMember, Ranges, Members, Numbers, Page, Refused}
 use Rattle.number_pools.specs.Machines.{kind_of}
 use Rattle.number_pools.specs.Rows.{Pools}
 use Rattle.number_pools.specs.Steps.{plain_pool_step}
@@ -52,4 +52,5 @@ is_change (OneMember member) = false
 is_change (Ranges rows) = false
 is_change (Members rows) = false
 is_change (Numbers numbers) = false
+is_change (Page query count members) = false
 is_change (Refused why) = false

@@ -9,6 +9,7 @@ mod lists;
 mod machine;
 mod numbers;
 mod opening;
+mod pages;
 mod plan;
 mod planned;
 mod pools;

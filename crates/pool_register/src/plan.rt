@@ -15,6 +15,7 @@ use crate::checks::{
 use crate::edit::{plan_edit_member, plan_edit_range, read_member, read_range};
 use crate::lists::{made_members, members_of, ranges_of};
 use crate::numbers::{free_of, numbers_of};
+use crate::pages::read_page;
 use crate::planned::{Planned, Update};
 use crate::record::plan_record;
 use number_pools::{
@@ -213,5 +214,6 @@ pub fn plan(alloc: Global, rows: &PoolRows, call: &PoolCall) -> Result<Planned, 
             last,
         } => plan_edit_range(rows, *kind, *id, name, *first, *last),
         PoolCall::EditMember { kind, id, name } => plan_edit_member(rows, *kind, *id, name),
+        PoolCall::Page { kind, query } => read_page(alloc, rows, *kind, query),
     }
 }

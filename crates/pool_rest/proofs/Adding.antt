@@ -21,11 +21,11 @@ more stem old new list h p =
     (IsPermutation-trans (item_of stem ∷ map item_of list) (item_of stem ∷ old) new (IsPermutation-cons (item_of stem) (map item_of list) old h.items) p) in
     record { items = subst (λ (z : List (Form × Stem)). IsPermutation z new) (sym (map-append item_of list (stem ∷ []))) both }
 
-pub rows_added : {E : Type 0} (kind : PoolKind) (front : List ℕ) (old new : List (Form × Stem)) (result : Result (Unit {0}) E) → front ≡ base_path (Ranges kind)
-    → OnOk result (IsPermutation ((Whole front, Rows kind) ∷ old) new) → OnOk result ((list : List Stem) → Lists old list → Lists new (list ++ Rows kind ∷ []))
-rows_added kind front old new (Ok u) a p = λ list h.
-    more (Rows kind) old new list h (subst (λ (z : List ℕ). IsPermutation ((Whole z, Rows kind) ∷ old) new) a p)
-rows_added kind front old new (Err e) a p = tt
+pub rows_added : {E : Type 0} (base : Base) (front : List ℕ) (old new : List (Form × Stem)) (result : Result (Unit {0}) E) → front ≡ base_path base
+    → OnOk result (IsPermutation ((Whole front, Rows base) ∷ old) new) → OnOk result ((list : List Stem) → Lists old list → Lists new (list ++ Rows base ∷ []))
+rows_added base front old new (Ok u) a p = λ list h.
+    more (Rows base) old new list h (subst (λ (z : List ℕ). IsPermutation ((Whole z, Rows base) ∷ old) new) a p)
+rows_added base front old new (Err e) a p = tt
 
 pub row_added : {E : Type 0} (base : Base) (front : List ℕ) (old new : List (Form × Stem)) (result : Result (Unit {0}) E) → front ≡ base_path base
     → OnOk result (IsPermutation ((Around front (codes "/"), Row base) ∷ old) new) → OnOk result ((list : List Stem) → Lists old list → Lists new (list ++ Row base ∷ []))
@@ -42,29 +42,22 @@ part_added part kind front end old new (Ok u) a b p = λ list h.
     (subst (λ (z : List ℕ). IsPermutation ((Around z end, PartOf part kind) ∷ old) new) a p))
 part_added part kind front end old new (Err e) a b p = tt
 
--- five stems, one after another
-joined : (list : List Stem) (a b c d e : Stem) → ((((list ++ a ∷ []) ++ b ∷ []) ++ c ∷ []) ++ d ∷ []) ++ e ∷ [] ≡ list ++ (a ∷ b ∷ c ∷ d ∷ e ∷ [])
-joined [] a b c d e = refl
-joined (x ∷ xs) a b c d e = ap (λ (z : List Stem). x ∷ z) (joined xs a b c d e)
-
-pub kind_added : (kind : PoolKind) (list : List Stem) (new : List (Form × Stem))
-    → Lists new (((((list ++ Rows kind ∷ []) ++ Row (Ranges kind) ∷ []) ++ Row (Members kind) ∷ []) ++ PartOf Free kind ∷ []) ++ PartOf Given kind ∷ [])
-    → Lists new (list ++ stems_of kind)
-kind_added kind list new h = subst (Lists new) (joined list (Rows kind) (Row (Ranges kind)) (Row (Members kind)) (PartOf Free kind) (PartOf Given kind)) h
+-- six stems, one after another
+joined : (list : List Stem) (a b c d e f : Stem) → (((((list ++ a ∷ []) ++ b ∷ []) ++ c ∷ []) ++ d ∷ []) ++ e ∷ []) ++ f ∷ [] ≡ list ++ (a ∷ b ∷ c ∷ d ∷ e ∷ f ∷ [])
+joined [] a b c d e f = refl
+joined (x ∷ xs) a b c d e f = ap (λ (z : List Stem). x ∷ z) (joined xs a b c d e f)
 
 -- this stem comes to the table
 abbrev pub Adds : List (Form × Stem) → List (Form × Stem) → List Stem → Type 0
 Adds old new more = (list : List Stem) → Lists old list → Lists new (list ++ more)
 
-pub all_added : {E : Type 0} (kind : PoolKind) (a b c d e f : List (Form × Stem)) (result : Result (Unit {0}) E)
-    → Adds a b (Rows kind ∷ []) → Adds b c (Row (Ranges kind) ∷ []) → Adds c d (Row (Members kind) ∷ []) → Adds d e (PartOf Free kind ∷ [])
-    → OnOk result (Adds e f (PartOf Given kind ∷ [])) → OnOk result (Adds a f (stems_of kind))
-all_added kind a b c d e f (Ok u) p q r s t = λ list h.
-    kind_added kind list f
-    (t ((((list ++ Rows kind ∷ []) ++ Row (Ranges kind) ∷ []) ++ Row (Members kind) ∷ []) ++ PartOf Free kind ∷ [])
-    (s (((list ++ Rows kind ∷ []) ++ Row (Ranges kind) ∷ []) ++ Row (Members kind) ∷ [])
-    (r ((list ++ Rows kind ∷ []) ++ Row (Ranges kind) ∷ []) (q (list ++ Rows kind ∷ []) (p list h)))))
-all_added kind a b c d e f (Err x) p q r s t = tt
+pub all_added : {E : Type 0} (kind : PoolKind) (a b c d e f g : List (Form × Stem)) (result : Result (Unit {0}) E)
+    → Adds a b (Rows (Ranges kind) ∷ []) → Adds b c (Rows (Members kind) ∷ []) → Adds c d (Row (Ranges kind) ∷ []) → Adds d e (Row (Members kind) ∷ [])
+    → Adds e f (PartOf Free kind ∷ []) → OnOk result (Adds f g (PartOf Given kind ∷ [])) → OnOk result (Adds a g (stems_of kind))
+all_added kind a b c d e f g (Ok u) p q r s t v = λ list h.
+    subst (Lists g) (joined list (Rows (Ranges kind)) (Rows (Members kind)) (Row (Ranges kind)) (Row (Members kind)) (PartOf Free kind) (PartOf Given kind))
+    (v _ (t _ (s _ (r _ (q _ (p list h))))))
+all_added kind a b c d e f g (Err x) p q r s t v = tt
 
 pub none_added : (table : List (Form × Stem)) → table ≡ [] → Lists table []
 none_added table e = record { items = subst (λ (z : List (Form × Stem)). IsPermutation [] z) (sym e) (IsPermutation-refl []) }

@@ -7,7 +7,6 @@ use Rattle.std.proofs.lemmas.List.Folds.{list_any-append}
 use Rattle.route_table.specs.Paths.{IsPiece, IsOfForm}
 use Rattle.route_table.proofs.Search.{split_at_slash}
 use Rattle.pool_rest.specs.declared.route.Base.{Base}
-use Rattle.pool_rest.specs.declared.route.Base.TheVariants.{Ranges, Members}
 use Rattle.pool_rest.specs.declared.route.Route.{Route}
 use Rattle.pool_rest.specs.declared.route.Route.TheVariants.{Many, Single, Within}
 use Rattle.pool_rest.specs.declared.table.Stem.{Stem}
@@ -27,13 +26,13 @@ front_is j k a b e =
 
 -- what follows the front of a path
 abbrev IsTail : Stem → Option (List ℕ) → List ℕ → Type 0
-IsTail (Rows kind) text rest = (text ≡ None) × (rest ≡ [])
+IsTail (Rows base) text rest = (text ≡ None) × (rest ≡ [])
 IsTail (Row kind) text rest = (piece : List ℕ) × (text ≡ Some piece) × IsPiece piece × (rest ≡ piece ++ 47 ∷ [])
 IsTail (PartOf part kind) text rest = (piece : List ℕ) × (text ≡ Some piece) × IsPiece piece × (rest ≡ piece ++ 47 ∷ (part_text part kind ++ 47 ∷ []))
 
 tail_of : (stem : Stem) (path : List ℕ) (text : Option (List ℕ)) → IsOfForm (form_of stem) path text → (rest : List ℕ) × (path ≡ base_path (base_of stem) ++ rest) × IsTail stem text rest
-tail_of (Rows kind) path None h = ([], h ∙ sym (append-nil (base_path (Ranges kind))), (refl, refl))
-tail_of (Rows kind) path (Some piece) h = absurd h
+tail_of (Rows base) path None h = ([], h ∙ sym (append-nil (base_path base)), (refl, refl))
+tail_of (Rows base) path (Some piece) h = absurd h
 tail_of (Row kind) path None h = absurd h
 tail_of (Row kind) path (Some piece) h = (piece ++ 47 ∷ [], h.1, (piece, refl, h.0, refl))
 tail_of (PartOf part kind) path None h = absurd h
@@ -44,13 +43,8 @@ not_empty a x b rest e q =
     let n : 0 ≡ length a + length (x ∷ b) = sym (ap length e) ∙ ap length q ∙ length-append a (x ∷ b) in
     absurd (omega arith)
 
--- the stem of all ranges of a kind
-abbrev rows_of : Base → Stem
-rows_of (Ranges kind) = Rows kind
-rows_of (Members kind) = Rows kind
-
 one_tail : (s t : Stem) (a b : Option (List ℕ)) (rest : List ℕ) → base_of s ≡ base_of t → IsTail s a rest → IsTail t b rest → (s ≡ t) × (a ≡ b)
-one_tail (Rows j) (Rows k) a b rest e h g = (ap rows_of e, h.0 ∙ sym g.0)
+one_tail (Rows j) (Rows k) a b rest e h g = (ap Rows e, h.0 ∙ sym g.0)
 one_tail (Rows j) (Row k) a b rest e h g = absurd (not_empty g.0 47 [] rest h.1 g.3)
 one_tail (Rows j) (PartOf part kind) a b rest e h g = absurd (not_empty g.0 47 (part_text part kind ++ 47 ∷ []) rest h.1 g.3)
 one_tail (Row j) (Rows k) a b rest e h g = absurd (not_empty h.0 47 [] rest g.1 h.3)
@@ -95,11 +89,11 @@ decimal_piece id l = record { some = decimal_nonempty id (omega arith); no_slash
 
 -- the path of a route is of its stem's form, and what is of the form is the path
 pub of_form : (route : Route) → IsRoute route → IsOfForm (form_of (stem_of route)) (path_of route) (id_text route)
-of_form (Many kind) h = refl
+of_form (Many base) h = refl
 of_form (Single base id) h = (decimal_piece id h.1, refl)
 of_form (Within part kind id) h = (decimal_piece id h.1, refl)
 
 pub is_path : (route : Route) (path : List ℕ) → IsOfForm (form_of (stem_of route)) path (id_text route) → path ≡ path_of route
-is_path (Many kind) path h = h
+is_path (Many base) path h = h
 is_path (Single base id) path h = h.1
 is_path (Within part kind id) path h = h.1

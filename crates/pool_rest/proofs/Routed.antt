@@ -56,8 +56,8 @@ some_same a b e = ap (route_or a) e
 
 -- the route that was made of a text is of the stem, and without one no route of the stem has the text
 made : (stem : Stem) (text : Option (List ℕ)) (route : Route) → IsRouteAt stem text (Some route) → (stem_of route ≡ stem) × (id_text route ≡ text) × IsRoute route
-made (Rows kind) None route r = subst (λ (z : Route). (stem_of z ≡ Rows kind) × (id_text z ≡ None) × IsRoute z) (sym (some_same route (Many kind) r)) (refl, refl, tt)
-made (Rows kind) (Some piece) route r = absurd (cc)
+made (Rows base) None route r = subst (λ (z : Route). (stem_of z ≡ Rows base) × (id_text z ≡ None) × IsRoute z) (sym (some_same route (Many base) r)) (refl, refl, tt)
+made (Rows base) (Some piece) route r = absurd (cc)
 made (Row base) None route r = absurd (cc)
 made (Row base) (Some piece) route r =
     subst (λ (z : Route). (stem_of z ≡ Row base) × (id_text z ≡ Some piece) × IsRoute z) (sym r.3) (refl, ap Some (sym r.2), r.1)
@@ -66,10 +66,10 @@ made (PartOf part kind) (Some piece) route r =
     subst (λ (z : Route). (stem_of z ≡ PartOf part kind) × (id_text z ≡ Some piece) × IsRoute z) (sym r.3) (refl, ap Some (sym r.2), r.1)
 
 unmade : (stem : Stem) (text : Option (List ℕ)) → IsRouteAt stem text None → (route : Route) → stem_of route ≡ stem → IsRoute route → id_text route ≢ text
-unmade (Rows kind) None r route s i e = absurd (cc)
-unmade (Rows kind) (Some piece) r (Many k) s i e = cc
-unmade (Rows kind) (Some piece) r (Single k id) s i e = cc
-unmade (Rows kind) (Some piece) r (Within part k id) s i e = cc
+unmade (Rows base) None r route s i e = absurd (cc)
+unmade (Rows base) (Some piece) r (Many k) s i e = cc
+unmade (Rows base) (Some piece) r (Single k id) s i e = cc
+unmade (Rows base) (Some piece) r (Within part k id) s i e = cc
 unmade (Row base) None r (Many k) s i e = cc
 unmade (Row base) None r (Single k id) s i e = cc
 unmade (Row base) None r (Within part k id) s i e = cc
@@ -125,7 +125,7 @@ end_is_text part kind =
     (IsUtf8-append (part_text part kind) (codes "/") (literal_is_text (part_text part kind) (part_literal part kind)) (literal_is_text (codes "/") refl))
 
 path_text : (route : Route) → IsRoute route → IsUtf8 (path_of route)
-path_text (Many kind) h = front_text (Ranges kind)
+path_text (Many base) h = front_text base
 path_text (Single base id) h = IsUtf8-append (base_path base) (decimal id ++ codes "/") (front_text base) (id_is_text id h (codes "/") (literal_is_text (codes "/") refl))
 path_text (Within part kind id) h =
     IsUtf8-append (base_path (Ranges kind)) (decimal id ++ part_end part kind) (front_text (Ranges kind)) (id_is_text id h (part_end part kind) (end_is_text part kind))
@@ -135,7 +135,7 @@ no_text target n = λ route p. n (subst IsUtf8 (sym p.path) (path_text route p.s
 
 -- two routes with one path are one
 abbrev with_id : ℕ → Stem → Route
-with_id id (Rows kind) = Many kind
+with_id id (Rows base) = Many base
 with_id id (Row base) = Single base id
 with_id id (PartOf part kind) = Within part kind id
 

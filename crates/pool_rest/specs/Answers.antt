@@ -8,9 +8,9 @@ use Rattle.ipam_json.specs.Replies.{refusal_text}
 use Rattle.number_pools.specs.declared.calls.PoolRefusal.{PoolRefusal}
 use Rattle.number_pools.specs.declared.calls.PoolRefusal.TheVariants as pool
 use Rattle.number_pools.specs.declared.calls.PoolReply.{PoolReply}
-use Rattle.number_pools.specs.declared.calls.PoolReply.TheVariants.{Made, Gone, Claimed, ChangedRange, ChangedMember, OneRange, OneMember, Ranges, Members, Numbers, Refused}
+use Rattle.number_pools.specs.declared.calls.PoolReply.TheVariants.{Made, Gone, Claimed, ChangedRange, ChangedMember, OneRange, OneMember, Ranges, Members, Numbers, Page, Refused}
 use Rattle.pool_json.specs.declared.bodies.RequestRefusal.{RequestRefusal}
-use Rattle.pool_json.specs.declared.bodies.RequestRefusal.TheVariants.{Common, Start, End, Number}
+use Rattle.pool_json.specs.declared.bodies.RequestRefusal.TheVariants.{Common, Start, End, Number, Range}
 use Rattle.pool_json.specs.declared.replies.Shape.{Shape}
 use Rattle.pool_json.specs.Replies.{reply_text, request_refusal_text}
 use Rattle.http_session.specs.Talk.{Answer}
@@ -51,6 +51,7 @@ status_of (OneMember row) = 200
 status_of (Ranges rows) = 200
 status_of (Members rows) = 200
 status_of (Numbers numbers) = 200
+status_of (Page query count members) = 200
 status_of (Refused refusal) = pool_refusal_status refusal
 
 -- the answer of a reply of the pools, which is at a place
@@ -64,6 +65,7 @@ request_status (Common refusal) = refusal_status_of refusal
 request_status Start = 400
 request_status End = 400
 request_status (Number kind) = 400
+request_status (Range kind) = 400
 
 -- the methods of a route that does not have the one that was asked for
 abbrev pub route_methods : Option Route → List ℕ
@@ -93,6 +95,7 @@ allow_of route (Common refusal) = common_allow route refusal
 allow_of route Start = []
 allow_of route End = []
 allow_of route (Number kind) = []
+allow_of route (Range kind) = []
 
 -- the answer of a refusal that the bytes decide, on this route: it has no place
 abbrev pub refused_answer : Option Route → RequestRefusal → Answer

@@ -1,5 +1,6 @@
 pub mod Routes
 pub mod Stems
+pub mod Listing
 pub mod Requests
 pub mod Answers
 pub mod Laws

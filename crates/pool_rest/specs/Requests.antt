@@ -6,6 +6,7 @@ use Rattle.ipam_data.specs.declared.replies.Refusal.{Refusal}
 use Rattle.ipam_data.specs.declared.replies.Refusal.TheVariants.{NoRoute, Method as NoMethod}
 use Rattle.number_pools.specs.declared.rows.PoolKind.{PoolKind}
 use Rattle.number_pools.specs.declared.calls.Chosen.{Chosen}
+use Rattle.number_pools.specs.declared.calls.MemberQuery.{MemberQuery}
 use Rattle.number_pools.specs.declared.calls.PoolCall.{PoolCall}
 use Rattle.number_pools.specs.declared.calls.PoolCall.TheVariants as call
 use Rattle.pool_json.specs.declared.bodies.RangeDraft.{RangeDraft}
@@ -27,6 +28,7 @@ use Rattle.pool_rest.specs.declared.route.RangePart.{RangePart}
 use Rattle.pool_rest.specs.declared.route.RangePart.TheVariants.{Free, Given}
 use Rattle.pool_rest.specs.declared.route.Method.{Method}
 use Rattle.pool_rest.specs.declared.route.Method.TheVariants.{Get, Post, Patch, Delete}
+use Rattle.pool_rest.specs.Listing.{IsQuery}
 use Rattle.pool_rest.specs.Routes.{HasRoute, method_named}
 
 -- what a request asks for: a call and how its reply is written, or why it is refused before the pools
@@ -47,6 +49,7 @@ shape_of (call.OneRange kind id) = record { kind = kind; list = false }
 shape_of (call.OneMember kind id) = record { kind = kind; list = false }
 shape_of (call.EditRange kind id name first last) = record { kind = kind; list = false }
 shape_of (call.EditMember kind id name) = record { kind = kind; list = false }
+shape_of (call.Page kind query) = record { kind = kind; list = false }
 
 abbrev pub asks : PoolCall → Asked
 asks c = Ok (c, shape_of c)
@@ -69,6 +72,27 @@ IsRangesAsked kind (Some Post) body asked = IsRangeAsked kind body asked
 IsRangesAsked kind (Some Patch) body asked = asked ≡ no_method
 IsRangesAsked kind (Some Delete) body asked = asked ≡ no_method
 IsRangesAsked kind None body asked = asked ≡ no_method
+
+-- a page of the members of a kind, if the query gives one
+abbrev pub asks_page : PoolKind → Result MemberQuery RequestRefusal → Asked
+asks_page kind (Ok query) = asks (call.Page kind query)
+asks_page kind (Err refusal) = Err refusal
+
+abbrev pub IsPageAsked : PoolKind → List ℕ → Asked → Type 0
+IsPageAsked kind query asked = (page : Result MemberQuery RequestRefusal) × IsQuery kind query page × (asked ≡ asks_page kind page)
+
+-- what a method asks of the members of a kind, with this query
+abbrev pub IsMembersAsked : PoolKind → Option Method → List ℕ → Asked → Type 0
+IsMembersAsked kind (Some Get) query asked = IsPageAsked kind query asked
+IsMembersAsked kind (Some Post) query asked = asked ≡ no_method
+IsMembersAsked kind (Some Patch) query asked = asked ≡ no_method
+IsMembersAsked kind (Some Delete) query asked = asked ≡ no_method
+IsMembersAsked kind None query asked = asked ≡ no_method
+
+-- what a method asks of all ranges of a kind, or of all members, with this query and this body
+abbrev pub IsManyAsked : Base → Option Method → List ℕ → List ℕ → Asked → Type 0
+IsManyAsked (Ranges kind) method query body asked = IsRangesAsked kind method body asked
+IsManyAsked (Members kind) method query body asked = IsMembersAsked kind method query asked
 
 -- a range or a member is cut
 abbrev pub cut_call : Base → ℕ → PoolCall
@@ -158,7 +182,7 @@ IsPartAsked Given kind id method query body asked = IsGivenAsked kind id method 
 
 -- what a method asks of a route, with this query and this body
 abbrev pub IsAskedOf : Route → Option Method → List ℕ → List ℕ → Asked → Type 0
-IsAskedOf (Many kind) method query body asked = IsRangesAsked kind method body asked
+IsAskedOf (Many base) method query body asked = IsManyAsked base method query body asked
 IsAskedOf (Single base id) method query body asked = IsOneAsked base id method body asked
 IsAskedOf (Within part kind id) method query body asked = IsPartAsked part kind id method query body asked
 

@@ -3,6 +3,7 @@
 use Rattle.std.specs.Prelude.{◌≡◌, ℕ, ◌^◌, ◌<◌, ◌≤◌, List, ◌++◌, codes, decimal, bytes_eq, Option, Some, None, if◌then◌else◌}
 use Rattle.number_pools.specs.declared.rows.PoolKind.{PoolKind}
 use Rattle.number_pools.specs.declared.rows.PoolKind.TheVariants.{Asn, Vlan}
+use Rattle.pool_json.specs.Pages.{members_text}
 use Rattle.pool_rest.specs.declared.route.Route.{Route}
 use Rattle.pool_rest.specs.declared.route.Route.TheVariants.{Many, Single, Within}
 use Rattle.pool_rest.specs.declared.route.Base.{Base}
@@ -16,8 +17,7 @@ use Rattle.pool_rest.specs.declared.route.Method.TheVariants.{Get, Post, Patch, 
 abbrev pub base_text : Base → List ℕ
 base_text (Ranges Asn) = codes "asn-ranges"
 base_text (Ranges Vlan) = codes "vlan-groups"
-base_text (Members Asn) = codes "asns"
-base_text (Members Vlan) = codes "vlans"
+base_text (Members kind) = members_text kind
 
 abbrev pub base_path : Base → List ℕ
 base_path base = codes "/api/ipam/" ++ (base_text base ++ codes "/")
@@ -26,8 +26,7 @@ base_path base = codes "/api/ipam/" ++ (base_text base ++ codes "/")
 abbrev pub part_text : RangePart → PoolKind → List ℕ
 part_text Free Asn = codes "available-asns"
 part_text Free Vlan = codes "available-vlans"
-part_text Given Asn = codes "asns"
-part_text Given Vlan = codes "vlans"
+part_text Given kind = members_text kind
 
 -- what follows the id in the path of a part
 abbrev pub part_end : RangePart → PoolKind → List ℕ
@@ -35,7 +34,7 @@ part_end part kind = codes "/" ++ (part_text part kind ++ codes "/")
 
 -- the path of a route
 abbrev pub path_of : Route → List ℕ
-path_of (Many kind) = base_path (Ranges kind)
+path_of (Many base) = base_path base
 path_of (Single base id) = base_path base ++ (decimal id ++ codes "/")
 path_of (Within part kind id) = base_path (Ranges kind) ++ (decimal id ++ part_end part kind)
 
@@ -44,7 +43,7 @@ abbrev pub IsId : ℕ → Type 0
 IsId id = (1 ≤ id) × (id < 2 ^ 32)
 
 abbrev pub IsRoute : Route → Type 0
-IsRoute (Many kind) = Unit {0}
+IsRoute (Many base) = Unit {0}
 IsRoute (Single base id) = IsId id
 IsRoute (Within part kind id) = IsId id
 
@@ -66,14 +65,17 @@ method_named name =
     else (if bytes_eq name (codes "PATCH") then Some Patch
     else (if bytes_eq name (codes "DELETE") then Some Delete else None)))
 
--- the methods of a route, as they are printed: ranges are listed and made, a range and a member are read, edited
--- and cut, what is free is listed and
--- claimed, and what is given out is listed
+-- the methods of a route, as they are printed: ranges are listed and made, and members are listed; a range and a member are read, edited and cut;
+-- what is free of a range is listed and claimed, and what is given out of it is listed and recorded
+abbrev pub base_methods : Base → List ℕ
+base_methods (Ranges kind) = codes "GET, POST"
+base_methods (Members kind) = codes "GET"
+
 abbrev pub part_methods : RangePart → List ℕ
 part_methods Free = codes "GET, POST"
 part_methods Given = codes "GET, POST"
 
 abbrev pub methods_text : Route → List ℕ
-methods_text (Many kind) = codes "GET, POST"
+methods_text (Many base) = base_methods base
 methods_text (Single base id) = codes "GET, PATCH, DELETE"
 methods_text (Within part kind id) = part_methods part

@@ -12,13 +12,13 @@ use Rattle.pool_rest.specs.declared.table.Stem.TheVariants.{Rows, Row, PartOf}
 use Rattle.pool_rest.specs.Routes.{base_path, part_end, IsId}
 
 abbrev pub stem_of : Route → Stem
-stem_of (Many kind) = Rows kind
+stem_of (Many base) = Rows base
 stem_of (Single base id) = Row base
 stem_of (Within part kind id) = PartOf part kind
 
 -- the text of the route's id
 abbrev pub id_text : Route → Option (List ℕ)
-id_text (Many kind) = None
+id_text (Many base) = None
 id_text (Single base id) = Some (decimal id)
 id_text (Within part kind id) = Some (decimal id)
 
@@ -29,8 +29,8 @@ HasIdIn route text (Some found) = (id : ℕ) × IsId id × (text ≡ decimal id)
 
 -- the route of a stem, with the id that this text is
 abbrev pub IsRouteAt : Stem → Option (List ℕ) → Option Route → Type 0
-IsRouteAt (Rows kind) None result = result ≡ Some (Many kind)
-IsRouteAt (Rows kind) (Some text) result = result ≡ None
+IsRouteAt (Rows base) None result = result ≡ Some (Many base)
+IsRouteAt (Rows base) (Some text) result = result ≡ None
 IsRouteAt (Row base) None result = result ≡ None
 IsRouteAt (Row base) (Some text) result = HasIdIn (Single base) text result
 IsRouteAt (PartOf part kind) None result = result ≡ None
@@ -38,13 +38,13 @@ IsRouteAt (PartOf part kind) (Some text) result = HasIdIn (Within part kind) tex
 
 -- the form of the paths of a stem
 abbrev pub form_of : Stem → Form
-form_of (Rows kind) = Whole (base_path (Ranges kind))
+form_of (Rows base) = Whole (base_path base)
 form_of (Row base) = Around (base_path base) (codes "/")
 form_of (PartOf part kind) = Around (base_path (Ranges kind)) (part_end part kind)
 
 -- the stems of a kind
 abbrev pub stems_of : PoolKind → List Stem
-stems_of kind = Rows kind ∷ Row (Ranges kind) ∷ Row (Members kind) ∷ PartOf Free kind ∷ PartOf Given kind ∷ []
+stems_of kind = Rows (Ranges kind) ∷ Rows (Members kind) ∷ Row (Ranges kind) ∷ Row (Members kind) ∷ PartOf Free kind ∷ PartOf Given kind ∷ []
 
 abbrev pub stems : List Stem
 stems = stems_of Asn ++ stems_of Vlan

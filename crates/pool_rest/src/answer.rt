@@ -55,6 +55,7 @@ fn reply_status(reply: &PoolReply) -> StatusCode
         PoolReply::Ranges(_) => StatusCode::OK,
         PoolReply::Members(_) => StatusCode::OK,
         PoolReply::Numbers(_) => StatusCode::OK,
+        PoolReply::Page { .. } => StatusCode::OK,
         PoolReply::Refused(refusal) => pool_refusal_code(*refusal),
     }
 }
@@ -68,6 +69,7 @@ fn request_refusal_code(refusal: &RequestRefusal) -> StatusCode
         RequestRefusal::Start => StatusCode::BAD_REQUEST,
         RequestRefusal::End => StatusCode::BAD_REQUEST,
         RequestRefusal::Number(_) => StatusCode::BAD_REQUEST,
+        RequestRefusal::Range(_) => StatusCode::BAD_REQUEST,
     }
 }
 

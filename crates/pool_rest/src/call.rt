@@ -3,9 +3,10 @@
 ghost use Rattle.std.specs.Prelude.{◌≡◌, IfOk, false};
 ghost use Rattle.number_pools.specs.Machines.{IsTaken};
 ghost use Rattle.pool_json.specs.Bodies.{OrWant};
-ghost use Rattle.pool_rest.specs.Requests.{IsClaimAsked, IsEditAsked, IsFreeAsked, IsFreeListed, IsGivenAsked, IsOneAsked, IsPartAsked, IsRangeAsked, IsRangesAsked, IsRecordAsked, IsRequest};
+ghost use Rattle.pool_rest.specs.Requests.{IsClaimAsked, IsEditAsked, IsFreeAsked, IsFreeListed, IsGivenAsked, IsManyAsked, IsMembersAsked, IsOneAsked, IsPartAsked, IsRangeAsked, IsRangesAsked, IsRecordAsked, IsRequest};
 ghost use Rattle.pool_rest.specs.Requests as spec;
 
+use crate::listing::read_query;
 use crate::route::{Base, Method, RangePart, Route};
 use crate::table::Routes;
 use ipam_data::calls::Answered;
@@ -47,6 +48,7 @@ pub fn shape_of(call: &PoolCall) -> Shape
         PoolCall::OneMember { kind, .. } => plain(*kind),
         PoolCall::EditRange { kind, .. } => plain(*kind),
         PoolCall::EditMember { kind, .. } => plain(*kind),
+        PoolCall::Page { kind, .. } => plain(*kind),
     }
 }
 
@@ -101,6 +103,45 @@ fn call_of_ranges(
         Some(Method::Patch) => Err(no_method()),
         Some(Method::Delete) => Err(no_method()),
         None => Err(no_method()),
+    }
+}
+
+/// What a method asks of the members of a kind.
+fn call_of_members(
+    alloc: Global,
+    kind: PoolKind,
+    method: Option<Method>,
+    query: &[u8],
+) -> Result<(PoolCall, Shape), RequestRefusal>
+    ensures asked { OrWant (IsMembersAsked kind method query.now) result }
+    ensures taken { IfOk result (λ asked. IsTaken asked.0) }
+{
+    match method {
+        Some(Method::Get) => match read_query(alloc, kind, query) {
+            Ok(query) => Ok(asks(PoolCall::Page { kind, query })),
+            Err(refusal) => Err(refusal),
+        },
+        Some(Method::Post) => Err(no_method()),
+        Some(Method::Patch) => Err(no_method()),
+        Some(Method::Delete) => Err(no_method()),
+        None => Err(no_method()),
+    }
+}
+
+/// What a method asks of all ranges of a kind, or of all members.
+fn call_of_many(
+    alloc: Global,
+    base: Base,
+    method: Option<Method>,
+    query: &[u8],
+    body: &[u8],
+) -> Result<(PoolCall, Shape), RequestRefusal>
+    ensures asked { OrWant (IsManyAsked base method query.now body.now) result }
+    ensures taken { IfOk result (λ asked. IsTaken asked.0) }
+{
+    match base {
+        Base::Ranges(kind) => call_of_ranges(alloc, kind, method, body),
+        Base::Members(kind) => call_of_members(alloc, kind, method, query),
     }
 }
 
@@ -330,7 +371,7 @@ fn call_of_part(
 
 /// What a request asks of the pools, by a table of the routes that is lent, with how its reply is written. `NoRoute` is returned if the
 /// path has no route, then `Method` if the route does not have the method, and then the refusals of a body, or for a list of free
-/// numbers that of its limit; `Memory` may be returned in place of any answer. The body of a GET or a DELETE is ignored.
+/// numbers that of its limit, or for a page of members that of its query; `Memory` may be returned in place of any answer. The body of a GET or a DELETE is ignored.
 pub fn read_call_by(
     alloc: Global,
     routes: &Routes,
@@ -344,7 +385,7 @@ pub fn read_call_by(
     let (path, query) = cut(target);
     match routes.route_of(path) {
         None => Err(RequestRefusal::Common(Refusal::NoRoute)),
-        Some(Route::Many(kind)) => call_of_ranges(alloc, kind, Method::named(method), body),
+        Some(Route::Many(base)) => call_of_many(alloc, base, Method::named(method), query, body),
         Some(Route::Single(base, id)) => call_of_one(alloc, base, id, Method::named(method), body),
         Some(Route::Within(part, kind, id)) => {
             call_of_part(alloc, part, kind, id, Method::named(method), query, body)

@@ -4,6 +4,7 @@
 mod answer;
 mod call;
 mod laws;
+mod listing;
 mod route;
 mod table;
 

@@ -1,9 +1,10 @@
 //! Routes: which targets name something, and by which methods.
 
 ghost use Rattle.std.specs.Prelude.{◌≡◌};
-ghost use Rattle.pool_rest.specs.Routes.{base_text, method_named, methods_text, part_methods, part_text};
+ghost use Rattle.pool_rest.specs.Routes.{base_methods, base_text, method_named, methods_text, part_methods, part_text};
 
 use number_pools::PoolKind;
+use pool_json::members_name;
 
 /// What an id in a path is the id of: a range of a kind, or a member of such ranges.
 #[derive(Clone, Copy, Debug)]
@@ -19,17 +20,6 @@ fn ranges_name(kind: PoolKind) -> &'static str
     match kind {
         PoolKind::Asn => "asn-ranges",
         PoolKind::Vlan => "vlan-groups",
-    }
-}
-
-/// The name of members of ranges of a kind in a path, after a range too.
-fn members_name(kind: PoolKind) -> &'static str
-    ensures base { result.now ≡ base_text (Base.Members kind) }
-    ensures part { result.now ≡ part_text RangePart.Given kind }
-{
-    match kind {
-        PoolKind::Asn => "asns",
-        PoolKind::Vlan => "vlans",
     }
 }
 
@@ -51,6 +41,16 @@ impl Base {
         match self {
             Base::Ranges(kind) => ranges_name(kind),
             Base::Members(kind) => members_name(kind),
+        }
+    }
+
+    /// The methods of all of them, as the field `Allow` prints them.
+    fn methods(self) -> &'static str
+        ensures { result.now ≡ base_methods self }
+    {
+        match self {
+            Base::Ranges(_) => "GET, POST",
+            Base::Members(_) => "GET",
         }
     }
 }
@@ -84,10 +84,10 @@ impl RangePart {
     }
 }
 
-/// What a target names: the ranges of a kind, the range or the member of an id, or a part of a range.
+/// What a target names: the ranges of a kind or the members of such ranges, the range or the member of an id, or a part of a range.
 #[derive(Clone, Copy, Debug)]
 pub enum Route {
-    Many(PoolKind),
+    Many(Base),
     Single(Base, u32),
     Within(RangePart, PoolKind, u32),
 }
@@ -128,7 +128,7 @@ impl Route {
         ensures { result.now ≡ methods_text self.now }
     {
         match self {
-            Route::Many(_) => "GET, POST",
+            Route::Many(base) => base.methods(),
             Route::Single(_, _) => "GET, PATCH, DELETE",
             Route::Within(part, _, _) => part.methods(),
         }

@@ -15,7 +15,7 @@ use std::marker::Model;
 /// A route without its id.
 #[derive(Clone, Copy, Debug, Drop)]
 pub(crate) enum Stem {
-    Rows(PoolKind),
+    Rows(Base),
     Row(Base),
     PartOf(RangePart, PoolKind),
 }
@@ -36,7 +36,7 @@ fn route_at(stem: Stem, text: Option<&str>) -> Option<Route>
     ensures { IsRouteAt stem (option_copied text.entry) result }
 {
     match (stem, text) {
-        (Stem::Rows(kind), None) => Some(Route::Many(kind)),
+        (Stem::Rows(base), None) => Some(Route::Many(base)),
         (Stem::Row(base), Some(text)) => match id_of(text) {
             Some(id) => Some(Route::Single(base, id)),
             None => None,
@@ -69,12 +69,12 @@ fn end_text(alloc: Global, part: RangePart, kind: PoolKind) -> Result<String, Al
     Ok(text)
 }
 
-/// Adds the ranges of a kind.
-fn add_rows(table: &mut RouteTable<Stem>, alloc: Global, kind: PoolKind) -> Result<(), AllocError>
-    ensures { OnOk result ((list : List Stem) → Lists table.old list → Lists table.new (list ++ Stem.Rows kind ∷ [])) }
+/// Adds all ranges, or all members.
+fn add_rows(table: &mut RouteTable<Stem>, alloc: Global, base: Base) -> Result<(), AllocError>
+    ensures { OnOk result ((list : List Stem) → Lists table.old list → Lists table.new (list ++ Stem.Rows base ∷ [])) }
 {
-    let front = front_text(alloc, Base::Ranges(kind))?;
-    table.add_whole(front.as_str(), Stem::Rows(kind))
+    let front = front_text(alloc, base)?;
+    table.add_whole(front.as_str(), Stem::Rows(base))
 }
 
 /// Adds a single range, or a single member.
@@ -103,7 +103,8 @@ fn add_part(
 fn add_kind(table: &mut RouteTable<Stem>, alloc: Global, kind: PoolKind) -> Result<(), AllocError>
     ensures { OnOk result ((list : List Stem) → Lists table.old list → Lists table.new (list ++ stems_of kind)) }
 {
-    add_rows(table, alloc, kind)?;
+    add_rows(table, alloc, Base::Ranges(kind))?;
+    add_rows(table, alloc, Base::Members(kind))?;
     add_row(table, alloc, Base::Ranges(kind))?;
     add_row(table, alloc, Base::Members(kind))?;
     add_part(table, alloc, RangePart::Free, kind)?;

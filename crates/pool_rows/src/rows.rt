@@ -143,6 +143,14 @@ impl PoolRows {
         self.members.rows()
     }
 
+    /// How many members there are.
+    pub fn member_count(&self) -> u32
+        ensures count { result ≡ length self.now.pools.members.rows }
+        ensures few { length self.now.pools.members.rows < 2 ^ 30 }
+    {
+        self.members.len()
+    }
+
     /// The range of an id, of either kind.
     pub fn range(&self, id: u32) -> Option<&NumberRange>
         ensures { option_copied result ≡ row_at range_id self.now.pools.ranges.rows id }

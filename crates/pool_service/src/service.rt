@@ -23,6 +23,7 @@ fn is_want(refusal: &RequestRefusal) -> bool
         RequestRefusal::Start => false,
         RequestRefusal::End => false,
         RequestRefusal::Number(_) => false,
+        RequestRefusal::Range(_) => false,
     }
 }
 

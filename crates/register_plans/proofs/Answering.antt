@@ -22,7 +22,7 @@ use Rattle.ipam_data.specs.Steps.{plain_step, plan_of}
 use Rattle.ipam_data.specs.Updates.{answered, figured, outcome}
 use Rattle.ipam_data.proofs.Sound.{nothing_done}
 use Rattle.register_plans.specs.Answered.{found_reply, page_reply, figured_among, IsVrfReply, IsPrefixReply}
-use Rattle.register_plans.specs.Pages.{page_of}
+use Rattle.ipam_data.specs.Pages.{page_of}
 use Rattle.register_plans.specs.Meets.{vrf_meets, prefix_meets}
 
 reading_step : (s : State) (reply : Reply) → outcome s (reading reply) ≡ (s, answered s reply)

@@ -12,7 +12,7 @@ use Rattle.ipam_data.specs.declared.replies.Reply.TheVariants.{One, Page, Refuse
 use Rattle.ipam_data.specs.Prefixes.{view_of}
 use Rattle.ipam_data.specs.State.{State}
 use Rattle.ipam_data.specs.Steps.{plain_step}
-use Rattle.register_plans.specs.Pages.{page_of}
+use Rattle.ipam_data.specs.Pages.{page_of}
 
 -- the reply to a Get of a kind, by the row that was found under the id and how a row is answered
 abbrev pub found_reply : {T : Type 0} → Kind → (T → View) → ℕ → Option T → Reply

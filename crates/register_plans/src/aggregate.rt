@@ -9,13 +9,14 @@ ghost use Rattle.register_tables.specs.Planned.{IsPlanned};
 ghost use Rattle.register_plans.specs.Meets.{aggregate_meets};
 
 use crate::calls::plan_replace;
-use crate::filters::{asks_family, asks_id};
+use crate::filters::asks_family;
 use crate::listed::Listed;
 use crate::registered::Registered;
 use aggregates::AggregateRules;
 use ipam_data::aggregate::{Aggregate, MOST_AGGREGATES};
 use ipam_data::calls::{Edit, Filter};
 use ipam_data::kinds::Kind;
+use ipam_data::listing::asks_number;
 use ipam_data::replies::{Refusal, Rule, View};
 use placed_book::Book;
 use register_tables::{Planned, RowTables, missing_rir};
@@ -41,7 +42,7 @@ impl Listed for Aggregate {
     fn is_met(&self, filter: &Filter) -> bool {
         match filter {
             Filter::Aggregates { family, rir_id } => {
-                asks_family(family, self.block.family()) && asks_id(rir_id, self.rir)
+                asks_family(family, self.block.family()) && asks_number(rir_id, self.rir)
             }
             _ => false,
         }

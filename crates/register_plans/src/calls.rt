@@ -9,7 +9,8 @@ ghost use Rattle.ipam_data.specs.State.{verdict_of};
 ghost use Rattle.ipam_data.specs.Plans.{create, replace, delete, get, list};
 ghost use Rattle.register_tables.specs.Held.{state_of};
 ghost use Rattle.register_tables.specs.Planned.{IsPlanned};
-ghost use Rattle.register_plans.specs.Pages.{is_paged, one_if, only_if, one_of, only_of, page_of};
+ghost use Rattle.ipam_data.specs.Pages.{is_paged, one_if, only_if, page_of};
+ghost use Rattle.register_plans.specs.Pages.{one_of, only_of};
 ghost use Rattle.register_plans.specs.Answered.{page_reply};
 ghost use Rattle.register_plans.specs.Candidates.{AreCandidates};
 ghost use Rattle.register_plans.specs.Broken.{first_broken, own_row};
@@ -18,6 +19,7 @@ use crate::listed::{Listed, RowsOf};
 use crate::registered::Registered;
 use ipam_data::calls::Filter;
 use ipam_data::kinds::{Kind, LAST_ID, MOST_SPENT};
+use ipam_data::listing::is_on_page;
 use ipam_data::replies::{Refusal, Reply, Rule, View, Views, Which};
 use ipam_data::update::{Ids, Update};
 use register_tables::{Planned, RowTables};
@@ -223,13 +225,6 @@ pub fn plan_get<T: Registered>(row_tables: &RowTables, id: u32) -> Result<Planne
         }
         None => Ok(Planned::Refused(Refusal::NotFound(T::kind(), id))),
     }
-}
-
-/// Whether the row before which so many meet the filter is on the page.
-fn is_on_page(before: u32, limit: u32, offset: u32) -> bool
-    ensures { result ≡ is_paged before limit offset }
-{
-    offset <= before && before - offset < limit
 }
 
 /// The row at an index that exists.

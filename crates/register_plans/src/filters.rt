@@ -1,6 +1,6 @@
 //! The tests that a filter asks for: each holds if nothing is asked.
 
-ghost use Rattle.std.specs.Prelude.{◌≡◌, ◌==◌, bytes_eq};
+ghost use Rattle.std.specs.Prelude.{◌≡◌, bytes_eq};
 ghost use Rattle.ipam_data.specs.Checks.{asks};
 ghost use Rattle.ipam_data.specs.Tables.{same_name};
 ghost use Rattle.inet_num.specs.Blocks.{same_family, same_block, is_block_inside, is_strictly_inside, block_holds};
@@ -28,16 +28,6 @@ pub fn asks_family(wanted: &Option<Family>, family: Family) -> bool
     match wanted {
         None => true,
         Some(wanted) => is_one_family(family, *wanted),
-    }
-}
-
-/// Whether the id is the one that is asked for.
-pub fn asks_id(wanted: &Option<u32>, id: u32) -> bool
-    ensures { result ≡ asks wanted.now (λ n. id == n) }
-{
-    match wanted {
-        None => true,
-        Some(wanted) => id == *wanted,
     }
 }
 

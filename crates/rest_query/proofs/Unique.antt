@@ -11,7 +11,7 @@ use Rattle.rest_query.specs.declared.asked.AggregateTests.{AggregateTests}
 use Rattle.rest_query.specs.declared.asked.PrefixTests.{PrefixTests}
 use Rattle.rest_query.specs.declared.asked.RangeTests.{RangeTests}
 use Rattle.rest_query.specs.declared.asked.AddressTests.{AddressTests}
-use Rattle.ipam_data.specs.declared.replies.FieldName.TheVariants.{DnsName, Limit, VrfId, RoleId}
+use Rattle.ipam_data.specs.declared.replies.FieldName.TheVariants.{DnsName, Limit, Offset, VrfId, RoleId}
 use Rattle.ipam_json.specs.Outcomes.{field}
 use Rattle.rest_query.specs.Query.{value_in}
 use Rattle.rest_query.specs.Readings.{HasId, HasIdOrNull, IsIdTest, IsRowTest, IsBlockTest, HasBlock, IsAreaOf, IsAreaTest, available_limit, default_limit, limit_of, IsLimit, IsOffset}
@@ -19,7 +19,7 @@ use Rattle.rest_query.specs.Aggregates.{AreAggregateTests, aggregate_filter}
 use Rattle.rest_query.specs.Prefixes.{ArePrefixTests, prefix_filter}
 use Rattle.rest_query.specs.Ranges.{AreRangeTests, range_filter}
 use Rattle.rest_query.specs.Addresses.{AreAddressTests, address_filter, lower}
-use Rattle.rest_query.specs.Lists.{IsFilterOf, IsLimitAsked, listing_of}
+use Rattle.rest_query.specs.Lists.{IsFilterOf, IsLimitAsked, IsOffsetAsked, listing_of}
 use Rattle.rest_query.specs.Laws.{LimitIsOne, ListingIsOne}
 
 one_number : (text : List ℕ) (m n : ℕ) → m < 10000000000 → n < 10000000000 → text ≡ decimal m → text ≡ decimal n → m ≡ n
@@ -46,7 +46,7 @@ one_id_test : (text : Option (List ℕ)) (a b : Option (Option (Option ℕ))) �
 one_id_test None a b h k = h ∙ sym k
 one_id_test (Some text) a b h k = one_id_or_null (bytes_eq text (codes "null")) text a b h k
 
-one_row_test : (text : Option (List ℕ)) (a b : Option (Option ℕ)) → IsRowTest text a → IsRowTest text b → a ≡ b
+pub one_row_test : (text : Option (List ℕ)) (a b : Option (Option ℕ)) → IsRowTest text a → IsRowTest text b → a ≡ b
 one_row_test None a b h k = h ∙ sym k
 one_row_test (Some text) None None h k = refl
 one_row_test (Some text) None (Some None) h k = absurd k
@@ -159,3 +159,6 @@ listing_is_one kind query a b h k =
 pub limit_is_one : LimitIsOne
 limit_is_one available query a b h k =
     h.2 ∙ ap (λ (limit : Option ℕ). field Limit limit) (one_limit (available_limit available) (value_in query Limit) h.0 k.0 h.1 k.1) ∙ sym k.2
+
+pub offset_is_one : (query : List ℕ) (a b : Result ℕ Refusal) → IsOffsetAsked query a → IsOffsetAsked query b → a ≡ b
+offset_is_one query a b h k = h.2 ∙ ap (λ (offset : Option ℕ). field Offset offset) (one_offset (value_in query Offset) h.0 k.0 h.1 k.1) ∙ sym k.2

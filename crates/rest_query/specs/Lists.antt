@@ -59,6 +59,10 @@ abbrev pub IsLimitAsked : Available → List ℕ → Result ℕ Refusal → Type
 IsLimitAsked available query answer =
     (limit : Option ℕ) × IsLimit (available_limit available) (value_in query Limit) limit × (answer ≡ field Limit limit)
 
+-- how many rows come before the page that the query of a list asks for
+abbrev pub IsOffsetAsked : List ℕ → Result ℕ Refusal → Type 0
+IsOffsetAsked query answer = (offset : Option ℕ) × IsOffset (value_in query Offset) offset × (answer ≡ field Offset offset)
+
 -- a form with the filters of a kind that are given, as they were given
 abbrev pub with_filters : Kind → List ℕ → List ℕ → List ℕ
 with_filters Vrfs query form = with_vrf_filters query form

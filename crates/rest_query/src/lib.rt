@@ -18,7 +18,8 @@ mod vrf;
 
 pub use asked::{Available, Listing};
 pub use laws::{limit_is_one, listing_is_one};
-pub use lists::{link_query, read_limit, read_listing};
+pub use lists::{link_query, read_limit, read_listing, read_offset};
 pub use numbers::number_below;
 pub use place::place_at;
 pub use query::{cut, parameter_value};
+pub use readings::row_test;

@@ -5,7 +5,7 @@ ghost use Rattle.ipam_json.specs.Outcomes.{OrMemory};
 ghost use Rattle.ipam_data.specs.declared.replies.FieldName.TheVariants.{Limit, Offset};
 ghost use Rattle.rest_query.specs.Query.{value_in};
 ghost use Rattle.rest_query.specs.Readings.{IsLimit, IsOffset};
-ghost use Rattle.rest_query.specs.Lists.{IsFilterOf, IsLimitAsked, IsListing, listing_of, kind_of, with_filters};
+ghost use Rattle.rest_query.specs.Lists.{IsFilterOf, IsLimitAsked, IsListing, IsOffsetAsked, listing_of, kind_of, with_filters};
 ghost use Rattle.rest_query.specs.Lists as spec;
 
 use crate::address::{add_address_filters, address_filter};
@@ -114,6 +114,20 @@ pub fn read_limit(alloc: Global, available: Available, query: &[u8]) -> Result<u
     match limit {
         Some(limit) => Ok(limit),
         None => Err(Refusal::Field(FieldName::Limit)),
+    }
+}
+
+/// How many rows of a list come before the page that a query asks for: none if it says nothing. `Field` is returned if that is malformed;
+/// `Memory` may be returned in place of any answer.
+pub fn read_offset(alloc: Global, query: &[u8]) -> Result<u32, Refusal>
+    ensures { OrMemory (IsOffsetAsked query.now) result }
+{
+    let Ok(offset) = offset_in(alloc, query) else {
+        return Err(Refusal::Memory);
+    };
+    match offset {
+        Some(offset) => Ok(offset),
+        None => Err(Refusal::Field(FieldName::Offset)),
     }
 }
 

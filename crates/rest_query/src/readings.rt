@@ -52,8 +52,9 @@ fn row_named(text: &str) -> Option<Option<u32>>
     }
 }
 
-/// The test of an id that each row has.
-pub(crate) fn row_test(text: &Option<Text>) -> Option<Option<u32>>
+/// The test of an id that each row has: a number from 1 to 4294967295, in decimal. `None` is one that is malformed, and an inner `None` one that
+/// is not given.
+pub fn row_test(text: &Option<Text>) -> Option<Option<u32>>
     ensures { IsRowTest text.now result }
 {
     match text {

@@ -3,7 +3,7 @@ ghost use Rattle.std.specs.Prelude.{◌≡◌, ◌++◌, [], List, fold, filter,
 ghost use Rattle.ipam_data.specs.State.{State};
 ghost use Rattle.ipam_data.specs.Updates.{updated};
 ghost use Rattle.register_tables.specs.Held.{state_of};
-ghost use Rattle.register_plans.specs.Pages.{only_if};
+ghost use Rattle.ipam_data.specs.Pages.{only_if};
 ghost use Rattle.snapshot_rows.specs.Lists.{lists_of, is_listed, after_update, IsReplyTo};
 ghost use Rattle.ipam_data.specs.declared.update.Update.{Update};
 

@@ -1,5 +1,5 @@
 use Rattle.std.proofs.Common.{sym, ◌∙◌}
-use Rattle.register_plans.proofs.Paging.{met_more, views_more}
+use Rattle.ipam_data.proofs.Paging.{met_more, views_more}
 use Rattle.register_plans.proofs.calls.take_all.Goals as goal
 
 pub rows-preserved : goal.rows-preserved

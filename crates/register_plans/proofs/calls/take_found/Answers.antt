@@ -1,7 +1,7 @@
 use Rattle.std.proofs.Common.{◌≡◌, ◌∙◌, ℕ, List, ap, arith, map, take, count_by}
 use Rattle.std.proofs.lemmas.List.{take_all}
 use Rattle.ipam_data.specs.RowList.{page}
-use Rattle.register_plans.specs.Pages.{page_of}
+use Rattle.ipam_data.specs.Pages.{page_of}
 use Rattle.register_plans.specs.Candidates.{rows_of}
 use Rattle.register_plans.proofs.Paging.{met_found, views_found, few_met}
 use Rattle.register_plans.proofs.Found.{all_found, all_counted}

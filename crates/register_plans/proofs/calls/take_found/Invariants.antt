@@ -1,5 +1,5 @@
 use Rattle.std.proofs.Common.{◌≡◌, take, count_by}
-use Rattle.register_plans.specs.Pages.{page_of}
+use Rattle.ipam_data.specs.Pages.{page_of}
 use Rattle.register_plans.specs.Candidates.{rows_of}
 use Rattle.register_plans.proofs.calls.take_found.Given as goal
 
