@@ -174,11 +174,11 @@ def view(kind):
     return closed(properties)
 
 
-def page(kind):
+def page(kind, one, most):
     page_of = "(?:[^#\\s]*&)?limit=(?:[1-9][0-9]{0,2}|1000)&offset=(?:0|[1-9][0-9]{0,9})"
     target = {"type": ["string", "null"], "pattern": f"^/api/ipam/{kind}/\\?{page_of}$"}
-    return closed({"count": {"type": "integer", "minimum": 0, "maximum": MOST_ROWS[kind]}, "next": target, "previous": target,
-                   "results": {"type": "array", "maxItems": MOST_LISTED, "items": ref(ONE[kind])}})
+    return closed({"count": {"type": "integer", "minimum": 0, "maximum": most}, "next": target, "previous": target,
+                   "results": {"type": "array", "maxItems": MOST_LISTED, "items": ref(one)}})
 
 
 def claim(item):
@@ -194,7 +194,7 @@ def bodies():
     found = {"BlockClaimItem": body("claims of blocks", True), "AddressClaimItem": body("claims of addresses", True)}
     found |= {"BlockClaim": claim("BlockClaimItem"), "AddressClaim": claim("AddressClaimItem")}
     for kind in KINDS:
-        found |= {"New" + ONE[kind]: body(kind, True), "Changed" + ONE[kind]: body(kind, False), ONE[kind]: view(kind), ONE[kind] + "Page": page(kind)}
+        found |= {"New" + ONE[kind]: body(kind, True), "Changed" + ONE[kind]: body(kind, False), ONE[kind]: view(kind), ONE[kind] + "Page": page(kind, ONE[kind], MOST_ROWS[kind])}
     for name, item in (("ClaimedPrefixes", "Prefix"), ("ClaimedAddresses", "IpAddress")):
         found[name] = {"description": "One record for one object, a list for a list.",
                        "oneOf": [ref(item), {"type": "array", "minItems": 1, "maxItems": MOST_ITEMS, "items": ref(item)}]}

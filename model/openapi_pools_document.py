@@ -2,8 +2,8 @@
 
 Names, their order and limits are those of model/plain_pools.py; what is the same as in the register's document is made by model/openapi_document.py.
 """
-from model.openapi_document import (ID_OF_PATH, ID_PARAMETER, MOST_FIELDS, MOST_LISTED, OTHERS, REFUSALS, answers, claim, closed, content, fields, listed,
-                              other_answers, ref, refusals, shared_headers, text, version)
+from model.openapi_document import (ID_OF_PATH, ID_PARAMETER, MOST_FIELDS, MOST_LISTED, OTHERS, REFUSALS, SKIPPED, answers, claim, closed, content, fields, listed,
+                              other_answers, page, ref, refusals, shared_headers, text, version)
 from model.plain_pools import CHOSEN, EDIT, ITEM, MOST_MEMBERS, MOST_NUMBER, MOST_RANGES, RANGE, WORDS
 from model.plain_register import MOST_ANSWERS, MOST_BODY, MOST_HEAD, MOST_ITEMS, MOST_LOG
 from model.plain_texts import MOST_DEPTH, MOST_ID, REQUIRED
@@ -70,7 +70,7 @@ def schemas():
         row = {"id": ref("RowId"), "name": ref("Name"), "start": whole(1, MOST_NUMBER[kind]), "end": whole(1, MOST_NUMBER[kind])}
         item, chosen = member + "ClaimItem", "New" + member
         found |= {one: closed(row), one + "s": {"type": "array", "maxItems": MOST_RANGES, "items": ref(one)}, member: members_of(kind),
-                  member + "s": {"type": "array", "maxItems": MOST_MEMBERS, "items": ref(member)}, item: body(ITEM[kind]), member + "Claim": claim(item),
+                  member + "s": {"type": "array", "maxItems": MOST_MEMBERS, "items": ref(member)}, member + "Page": page(WORDS[kind][1], member, MOST_MEMBERS), item: body(ITEM[kind]), member + "Claim": claim(item),
                   member + "Edit": body(EDIT[kind], whole=False), chosen: body(CHOSEN[kind]), chosen + "s": claim(chosen),
                   "Claimed" + member + "s": {"description": "One object for one object, a list for a list.",
                                              "oneOf": [ref(member), {"type": "array", "minItems": 1, "maxItems": MOST_ITEMS, "items": ref(member)}]},
@@ -96,9 +96,16 @@ def operation(kind, name, summary, status, schema, codes, parameters=(), asked=N
 THERE = {"not_found": None, "no_route": None}
 
 
+def asked_of_members(kind):
+    """What a list may ask of each member."""
+    _, _, range_name, number_name = WORDS[kind]
+    about = {number_name: "Those with this number.", range_name + "_id": f"Those of this {'range' if kind == 'asn' else 'group'}.", "name": "Those with this name."}
+    return [{"name": name, "in": "query", "description": words, "schema": {"type": "string"} if name == "name" else whole(1, MOST_ID + 1)} for name, words in about.items()]
+
+
 def paths_of(kind):
     one, member = ONE[kind]
-    ranges, members, _, _ = WORDS[kind]
+    ranges, members, range_name, number = WORDS[kind]
     named = fields([name for name, _, _ in RANGE])
     claims = {"bad_json": None, **fields([name for name, _, _ in ITEM[kind]] + ["body"]), **THERE, "no_space": None, "keeper": None, **limits("claims", "members", "ids", "log")}
     records = {"bad_json": None, **fields([name for name, _, _ in CHOSEN[kind]] + ["body"]), **THERE, "bounds": f"^{ONE_NUMBER} is not in the range$", "taken": None, "keeper": None,
@@ -125,6 +132,9 @@ def paths_of(kind):
             "get": operation(kind, f"list{member}s", "What it gave out, by id", 200, ref(member + "s"), THERE),
             "post": operation(kind, f"record{member}s", "Record the number of each item, which is in use already or is chosen: all of them, or none", 201, ref(f"Claimed{member}s"), records,
                               asked=f"New{member}s")},
+        f"/api/ipam/{members}/": {
+            "get": operation(kind, f"list{member}Page", "A page of what all ranges gave out, of those that pass all filters, by id", 200, ref(member + "Page"),
+                             fields([number, range_name + "_id", "limit", "offset"]), [*asked_of_members(kind), listed(50), SKIPPED])},
         f"/api/ipam/{members}/{{id}}/": {
             "parameters": [ID_PARAMETER],
             "get": operation(kind, f"get{member}", "Get one", 200, ref(member), THERE),
@@ -145,7 +155,7 @@ def document():
         "components": {
             "schemas": schemas(),
             "parameters": {"id": {**ID_OF_PATH, "description": "The id of a row. Any other text makes another path (404 `no_route`)."}},
-            "headers": shared_headers(["GET, POST", "GET, PATCH, DELETE"]),
+            "headers": shared_headers(["GET", "GET, POST", "GET, PATCH, DELETE"]),
             "responses": other_answers(BOOK),
         },
         **OTHERS,

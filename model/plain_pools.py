@@ -16,8 +16,8 @@ import re
 import sys
 
 sys.path.insert(0, os.path.dirname(os.path.dirname(os.path.abspath(__file__))))
-from model.plain_register import MOST_ITEMS, MOST_LOG, Service, converse, limit_refused
-from model.plain_texts import MOST_ID, REQUIRED, Refused, a_number, a_text, limit_of, read_members, read_query
+from model.plain_register import MOST_ITEMS, MOST_LOG, Service, converse, limit_refused, page_of
+from model.plain_texts import MOST_ID, REQUIRED, Malformed, Refused, a_number, a_text, encoded, field, limit_of, offset_of, parameter_id, read_members, read_query
 
 # the greatest number of a range, and how many rows there may be of both kinds together
 MOST_NUMBER = {"asn": 4294967295, "vlan": 4094}
@@ -194,6 +194,21 @@ class Pools:
         self.range_of(kind, number)
         return [self.member_view(kind, member) for member in self.members if member["range"] == number]
 
+    def page(self, kind, path, pairs):
+        """A page of the members of all ranges of a kind, with what is asked of each."""
+        _, _, range_name, number_name = WORDS[kind]
+        asked, given = {}, []
+        for name, of_member, read in ((number_name, "number", parameter_id), (range_name + "_id", "range", parameter_id), ("name", "name", str)):
+            if name in pairs:
+                try:
+                    asked[of_member] = read(pairs[name])
+                except Malformed:
+                    raise field(name)
+                given.append(f"{name}={encoded(pairs[name])}")
+        limit, offset = limit_of(pairs, 50), offset_of(pairs)
+        found = [member for member in self.members if self.kind_of(member) == kind and all(member[name] == value for name, value in asked.items())]
+        return page_of(found, lambda member: self.member_view(kind, member), path, given, limit, offset)
+
 
 class PoolService(Service):
     """The paths of the pools, and what a request is answered."""
@@ -208,7 +223,7 @@ class PoolService(Service):
             number = match[2] and int(match[2])
             for kind, (ranges, members, _, _) in WORDS.items():
                 parts = {(ranges, False, None): ["GET", "POST"], (ranges, True, None): ["GET", "PATCH", "DELETE"], (ranges, True, f"available-{members}"): ["GET", "POST"],
-                         (ranges, True, members): ["GET", "POST"], (members, True, None): ["GET", "PATCH", "DELETE"]}
+                         (ranges, True, members): ["GET", "POST"], (members, False, None): ["GET"], (members, True, None): ["GET", "PATCH", "DELETE"]}
                 methods = parts.get((match[1], number is not None, match[3]))
                 if methods:
                     return kind, match[1] == ranges, number, match[3], methods
@@ -228,6 +243,8 @@ class PoolService(Service):
             return 200, (pools.edit_range if is_range else pools.edit_member)(kind, number, given)
         if number is not None and not asked:
             return 200, pools.range_view(pools.range_of(kind, number)) if is_range else pools.member_view(kind, pools.member_of(kind, number))
+        if number is None and not is_range:
+            return 200, pools.page(kind, path.decode("latin-1"), read_query(query))
         if number is None:
             if method == "GET":
                 return 200, pools.list_ranges(kind)
@@ -316,6 +333,19 @@ ROWS = [
     ("PATCH", "vlan-groups/4/", {"end": 3, "name": "c"}, 200, {"end": 3, "id": 4, "name": "c", "start": 1}),
     ("GET", "vlan-groups/4/available-vlans/", None, 200, [2, 3]),
     ("PATCH", "vlan-groups/4/", {}, 200, {"end": 3, "id": 4, "name": "c", "start": 1}),
+    ("GET", "asns/?limit=2", None, 200, {"count": 3, "next": "/api/ipam/asns/?limit=2&offset=2", "previous": None,
+                                         "results": [{"asn": 64513, "id": 2, "range": 1}, {"asn": 64514, "id": 5, "range": 1}]}),
+    ("GET", "asns/?offset=2&limit=2&range_id=1", None, 200,
+     {"count": 3, "next": None, "previous": "/api/ipam/asns/?range_id=1&limit=2&offset=0", "results": [{"asn": 64512, "id": 8, "range": 1}]}),
+    ("GET", "asns/?asn=64514&range_id=2", None, 200, {"count": 0, "next": None, "previous": None, "results": []}),
+    ("GET", "asns/?offset=9", None, 200, {"count": 3, "next": None, "previous": "/api/ipam/asns/?limit=50&offset=0", "results": []}),
+    ("GET", "vlans/?name=voice", None, 200, {"count": 1, "next": None, "previous": None, "results": [{"group": 3, "id": 3, "name": "voice", "vid": 1}]}),
+    ("GET", "vlans/?vid=1&group_id=4&limit=1", None, 200, {"count": 1, "next": None, "previous": None, "results": [{"group": 4, "id": 4, "name": "data", "vid": 1}]}),
+    ("GET", "vlans/?vid=0", None, 400, {"code": "field", "detail": "vid is missing or malformed"}),
+    ("GET", "vlans/?group_id=01&limit=x", None, 400, {"code": "field", "detail": "group_id is missing or malformed"}),
+    ("GET", "asns/?limit=x&offset=x", None, 400, {"code": "field", "detail": "limit is missing or malformed"}),
+    ("GET", "asns/?offset=-1", None, 400, {"code": "field", "detail": "offset is missing or malformed"}),
+    ("POST", "asns/", {}, 405, {"code": "method", "detail": "the path does not have this method"}),
     ("DELETE", "vlans/4/", None, 204, None),
     ("DELETE", "vlan-groups/4/", None, 204, None),
     ("GET", "vlan-groups/", None, 200, [{"end": 4094, "id": 3, "name": "a", "start": 1}]),

@@ -463,15 +463,18 @@ class Register:
                 given.append(f"{name}={encoded(pairs[name])}")
         limit, offset = limit_of(pairs, 50), offset_of(pairs)
         rows = [row for row in self.rows[kind] if all(meets(row, value) for meets, value in tests)]
-
-        def link(at):
-            return path + "?" + "&".join(given + [f"limit={limit}", f"offset={at}"])
-        return {"count": len(rows), "next": None if offset + limit >= len(rows) else link(offset + limit),
-                "previous": None if offset == 0 else link(max(0, offset - limit)),
-                "results": [self.view(kind, row) for row in rows[offset:offset + limit]]}
+        return page_of(rows, lambda row: self.view(kind, row), path, given, limit, offset)
 
 
 # ---- requests and answers
+
+def page_of(rows, view, path, given, limit, offset):
+    """A page of rows, with the links to those beside it, which have the parameters that were given."""
+    def link(at):
+        return path + "?" + "&".join(given + [f"limit={limit}", f"offset={at}"])
+    return {"count": len(rows), "next": None if offset + limit >= len(rows) else link(offset + limit),
+            "previous": None if offset == 0 else link(max(0, offset - limit)), "results": [view(row) for row in rows[offset:offset + limit]]}
+
 
 class Service:
     """The paths of the register, and what a request is answered."""

@@ -1,6 +1,7 @@
 """What is said in a random conversation with pools: requests in which ranges have numbers in common, and bad values are frequent."""
 import json
 import random
+from urllib.parse import quote
 
 from model.plain_pools import MOST_NUMBER, WORDS
 
@@ -96,13 +97,23 @@ class Talker:
 
     # -- targets
 
-    def query(self):
+    def asked(self, kind):
+        """What a list may ask of each member: mostly what some member has."""
+        _, _, range_name, number_name = WORDS[kind]
+        one = self.pick.choice(self.pools.members) if self.pools.members else {"number": 1, "range": 1, "name": "a"}
+        number, row = (one[name] if self.chance(0.9) else self.pick.choice(["", "0", "01", "x", "%31", 4294967296]) for name in ("number", "range"))
+        offset = self.pick.choice(["0", "1", "2", "9", "4294967295", "4294967296", "01"])
+        return [f"{number_name}={number}", f"{range_name}_id={row}", "name=" + quote(one["name"]), f"offset={offset}"]
+
+    def query(self, kind, members):
         if self.chance(0.5):
             return ""
         pairs = [f"limit={self.pick.choice(['0', '1', '2', '3', '7', '1001', '9999999999'])}" for _ in range(self.pick.choice([0, 1, 1, 2]))]
         if self.chance(0.1):
             pairs.append("limit=" + self.pick.choice(["", "x", "01", "+1", "-1", "1.0", "99999999999", "%31", "%ff"]))
         pairs += self.pick.choice([[], [], ["offset=x"], ["name=%"], [""]])
+        if members and self.chance(0.9):
+            pairs += [pair for pair in self.asked(kind) if self.chance(0.4)]
         self.pick.shuffle(pairs)
         return "?" + "&".join(pairs)
 
@@ -110,13 +121,15 @@ class Talker:
         kind = self.kind()
         ranges, members, _, _ = WORDS[kind]
         few = len(self.pools.ranges) < 4
-        asked = self.pick.choices(["make", "list", "cut range", "cut member", "free", "claim", "given", "record", "range", "member", "edit range", "edit member"],
-                                  [8 if few else 3, 1, 0.7, 5, 5, 10, 2, 8, 1, 1, 4, 3])[0]
+        asked = self.pick.choices(["make", "list", "cut range", "cut member", "free", "claim", "given", "record", "range", "member", "edit range", "edit member", "page"],
+                                  [8 if few else 3, 1, 0.7, 5, 5, 10, 2, 8, 1, 1, 4, 3, 4])[0]
         method, body = "GET", b""
         if asked in ("make", "list"):
             target = f"/api/ipam/{ranges}/"
             if asked == "make":
                 method, body = "POST", self.text(self.draft(kind))
+        elif asked == "page":
+            target = f"/api/ipam/{members}/"
         elif asked in ("cut member", "member", "edit member"):
             method = {"cut member": "DELETE", "edit member": "PATCH"}.get(asked, "GET")
             target = f"/api/ipam/{members}/{self.row(self.member_id(kind))}/"
@@ -133,4 +146,4 @@ class Talker:
         if self.chance(0.01):
             target = self.pick.choice([target[:-1], target.upper(), target + "x/", target.replace("vlan", "asn"), target.replace("asns", "vlans")])
         length = f"Content-Length: {len(body)}\r\n" if body or self.chance(0.1) else ""
-        return f"{method} {target}{self.query()} HTTP/1.1\r\nHost: x\r\n{length}\r\n".encode() + body
+        return f"{method} {target}{self.query(kind, asked == 'page')} HTTP/1.1\r\nHost: x\r\n{length}\r\n".encode() + body

@@ -1,7 +1,6 @@
 //! Pages of the members of a kind.
 
-ghost use Rattle.std.specs.Prelude.{◌≡◌, ◌∷◌, ◌<◌, ◌^◌, [], IfOk, OnOk, length, string_bytes};
-ghost use Rattle.serde_json.specs.Data.{Data};
+ghost use Rattle.std.specs.Prelude.{◌≡◌, ◌<◌, ◌^◌, ℕ, IfOk, OnOk, string_bytes};
 ghost use Rattle.ipam_json.specs.Written.{Puts, pieces_of};
 ghost use Rattle.pool_json.specs.Pages.{link_query, link_text, links_of, members_text, page_data, range_name, with_number, with_query};
 ghost use Rattle.rest_query.specs.Query.{with_given};

@@ -1,7 +1,9 @@
 //! Bodies and replies of pools, byte for byte, a case to a line.
 
 use ipam_data::calls::Answered;
-use number_pools::{Listed, Member, NumberRange, PoolKind, PoolRefusal, PoolReply, Quantity};
+use number_pools::{
+    Listed, Member, MemberQuery, NumberRange, PoolKind, PoolRefusal, PoolReply, Quantity,
+};
 use pool_json::{
     RequestRefusal, Shape, read_claim, read_range, read_record, reply_bytes, request_refusal_bytes,
 };
@@ -280,6 +282,34 @@ fn nameless(alloc: Global) -> Result<Listed<Member>, AllocError> {
     Ok(Listed::of(list))
 }
 
+/// What is asked of a list.
+fn asked(
+    number: Option<u32>,
+    range: Option<u32>,
+    name: Option<Text>,
+    limit: u32,
+    offset: u32,
+) -> MemberQuery {
+    MemberQuery {
+        number,
+        range,
+        name,
+        limit,
+        offset,
+    }
+}
+
+/// A page with one member.
+fn page(alloc: Global, query: MemberQuery, count: u32) -> Result<PoolReply, AllocError> {
+    let mut one = Vec::new(alloc);
+    one.push(member(alloc, 64512)?)?;
+    Ok(PoolReply::Page {
+        query,
+        count,
+        members: Listed::of(one),
+    })
+}
+
 /// The reply of a line of texts.
 fn reply(alloc: Global, number: u32) -> Result<PoolReply, AllocError> {
     let mut ranges = Vec::new(alloc);
@@ -318,6 +348,13 @@ fn reply(alloc: Global, number: u32) -> Result<PoolReply, AllocError> {
         25 => PoolReply::ChangedMember(member(alloc, 64512)?),
         26 => PoolReply::OneRange(range(alloc)?),
         27 => PoolReply::OneMember(member(alloc, 64512)?),
+        28 => page(alloc, asked(Some(64512), None, Some(text(alloc, "a b&c")?), 1, 1), 3)?,
+        29 => page(alloc, asked(None, Some(1), None, 50, 20), 21)?,
+        30 => PoolReply::Page {
+            query: asked(None, None, None, 1000, 0),
+            count: 0,
+            members: Listed::of(Vec::new(alloc)),
+        },
         _ => PoolReply::Refused(PoolRefusal::Memory),
     })
 }
@@ -351,6 +388,9 @@ const REPLIES: &str = "{\"end\":64514,\"id\":1,\"name\":\"lab\",\"start\":64512}
 {\"asn\":64512,\"id\":7,\"name\":\"a\\\"b\",\"range\":1}|{\"group\":1,\"id\":7,\"name\":\"a\\\"b\",\"vid\":64512}
 {\"end\":64514,\"id\":1,\"name\":\"lab\",\"start\":64512}
 {\"asn\":64512,\"id\":7,\"name\":\"a\\\"b\",\"range\":1}|{\"group\":1,\"id\":7,\"name\":\"a\\\"b\",\"vid\":64512}
+{\"count\":3,\"next\":\"/api/ipam/asns/?asn=64512&name=a+b%26c&limit=1&offset=2\",\"previous\":\"/api/ipam/asns/?asn=64512&name=a+b%26c&limit=1&offset=0\",\"results\":[{\"asn\":64512,\"id\":7,\"name\":\"a\\\"b\",\"range\":1}]}|{\"count\":3,\"next\":\"/api/ipam/vlans/?vid=64512&name=a+b%26c&limit=1&offset=2\",\"previous\":\"/api/ipam/vlans/?vid=64512&name=a+b%26c&limit=1&offset=0\",\"results\":[{\"group\":1,\"id\":7,\"name\":\"a\\\"b\",\"vid\":64512}]}
+{\"count\":21,\"next\":null,\"previous\":\"/api/ipam/asns/?range_id=1&limit=50&offset=0\",\"results\":[{\"asn\":64512,\"id\":7,\"name\":\"a\\\"b\",\"range\":1}]}|{\"count\":21,\"next\":null,\"previous\":\"/api/ipam/vlans/?group_id=1&limit=50&offset=0\",\"results\":[{\"group\":1,\"id\":7,\"name\":\"a\\\"b\",\"vid\":64512}]}
+{\"count\":0,\"next\":null,\"previous\":null,\"results\":[]}
 {\"code\":\"memory\",\"detail\":\"no memory\"}";
 
 #[test]

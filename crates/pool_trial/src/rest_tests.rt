@@ -35,6 +35,17 @@ PATCH /api/ipam/asn-ranges/7/ {\"name\":\"\",\"start\":-1} = Common(Field(Name))
 PATCH /api/ipam/asn-ranges/7/ {\"end\":\"9\",\"start\":-1} = Start 400 
 PATCH /api/ipam/asn-ranges/7/ {\"end\":null} = End 400 
 PATCH /api/ipam/asn-ranges/7/ [] = Common(BadJson) 400 
+GET /api/ipam/asns/ - = Page { kind: Asn, query: MemberQuery { number: None, range: None, name: None, limit: 50, offset: 0 } } Asn false
+GET /api/ipam/asns/?asn=64512&range_id=3&name=a%20b&limit=2&offset=4294967295 {} = Page { kind: Asn, query: MemberQuery { number: Some(64512), range: Some(3), name: Some(Text { characters: Owned(\"a b\") }), limit: 2, offset: 4294967295 } } Asn false
+GET /api/ipam/vlans/?vid=1&vid=4294967295&group_id=7&asn=x&range_id=x&limit=0 - = Page { kind: Vlan, query: MemberQuery { number: Some(4294967295), range: Some(7), name: None, limit: 1000, offset: 0 } } Vlan false
+GET /api/ipam/vlans/?name - = Page { kind: Vlan, query: MemberQuery { number: None, range: None, name: Some(Text { characters: Owned(\"\") }), limit: 50, offset: 0 } } Vlan false
+GET /api/ipam/vlans/?offset=x&limit=x&group_id=0&vid=0 - = Number(Vlan) 400 
+GET /api/ipam/vlans/?offset=x&limit=x&group_id=01 - = Range(Vlan) 400 
+GET /api/ipam/asns/?offset=x&limit=x&range_id=4294967296 - = Range(Asn) 400 
+GET /api/ipam/asns/?offset=x&limit=x - = Common(Field(Limit)) 400 
+GET /api/ipam/asns/?offset=4294967296 - = Common(Field(Offset)) 400 
+POST /api/ipam/vlans/ {} = Common(Method) 405 GET
+DELETE /api/ipam/asns/ - = Common(Method) 405 GET
 DELETE /api/ipam/asns/7/ - = CutMember { kind: Asn, id: 7 } Asn false
 DELETE /api/ipam/vlans/8/ - = CutMember { kind: Vlan, id: 8 } Vlan false
 GET /api/ipam/asns/7/ - = OneMember { kind: Asn, id: 7 } Asn false
@@ -75,8 +86,8 @@ GET /api/ipam/asn-ranges/7/available-vlans/ - = Common(NoRoute) 404
 GET /api/ipam/vlan-groups/7/available-asns/ - = Common(NoRoute) 404 
 GET /api/ipam/asn-ranges/7/vlans/ - = Common(NoRoute) 404 
 GET /api/ipam/vlan-groups/7/asns/ - = Common(NoRoute) 404 
-GET /api/ipam/asns/ - = Common(NoRoute) 404 
-GET /api/ipam/vlans/ - = Common(NoRoute) 404 
+GET /api/ipam/asns - = Common(NoRoute) 404 
+GET /api/ipam/vlans// - = Common(NoRoute) 404 
 GET /api/ipam/asns/7/asns/ - = Common(NoRoute) 404 
 GET /api/ipam/prefixes/ - = Common(NoRoute) 404 
 GET /api/ipam/asn-ranges - = Common(NoRoute) 404 

@@ -1,6 +1,8 @@
 //! Calls of pools over a keeper in memory.
 
-use number_pools::{Chosen, Listed, Member, NumberRange, PoolCall, PoolKind, PoolReply};
+use number_pools::{
+    Chosen, Listed, Member, MemberQuery, NumberRange, PoolCall, PoolKind, PoolReply,
+};
 use pool_keeper::memory::MemoryPools;
 use pool_keeper::tables::empty_tables;
 use pool_register::{Pools, begin};
@@ -79,6 +81,14 @@ claim asn 2 1=NoSpace(0)
 edit asn 2 site 64514 64517=site 64514-64517
 claim asn 2 1=64517
 cut asn 2=InUse(27)
+page asn 3 0=6: 64513 64512 64514
+page vlan 2 1=24: 2 3
+page vlan 2 9=24: 10 11
+page vlan 9 0 30 3=1: 30
+page vlan 9 0 30 3 voice=1: 30
+page vlan 9 0 30 3 data=0:
+page vlan 9 0 30 2=0:
+page asn 9 1 64514=1:
 ";
 
 /// The number of a word. If it is none, the line is wrong, and the test fails as for lack of memory.
@@ -149,6 +159,20 @@ fn call_of(alloc: Global, line: &str) -> Result<PoolCall, AllocError> {
     }
     if verb == "ranges" {
         return Ok(PoolCall::Ranges { kind });
+    }
+    if verb == "page" {
+        let limit = number(words.next())?;
+        let offset = number(words.next())?;
+        return Ok(PoolCall::Page {
+            kind,
+            query: MemberQuery {
+                number: numbered(words.next())?,
+                range: numbered(words.next())?,
+                name: named(alloc, words.next())?,
+                limit,
+                offset,
+            },
+        });
     }
     let id = number(words.next())?;
     if verb == "cut" {
@@ -250,6 +274,15 @@ fn member_said(alloc: Global, member: &Member) -> Result<String, AllocError> {
     Ok(format!(in alloc; "{number} {name}")?)
 }
 
+/// A page in short: how many members the list has, and the numbers of those that are shown.
+fn page_said(alloc: Global, count: u32, members: &[Member]) -> Result<String, AllocError> {
+    let mut out = format!(in alloc; "{count}:")?;
+    for member in members {
+        out.push_str(format!(in alloc; " {}", member.number)?.as_str())?;
+    }
+    Ok(out)
+}
+
 /// A reply in short.
 fn said(alloc: Global, reply: &PoolReply) -> Result<String, AllocError> {
     match reply {
@@ -263,6 +296,7 @@ fn said(alloc: Global, reply: &PoolReply) -> Result<String, AllocError> {
         PoolReply::Ranges(rows) => ids_of(alloc, rows.as_slice()),
         PoolReply::Members(rows) => numbers_of(alloc, rows.as_slice()),
         PoolReply::Numbers(free) => listed(alloc, free.as_slice()),
+        PoolReply::Page { count, members, .. } => page_said(alloc, *count, members.as_slice()),
         PoolReply::Refused(why) => Ok(format!(in alloc; "{why:?}")?),
     }
 }
