@@ -75,9 +75,6 @@ client() {
 start
 "$top/examples/client_curl.sh" "$url"
 stop
-program=$pools start
-client client_pools.py "$url"
-stop
 start --db "$folder/moved.db"
 move netbox examples/netbox examples/netbox/csv 0 "made 24, present 0, refused 0" "made 0, present 24, refused 0" --group other --asn-range private
 move phpipam examples/phpipam examples/phpipam/csv 1 "made 18, present 0, refused 1" "made 0, present 18, refused 1"

@@ -10,7 +10,7 @@ import subprocess
 import sys
 
 sys.path.insert(0, os.path.dirname(os.path.dirname(os.path.abspath(__file__))))
-from conformance import filters, netbox_broken, netbox_random, netbox_records, netbox_wire
+from conformance import filters, netbox_broken, netbox_pools, netbox_random, netbox_records, netbox_wire
 from conformance.netbox_front import TOP, Claims, Front
 
 # what is asked of one register, in this order: the claim, and its test
@@ -40,6 +40,13 @@ WIRE = [
     ("Held changes, wrong tokens and large bodies have a `detail`", netbox_wire.own_refusals),
     ("A hostile body holds nobody up for 200 ms", netbox_wire.bodies),
     ("The longest page fits", netbox_wire.largest),
+]
+POOLS = [
+    ("AS numbers and VLANs have the members of NetBox 4.1", netbox_pools.records),
+    ("An AS number goes into the smallest range that has it, a VLAN into its group", netbox_pools.requests),
+    ("Free numbers are listed as objects, and claimed", netbox_pools.free),
+    ("Filters of AS numbers and VLANs find what they mean", netbox_pools.filters),
+    ("A change of AS numbers and VLANs has its status too", netbox_pools.broken),
 ]
 FILTERS = [("Filters find what they mean, in any spelling and several of one name", lambda front: filters.run(front, 400, 1))]
 RANDOM = [
@@ -78,6 +85,9 @@ ALONE = [
     ("The register's own form is unchanged behind nginx", netbox_wire.plain, False),
     ("pynetbox does with every kind what it does with NetBox", pynetbox, False),
     ("Ansible's modules find, create, change and delete, twice in a row", plays, True),
+    ("Without poold, AS numbers and VLANs are 502", netbox_pools.without, False),
+    ("pynetbox does with AS numbers and VLANs what it does with NetBox", netbox_pools.pynetbox, False),
+    ("Ansible makes, renames and removes VLANs, twice in a row", netbox_pools.plays, True),
 ]
 
 
@@ -85,7 +95,7 @@ def pages():
     """docs/CLIENTS.md claims what is tested here, and nothing else."""
     with open(os.path.join(TOP, "docs/CLIENTS.md")) as page:
         said = re.findall(r"^- \*\*(.+?)\.\*\*", page.read().split("## What works")[1].split("\n## ")[0], re.M)
-    tested = [one[0] for group in (RECORDS, BROKEN, WIRE, FILTERS, RANDOM, ALONE) for one in group]
+    tested = [one[0] for group in (RECORDS, BROKEN, WIRE, FILTERS, RANDOM, POOLS, ALONE) for one in group]
     assert sorted(said) == sorted(tested), f"only there or here: {sorted({*said} ^ {*tested})}"
 
 
@@ -99,6 +109,9 @@ def main():
         with Front(port) as front:
             for claim, test in group:
                 claims.check(claim, test, front)
+    with Front(port, pools=True) as front:
+        for claim, test in POOLS:
+            claims.check(claim, test, front)
     for claim, test, is_long in ALONE:
         if not (short and is_long):
             claims.check(claim, test, port)

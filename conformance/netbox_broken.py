@@ -96,7 +96,7 @@ def late(port):
 
 def missing(front):
     """What docs/CLIENTS.md says of what is not there, and of the views."""
-    for path in ("vlans/", "vlan-groups/", "asns/", "route-targets/", "services/", "fhrp-groups/", "../dcim/sites/", "../tenancy/tenants/", "../extras/tags/",
+    for path in ("route-targets/", "services/", "fhrp-groups/", "../dcim/sites/", "../tenancy/tenants/", "../extras/tags/",
                  "../graphql/", "../schema/", "../users/users/", "../docs/"):
         assert "detail" in front.want(404, "GET", path), path
     for name in ("tenant", "tags", "comments", "custom_fields", "nat_inside", "site", "vlan"):

@@ -12,6 +12,7 @@ import time
 
 TOP = os.path.abspath(os.path.join(os.path.dirname(os.path.abspath(__file__)), ".."))
 PROGRAM = os.environ.get("IPAMD", os.path.join(TOP, "crates/ipamd/out/ipamd"))
+POOLS = os.environ.get("POOLD", os.path.join(TOP, "crates/poold/out/poold"))
 CHANGES = ("POST", "PUT", "PATCH", "DELETE")
 
 
@@ -142,10 +143,12 @@ class Handler(http.server.BaseHTTPRequestHandler):
 
 
 class Front:
-    """A new register at `port`, nginx at `port` + 1, and between both a Breaker at `port` + 2."""
+    """A new register at `port`, nginx at `port` + 1, and between both a Breaker at `port` + 2. Where there are to be pools too, poold is at `port` + 3, and a
+    Breaker between it and nginx at `port` + 4."""
 
-    def __init__(self, port, between=True, read_timeout="60s"):
+    def __init__(self, port, between=True, read_timeout="60s", pools=False):
         self.port, self.between, self.children, self.env = port, between, [], {**os.environ, "READ_TIMEOUT": read_timeout}
+        self.pools = pools
 
     def __enter__(self):
         self.folder = tempfile.mkdtemp()
@@ -154,6 +157,12 @@ class Front:
         wait_for(self.port)
         self.breaker = Breaker(self.port + 2, self.port) if self.between else None
         inner = self.port + 2 if self.between else self.port
+        self.pool_breaker = None
+        if self.pools:
+            self.start([POOLS, "serve", "--bind", f"127.0.0.1:{self.port + 3}", "--workers", "8"], errors)
+            wait_for(self.port + 3)
+            self.pool_breaker = Breaker(self.port + 4, self.port + 3)
+            self.env["POOLS"] = str(self.port + 4)
         self.start([os.path.join(TOP, "conformance/front.sh"), self.folder, str(inner), str(self.port + 1)], errors)
         wait_for(self.port + 1)
         with open(os.path.join(self.folder, "token")) as token:
@@ -167,9 +176,9 @@ class Front:
         for child in reversed(self.children):
             child.terminate()
             child.wait()
-        if self.breaker:
-            self.breaker.server.shutdown()
-            self.breaker.server.server_close()
+        for breaker in filter(None, (self.breaker, self.pool_breaker)):
+            breaker.server.shutdown()
+            breaker.server.server_close()
         shutil.rmtree(self.folder)
 
     def start(self, command, errors):
@@ -184,11 +193,15 @@ class Front:
 
     def ask(self, method, path, body=None, **headers):
         """A request of NetBox's form. None makes more than one change."""
-        before = self.breaker.changes if self.breaker else 0
+        before = self.changes()
         answer = self.link.ask(method, "/api/ipam/" + path, body, **headers)
-        made = self.breaker.changes - before if self.breaker else 0
+        made = self.changes() - before
         assert made <= (1 if method in CHANGES else 0), f"{method} {path} made {made} changes"
         return answer
+
+    def changes(self):
+        """How many changes were sent to both programs, as far as they are counted."""
+        return sum(breaker.changes for breaker in (self.breaker, self.pool_breaker) if breaker)
 
     def want(self, status, method, path, body=None):
         """The value of an answer with this status."""

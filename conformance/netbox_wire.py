@@ -16,7 +16,7 @@ def paths(front):
     for path in ("prefixes/1/", "%70refixes/1/", "x/../prefixes/1/", "/prefixes//1/", "prefixes/%31/", "./prefixes/1/"):
         assert front.ask("GET", path).value == made, path
     assert front.want(200, "GET", "")["prefixes"] == front.base + "/api/ipam/prefixes/"
-    for path in ("prefixes", "prefixes/01/", "prefixes/0/", "prefixes/4294967296/", "prefixes/1", "prefixes/1/x/", "vlans/", "vlan-groups/1/",
+    for path in ("prefixes", "prefixes/01/", "prefixes/0/", "prefixes/4294967296/", "prefixes/1", "prefixes/1/x/", "route-targets/", "services/1/",
                  "prefixes/undefined/", "prefixes/1/available-ips", "vrfs/1/available-ips/", "ip-ranges/1/available-prefixes/",
                  "vrfs/1/utilization/", "prefixes/1/%0d%0aX:%20y/", "prefixes/1%3flimit=1/", "__proto__/", "constructor/1/", "prefixes/1/constructor/"):
         for method in ("GET", "POST", "DELETE"):

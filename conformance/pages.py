@@ -245,10 +245,6 @@ POOL_STEPS = [
     pools("""curl -s -d '[{"vid":110,"name":"voice"},{"vid":120,"name":"data"}]' $U/vlan-groups/3/vlans/""",
           r'\A\[\{"group":3,"id":7,"name":"voice","vid":110\},\{"group":3,"id":8,"name":"data","vid":120\}\]\Z'),
     None,
-    clients("./poold serve --bind 127.0.0.1:8081 --workers 4 &", "", stays=True),
-    clients("curl -s --retry 9 --retry-connrefused -o /dev/null http://127.0.0.1:8081/", r"\A\Z"),
-    clients("/usr/bin/python3 examples/client_pools.py http://127.0.0.1:8081", r"client_pools: all as it should be\n\Z"),
-    None,
 ]
 STEPS += POOL_STEPS if os.access(POOLD, os.X_OK) else []
 # lines of a page that are neither run here nor printed by a run, by how they begin, and why
@@ -284,9 +280,6 @@ ELSE = [
 ] + ([] if os.access(POOLD, os.X_OK) else [
     ("docs/USING-POOLS.md", "", "poold is not built"),
     ("docs/OPERATING.md", "packaging/build-deb.sh", "poold is not built"),
-    ("docs/CLIENTS.md", "./poold", "poold is not built"),
-    ("docs/CLIENTS.md", "/usr/bin/python3 examples/client_pools.py", "poold is not built"),
-    ("docs/CLIENTS.md", "curl -s --retry 9 --retry-connrefused -o /dev/null http://127.0.0.1:8081/", "poold is not built"),
 ])
 
 

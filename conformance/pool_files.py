@@ -11,14 +11,16 @@ import sqlite3
 import subprocess
 import sys
 import tempfile
+import time
 
 sys.path.insert(0, os.path.dirname(os.path.dirname(os.path.abspath(__file__))))
 from model.plain_pools import request_of
-from tools.wire import answers
+from tools.wire import answers, listens
 
 program, register = sys.argv[1:3]
 folder = tempfile.mkdtemp()
 path, register_path = os.path.join(folder, "pools.db"), os.path.join(folder, "office.db")
+COPY = os.path.join(os.path.dirname(os.path.abspath(__file__)), "../examples/copy_register.py")
 UNREAD = b"store: the store could not be read\n"
 checks = 0
 # what standard error said, with N for a number, and the status
@@ -146,6 +148,26 @@ def other_files():
     check(session([request_of("GET", "asn-ranges/")], db=empty)[0] == 0 and query("SELECT count(*) FROM meta", empty) == [(2,)], "an empty file")
 
 
+def copied():
+    """A copy of pools that are served is the file that they leave, and is served."""
+    live, copy, port = os.path.join(folder, "live.db"), os.path.join(folder, "live_copy.db"), 18491
+    shutil.copy(path, live)
+    server = subprocess.Popen([program, "serve", "--bind", f"127.0.0.1:{port}", "--workers", "2", "--db", live], stdin=subprocess.DEVNULL)
+    for _ in range(300):
+        if listens(port):
+            break
+        time.sleep(0.1)
+    nexts = [word for name in ("ranges", "members") for word in ("--next", f"{name}={dict(query('SELECT name, value FROM meta'))['next_' + name]}")]
+    made = subprocess.run([sys.executable, COPY, f"http://127.0.0.1:{port}", copy, "--pools", *nexts], capture_output=True, text=True)
+    server.terminate()
+    server.wait()
+    check(made.returncode == 0 and made.stdout.endswith("; place 0\n"), f"a copy: {made}")
+    check(session([], db=copy)[0] == 0, "a copy is opened")
+    for table in ("meta", "ranges", "members"):
+        text = f"SELECT * FROM {table} ORDER BY 1"
+        check(query(text, copy) == query(text, path), f"a copy has the rows of {table}")
+
+
 def table_of_page():
     """Each line that standard error has is in the table of docs/USING-POOLS.md, and each row of it was seen."""
     done = subprocess.run([program], stdin=subprocess.DEVNULL, capture_output=True)
@@ -160,6 +182,7 @@ over_a_file()
 two_processes()
 broken_rows()
 other_files()
+copied()
 table_of_page()
 shutil.rmtree(folder)
 print(f"files: {checks} checks passed")

@@ -1,15 +1,12 @@
 #!/usr/bin/python3
-"""What pynetbox does with pools of AS numbers and VLANs (Debian's python3-pynetbox 7.0.0): the calls that work, and those that differ from NetBox, each
-seen. It wants empty pools, served by two workers at least.
+"""What pynetbox does with AS numbers and VLANs behind nginx, as over NetBox (Debian's python3-pynetbox 7.0.0). It wants empty pools.
 
-    ./poold serve --bind 127.0.0.1:8081 --workers 4 &
-    /usr/bin/python3 examples/client_pools.py http://127.0.0.1:8081
+    REQUESTS_CA_BUNDLE=register.pem /usr/bin/python3 examples/client_pools.py https://register.example.net TOKEN
 """
 import sys
 
 import pynetbox
 from pynetbox.core.endpoint import DetailEndpoint
-from pynetbox.core.response import Record
 
 
 def raises(what, call):
@@ -21,75 +18,50 @@ def raises(what, call):
     sys.exit(f"client_pools: {what.__name__} was to come")
 
 
-def part(row, name):
-    """A path behind a range or a group, as its available numbers or its members."""
-    return DetailEndpoint(row, name)
-
-
-def give_back(endpoint, number):
-    """Gives back the AS number or the VLAN of this member."""
-    return Record({"id": number}, endpoint.api, endpoint).delete()
-
-
-def ranges(ipam):
-    """Ranges and groups are made, listed and removed."""
-    private = ipam.asn_ranges.create(name="private", start=64512, end=64514)
-    floor = ipam.vlan_groups.create(name="floor 1", start=10, end=12)
-    assert (private.id, private.start, str(private)) == (1, 64512, "private") and (floor.id, floor.end) == (2, 12)
-    spare = ipam.vlan_groups.create(name="spare", start=1, end=2)
-    assert [row.name for row in ipam.vlan_groups.all()] == ["floor 1", "spare"]
-    assert spare.delete() and [row.id for row in ipam.vlan_groups.all()] == [2]
-    print("ranges and groups: made, listed and removed")
+def groups(ipam):
+    """Ranges and groups are made, found, changed and removed."""
+    private = ipam.asn_ranges.create(name="private", slug="private", start=64512, end=64514)
+    floor = ipam.vlan_groups.create(name="Floor 1", slug="floor-1", vid_ranges=[[10, 12]])
+    spare = ipam.vlan_groups.create(name="spare", slug="spare", min_vid=1, max_vid=2)
+    assert (private.display, str(floor), floor.vid_ranges) == ("private (64512-64514)", "Floor 1", [[10, 12]])
+    assert ipam.vlan_groups.get(slug="floor-1").id == floor.id and ipam.vlan_groups.get(floor.id).name == "Floor 1"
+    assert ipam.asn_ranges.get(name="other") is None and ipam.vlan_groups.count() == 2
+    assert spare.update({"name": "more"}) and ipam.vlan_groups.get(spare.id).slug == "more" and spare.delete()
+    private.end = 64600
+    assert private.save() and ipam.asn_ranges.get(private.id).end == 64600
+    print("ranges and groups: made, found, changed and removed")
     return private, floor
 
 
-def claims(ipam, private, floor):
-    """What is free is listed, claimed and given back."""
+def numbers(ipam, private, floor):
+    """Numbers in use are recorded, free ones listed and claimed, and given back by delete()."""
+    data = ipam.vlans.create(vid=11, name="data", group=floor.id, status="active")
+    edge = ipam.asns.create(asn=64513, description="edge")
+    assert (data.display, str(data.group), str(edge), edge.description) == ("data (11)", "Floor 1", "AS64513", "edge")
+    assert [one.vid for one in floor.available_vlans.list()] == [10, 12]
     voice = floor.available_vlans.create({"name": "voice"})
-    assert (str(voice), voice.vid, voice.group) == ("voice", 10, 2)
-    assert [one.vid for one in floor.available_vlans.create([{"name": "data"}, {"name": "guests"}])] == [11, 12]
-    assert list(part(private, "available-asns").list()) == [64512, 64513, 64514]
-    assert part(private, "available-asns").create() == {"asn": 64512, "id": 4, "range": 1}
-    assert [one["asn"] for one in part(private, "available-asns").create([{}, {}])] == [64513, 64514]
-    raises(pynetbox.AllocationError, lambda: part(private, "available-asns").create())
-    assert [one["asn"] for one in part(private, "asns").list()] == [64512, 64513, 64514]
-    assert [one["vid"] for one in part(floor, "vlans").list()] == [10, 11, 12]
-    assert "in_use" in raises(pynetbox.RequestError, private.delete) and "in_use" in raises(pynetbox.RequestError, floor.delete)
-    assert give_back(ipam.asns, 5) and list(part(private, "available-asns").list()) == [64513]
-    assert give_back(ipam.vlans, voice.id) and list(part(floor, "available-vlans").list(limit=1)) == [10]
-    print("numbers: listed, claimed and given back; where too few are free AllocationError is raised")
-
-
-def differences(ipam, private, floor):
-    """What does not go as over NetBox."""
-    raises(TypeError, floor.available_vlans.list)
-    # A claimed VLAN has no url, so pynetbox takes it for a group: delete() asks for the group of its number.
-    vlan = floor.available_vlans.create({"name": "voice"})
-    assert "vlan-groups/%d/" % vlan.id in raises(pynetbox.RequestError, vlan.delete)
-    while (group := ipam.vlan_groups.create(name=f"floor {vlan.id}", start=1, end=1)).id != vlan.id:
-        assert group.delete()
-    assert vlan.delete() and [row.id for row in ipam.vlan_groups.all()] == [2] and len(list(part(floor, "vlans").list())) == 3
-    print("a claimed VLAN is not given back by its delete(), which deletes the group of its number")
-    raises(TypeError, ipam.vlan_groups.count)
-    raises(AttributeError, lambda: private.available_asns)
-    assert "405" in raises(pynetbox.RequestError, lambda: ipam.asn_ranges.get(1))
-    assert [row.id for row in ipam.asn_ranges.filter(name="other")] == [1] and ipam.asn_ranges.get(name="other").name == "private"
-    for endpoint in (ipam.asns, ipam.vlans):
-        raises(pynetbox.RequestError, lambda: list(endpoint.all()))
-    assert "405" in raises(pynetbox.RequestError, lambda: private.update({"end": 64515}))
-    private.name = "other"
-    assert "405" in raises(pynetbox.RequestError, private.save)
-    assert "name_taken" in raises(pynetbox.RequestError, lambda: ipam.asn_ranges.create(name="private", start=1, end=2))
-    print("what differs from NetBox, as docs/CLIENTS.md has it")
+    assert (str(voice), voice.vid, voice.group.id) == ("voice", 10, floor.id)
+    available = DetailEndpoint(private, "available-asns")
+    assert [one["asn"] for one in available.list()][:2] == [64512, 64514]
+    assert [one["asn"] for one in available.create([{}, {}])] == [64512, 64514]
+    assert [one.asn for one in ipam.asns.filter(range_id=private.id)] == [64513, 64512, 64514]
+    voice.name = "phones"
+    assert voice.save() and ipam.vlans.get(vid=10, group_id=floor.id).name == "phones" and ipam.vlans.get(group="floor-1", name="data").vid == 11
+    assert ipam.vlans.update([voice]) and len(list(ipam.vlans.all())) == 2
+    assert "is that of member" in raises(pynetbox.RequestError, lambda: ipam.vlans.create(vid=10, name="x", group=floor.id))
+    raises(pynetbox.RequestError, floor.delete)
+    assert ipam.vlans.create(vid=12, name="last", group=floor.id)
+    raises(pynetbox.AllocationError, lambda: floor.available_vlans.create({"name": "none is free"}))
+    assert all(one.delete() for one in ipam.vlans.all()) and ipam.vlans.count() == 0 and ipam.vlan_groups.count() == 1
+    assert edge.delete() and [one.asn for one in ipam.asns.all()] == [64512, 64514]
+    print("numbers: recorded, listed, claimed, renamed and given back; delete() of a VLAN leaves its group")
 
 
 def main():
-    if len(sys.argv) != 2:
-        sys.exit("usage: client_pools.py URL")
-    ipam = pynetbox.api(sys.argv[1]).ipam
-    rows = ranges(ipam)
-    claims(ipam, *rows)
-    differences(ipam, *rows)
+    if len(sys.argv) != 3:
+        sys.exit("usage: client_pools.py URL TOKEN")
+    ipam = pynetbox.api(sys.argv[1], token=sys.argv[2]).ipam
+    numbers(ipam, *groups(ipam))
     print("client_pools: all as it should be")
 
 

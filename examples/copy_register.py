@@ -2,11 +2,13 @@
 """Copies a register that is being served at URL into FILE, a file of tables that ipamd opens. The register goes on meanwhile.
 
     copy_register.py http://127.0.0.1:8080 register-2026-11-29.db [--next KIND=N ..] [--hold FLAG] [--passes N]
+    copy_register.py http://127.0.0.1:8081 pools-2026-11-29.db --pools [--next ranges=N] [--next members=N] ..
 
 It reads all pages of all kinds over one connection. Where the register was changed between the first and the last page, it begins anew: all records of a
 copy are of one moment. Ids are kept. FILE must not exist; it appears once it is whole and on the disk. The line that is printed has the numbers of records,
 and `Ipam-Place`, the number of changes that the register had made since its start.
 
+--pools  the pools of AS numbers and VLANs that poold serves at URL; FILE is one that poold opens.
 --next   the next id of a kind, as `prefixes=4711`. Without it, that is the one after the greatest id that there is: a register does not tell the ids of its
          last records once they are deleted.
 --hold   where a change came in between, makes the file FLAG while it reads anew, and removes it then. nginx refuses changes while there is that file, with
@@ -41,6 +43,12 @@ COLUMNS = {
 }
 
 
+# The lists of pools, and the tables of their file.
+POOL_LISTS = ["asn-ranges", "vlan-groups", "asns", "vlans"]
+POOL_TABLES = {"ranges": "kind TEXT NOT NULL, name TEXT NOT NULL, first INTEGER NOT NULL, last INTEGER NOT NULL",
+               "members": "range INTEGER NOT NULL, number INTEGER NOT NULL, name TEXT NOT NULL"}
+
+
 class Changed(Exception):
     """The register was changed, or the connection ended, before all pages were read."""
 
@@ -73,12 +81,14 @@ class Pass:
         return body
 
     def pages(self, kind):
+        """The pages of a list; one that has none is a page."""
         first = self.page(kind, 0)
-        return [first] + [self.page(kind, offset) for offset in range(PAGE, json.loads(first)["count"], PAGE)]
+        said = json.loads(first)
+        return [first] + [self.page(kind, offset) for offset in range(PAGE, 0 if isinstance(said, list) else said["count"], PAGE)]
 
-    def all(self):
+    def all(self, kinds):
         with contextlib.closing(self.connection):
-            return {kind: self.pages(kind) for kind in COLUMNS}, self.place
+            return {kind: self.pages(kind) for kind in kinds}, self.place
 
 
 @contextlib.contextmanager
@@ -94,8 +104,8 @@ def held(flag):
         os.unlink(flag)
 
 
-def read_all(host, port, flag, passes):
-    """The pages of all kinds, and their place."""
+def read_all(host, port, kinds, flag, passes):
+    """The pages of all these kinds, and their place."""
     with contextlib.ExitStack() as stack:
         for number in range(passes):
             if number == 1 and flag:
@@ -103,7 +113,7 @@ def read_all(host, port, flag, passes):
             if number:
                 time.sleep(PAUSE)
             with contextlib.suppress(Changed):
-                return Pass(host, port).all()
+                return Pass(host, port).all(kinds)
     sys.exit(f"copy: the register was changed during each of {passes} passes; --hold refuses changes meanwhile")
 
 
@@ -141,7 +151,36 @@ def fill(connection, pages, nexts):
     return counts
 
 
-def write(path, pages, nexts):
+def records_of(said):
+    """The records of a page, or of a list without pages."""
+    return said if isinstance(said, list) else said["results"]
+
+
+def pool_rows_of(pages):
+    """The rows of both tables of pools, by id."""
+    records = {kind: [row for page in pages[kind] for row in records_of(json.loads(page))] for kind in POOL_LISTS}
+    ranges = [(row["id"], word, row["name"], row["start"], row["end"]) for kind, word in (("asn-ranges", "asn"), ("vlan-groups", "vlan"))
+              for row in records[kind]]
+    members = [(row["id"], row.get("range", row.get("group")), row.get("asn", row.get("vid")), row.get("name", ""))
+               for kind in ("asns", "vlans") for row in records[kind]]
+    return {"ranges": sorted(ranges), "members": sorted(members)}
+
+
+def fill_pools(connection, pages, nexts):
+    """Makes the tables of pools, and gives the number of rows of each."""
+    connection.execute("CREATE TABLE meta (name TEXT PRIMARY KEY, value INTEGER NOT NULL) STRICT")
+    rows = pool_rows_of(pages)
+    for table, columns in POOL_TABLES.items():
+        greatest = max((row[0] for row in rows[table]), default=0)
+        if not greatest < nexts.get(table, MOST_ID):
+            sys.exit(f"copy: --next {table}={nexts[table]} is not above the greatest id, {greatest}")
+        connection.execute(f"CREATE TABLE {table} (id INTEGER PRIMARY KEY, {columns}) STRICT")
+        connection.executemany(f"INSERT INTO {table} VALUES (?{', ?' * (columns.count(',') + 1)})", rows[table])
+        connection.execute("INSERT INTO meta VALUES (?, ?)", (f"next_{table}", nexts.get(table, greatest + 1)))
+    return {table: len(rows[table]) for table in POOL_TABLES}
+
+
+def write(path, pages, nexts, filled):
     """Makes the file under another name, and gives it its own once it is on the disk."""
     folder = os.path.dirname(os.path.abspath(path))
     handle, draft = tempfile.mkstemp(prefix=os.path.basename(path) + ".", dir=folder)
@@ -150,7 +189,7 @@ def write(path, pages, nexts):
         with contextlib.closing(sqlite3.connect(draft)) as connection, connection:
             connection.execute("PRAGMA synchronous = FULL")
             connection.execute("BEGIN")
-            counts = fill(connection, pages, nexts)
+            counts = filled(connection, pages, nexts)
         os.link(draft, path)
     finally:
         os.unlink(draft)
@@ -162,8 +201,8 @@ def write(path, pages, nexts):
 
 def next_of(text):
     kind, _, number = text.partition("=")
-    if kind not in COLUMNS or not number.isdecimal() or not 1 <= int(number) <= MOST_ID:
-        raise argparse.ArgumentTypeError(f"{text}: it is KIND=N, and the kind one of " + ", ".join(COLUMNS))
+    if kind not in (*COLUMNS, *POOL_TABLES) or not number.isdecimal() or not 1 <= int(number) <= MOST_ID:
+        raise argparse.ArgumentTypeError(f"{text}: it is KIND=N, and the kind one of " + ", ".join((*COLUMNS, *POOL_TABLES)))
     return kind, int(number)
 
 
@@ -171,6 +210,7 @@ def main():
     words = argparse.ArgumentParser(description=__doc__, formatter_class=argparse.RawDescriptionHelpFormatter)
     words.add_argument("url", metavar="URL")
     words.add_argument("file", metavar="FILE")
+    words.add_argument("--pools", action="store_true")
     words.add_argument("--next", metavar="KIND=N", action="append", type=next_of, default=[])
     words.add_argument("--hold", metavar="FLAG")
     words.add_argument("--passes", metavar="N", type=int, default=20)
@@ -186,8 +226,8 @@ def main():
     for number in (signal.SIGTERM, signal.SIGHUP):
         signal.signal(number, lambda *_: sys.exit("copy: ended by a signal"))
     try:
-        pages, place = read_all(parts.hostname, parts.port or 80, given.hold, given.passes)
-        counts = write(given.file, pages, dict(given.next))
+        pages, place = read_all(parts.hostname, parts.port or 80, POOL_LISTS if given.pools else COLUMNS, given.hold, given.passes)
+        counts = write(given.file, pages, dict(given.next), fill_pools if given.pools else fill)
     except (OSError, http.client.HTTPException, sqlite3.Error) as fault:
         sys.exit(f"copy: {fault}")
     print(", ".join(f"{kind} {count}" for kind, count in counts.items()) + f"; place {place}")

@@ -7,6 +7,13 @@ import turns from './turns.js';
 
 /** No record of NetBox has so many members. */
 const MOST_MEMBERS = 100;
+/** Why a member is refused that could only say what is so already. */
+const SAME = {
+    slug: 'the slug is made of the name',
+    status: 'a VLAN is active',
+    vid: 'the number of a VLAN stays: record another one',
+    asn: 'an AS number stays: record another one',
+};
 /** After so many items of a claim, other requests are served. */
 const ITEMS_AT_ONCE = 100;
 
@@ -68,7 +75,7 @@ async function idOf(call, name, kind, value) {
  * An object of a request with the members that the register has, references as ids. What cannot be kept is refused by name.
  * @param {Object} call
  * @param {Object} value
- * @param {{members: string[], references: Object<string, string>}} kind
+ * @param {{members: string[], references: Object<string, string>, checked: (Object<string, string>|undefined)}} kind
  * @param {Object<string, *>} same members that are left out if they are these
  * @param {string[]} required members that have to be there
  * @returns {Promise<Object>}
@@ -85,12 +92,14 @@ async function plainOf(call, value, kind, same, required) {
     });
     for (let n = 0; n < names.length; n += 1) {
         const name = names[n];
-        if (kinds.has(kind.references, name)) {
+        if (kinds.has(same, name)) {
+            await isSame(call, name, value[name], same[name]);
+        } else if (kinds.has(kind.references, name)) {
             out[name] = await idOf(call, name, kind.references[name], value[name]);
         } else if (kind.members.includes(name)) {
             out[name] = value[name];
-        } else if (kinds.has(same, name) && says(value[name])) {
-            await isSame(call, name, value[name], same[name]);
+        } else if (kinds.has(kind.checked || {}, name)) {
+            await isThere(call, name, kind.checked[name], value[name]);
         } else if (says(value[name]) && !isReadOnly(name)) {
             kinds.put(refused, name, ['the register has no ' + name + ' here']);
         }
@@ -101,18 +110,35 @@ async function plainOf(call, value, kind, same, required) {
     return out;
 }
 
-/** Refuses a member of a claim that is not what the record has that is claimed from. */
+/** Refuses a member that is not what is there already: that of the record that is claimed from, or that is changed. */
 async function isSame(call, name, value, own) {
+    if (!says(value)) {
+        return;
+    }
     let equal;
-    if (name === 'vrf') {
-        const id = await idOf(call, 'vrf', 'vrfs', value);
+    if (kinds.has(kinds.NAMING, name)) {
+        const id = await idOf(call, name, kinds.NAMING[name], value);
         equal = id === own;
-    } else {
+    } else if (name === 'prefix' || name === 'parent') {
         const block = typeof value === 'string' ? address.blockOf(value) : null;
         equal = block !== null && own !== undefined && address.blockText(block) === own;
+    } else {
+        equal = String(kinds.has(value, 'value') ? value.value : value) === String(own);
     }
     if (!equal) {
-        throw refusals.field(name, 'a claim has the ' + name + ' of what it is claimed from');
+        throw refusals.field(name, kinds.has(SAME, name) ? SAME[name] : 'a claim has the ' + name + ' of what it is claimed from');
+    }
+}
+
+/** Refuses a member that names no record; it is not kept. */
+async function isThere(call, name, kind, value) {
+    if (!says(value)) {
+        return;
+    }
+    const id = await idOf(call, name, kind, value);
+    const rows = await register.all(call, kind);
+    if (!rows.some((row) => row.id === id)) {
+        throw refusals.field(name, 'Related object not found using the provided numeric ID: ' + JSON.stringify(value));
     }
 }
 
@@ -127,7 +153,7 @@ async function claimOf(call, route, value) {
     const named = Object.keys(claim.same).filter((name) => items.some((item) => kinds.has(objectOf(item), name) && says(item[name])));
     if (named.length) {
         const answer = await register.read(call.r, route.kind + '/' + route.id + '/');
-        const from = register.valueOf(answer, route.kind);
+        const from = register.rowOf(answer, route.kind);
         Object.keys(claim.same).forEach((name) => {
             same[name] = from[claim.same[name]];
         });
@@ -143,4 +169,4 @@ async function claimOf(call, route, value) {
     return Array.isArray(value) ? out : out[0];
 }
 
-export default { plainOf, claimOf, objectOf };
+export default { says, idOf, plainOf, claimOf, objectOf };

@@ -47,6 +47,15 @@ function choice(kind, name) {
     };
 }
 
+/** A filter for a number, which the program that has the records has itself if it is native. */
+function number(name, native) {
+    return {
+        read: (value) => (NUMBER.test(value) ? Number(value) : undefined),
+        test: (row, value) => row[name] === value,
+        native: native ? String : undefined,
+    };
+}
+
 function reference(name, read) {
     return { read: read, test: (row, value) => row[name] === value, native: String };
 }
@@ -165,6 +174,15 @@ const FILTERS = {
         address: host('address'),
         mask_length: length(),
     }, placed('ip-addresses')),
+    'asn-ranges': () => Object.assign({ name: text('name'), slug: text('slug'), start: number('start'), end: number('end') }, common()),
+    'asns': () => Object.assign({ asn: number('asn', true), range_id: reference('range', id) }, common()),
+    'vlan-groups': () => Object.assign({ name: text('name'), slug: text('slug'), min_vid: number('min_vid'), max_vid: number('max_vid') }, common()),
+    'vlans': () => Object.assign({
+        vid: number('vid', true),
+        name: text('name', true),
+        group_id: reference('group', id),
+        status: { read: (value) => (value === 'active' ? value : undefined), test: () => true },
+    }, common()),
 };
 
 /** By kind the filters that name a record that is referred to, by what of it, and the filter of its id. */
@@ -178,6 +196,10 @@ const NAMED = {
     'prefixes': { vrf: VRF, role: ROLE },
     'ip-ranges': { vrf: VRF, role: ROLE },
     'ip-addresses': { vrf: VRF },
+    'asn-ranges': {},
+    'asns': {},
+    'vlan-groups': {},
+    'vlans': { group: { kind: 'vlan-groups', by: 'slug', filter: 'group_id' } },
 };
 
 /** The members that `q` looks into. */

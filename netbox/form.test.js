@@ -1,31 +1,14 @@
 import assert from 'node:assert';
 import test from 'node:test';
+import asking from './asking.test.js';
 import main from './main.js';
 import records from './records.js';
+
+const { ok, request } = asking;
 
 const VRF = { description: '', enforce_unique: true, id: 1, name: 'guests', rd: '65000:10' };
 const PREFIX = { children: 0, depth: 0, description: '', family: 4, id: 3, is_pool: false, mark_utilized: false, prefix: '10.0.0.0/24', role: null,
     status: { label: 'Active', value: 'active' }, vrf: 1 };
-
-/** What a request of a client is to njs; `told` answers the register's requests by method and target. */
-function request(method, uri, args, body, told) {
-    const out = { headersOut: {}, asked: [], log: [] };
-    out.method = method;
-    out.uri = uri;
-    out.variables = { scheme: 'https', asked_host: 'h', args: args };
-    out.requestBuffer = Buffer.from(body);
-    out.warn = out.error = (text) => out.log.push(text);
-    out.return = (status, text) => Object.assign(out, { status, text });
-    out.subrequest = async (path, options) => {
-        const asked = `${options.method} ${path}${options.args ? '?' + options.args : ''}`;
-        out.asked.push(asked + (options.body ? ' ' + options.body : ''));
-        const answer = told[asked] || { status: 404, text: '{"code":"not_found","detail":"not there"}' };
-        return { status: answer.status, responseText: answer.text, headersOut: { 'Ipam-Place': '7' } };
-    };
-    return out;
-}
-
-const ok = (value, status) => ({ status: status || 200, text: JSON.stringify(value) });
 
 test('what a range is shown as', () => {
     [['10.20.0.100/24', '10.20.0.199/24', '10.20.0.100-199/24'], ['10.1.0.5/8', '10.2.0.5/8', '10.1.0.5-2.0.5/8'],

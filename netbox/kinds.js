@@ -1,5 +1,5 @@
 /*
- * What the form knows of each kind of record. A further kind (AS numbers, VLANs) is one more entry of KINDS.
+ * What the form knows of each kind of record: those of the register, and AS numbers and VLANs, which poold has.
  *
  * njs 0.7.9 runs these files. It has no for-of, destructuring, spread, default parameters, optional chaining, classes, Map or Set, and two faults that
  * njs.test.js looks for: after `await` a variable that a closure uses has an older value, unless it is a constant; and a list that is written with a
@@ -8,6 +8,7 @@
 
 /**
  * @typedef {Object} Kind
+ * @property {string} source which program has it: `register` or `pools`
  * @property {string[]} members what a request can set
  * @property {string[]} required what POST and PUT have to set
  * @property {Object<string, string>} references a member, and the kind whose id it holds
@@ -15,6 +16,8 @@
  * @property {string[]} brief what a brief object has, next to id, url, display and description
  * @property {Object<string, string[]>} choices the values of members that have a label
  * @property {Object} constants what NetBox's records have and the register's do not
+ * @property {Object<string, string>} [checked] a member that has to name a record of this kind, and is not kept
+ * @property {boolean} [isWhole] whether its list has neither pages nor filters
  */
 
 const STATUSES = ['active', 'reserved', 'deprecated'];
@@ -24,6 +27,7 @@ const PLACED = { comments: '', tenant: null };
 /** By the part of the path that names the kind. @type {Object<string, Kind>} */
 const KINDS = {
     'vrfs': {
+        source: 'register',
         members: ['name', 'rd', 'enforce_unique', 'description'],
         required: ['name'],
         references: {},
@@ -33,6 +37,7 @@ const KINDS = {
         constants: Object.assign({ import_targets: [], export_targets: [] }, PLACED),
     },
     'rirs': {
+        source: 'register',
         members: ['name', 'slug', 'is_private', 'description'],
         required: ['name', 'slug'],
         references: {},
@@ -42,6 +47,7 @@ const KINDS = {
         constants: {},
     },
     'roles': {
+        source: 'register',
         members: ['name', 'slug', 'weight', 'description'],
         required: ['name', 'slug'],
         references: {},
@@ -51,6 +57,7 @@ const KINDS = {
         constants: {},
     },
     'aggregates': {
+        source: 'register',
         members: ['prefix', 'rir', 'description'],
         required: ['prefix', 'rir'],
         references: { rir: 'rirs' },
@@ -60,6 +67,7 @@ const KINDS = {
         constants: Object.assign({ date_added: null }, PLACED),
     },
     'prefixes': {
+        source: 'register',
         members: ['prefix', 'vrf', 'status', 'role', 'is_pool', 'mark_utilized', 'description'],
         required: ['prefix'],
         references: { vrf: 'vrfs', role: 'roles' },
@@ -69,6 +77,7 @@ const KINDS = {
         constants: Object.assign({ site: null, scope_type: null, scope_id: null, vlan: null }, PLACED),
     },
     'ip-ranges': {
+        source: 'register',
         members: ['start_address', 'end_address', 'vrf', 'status', 'role', 'mark_utilized', 'mark_populated', 'description'],
         required: ['start_address', 'end_address'],
         references: { vrf: 'vrfs', role: 'roles' },
@@ -78,6 +87,7 @@ const KINDS = {
         constants: PLACED,
     },
     'ip-addresses': {
+        source: 'register',
         members: ['address', 'vrf', 'status', 'role', 'dns_name', 'description'],
         required: ['address'],
         references: { vrf: 'vrfs' },
@@ -87,6 +97,50 @@ const KINDS = {
         constants: Object.assign({
             nat_inside: null, nat_outside: [], assigned_object: null, assigned_object_type: null, assigned_object_id: null,
         }, PLACED),
+    },
+    'asn-ranges': {
+        source: 'pools',
+        members: ['name', 'start', 'end'],
+        required: ['name', 'start', 'end'],
+        references: {},
+        attributes: ['name', 'slug'],
+        brief: ['name'],
+        choices: {},
+        constants: { rir: null, tenant: null },
+        checked: { rir: 'rirs' },
+        isWhole: true,
+    },
+    'asns': {
+        source: 'pools',
+        members: ['asn', 'description'],
+        required: ['asn'],
+        references: { range: 'asn-ranges' },
+        attributes: [],
+        brief: ['asn'],
+        choices: {},
+        constants: Object.assign({ rir: null }, PLACED),
+        checked: { rir: 'rirs' },
+    },
+    'vlan-groups': {
+        source: 'pools',
+        members: ['name', 'start', 'end'],
+        required: ['name'],
+        references: {},
+        attributes: ['name', 'slug'],
+        brief: ['name', 'slug'],
+        choices: {},
+        constants: { scope_type: null, scope_id: null, scope: null },
+        isWhole: true,
+    },
+    'vlans': {
+        source: 'pools',
+        members: ['vid', 'name'],
+        required: ['vid', 'name'],
+        references: { group: 'vlan-groups' },
+        attributes: [],
+        brief: ['vid', 'name'],
+        choices: { status: ['active'] },
+        constants: Object.assign({ site: null, role: null, l2vpn_termination: null }, PLACED),
     },
 };
 
@@ -114,7 +168,27 @@ const CLAIMS = {
         references: { role: 'roles' },
         same: { vrf: 'vrf', parent: 'prefix' },
     },
+    'available-asns': {
+        makes: 'asns',
+        from: ['asn-ranges'],
+        members: [],
+        required: [],
+        references: {},
+        same: { range: 'id' },
+        checked: { rir: 'rirs' },
+    },
+    'available-vlans': {
+        makes: 'vlans',
+        from: ['vlan-groups'],
+        members: ['name'],
+        required: ['name'],
+        references: {},
+        same: { group: 'id' },
+    },
 };
+
+/** By the name of a member that a request may repeat, the kind whose record it names. */
+const NAMING = { vrf: 'vrfs', group: 'vlan-groups', range: 'asn-ranges' };
 
 /** The kinds whose records have `utilization/`. */
 const MEASURED = ['prefixes', 'ip-ranges', 'aggregates'];
@@ -137,4 +211,4 @@ function put(object, name, value) {
     Object.defineProperty(object, name, { value: value, enumerable: true, configurable: true, writable: true });
 }
 
-export default { KINDS, CONSTANTS, CLAIMS, MEASURED, READ_ONLY, labelOf, has, put };
+export default { KINDS, CONSTANTS, CLAIMS, NAMING, MEASURED, READ_ONLY, labelOf, has, put };

@@ -57,7 +57,7 @@ async function siftList(reading, kind, native, query, rows) {
     let count = 1;
     for (let offset = 0; offset < count; offset += register.PAGE) {
         const answer = await register.read(reading.call.r, kind + '/', pageText(native, register.PAGE, offset));
-        const page = register.valueOf(take(reading, answer), kind);
+        const page = register.pageOf(take(reading, answer), kind);
         count = page.count;
         if (count - offset > reading.left) {
             throw refusals.detail(400, 'these filters have to be looked for in more than ' + MOST_READ + ' records: add one that the register has itself');
@@ -73,7 +73,7 @@ async function siftIds(reading, kind, query, rows) {
         const answer = await register.read(reading.call.r, kind + '/' + query.ids[n] + '/');
         take(reading, answer);
         if (answer.status !== 404) {
-            await sift([register.valueOf(answer, kind)], query.tests.concat(query.nativeTests), rows);
+            await sift([register.rowOf(answer, kind)], query.tests.concat(query.nativeTests), rows);
         }
     }
 }
@@ -112,7 +112,7 @@ async function found(call, kind, query) {
 /** One page of the register, which has all the filters itself. */
 async function passed(call, kind, query) {
     const answer = await register.read(call.r, kind + '/', pageText(query.native, query.limit, query.offset));
-    const page = register.valueOf(answer, kind);
+    const page = register.pageOf(answer, kind);
     return { count: page.count, rows: page.results, place: answer.place };
 }
 
@@ -146,7 +146,7 @@ async function shown(call, kind, rows, view) {
  */
 async function page(call, kind, text) {
     const query = await queries.queryOf(call, kind, text);
-    const list = query.tests.length ? await found(call, kind, query) : await passed(call, kind, query);
+    const list = query.tests.length || kinds.KINDS[kind].isWhole ? await found(call, kind, query) : await passed(call, kind, query);
     return {
         place: list.place,
         value: {

@@ -6,6 +6,8 @@ import body from './body.js';
 import changes from './changes.js';
 import kinds from './kinds.js';
 import lists from './lists.js';
+import poolChanges from './pool_changes.js';
+import poolRows from './pool_rows.js';
 import queries from './queries.js';
 import records from './records.js';
 import refusals from './refusals.js';
@@ -78,12 +80,17 @@ async function get(call, route) {
     const isList = route.part !== undefined && route.part !== 'utilization';
     const limit = isList && pairs.some((pair) => pair[0] === 'limit') ? 'limit=' + queries.limitOf(pairs, 0) : '';
     const answer = await register.read(r, path, limit);
-    const value = register.valueOf(answer, route.kind);
     if (isList) {
-        const free = await records.freeOf(call, value);
+        const rows = register.valueOf(answer, route.kind);
+        const free = kinds.KINDS[route.kind].source === 'pools' ? await records.freeNumbersOf(call, route.part, Number(route.id), rows)
+            : await records.freeOf(call, rows);
         return send(r, 200, free, answer.place);
     }
-    const shown = route.part === undefined ? await lists.shown(call, route.kind, [value], view) : [value];
+    if (route.part !== undefined) {
+        const measured = register.valueOf(answer, route.kind);
+        return send(r, 200, measured, answer.place);
+    }
+    const shown = await lists.shown(call, route.kind, [register.rowOf(answer, route.kind)], view);
     return send(r, 200, shown[0], answer.place);
 }
 
@@ -139,6 +146,9 @@ async function changeOf(call, route) {
         return { method: method, kind: route.kind, path: path, body: '' };
     }
     const kind = kinds.KINDS[route.kind];
+    if (kind.source === 'pools') {
+        return await poolChanges.changeOf(call, route.kind, path, object);
+    }
     const plain = await changes.plainOf(call, object, kind, {}, method === 'PATCH' ? [] : kind.required);
     return { method: method === 'PUT' ? 'PATCH' : method, kind: route.kind, path: path, body: JSON.stringify(plain) };
 }
@@ -147,7 +157,8 @@ async function changeOf(call, route) {
 async function changed(call, kind, text) {
     try {
         const value = JSON.parse(text);
-        const rows = await records.recordsOf(call, kind, Array.isArray(value) ? value : [value]);
+        const made = (Array.isArray(value) ? value : [value]).map((one) => poolRows.rowOf(kind, one));
+        const rows = await records.recordsOf(call, kind, made);
         return Array.isArray(value) || call.isList ? rows : rows[0];
     } catch (e) {
         call.r.error('the answer to a change could not be read: ' + e);

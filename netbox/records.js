@@ -1,5 +1,6 @@
 /* Records of the register in NetBox's form. */
 import kinds from './kinds.js';
+import poolRows from './pool_rows.js';
 import register from './register.js';
 import turns from './turns.js';
 
@@ -36,6 +37,12 @@ function displayOf(kind, row) {
     }
     if (kind === 'vrfs' && row.rd) {
         return row.name + ' (' + row.rd + ')';
+    }
+    if (kind === 'asns') {
+        return poolRows.asnText(row.asn);
+    }
+    if (kind === 'asn-ranges' || kind === 'vlans') {
+        return row.name + ' (' + (kind === 'vlans' ? row.vid : row.start + '-' + row.end) + ')';
     }
     return row.address || row.prefix || row.name;
 }
@@ -113,7 +120,7 @@ async function briefsOf(call, kind, rows) {
 async function recordsWith(call, kind, ids) {
     if (ids.length === 1 && !kinds.has(call.tables, kind)) {
         const answer = await register.read(call.r, kind + '/' + ids[0] + '/');
-        return [register.valueOf(answer, kind)];
+        return [register.rowOf(answer, kind)];
     }
     return ids.length ? register.all(call, kind) : [];
 }
@@ -146,4 +153,14 @@ async function freeOf(call, rows) {
     });
 }
 
-export default { rangeText, briefOf, recordsOf, freeOf };
+/** Free numbers of a range or a group. */
+async function freeNumbersOf(call, part, id, numbers) {
+    if (part === 'available-asns') {
+        return numbers.map((number) => ({ rir: null, asn: number }));
+    }
+    const briefs = await briefsOf(call, 'vlans', [{ group: id }]);
+    const group = briefs['vlan-groups'][id] || { id: id, url: urlOf(call, 'vlan-groups', id) };
+    return numbers.map((number) => ({ vid: number, group: group }));
+}
+
+export default { freeNumbersOf, rangeText, briefOf, recordsOf, freeOf };

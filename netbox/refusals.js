@@ -18,6 +18,8 @@ const MEMBERS = {
 };
 /** The member that has the block or the address of a record. */
 const PLACES = { 'aggregates': 'prefix', 'prefixes': 'prefix', 'ip-ranges': 'start_address', 'ip-addresses': 'address' };
+/** The member that has the number of a record, or the last one of a range. */
+const NUMBERS = { 'asn-ranges': 'end', 'asns': 'asn', 'vlan-groups': 'vid_ranges', 'vlans': 'vid' };
 const REFERENCES = { vrfs: 'vrf', roles: 'role', rirs: 'rir' };
 const UNANSWERED = 'the register did not answer; if this was a change, ask whether it was made before you send it again';
 
@@ -45,7 +47,8 @@ function field(name, text) {
 function memberOf(kind, code, text) {
     if (code === 'field') {
         const named = /^(\w+) is missing or malformed$/.exec(text);
-        return named && named[1] !== 'body' ? named[1] : undefined;
+        const isEnd = kind === 'vlan-groups' && named && ['start', 'end'].includes(named[1]);
+        return isEnd ? 'vid_ranges' : named && named[1] !== 'body' ? named[1] : undefined;
     }
     if (code === 'no_such') {
         const named = /^([a-z-]+) \d+ is not there$/.exec(text);
@@ -56,6 +59,9 @@ function memberOf(kind, code, text) {
     }
     if (code === 'zero_mask' || code === 'duplicate') {
         return PLACES[kind];
+    }
+    if (code === 'bounds') {
+        return NUMBERS[kind];
     }
     return kinds.has(MEMBERS, code) ? MEMBERS[code] : undefined;
 }
@@ -79,6 +85,10 @@ function ofRegister(status, text, kind) {
     }
     const code = typeof told.code === 'string' ? told.code : undefined;
     const body = {};
+    if (code === 'taken' && kinds.has(NUMBERS, kind)) {
+        body[NUMBERS[kind]] = [told.detail];
+        return new Refusal(400, body, code);
+    }
     if (status === 400 && code !== undefined && code !== 'bad_json') {
         const member = memberOf(kind, code, told.detail);
         if (member !== undefined || code !== 'field') {

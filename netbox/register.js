@@ -1,9 +1,12 @@
-/* Requests to the register. nginx makes a GET of every reading one, whatever it is asked to send, so a request of a client makes at most one change. */
+/*
+ * Requests to the register, or to poold for the kinds that it has. nginx makes a GET of every reading one, whatever it is asked to send, so a request of a
+ * client makes at most one change.
+ */
 import kinds from './kinds.js';
+import poolRows from './pool_rows.js';
 import refusals from './refusals.js';
 
-const READING = '/register-read';
-const CHANGING = '/register-change';
+const UNREADABLE = 'the answer of the register could not be read';
 /** The register's longest page. */
 const PAGE = 1000;
 
@@ -14,6 +17,11 @@ function answerOf(reply) {
     return { status: reply.status, text: reply.responseText || '', place: reply.headersOut['Ipam-Place'] };
 }
 
+/** Where nginx hands a path on to the program that has its kind. @param {string} path @param {string} how `read` or `change` @returns {string} */
+function targetOf(path, how) {
+    return '/' + kinds.KINDS[path.slice(0, path.indexOf('/'))].source + '-' + how + '/api/ipam/' + path;
+}
+
 /**
  * A GET of the register.
  * @param {Object} r the request of the client
@@ -22,7 +30,7 @@ function answerOf(reply) {
  * @returns {Promise<Answer>}
  */
 async function read(r, path, query) {
-    const reply = await r.subrequest(READING + '/api/ipam/' + path, { method: 'GET', args: query || '' });
+    const reply = await r.subrequest(targetOf(path, 'read'), { method: 'GET', args: query || '' });
     return answerOf(reply);
 }
 
@@ -35,7 +43,7 @@ async function read(r, path, query) {
  * @returns {Promise<Answer>}
  */
 async function change(r, method, path, body) {
-    const reply = await r.subrequest(CHANGING + '/api/ipam/' + path, { method: method, body: body });
+    const reply = await r.subrequest(targetOf(path, 'change'), { method: method, body: body });
     return answerOf(reply);
 }
 
@@ -47,12 +55,27 @@ function valueOf(answer, kind) {
     try {
         return JSON.parse(answer.text);
     } catch (e) {
-        throw refusals.detail(502, 'the answer of the register could not be read');
+        throw refusals.detail(502, UNREADABLE);
     }
 }
 
+/** The record of an answer. @param {Answer} answer @param {string} kind @returns {Object} */
+function rowOf(answer, kind) {
+    return poolRows.rowOf(kind, valueOf(answer, kind));
+}
+
+/** The page of an answer. A list of poold that has no pages is one. @param {Answer} answer @param {string} kind @returns {{count: number, results: Object[]}} */
+function pageOf(answer, kind) {
+    const value = valueOf(answer, kind);
+    const rows = Array.isArray(value) ? value : (value || {}).results;
+    if (!Array.isArray(rows) || !rows.every((row) => row !== null && typeof row === 'object')) {
+        throw refusals.detail(502, UNREADABLE);
+    }
+    return { count: Array.isArray(value) ? value.length : value.count, results: rows.map((row) => poolRows.rowOf(kind, row)) };
+}
+
 /**
- * All records of a kind that has at most a thousand: VRFs, RIRs, roles. They are read once for each request of a client.
+ * All records of a kind that has at most a thousand: VRFs, RIRs, roles, ranges of AS numbers, VLAN groups. They are read once for each request of a client.
  * @param {Object} call
  * @param {string} kind
  * @returns {Promise<Object[]>}
@@ -60,9 +83,9 @@ function valueOf(answer, kind) {
 async function all(call, kind) {
     if (!kinds.has(call.tables, kind)) {
         const answer = await read(call.r, kind + '/', 'limit=' + PAGE);
-        call.tables[kind] = valueOf(answer, kind).results;
+        call.tables[kind] = pageOf(answer, kind).results;
     }
     return call.tables[kind];
 }
 
-export default { PAGE, read, change, valueOf, all };
+export default { PAGE, read, change, valueOf, rowOf, pageOf, all };
