@@ -105,6 +105,10 @@ pub fault_told : (reply : PoolReply) → kind_of reply ≡ fault → reply ≡ R
 fault_told (Made range) e = cc
 fault_told Gone e = cc
 fault_told (Claimed members) e = cc
+fault_told (ChangedRange range) e = cc
+fault_told (ChangedMember member) e = cc
+fault_told (OneRange range) e = cc
+fault_told (OneMember member) e = cc
 fault_told (Ranges rows) e = cc
 fault_told (Members rows) e = cc
 fault_told (Numbers numbers) e = cc
