@@ -69,6 +69,10 @@ pub answers : (old new : Pools) (called : PoolCall) (reply : PoolReply) → IsSt
 answers old new called (Made range) h asked = told_of old new called (Made range) h (λ e. cc) (λ e. cc)
 answers old new called Gone h asked = told_of old new called Gone h (λ e. cc) (λ e. cc)
 answers old new called (Claimed members) h asked = told_of old new called (Claimed members) h (λ e. cc) (λ e. cc)
+answers old new called (ChangedRange range) h asked = told_of old new called (ChangedRange range) h (λ e. cc) (λ e. cc)
+answers old new called (ChangedMember member) h asked = told_of old new called (ChangedMember member) h (λ e. cc) (λ e. cc)
+answers old new called (OneRange range) h asked = told_of old new called (OneRange range) h (λ e. cc) (λ e. cc)
+answers old new called (OneMember member) h asked = told_of old new called (OneMember member) h (λ e. cc) (λ e. cc)
 answers old new called (Ranges rows) h asked = told_of old new called (Ranges rows) h (λ e. cc) (λ e. cc)
 answers old new called (Members rows) h asked = told_of old new called (Members rows) h (λ e. cc) (λ e. cc)
 answers old new called (Numbers numbers) h asked = told_of old new called (Numbers numbers) h (λ e. cc) (λ e. cc)
@@ -102,6 +106,10 @@ pub fault_told : (reply : PoolReply) → kind_of reply ≡ fault → reply ≡ R
 fault_told (Made range) e = cc
 fault_told Gone e = cc
 fault_told (Claimed members) e = cc
+fault_told (ChangedRange range) e = cc
+fault_told (ChangedMember member) e = cc
+fault_told (OneRange range) e = cc
+fault_told (OneMember member) e = cc
 fault_told (Ranges rows) e = cc
 fault_told (Members rows) e = cc
 fault_told (Numbers numbers) e = cc
