@@ -19,12 +19,14 @@ use Rattle.pool_store.specs.FaultWords.{IsSaid, fault_line}
 use Rattle.pool_store.specs.Meaning.{pool_opener}
 use Rattle.pool_store.specs.Opening.{IsRefusedOpening}
 use Rattle.pool_words.specs.Asked.{Asks}
-use Rattle.pool_words.specs.declared.asked.Command.TheVariants.{Session, Serve, About}
+use Rattle.pool_words.specs.declared.asked.Command.TheVariants.{Session, Serve, Export, About}
+use Rattle.pool_words.specs.declared.asked.Sheet.{Sheet}
 use Rattle.pool_words.specs.declared.asked.Topic.{Topic}
 use Rattle.pool_words.specs.declared.asked.Serving.{Serving}
+use Rattle.pool_export.specs.Export.{IsExport, Prints, sheet_text}
 use Rattle.program_entry.specs.About.{IsPrinted}
 use Rattle.pool_command.specs.About.{topic_text}
-use Rattle.pool_command.specs.Clauses.{AsksAbout, AsksServe, AsksSession, Counts, IsAnswered, IsDone, IsOfTables, IsUnused, NamesFailure, NamesFault, Opens, place_of}
+use Rattle.pool_command.specs.Clauses.{AsksAbout, AsksExport, AsksServe, AsksSession, Counts, IsAnswered, IsDone, IsOfTables, IsUnused, NamesFailure, NamesFault, Opens, place_of}
 use Rattle.pool_command.specs.Runs.{PoolOutside}
 
 -- a fault of the tables of the words was said
@@ -112,7 +114,7 @@ module _ (words : List (List ℕ)) (old new : PoolOutside) (before after : Liste
   of_serve s asks r = elim r.run [
     | inl v ↦ served_by s v.entries v.listening asks v.serves v.heard v.silent v.said
     | inr more ↦ elim more [
-      | inl v ↦ of_refused s.db (inr (s, asks, refl)) v.0 v.1
+      | inl v ↦ of_refused s.db (inr (inl (s, asks, refl))) v.0 v.1
       | inr rest ↦ elim rest [
         | inl v ↦ inr (inr (inr (inr (v.is, (ap (λ (t : Streams). t.errors) v.streams, inr (ap (λ (t : Streams). t.output) v.streams))))))
         | inr v ↦ inr (inr (inl (v.is, inr (inr (inr (s, asks, v.failed))))))
@@ -125,9 +127,22 @@ module _ (words : List (List ℕ)) (old new : PoolOutside) (before after : Liste
   printed_by : (topic : Topic) → AsksAbout words topic → new.streams.errors ≡ old.streams.errors
       → EndsWith old.streams.output new.streams.output (topic_text topic) 0 status ⊎ ((status ≡ 5) × (new.streams.output ≡ old.streams.output))
       → Outcome words old new before after status
-  printed_by topic asks silent (inl (inl said)) = inl (said.0, inr (inr (topic, asks, said.1)), silent)
+  printed_by topic asks silent (inl (inl said)) = inl (said.0, inr (inr (inl (topic, asks, said.1))), silent)
   printed_by topic asks silent (inl (inr failed)) = inr (inr (inl (failed.0, inr (inl failed.1))))
   printed_by topic asks silent (inr none) = inr (inr (inr (inr (none.0, (silent, inr none.1)))))
 
   pub of_about : (topic : Topic) → AsksAbout words topic → IsPrinted (topic_text topic) old.streams new.streams status → Outcome words old new before after status
   of_about topic asks s = printed_by topic asks s.errors s.said
+
+  -- ---- `export`
+
+  exported_by : (sheet : Sheet) (db : Option (List ℕ)) → AsksExport words sheet db → (p : Prints sheet db old new status)
+      → EndsWith old.streams.output new.streams.output (sheet_text sheet p.pools) 0 status ⊎ ((status ≡ 5) × (new.streams.output ≡ old.streams.output))
+      → Outcome words old new before after status
+  exported_by sheet db asks p (inl (inl said)) =
+      inl (said.0, inr (inr (inr (sheet, db, asks, record { pools = p.pools; loaded = p.loaded; said = said.1; input = p.input; stored = p.same }))), p.errors)
+  exported_by sheet db asks p (inl (inr failed)) = inr (inr (inl (failed.0, inr (inl failed.1))))
+  exported_by sheet db asks p (inr none) = inr (inr (inr (inr (none.0, (p.errors, inr none.1)))))
+
+  pub of_export : (sheet : Sheet) (db : Option (List ℕ)) → AsksExport words sheet db → IsExport sheet db old new status → after ≡ before → Outcome words old new before after status
+  of_export sheet db asks s idle = elim s.run [ inl p ↦ exported_by sheet db asks p p.said | inr r ↦ of_refused db (inr (inr (sheet, asks))) r idle ]

@@ -13,6 +13,7 @@ use program_entry::{print_text, version_line};
 const COMMANDS: &str = "usage: poold COMMAND [OPTIONS]
   session         one HTTP session over standard input and output
   serve           HTTP for all that connect
+  export KIND     ranges, groups, AS numbers or VLANs as a CSV file
   version         the version of this program
   help [COMMAND]  this text, or what a command takes
 poold help COMMAND has the options of a command with their defaults.
@@ -33,6 +34,13 @@ Serves HTTP/1.1 for all that connect.
   --db FILE              the SQLite file of the pools; without it empty pools in memory
 ";
 
+/// What `export` takes.
+const EXPORT: &str = "usage: poold export KIND [--db FILE]
+Prints the ranges or the members of a kind as a CSV file.
+  KIND                   asn-ranges, vlan-groups, asns or vlans
+  --db FILE              the SQLite file of the pools; without it empty pools in memory
+";
+
 /// What `version` takes.
 const VERSION_HELP: &str = "usage: poold version
 Prints the version of the program. Also --version, -V.
@@ -50,6 +58,7 @@ fn usage_of(name: CommandName) -> &'static str
     match name {
         CommandName::Session => SESSION,
         CommandName::Serve => SERVE,
+        CommandName::Export => EXPORT,
         CommandName::Version => VERSION_HELP,
         CommandName::Help => HELP,
     }

@@ -4,6 +4,7 @@
 
 mod about;
 mod entry;
+mod export;
 mod laws;
 mod run;
 mod serve;

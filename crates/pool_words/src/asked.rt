@@ -11,11 +11,25 @@ pub struct Serving {
     pub db: Option<WordText>,
 }
 
+/// What a file of pools lists, a row each.
+#[derive(Clone, Copy, Debug)]
+pub enum Sheet {
+    /// Ranges of numbers of autonomous systems.
+    AsnRanges,
+    /// Groups of VLANs.
+    VlanGroups,
+    /// Numbers of autonomous systems.
+    Asns,
+    /// VLANs.
+    Vlans,
+}
+
 /// A command by its name.
 #[derive(Clone, Copy, Debug)]
 pub enum CommandName {
     Session,
     Serve,
+    Export,
     Version,
     Help,
 }
@@ -38,6 +52,8 @@ pub enum Command {
     Session(Option<WordText>),
     /// Sessions with all that connect.
     Serve(Serving),
+    /// The rows of a file, of the pools of this file, if any.
+    Export(Sheet, Option<WordText>),
     /// A text about the program: `version` and `help`.
     About(Topic),
 }

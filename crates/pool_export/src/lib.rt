@@ -1,0 +1,7 @@
+//! The command `export` of `poold`.
+#![tactic(auto)]
+
+mod export;
+mod loading;
+
+pub use export::run_export;
