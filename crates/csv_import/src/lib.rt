@@ -22,5 +22,6 @@ pub mod stops;
 mod vrf;
 mod weights;
 
-pub use exports::write_rows;
+pub use exports::{line_of, write_rows};
 pub use files::read_rows;
+pub use records::records;

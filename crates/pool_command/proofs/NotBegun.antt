@@ -10,10 +10,10 @@ use Rattle.pool_opening.specs.declared.faults.PoolFault.TheVariants.{Memory}
 use Rattle.pool_service.specs.Protocol.{pool_protocol}
 use Rattle.pool_store.specs.Meaning.{pool_opener}
 use Rattle.pool_store.proofs.Refused.{unchanged, unopened_so}
-use Rattle.pool_export.specs.Export.{IsExport}
-use Rattle.pool_words.specs.declared.asked.Sheet.{Sheet}
+use Rattle.pool_texts.specs.Print.{IsPrint}
+use Rattle.pool_words.specs.declared.asked.Listing.{Listing}
 use Rattle.pool_words.specs.declared.asked.Command.{Command}
-use Rattle.pool_words.specs.declared.asked.Command.TheVariants.{Session, Serve, Export, About}
+use Rattle.pool_words.specs.declared.asked.Command.TheVariants.{Session, Serve, Print, About}
 use Rattle.program_entry.proofs.Printed.{printed_not_begun}
 use Rattle.pool_command.specs.About.{topic_text}
 use Rattle.pool_command.specs.Runs.{Answers, PoolOutside}
@@ -49,8 +49,8 @@ no_session path old new status five same = record {
   quiet = λ z. (none_rose old new same, inl (ap (λ (o : PoolOutside). o.stores.faults) same));
 }
 
-pub no_export : (sheet : Sheet) (path : Option (List ℕ)) (old new : PoolOutside) (status : ℕ) → status ≡ 5 → new ≡ old → IsExport sheet path old new status
-no_export sheet path old new status five same = record {
+pub no_print : (listing : Listing) (path : Option (List ℕ)) (old new : PoolOutside) (status : ℕ) → status ≡ 5 → new ≡ old → IsPrint listing path old new status
+no_print listing path old new status five same = record {
   run = inr (refused_nothing path old new status five same);
   later = none_fell old new same;
   quiet = λ z. (none_rose old new same, ap (λ (o : PoolOutside). o.stores.faults) same);
@@ -75,6 +75,6 @@ pub no_command : (command : Command) (old new : PoolOutside) (before after : Lis
     → Answers command old new before after status
 no_command (Session db) old new before after status five same idle = (no_session db old new status five same, idle)
 no_command (Serve s) old new before after status five same idle = no_serve s.db _ old new before after status five same idle
-no_command (Export sheet db) old new before after status five same idle = (no_export sheet db old new status five same, idle)
+no_command (Print listing db) old new before after status five same idle = (no_print listing db old new status five same, idle)
 no_command (About topic) old new before after status five same idle =
     (printed_not_begun (topic_text topic) old.streams new.streams status five (ap (λ (o : PoolOutside). o.streams) same), ap (λ (o : PoolOutside). o.stores) same, idle)

@@ -19,14 +19,14 @@ use Rattle.pool_store.specs.FaultWords.{IsSaid, fault_line}
 use Rattle.pool_store.specs.Meaning.{pool_opener}
 use Rattle.pool_store.specs.Opening.{IsRefusedOpening}
 use Rattle.pool_words.specs.Asked.{Asks}
-use Rattle.pool_words.specs.declared.asked.Command.TheVariants.{Session, Serve, Export, About}
-use Rattle.pool_words.specs.declared.asked.Sheet.{Sheet}
+use Rattle.pool_words.specs.declared.asked.Command.TheVariants.{Session, Serve, Print, About}
+use Rattle.pool_words.specs.declared.asked.Listing.{Listing}
 use Rattle.pool_words.specs.declared.asked.Topic.{Topic}
 use Rattle.pool_words.specs.declared.asked.Serving.{Serving}
-use Rattle.pool_export.specs.Export.{IsExport, Prints, sheet_text}
+use Rattle.pool_texts.specs.Print.{IsListing, IsPrint, IsPut, Prints as PrintsPools}
 use Rattle.program_entry.specs.About.{IsPrinted}
 use Rattle.pool_command.specs.About.{topic_text}
-use Rattle.pool_command.specs.Clauses.{AsksAbout, AsksExport, AsksServe, AsksSession, Counts, IsAnswered, IsDone, IsOfTables, IsUnused, NamesFailure, NamesFault, Opens, place_of}
+use Rattle.pool_command.specs.Clauses.{AsksAbout, AsksPrint, AsksServe, AsksSession, Counts, IsAnswered, IsDone, IsOfTables, IsUnused, NamesFailure, NamesFault, Opens, place_of}
 use Rattle.pool_command.specs.Runs.{PoolOutside}
 
 -- a fault of the tables of the words was said
@@ -134,15 +134,14 @@ module _ (words : List (List ℕ)) (old new : PoolOutside) (before after : Liste
   pub of_about : (topic : Topic) → AsksAbout words topic → IsPrinted (topic_text topic) old.streams new.streams status → Outcome words old new before after status
   of_about topic asks s = printed_by topic asks s.errors s.said
 
-  -- ---- `export`
+  -- ---- `export` and `report`
 
-  exported_by : (sheet : Sheet) (db : Option (List ℕ)) → AsksExport words sheet db → (p : Prints sheet db old new status)
-      → EndsWith old.streams.output new.streams.output (sheet_text sheet p.pools) 0 status ⊎ ((status ≡ 5) × (new.streams.output ≡ old.streams.output))
+  put_by : (listing : Listing) (db : Option (List ℕ)) → AsksPrint words listing db → (p : PrintsPools listing db old new status) → IsPut listing p.pools old new status
       → Outcome words old new before after status
-  exported_by sheet db asks p (inl (inl said)) =
-      inl (said.0, inr (inr (inr (sheet, db, asks, record { pools = p.pools; loaded = p.loaded; said = said.1; input = p.input; stored = p.same }))), p.errors)
-  exported_by sheet db asks p (inl (inr failed)) = inr (inr (inl (failed.0, inr (inl failed.1))))
-  exported_by sheet db asks p (inr none) = inr (inr (inr (inr (none.0, (p.errors, inr none.1)))))
+  put_by listing db asks p (inl (text, is, inl said)) =
+      inl (said.0, inr (inr (inr (listing, db, asks, record { pools = p.pools; loaded = p.loaded; text = text; is = is; said = said.1; input = p.input; stored = p.same }))), p.errors)
+  put_by listing db asks p (inl (text, is, inr failed)) = inr (inr (inl (failed.0, inr (inl failed.1))))
+  put_by listing db asks p (inr none) = inr (inr (inr (inr (none.0, (p.errors, inr none.1)))))
 
-  pub of_export : (sheet : Sheet) (db : Option (List ℕ)) → AsksExport words sheet db → IsExport sheet db old new status → after ≡ before → Outcome words old new before after status
-  of_export sheet db asks s idle = elim s.run [ inl p ↦ exported_by sheet db asks p p.said | inr r ↦ of_refused db (inr (inr (sheet, asks))) r idle ]
+  pub of_print : (listing : Listing) (db : Option (List ℕ)) → AsksPrint words listing db → IsPrint listing db old new status → after ≡ before → Outcome words old new before after status
+  of_print listing db asks s idle = elim s.run [ inl p ↦ put_by listing db asks p p.put | inr r ↦ of_refused db (inr (inr (listing, asks))) r idle ]

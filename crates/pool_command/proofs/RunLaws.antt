@@ -21,13 +21,13 @@ use Rattle.pool_store.specs.FaultWords.{IsSaid, fault_line}
 use Rattle.pool_store.specs.Meaning.{pool_opener}
 use Rattle.pool_words.specs.Asked.{Asks, IsNoCommand}
 use Rattle.pool_words.specs.declared.asked.Command.{Command}
-use Rattle.pool_words.specs.declared.asked.Command.TheVariants.{Session, Serve, Export, About}
+use Rattle.pool_words.specs.declared.asked.Command.TheVariants.{Session, Serve, Print, About}
 use Rattle.pool_words.specs.declared.asked.Serving.{Serving}
 use Rattle.pool_words.proofs.Unique.{words_ask_for_one}
 use Rattle.pool_command.specs.Clauses.{AnyFailed, AsksServe, AsksSession, HasClauses, IsAnswered, IsDone, IsQuiet, ListenerFailed, RunsHaveClauses, place_of}
 use Rattle.pool_command.specs.Runs.{Answers, PoolOutside, SaysUsage, usage_text}
 use Rattle.pool_command.proofs.NotBegun.{no_command, none_fell, none_rose}
-use Rattle.pool_command.proofs.Outcomes.{HasFailed, HasFailedStore, IsNamed, Outcome, RanOut, of_about, of_export, of_serve, of_session}
+use Rattle.pool_command.proofs.Outcomes.{HasFailed, HasFailedStore, IsNamed, Outcome, RanOut, of_about, of_print, of_serve, of_session}
 use Rattle.program_entry.proofs.Printed.{printed_quiet}
 use Rattle.pool_command.specs.About.{topic_text}
 
@@ -111,7 +111,7 @@ idle_of : (words : List (List ℕ)) (command : Command) (old new : PoolOutside) 
     → ((s : Serving) → ¬ AsksServe words s) → after ≡ before
 idle_of words (Session db) old new before after status asks answers none = answers.1
 idle_of words (Serve s) old new before after status asks answers none = absurd (none s asks)
-idle_of words (Export sheet db) old new before after status asks answers none = answers.1
+idle_of words (Print listing db) old new before after status asks answers none = answers.1
 idle_of words (About topic) old new before after status asks answers none = answers.2
 
 -- ---- what the record of `session` gives
@@ -162,7 +162,7 @@ answered_of words db old new before after asks (inl d) =
     subst (λ (p : Option (List ℕ)). IsAnswered p old new) one d.2)
 answered_of words db old new before after asks (inr (inr (inl d))) = absurd (let wrong : About d.0 ≡ Session db = words_ask_for_one words (About d.0) (Session db) d.1 asks in cc)
 answered_of words db old new before after asks (inr (inr (inr d))) =
-    absurd (let wrong : Export d.0 d.1 ≡ Session db = words_ask_for_one words (Export d.0 d.1) (Session db) d.2 asks in cc)
+    absurd (let wrong : Print d.0 d.1 ≡ Session db = words_ask_for_one words (Print d.0 d.1) (Session db) d.2 asks in cc)
 answered_of words db old new before after asks (inr (inl d)) = absurd (let wrong : Serve d.0 ≡ Session db = words_ask_for_one words (Serve d.0) (Session db) d.1 asks in cc)
 
 -- ---- all clauses
@@ -227,9 +227,9 @@ run_of words (Serve s) old new before after status asks answers = record {
   listener_later = answers.listener_later;
   quiet = λ z. (let q = answers.quiet z in record { streams = q.0; stores = inl q.1; listener = ap (λ (v : ListenerView). v.faults) q.2 });
 }
-run_of words (Export sheet db) old new before after status asks answers = record {
+run_of words (Print listing db) old new before after status asks answers = record {
   asks = asks;
-  outcome = of_export words old new before after status sheet db asks answers.0 answers.1;
+  outcome = of_print words old new before after status listing db asks answers.0 answers.1;
   answers = answers;
   lanes_back = lanes_kept before after answers.1;
   later = answers.0.later;

@@ -14,6 +14,7 @@ const COMMANDS: &str = "usage: poold COMMAND [OPTIONS]
   session         one HTTP session over standard input and output
   serve           HTTP for all that connect
   export KIND     ranges, groups, AS numbers or VLANs as a CSV file
+  report          a line for each range: what is taken and what is free
   version         the version of this program
   help [COMMAND]  this text, or what a command takes
 poold help COMMAND has the options of a command with their defaults.
@@ -41,6 +42,12 @@ Prints the ranges or the members of a kind as a CSV file.
   --db FILE              the SQLite file of the pools; without it empty pools in memory
 ";
 
+/// What `report` takes.
+const REPORT: &str = "usage: poold report [--db FILE]
+Prints a line for each range: its numbers, how many are taken and how many are free, and the free ones.
+  --db FILE              the SQLite file of the pools; without it empty pools in memory
+";
+
 /// What `version` takes.
 const VERSION_HELP: &str = "usage: poold version
 Prints the version of the program. Also --version, -V.
@@ -59,6 +66,7 @@ fn usage_of(name: CommandName) -> &'static str
         CommandName::Session => SESSION,
         CommandName::Serve => SERVE,
         CommandName::Export => EXPORT,
+        CommandName::Report => REPORT,
         CommandName::Version => VERSION_HELP,
         CommandName::Help => HELP,
     }

@@ -4,8 +4,8 @@
 
 mod about;
 mod entry;
-mod export;
 mod laws;
+mod print;
 mod run;
 mod serve;
 mod session;

@@ -6,25 +6,12 @@ ghost use Rattle.csv.specs.Writing.{default_writer, row_text};
 ghost use Rattle.number_pools.specs.Steps.{of_kind};
 ghost use Rattle.pool_csv.specs.Exports.{line_in, member_fields, member_header, member_line, members_text, range_fields, range_header, range_line, ranges_text};
 
-use csv::{StringRecord, WriterBuilder};
+use csv::StringRecord;
+use csv_import::line_of;
 use number_pools::{Member, NumberRange, PoolKind};
 use pool_opening::same_kind;
 use pool_rows::PoolRows;
 use std::alloc::{AllocError, Global};
-
-/// The line of these fields. `Err` means out of memory.
-fn line_of(alloc: Global, fields: &StringRecord) -> Result<Vec<u8>, AllocError>
-    ensures { IfOk result (λ v. v.items ≡ row_text default_writer (fields_of fields.now)) }
-{
-    let mut wtr = WriterBuilder::new().from_writer(Vec::new(alloc));
-    if wtr.write_byte_record(fields.as_byte_record()).is_err() {
-        return Err(AllocError);
-    }
-    match wtr.into_inner() {
-        Ok(text) => Ok(text),
-        Err(_) => Err(AllocError),
-    }
-}
 
 /// Three fields. `Err` means out of memory.
 fn three(alloc: Global, one: &str, two: &str, last: &str) -> Result<StringRecord, AllocError>

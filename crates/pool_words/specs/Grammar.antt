@@ -12,6 +12,10 @@ unfoldable pub serve_app : App
 serve_app = with_rule (with_rule (with_rule (with_rule (command_app (codes "serve")) (needed_rule (codes "bind"))) (needed_rule (codes "workers")))
     (option_rule (codes "connections"))) (option_rule (codes "db"))
 
+-- `report`
+unfoldable pub report_app : App
+report_app = with_rule (command_app (codes "report")) (option_rule (codes "db"))
+
 -- `export KIND`
 unfoldable pub export_app : App
 export_app = with_rule (with_rule (command_app (codes "export")) (place_rule (codes "kind"))) (option_rule (codes "db"))

@@ -24,12 +24,22 @@ pub enum Sheet {
     Vlans,
 }
 
+/// What is printed of pools.
+#[derive(Clone, Copy, Debug)]
+pub enum Listing {
+    /// The rows of a file: `export`.
+    Rows(Sheet),
+    /// A line for each range: `report`.
+    Report,
+}
+
 /// A command by its name.
 #[derive(Clone, Copy, Debug)]
 pub enum CommandName {
     Session,
     Serve,
     Export,
+    Report,
     Version,
     Help,
 }
@@ -52,8 +62,8 @@ pub enum Command {
     Session(Option<WordText>),
     /// Sessions with all that connect.
     Serve(Serving),
-    /// The rows of a file, of the pools of this file, if any.
-    Export(Sheet, Option<WordText>),
+    /// A text about the pools of this file, if any: `export` and `report`.
+    Print(Listing, Option<WordText>),
     /// A text about the program: `version` and `help`.
     About(Topic),
 }

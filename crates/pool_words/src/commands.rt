@@ -3,7 +3,7 @@
 ghost use Rattle.std.specs.Prelude.{◌≡◌, codes, false, IfOk};
 ghost use Rattle.clap.specs.Words.{app_of, rule_of};
 ghost use Rattle.command_grammar.specs.Grammar.{place_rule};
-ghost use Rattle.pool_words.specs.Grammar.{export_app, serve_app, session_app};
+ghost use Rattle.pool_words.specs.Grammar.{export_app, report_app, serve_app, session_app};
 
 use clap::{Arg, ArgAction};
 use command_grammar::{needed, option, plain_command, with};
@@ -45,4 +45,12 @@ pub(crate) fn export_command<'a>(alloc: Global) -> Result<clap::Command<'a>, All
 {
     let command = with(plain_command(alloc, "export"), kind_place(alloc))?;
     with(command, option(alloc, "db"))
+}
+
+/// `report`. `Err` means out of memory.
+#[tactic(auto, unfolding(crate::specs::Grammar::report_app))]
+pub(crate) fn report_command<'a>(alloc: Global) -> Result<clap::Command<'a>, AllocError>
+    ensures { IfOk result (λ c. app_of c ≡ report_app) }
+{
+    with(plain_command(alloc, "report"), option(alloc, "db"))
 }

@@ -5,8 +5,8 @@ ghost use Rattle.pool_words.specs.declared.asked.Sheet.{Sheet as SheetOf};
 ghost use Rattle.clap.specs.Words.{found_of, rows_of};
 ghost use Rattle.pool_words.specs.Asked.{IsFile, IsReadAs, IsServing, IsSheetValue, sheet_word};
 
-use crate::asked::{Command, Serving, Sheet};
-use crate::commands::{export_command, serve_command, session_command};
+use crate::asked::{Command, Listing, Serving, Sheet};
+use crate::commands::{export_command, report_command, serve_command, session_command};
 use clap::ArgMatches;
 use command_grammar::{parse, value};
 use std::alloc::{AllocError, Global};
@@ -135,5 +135,23 @@ pub(crate) fn read_export<'a>(
     let Some(db) = file_value(alloc, &matches)? else {
         return Ok(None);
     };
-    Ok(Some(Command::Export(sheet, db)))
+    Ok(Some(Command::Print(Listing::Rows(sheet), db)))
+}
+
+/// Reads the words of `report`. `Err` means out of memory.
+#[tactic(auto, using(crate::proofs::Plain::report_is_plain))]
+pub(crate) fn read_report<'a>(
+    alloc: Global,
+    words: &'a [&'a str],
+) -> Result<Option<Command>, AllocError>
+    ensures { IfOk result (λ found. IsReadAs (codes "report") (map (λ w. w.now) words.entry.now) found) }
+{
+    let command = report_command(alloc)?;
+    let Some(matches) = parse(command, words)? else {
+        return Ok(None);
+    };
+    let Some(db) = file_value(alloc, &matches)? else {
+        return Ok(None);
+    };
+    Ok(Some(Command::Print(Listing::Report, db)))
 }

@@ -14,6 +14,7 @@ use std::thread::Threads;
 const COMMANDS: &str = "session --db
 serve --bind --workers --connections --db
 export KIND --db
+report --db
 version
 help [COMMAND]";
 

@@ -28,7 +28,8 @@ const CASES: [&str; 10] = [
     r#"2 1;range 1 asn a 5 4
 1|session --db a|store: range 1
 1|serve --bind x --workers 1 --db a|store: range 1
-1|export vlan-groups --db a|store: range 1"#,
+1|export vlan-groups --db a|store: range 1
+1|report --db a|store: range 1"#,
     r#"2 3;range 1 asn a 1 9;member 1 1 5;member 2 1 5
 1|session --db a|store: member 2
 1|export asn-ranges --db a|store: member 2"#,
@@ -62,6 +63,8 @@ const CASES: [&str; 10] = [
 2|export ASNS|usage: poold COMMAND
 2|export asns vlans|usage: poold COMMAND
 2|export vlans --db=|usage: poold COMMAND
+2|report x|usage: poold COMMAND
+2|report --db=|usage: poold COMMAND
 2|serve|usage: poold COMMAND
 2|serve --bind x|usage: poold COMMAND
 2|serve --bind x --workers 0|usage: poold COMMAND

@@ -1,4 +1,4 @@
-//! Exports: the rows of each kind, with the quotes of RFC 4180 (2.5 to 2.7), and a store that stays as it is.
+//! Exports: the rows of each kind, with the quotes of RFC 4180 (2.5 to 2.7); the report; and a store that stays as it is.
 
 use crate::running::{Left, run_words};
 use crate::stores::opener_of;
@@ -14,8 +14,8 @@ use std::thread::Threads;
 const STORE: &str =
     "4 5;range 1 asn private 64512 65534;range 2 vlan a,b 1 4094;range 3 asn public 1 10;member 1 1 64513 edge;member 2 2 10 say\"x\";member 3 2 20 voice;member 4 3 7";
 
-/// What `export` is asked for, and what it prints.
-const EXPORTS: [(&str, &str); 6] = [
+/// What is asked for, and what it prints.
+const EXPORTS: [(&str, &str); 8] = [
     (
         "export asn-ranges --db a",
         "name,start,end\nprivate,64512,65534\npublic,1,10\n",
@@ -34,9 +34,17 @@ const EXPORTS: [(&str, &str); 6] = [
     ),
     ("export vlan-groups --db b", "name,start,end\n"),
     ("export asns", "range,asn,name\n"),
+    (
+        "report --db a",
+        "asn-range private 64512-65534: 1 taken, 1022 free: 64512 64514-65534
+vlan-group a,b 1-4094: 2 taken, 4092 free: 1-9 11-19 21-4094
+asn-range public 1-10: 1 taken, 9 free: 1-6 8-10
+",
+    ),
+    ("report", ""),
 ];
 
-/// Runs `export` over the store.
+/// Runs the words over the store.
 fn exported<R: Threads + Wait + Sync>(
     rt: &R,
     alloc: Global,

@@ -6,10 +6,11 @@ use Rattle.pool_opening.specs.declared.faults.PoolFault.TheVariants.{BadRange, B
 use Rattle.pool_store.specs.FaultWords.{IsSaid, fault_line}
 
 -- a text that was not printed
-pub printed_quiet : (text : List ℕ) (old new : Told) (status : ℕ) → EndsWith old new text 0 status ⊎ ((status ≡ 5) × (new ≡ old)) → status ≡ 5 → new.faults ≡ old.faults
-printed_quiet text old new status (inl (inl said)) five = absurd (let e = said.0 in omega arith)
-printed_quiet text old new status (inl (inr failed)) five = absurd (let e = failed.0 in omega arith)
-printed_quiet text old new status (inr none) five = ap (λ (t : Told). t.faults) none.1
+pub put_quiet : (IsText : List ℕ → Type 0) (old new : Told) (status : ℕ) → ((text : List ℕ) × IsText text × EndsWith old new text 0 status) ⊎ ((status ≡ 5) × (new ≡ old))
+    → status ≡ 5 → new.faults ≡ old.faults
+put_quiet IsText old new status (inl (text, is, inl said)) five = absurd (let e = said.0 in omega arith)
+put_quiet IsText old new status (inl (text, is, inr failed)) five = absurd (let e = failed.0 in omega arith)
+put_quiet IsText old new status (inr none) five = ap (λ (t : Told). t.faults) none.1
 
 no_line : {A : Type 0} (line : List ℕ) (wanted status : ℕ) (old new : Told) → ¬ (wanted ≡ 5) → EndsWith old new line wanted status → status ≡ 5 → A
 no_line line wanted status old new other (inl said) five = absurd (let e = said.0 in other (omega arith))

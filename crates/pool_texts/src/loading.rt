@@ -3,6 +3,7 @@
 ghost use Rattle.std.specs.Prelude.{◌≡◌, ◌≤◌, ◌⊎◌, IfOk, IfErr, IsErrOf, OnOk};
 ghost use Rattle.ipam_keeper.specs.Keeping.{Rose};
 ghost use Rattle.machine_command.specs.Outside.{stores};
+ghost use Rattle.number_pools.specs.Lawful.{IsLawfulPools};
 ghost use Rattle.pool_keeper.specs.Keeping.{IsTold, started};
 ghost use Rattle.pool_opening.specs.declared.faults.PoolFault.TheVariants.{Keeper as KeeperFault};
 ghost use Rattle.pool_register.specs.Opened.{IsOpened};
@@ -41,6 +42,7 @@ pub(crate) fn load_pools<O: PoolOpener>(
     opener: &mut O,
 ) -> Result<PoolRows, PoolFault>
     ensures loaded { IfOk result (λ r. IsOpened (started (O.stored opener.old) path.now) r.pools) }
+    ensures lawful { IfOk result (λ r. IsLawfulPools r.pools) }
     ensures ok_still { OnOk result (O.faults opener.new ≡ O.faults opener.old) }
     ensures refused { IfErr result (IsRefusedOpening path.now (stores O.stored O.faults opener.old) (stores O.stored O.faults opener.new)) }
     ensures still { IfErr result (λ fault. (fault ≡ KeeperFault) ⊎ (O.faults opener.new ≡ O.faults opener.old)) }

@@ -1,9 +1,10 @@
-//! The command `export`.
+//! The commands that print a text of pools: `export` and `report`.
 
-ghost use Rattle.std.specs.Prelude.{◌≡◌, ◌≤◌, ◌⊎◌, IfOk};
+ghost use Rattle.std.specs.Prelude.{◌≡◌, ◌≤◌, ◌⊎◌, ℕ, List, IfOk};
 ghost use Rattle.command_streams.specs.Streams.{EndsWith, Told, streams, told};
 ghost use Rattle.machine_command.specs.Outside.{outside, stores};
-ghost use Rattle.pool_export.specs.Export.{IsExport, sheet_text as text_of_sheet};
+ghost use Rattle.number_pools.specs.Lawful.{IsLawfulPools};
+ghost use Rattle.pool_texts.specs.Print.{IsListing, IsPrint, sheet_text as text_of_sheet};
 
 use crate::loading::load_pools;
 use command_streams::{DONE, MEMORY, end_with};
@@ -11,9 +12,10 @@ use ipam_edge::Sink;
 use number_pools::PoolKind;
 use pool_csv::{members_text, ranges_text};
 use pool_keeper::keeper::PoolOpener;
+use pool_report::report_text;
 use pool_rows::PoolRows;
 use pool_store::say_fault;
-use pool_words::Sheet;
+use pool_words::{Listing, Sheet};
 use std::alloc::{AllocError, Global};
 use stored_tables::tables::Text;
 
@@ -29,13 +31,25 @@ fn sheet_text(alloc: Global, sheet: Sheet, rows: &PoolRows) -> Result<Vec<u8>, A
     }
 }
 
-/// Prints the text of a file of these pools, and gives the status: 0, 3 if the output failed, or 5 if memory ran out before.
-fn print_sheet<Si: Sink>(alloc: Global, sheet: Sheet, rows: PoolRows, output: &mut Si) -> u8
-    ensures said { EndsWith (told Si.written Si.faults output.old) (told Si.written Si.faults output.new) (text_of_sheet sheet rows.pools) 0 result
+/// The text that is asked for of these pools. `Err` means out of memory.
+fn listing_text(alloc: Global, listing: Listing, rows: &PoolRows) -> Result<Vec<u8>, AllocError>
+    requires { IsLawfulPools rows.now.pools }
+    ensures { IfOk result (λ v. IsListing listing rows.now.pools v.items) }
+{
+    match listing {
+        Listing::Rows(sheet) => sheet_text(alloc, sheet, rows),
+        Listing::Report => report_text(alloc, rows),
+    }
+}
+
+/// Prints the text that is asked for of these pools, and gives the status: 0, 3 if the output failed, or 5 if memory ran out before.
+fn print_listing<Si: Sink>(alloc: Global, listing: Listing, rows: PoolRows, output: &mut Si) -> u8
+    requires { IsLawfulPools rows.pools }
+    ensures put { ((text : List ℕ) × IsListing listing rows.pools text × EndsWith (told Si.written Si.faults output.old) (told Si.written Si.faults output.new) text 0 result)
         ⊎ ((result ≡ 5) × (told Si.written Si.faults output.new ≡ told Si.written Si.faults output.old)) }
     ensures later { Si.faults output.old ≤ Si.faults output.new }
 {
-    let text = sheet_text(alloc, sheet, &rows);
+    let text = listing_text(alloc, listing, &rows);
     drop(rows);
     match text {
         Ok(text) => end_with(output, text.as_slice(), DONE),
@@ -43,21 +57,21 @@ fn print_sheet<Si: Sink>(alloc: Global, sheet: Sheet, rows: PoolRows, output: &m
     }
 }
 
-/// Runs `export`: the rows of a file, of the pools of the store under this path, which stays as it is; without a path of empty pools.
-pub fn run_export<Si: Sink, Se: Sink, O: PoolOpener>(
+/// Runs `export` or `report`: a text of the pools of the store under this path, which stays as it is; without a path of empty pools.
+pub fn run_print<Si: Sink, Se: Sink, O: PoolOpener>(
     alloc: Global,
-    sheet: Sheet,
+    listing: Listing,
     path: &Option<Text>,
     output: &mut Si,
     errors: &mut Se,
     opener: &mut O,
 ) -> u8
-    ensures { (input : Told) → IsExport sheet path.now
+    ensures { (input : Told) → IsPrint listing path.now
         (outside (streams input (told Si.written Si.faults output.old) (told Se.written Se.faults errors.old)) (stores O.stored O.faults opener.old))
         (outside (streams input (told Si.written Si.faults output.new) (told Se.written Se.faults errors.new)) (stores O.stored O.faults opener.new)) result }
 {
     match load_pools(alloc, path, opener) {
-        Ok(rows) => print_sheet(alloc, sheet, rows, output),
+        Ok(rows) => print_listing(alloc, listing, rows, output),
         Err(fault) => say_fault(fault, errors),
     }
 }

@@ -1,5 +1,5 @@
-use Rattle.pool_export.proofs.Loaded.{same_after}
-use Rattle.pool_export.proofs.loading.load_tables.Goals as goal
+use Rattle.pool_texts.proofs.Loaded.{same_after}
+use Rattle.pool_texts.proofs.loading.load_tables.Goals as goal
 
 pub returns-clause-same : goal.returns-clause-same
 returns-clause-same g c =

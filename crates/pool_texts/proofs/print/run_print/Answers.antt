@@ -1,20 +1,20 @@
 use Rattle.std.proofs.Common.{refl, inl, inr, arith}
-use Rattle.pool_export.proofs.Printing.{printed_quiet, said_quiet, store_quiet}
-use Rattle.pool_export.proofs.export.run_export.Goals as goal
+use Rattle.pool_texts.proofs.Printing.{put_quiet, said_quiet, store_quiet}
+use Rattle.pool_texts.proofs.print.run_print.Goals as goal
 
 pub returns-in-Ok : goal.returns-in-Ok
 returns-in-Ok g c = λ input. record {
   run = inl (record {
     pools = c.in-Ok.rows.pools;
     loaded = c.in-Ok.ensures.loaded;
-    said = c.print_sheet.ensures.said;
+    put = c.print_listing.ensures.put;
     input = refl;
     errors = refl;
     same = c.load_pools.ensures.same;
     still = c.in-Ok.ensures.ok_still;
   });
-  later = record { streams = record { input = omega arith; output = c.print_sheet.ensures.later; errors = omega arith }; stores = c.load_pools.ensures.later };
-  quiet = λ five. (record { input = refl; output = printed_quiet _ _ _ _ c.print_sheet.ensures.said five; errors = refl }, c.in-Ok.ensures.ok_still);
+  later = record { streams = record { input = omega arith; output = c.print_listing.ensures.later; errors = omega arith }; stores = c.load_pools.ensures.later };
+  quiet = λ five. (record { input = refl; output = put_quiet _ _ _ _ c.print_listing.ensures.put five; errors = refl }, c.in-Ok.ensures.ok_still);
 }
 
 pub returns-in-Err : goal.returns-in-Err
