@@ -1,7 +1,7 @@
 #!/usr/bin/env bash
 # The scripts of examples/ and the pictures of docs/: curl's
-# day; pynetbox over poold; the moves from NetBox, phpIPAM and a spreadsheet, with what they print and the CSV files that they write (those of AS numbers and
-# VLANs were written by hand), and those of AS numbers and VLANs into pools; and that docs/layers.svg
+# day; pynetbox over poold; the moves from NetBox, phpIPAM and a spreadsheet, with what they print and the CSV files that they write; those of AS numbers and
+# VLANs into pools, with what `poold export` prints of them (the CSV files were written by hand); and that docs/layers.svg
 # and docs/tree.svg are still what their scripts draw. Each has a register of its own. What runs behind nginx (pynetbox, Ansible) is in conformance/netbox.py.
 #     conformance/run clients [PORT]
 set -euo pipefail
@@ -54,16 +54,21 @@ move() {
     diff -r "$folder/$source" "$top/$csv" > "$folder/diff" || fail "the CSV files of $source: $(head -n 5 "$folder/diff")"
 }
 
-# a move of AS numbers and VLANs twice: its status, what the first says last, and what the second does
+# a move of AS numbers and VLANs twice: its status, what the first says last, and what the second does; and the pools then, of which the CSV files have this
+# row more, that is refused
 move_numbers() {
-    local source=$1 path=$2 wanted=$3 made=$4 again=$5 status line
-    program=$pools start
+    local source=$1 path=$2 csv=$3 wanted=$4 made=$5 again=$6 refused=$7 status kind line
+    program=$pools start --db "$folder/$source-pools.db"
     for line in "$made" "$again"; do
         status=0
-        python3 "$top/examples/move.py" "$source" "$path" --pools "$url" "${@:6}" > "$folder/out" 2> "$folder/err" || status=$?
+        python3 "$top/examples/move.py" "$source" "$path" --pools "$url" "${@:8}" > "$folder/out" 2> "$folder/err" || status=$?
         [ "$status" = "$wanted" ] && [ "$(tail -n 1 "$folder/out")" = "pools: $line" ] || fail "the numbers of $source, status $status: $(cat "$folder/out" "$folder/err")"
     done
     stop
+    for kind in asn-ranges vlan-groups asns vlans; do
+        "$pools" export "$kind" --db "$folder/$source-pools.db" > "$folder/out" || fail "export $kind"
+        grep -vx "$refused" "$csv/$kind.csv" | cmp - "$folder/out" || fail "the $kind of $source: $(cat "$folder/out")"
+    done
 }
 
 # a client by pynetbox: its words; its last line is said
@@ -83,9 +88,14 @@ stop
 start
 move spreadsheet examples/spreadsheet.csv examples/spreadsheet-csv 1 "made 23, present 1, refused 1" "made 0, present 24, refused 1"
 stop
+mkdir "$folder/sheet"
 printf 'Network,Mask,Name,Use,Status,Remark,VLAN,Site,ASN\n10.0.1.0,24,LAN 1,,,,10,Depot,\n2001:db8:1::,64,LAN 1,,,,10,Depot,\n10.0.2.0,24,Phones,,,,20,,\n,,edge 2,,,,,,64530\n,,"edge, 1",,,,,,64520\n' > "$folder/sheet.csv"
-move_numbers netbox "$top/examples/netbox" 0 "made 11, present 0, refused 0" "made 0, present 11, refused 0" --group other --asn-range private
-move_numbers phpipam "$top/examples/phpipam" 1 "made 5, present 0, refused 1" "made 0, present 5, refused 1"
-move_numbers spreadsheet "$folder/sheet.csv" 0 "made 7, present 0, refused 0" "made 0, present 7, refused 0" --group other --asn-range edges
+printf 'name,start,end\nedges,64520,64530\n' > "$folder/sheet/asn-ranges.csv"
+printf 'name,start,end\nDepot,1,4094\nother,1,4094\n' > "$folder/sheet/vlan-groups.csv"
+printf 'range,asn,name\nedges,64530,edge 2\nedges,64520,"edge, 1"\n' > "$folder/sheet/asns.csv"
+printf 'group,vid,name\nDepot,10,LAN 1\nother,20,Phones\n' > "$folder/sheet/vlans.csv"
+move_numbers netbox "$top/examples/netbox" "$top/examples/netbox/csv" 0 "made 11, present 0, refused 0" "made 0, present 11, refused 0" none --group other --asn-range private
+move_numbers phpipam "$top/examples/phpipam" "$top/examples/phpipam/csv" 1 "made 5, present 0, refused 1" "made 0, present 5, refused 1" "default,10,old office"
+move_numbers spreadsheet "$folder/sheet.csv" "$folder/sheet" 0 "made 7, present 0, refused 0" "made 0, present 7, refused 0" none --group other --asn-range edges
 python3 "$top/docs/layers.py" --check
 echo "clients: three moves and three of numbers, twice each, and both pictures as they should be"

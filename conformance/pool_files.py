@@ -3,7 +3,9 @@ standard error says what the table of docs/USING-POOLS.md has, and each row of i
 
     conformance/run files_pools
 """
+import csv
 import hashlib
+import io
 import os
 import re
 import shutil
@@ -128,6 +130,22 @@ def broken_rows():
     check(session([], db=os.path.join(folder, "no", "such.db")) == (4, b"", UNREAD), "a folder that is not there")
 
 
+def exports():
+    """`export` prints what sqlite3 reads of the file, as Python's csv writes it, and leaves the rows."""
+    ranges = "SELECT name, first, last FROM ranges WHERE kind = '{}' ORDER BY id"
+    members = "SELECT r.name, m.number, m.name FROM members m JOIN ranges r ON r.id = m.range WHERE r.kind = '{}' ORDER BY m.id"
+    session([request_of("POST", "vlan-groups/", {"name": 'a,"b"', "start": 1, "end": 9}), request_of("POST", "vlan-groups/", {"name": "=1", "start": 1, "end": 9})])
+    before = query("SELECT * FROM ranges"), query("SELECT * FROM members")
+    for kind, header, rows in (("asn-ranges", "name,start,end", ranges.format("asn")), ("vlan-groups", "name,start,end", ranges.format("vlan")),
+                               ("asns", "range,asn,name", members.format("asn")), ("vlans", "group,vid,name", members.format("vlan"))):
+        wanted = io.StringIO()
+        writer = csv.writer(wanted, lineterminator="\n")
+        writer.writerows([header.split(","), *query(rows)])
+        done = subprocess.run([program, "export", kind, "--db", path], stdin=subprocess.DEVNULL, capture_output=True)
+        check((done.returncode, done.stdout, done.stderr) == (0, wanted.getvalue().encode(), b""), f"export {kind}: {done}")
+    check(before == (query("SELECT * FROM ranges"), query("SELECT * FROM members")), "the rows after the exports")
+
+
 def other_files():
     """Each program refuses the other one's file, with every command, and leaves it; an empty file becomes one of its own."""
     made = session([request_of("POST", "prefixes/", {"prefix": "10.0.0.0/24"})], db=register_path, of=register)
@@ -183,6 +201,7 @@ two_processes()
 broken_rows()
 other_files()
 copied()
+exports()
 table_of_page()
 shutil.rmtree(folder)
 print(f"files: {checks} checks passed")

@@ -19,8 +19,8 @@ use ipam_data::kinds::Kind;
 use ipam_words::field_name;
 use std::alloc::{AllocError, Global};
 
-/// The line of these fields.
-fn line_of(alloc: Global, fields: &StringRecord) -> Result<Vec<u8>, AllocError>
+/// The line of these fields, as RFC 4180 has it, with a line feed at its end. `Err` means out of memory.
+pub fn line_of(alloc: Global, fields: &StringRecord) -> Result<Vec<u8>, AllocError>
     ensures { IfOk result (λ v. v.items ≡ row_text default_writer (fields_of fields.now)) }
 {
     let mut wtr = WriterBuilder::new().from_writer(Vec::new(alloc));

@@ -22,5 +22,5 @@ pub mod stops;
 mod vrf;
 mod weights;
 
-pub use exports::write_rows;
+pub use exports::{line_of, write_rows};
 pub use files::read_rows;

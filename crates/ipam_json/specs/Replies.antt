@@ -36,7 +36,7 @@ view_data (AddressView row) = address_data row
 abbrev pub views_data : List View → Data
 views_data views = array (items_of (map view_data views))
 
--- a page of a list: how many rows the list has, the links to the pages beside it, and its rows
+-- a page of a list: how many rows the list has, the links to the next page and the previous one, and its rows
 abbrev pub page_form : ℕ → Links → Data → Data
 page_form count links results = object (members (
     (codes "count", number_data count)

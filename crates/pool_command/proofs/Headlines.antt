@@ -43,7 +43,7 @@ use Rattle.pool_store.specs.Opening.{AreSame, Holds, StoredPools}
 use Rattle.pool_store.proofs.Refused.{left_same}
 use Rattle.pool_words.specs.Asked.{Asks}
 use Rattle.pool_words.specs.declared.asked.Command.{Command}
-use Rattle.pool_words.specs.declared.asked.Command.TheVariants.{Session, Serve, About}
+use Rattle.pool_words.specs.declared.asked.Command.TheVariants.{Session, Serve, Print, About}
 use Rattle.pool_words.specs.declared.asked.Serving.{Serving}
 use Rattle.pool_words.proofs.Unique.{words_ask_for_one}
 use Rattle.pool_command.specs.Clauses.{IsUnused, place_of}
@@ -265,6 +265,7 @@ of_command : Laws → (command : Command) (old new : PoolOutside) (before after 
     → HasHeadline command old new before after status
 of_command laws_hold (Session db) old new before after status k = of_session laws_hold db old new before after status k.0
 of_command laws_hold (Serve s) old new before after status k = of_serve laws_hold s old new before after status k
+of_command laws_hold (Print listing db) old new before after status k = tt
 of_command laws_hold (About topic) old new before after status k = tt
 
 -- memory ran out to read the words
@@ -276,6 +277,7 @@ of_none (Serve s) old new before after status five same idle = (
   (λ z. absurd (omega arith)),
   inr (ap (λ (t : PoolOutside). t.streams.output) same, nobody_came before after idle, subst (λ (t : PoolOutside). AreSame old.stores.stored t.stores.stored) (sym same) (same_stored old.stores.stored)),
 )
+of_none (Print listing db) old new before after status five same idle = tt
 of_none (About topic) old new before after status five same idle = tt
 
 pub headline_of_run : Laws → (words : List (List ℕ)) (old new : PoolOutside) (before after : ListenerView) (status : ℕ) → Runs words old new before after status

@@ -6,3 +6,4 @@ pub mod RunLaws
 pub mod Sent
 pub mod Headlines
 pub mod AboutLaws
+pub mod PrintLaws

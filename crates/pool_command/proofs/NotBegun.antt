@@ -10,8 +10,10 @@ use Rattle.pool_opening.specs.declared.faults.PoolFault.TheVariants.{Memory}
 use Rattle.pool_service.specs.Protocol.{pool_protocol}
 use Rattle.pool_store.specs.Meaning.{pool_opener}
 use Rattle.pool_store.proofs.Refused.{unchanged, unopened_so}
+use Rattle.pool_texts.specs.Print.{IsPrint}
+use Rattle.pool_words.specs.declared.asked.Listing.{Listing}
 use Rattle.pool_words.specs.declared.asked.Command.{Command}
-use Rattle.pool_words.specs.declared.asked.Command.TheVariants.{Session, Serve, About}
+use Rattle.pool_words.specs.declared.asked.Command.TheVariants.{Session, Serve, Print, About}
 use Rattle.program_entry.proofs.Printed.{printed_not_begun}
 use Rattle.pool_command.specs.About.{topic_text}
 use Rattle.pool_command.specs.Runs.{Answers, PoolOutside}
@@ -47,6 +49,13 @@ no_session path old new status five same = record {
   quiet = λ z. (none_rose old new same, inl (ap (λ (o : PoolOutside). o.stores.faults) same));
 }
 
+pub no_print : (listing : Listing) (path : Option (List ℕ)) (old new : PoolOutside) (status : ℕ) → status ≡ 5 → new ≡ old → IsPrint listing path old new status
+no_print listing path old new status five same = record {
+  run = inr (refused_nothing path old new status five same);
+  later = none_fell old new same;
+  quiet = λ z. (none_rose old new same, ap (λ (o : PoolOutside). o.stores.faults) same);
+}
+
 pub no_serve : (path : Option (List ℕ)) (s : Serving) (old new : PoolOutside) (before after : ListenerView) (status : ℕ) → status ≡ 5 → new ≡ old → after ≡ before
     → IsServe pool_protocol pool_opener path s old new before after status
 no_serve path s old new before after status five same idle =
@@ -66,5 +75,6 @@ pub no_command : (command : Command) (old new : PoolOutside) (before after : Lis
     → Answers command old new before after status
 no_command (Session db) old new before after status five same idle = (no_session db old new status five same, idle)
 no_command (Serve s) old new before after status five same idle = no_serve s.db _ old new before after status five same idle
+no_command (Print listing db) old new before after status five same idle = (no_print listing db old new status five same, idle)
 no_command (About topic) old new before after status five same idle =
     (printed_not_begun (topic_text topic) old.streams new.streams status five (ap (λ (o : PoolOutside). o.streams) same), ap (λ (o : PoolOutside). o.stores) same, idle)

@@ -19,12 +19,14 @@ use Rattle.pool_store.specs.FaultWords.{IsSaid, fault_line}
 use Rattle.pool_store.specs.Meaning.{pool_opener}
 use Rattle.pool_store.specs.Opening.{IsRefusedOpening}
 use Rattle.pool_words.specs.Asked.{Asks}
-use Rattle.pool_words.specs.declared.asked.Command.TheVariants.{Session, Serve, About}
+use Rattle.pool_words.specs.declared.asked.Command.TheVariants.{Session, Serve, Print, About}
+use Rattle.pool_words.specs.declared.asked.Listing.{Listing}
 use Rattle.pool_words.specs.declared.asked.Topic.{Topic}
 use Rattle.pool_words.specs.declared.asked.Serving.{Serving}
+use Rattle.pool_texts.specs.Print.{IsListing, IsPrint, IsPut, Prints as PrintsPools}
 use Rattle.program_entry.specs.About.{IsPrinted}
 use Rattle.pool_command.specs.About.{topic_text}
-use Rattle.pool_command.specs.Clauses.{AsksAbout, AsksServe, AsksSession, Counts, IsAnswered, IsDone, IsOfTables, IsUnused, NamesFailure, NamesFault, Opens, place_of}
+use Rattle.pool_command.specs.Clauses.{AsksAbout, AsksPrint, AsksServe, AsksSession, Counts, IsAnswered, IsDone, IsOfTables, IsUnused, NamesFailure, NamesFault, Opens, place_of}
 use Rattle.pool_command.specs.Runs.{PoolOutside}
 
 -- a fault of the tables of the words was said
@@ -112,7 +114,7 @@ module _ (words : List (List ℕ)) (old new : PoolOutside) (before after : Liste
   of_serve s asks r = elim r.run [
     | inl v ↦ served_by s v.entries v.listening asks v.serves v.heard v.silent v.said
     | inr more ↦ elim more [
-      | inl v ↦ of_refused s.db (inr (s, asks, refl)) v.0 v.1
+      | inl v ↦ of_refused s.db (inr (inl (s, asks, refl))) v.0 v.1
       | inr rest ↦ elim rest [
         | inl v ↦ inr (inr (inr (inr (v.is, (ap (λ (t : Streams). t.errors) v.streams, inr (ap (λ (t : Streams). t.output) v.streams))))))
         | inr v ↦ inr (inr (inl (v.is, inr (inr (inr (s, asks, v.failed))))))
@@ -125,9 +127,21 @@ module _ (words : List (List ℕ)) (old new : PoolOutside) (before after : Liste
   printed_by : (topic : Topic) → AsksAbout words topic → new.streams.errors ≡ old.streams.errors
       → EndsWith old.streams.output new.streams.output (topic_text topic) 0 status ⊎ ((status ≡ 5) × (new.streams.output ≡ old.streams.output))
       → Outcome words old new before after status
-  printed_by topic asks silent (inl (inl said)) = inl (said.0, inr (inr (topic, asks, said.1)), silent)
+  printed_by topic asks silent (inl (inl said)) = inl (said.0, inr (inr (inl (topic, asks, said.1))), silent)
   printed_by topic asks silent (inl (inr failed)) = inr (inr (inl (failed.0, inr (inl failed.1))))
   printed_by topic asks silent (inr none) = inr (inr (inr (inr (none.0, (silent, inr none.1)))))
 
   pub of_about : (topic : Topic) → AsksAbout words topic → IsPrinted (topic_text topic) old.streams new.streams status → Outcome words old new before after status
   of_about topic asks s = printed_by topic asks s.errors s.said
+
+  -- ---- `export` and `report`
+
+  put_by : (listing : Listing) (db : Option (List ℕ)) → AsksPrint words listing db → (p : PrintsPools listing db old new status) → IsPut listing p.pools old new status
+      → Outcome words old new before after status
+  put_by listing db asks p (inl (text, is, inl said)) =
+      inl (said.0, inr (inr (inr (listing, db, asks, record { pools = p.pools; loaded = p.loaded; text = text; is = is; said = said.1; input = p.input; stored = p.same }))), p.errors)
+  put_by listing db asks p (inl (text, is, inr failed)) = inr (inr (inl (failed.0, inr (inl failed.1))))
+  put_by listing db asks p (inr none) = inr (inr (inr (inr (none.0, (p.errors, inr none.1)))))
+
+  pub of_print : (listing : Listing) (db : Option (List ℕ)) → AsksPrint words listing db → IsPrint listing db old new status → after ≡ before → Outcome words old new before after status
+  of_print listing db asks s idle = elim s.run [ inl p ↦ put_by listing db asks p p.put | inr r ↦ of_refused db (inr (inr (listing, asks))) r idle ]

@@ -21,13 +21,13 @@ use Rattle.pool_store.specs.FaultWords.{IsSaid, fault_line}
 use Rattle.pool_store.specs.Meaning.{pool_opener}
 use Rattle.pool_words.specs.Asked.{Asks, IsNoCommand}
 use Rattle.pool_words.specs.declared.asked.Command.{Command}
-use Rattle.pool_words.specs.declared.asked.Command.TheVariants.{Session, Serve, About}
+use Rattle.pool_words.specs.declared.asked.Command.TheVariants.{Session, Serve, Print, About}
 use Rattle.pool_words.specs.declared.asked.Serving.{Serving}
 use Rattle.pool_words.proofs.Unique.{words_ask_for_one}
 use Rattle.pool_command.specs.Clauses.{AnyFailed, AsksServe, AsksSession, HasClauses, IsAnswered, IsDone, IsQuiet, ListenerFailed, RunsHaveClauses, place_of}
 use Rattle.pool_command.specs.Runs.{Answers, PoolOutside, SaysUsage, usage_text}
 use Rattle.pool_command.proofs.NotBegun.{no_command, none_fell, none_rose}
-use Rattle.pool_command.proofs.Outcomes.{HasFailed, HasFailedStore, IsNamed, Outcome, RanOut, of_about, of_serve, of_session}
+use Rattle.pool_command.proofs.Outcomes.{HasFailed, HasFailedStore, IsNamed, Outcome, RanOut, of_about, of_print, of_serve, of_session}
 use Rattle.program_entry.proofs.Printed.{printed_quiet}
 use Rattle.pool_command.specs.About.{topic_text}
 
@@ -111,6 +111,7 @@ idle_of : (words : List (List ℕ)) (command : Command) (old new : PoolOutside) 
     → ((s : Serving) → ¬ AsksServe words s) → after ≡ before
 idle_of words (Session db) old new before after status asks answers none = answers.1
 idle_of words (Serve s) old new before after status asks answers none = absurd (none s asks)
+idle_of words (Print listing db) old new before after status asks answers none = answers.1
 idle_of words (About topic) old new before after status asks answers none = answers.2
 
 -- ---- what the record of `session` gives
@@ -159,7 +160,9 @@ answered_of words db old new before after asks (inl d) =
     (let same : Session d.0 ≡ Session db = words_ask_for_one words (Session d.0) (Session db) d.1 asks in
     let one : d.0 ≡ db = cc in
     subst (λ (p : Option (List ℕ)). IsAnswered p old new) one d.2)
-answered_of words db old new before after asks (inr (inr d)) = absurd (let wrong : About d.0 ≡ Session db = words_ask_for_one words (About d.0) (Session db) d.1 asks in cc)
+answered_of words db old new before after asks (inr (inr (inl d))) = absurd (let wrong : About d.0 ≡ Session db = words_ask_for_one words (About d.0) (Session db) d.1 asks in cc)
+answered_of words db old new before after asks (inr (inr (inr d))) =
+    absurd (let wrong : Print d.0 d.1 ≡ Session db = words_ask_for_one words (Print d.0 d.1) (Session db) d.2 asks in cc)
 answered_of words db old new before after asks (inr (inl d)) = absurd (let wrong : Serve d.0 ≡ Session db = words_ask_for_one words (Serve d.0) (Session db) d.1 asks in cc)
 
 -- ---- all clauses
@@ -223,6 +226,15 @@ run_of words (Serve s) old new before after status asks answers = record {
   later = answers.later;
   listener_later = answers.listener_later;
   quiet = λ z. (let q = answers.quiet z in record { streams = q.0; stores = inl q.1; listener = ap (λ (v : ListenerView). v.faults) q.2 });
+}
+run_of words (Print listing db) old new before after status asks answers = record {
+  asks = asks;
+  outcome = of_print words old new before after status listing db asks answers.0 answers.1;
+  answers = answers;
+  lanes_back = lanes_kept before after answers.1;
+  later = answers.0.later;
+  listener_later = count_kept before after answers.1;
+  quiet = λ z. (let q = answers.0.quiet z in record { streams = q.0; stores = inl q.1; listener = ap (λ (v : ListenerView). v.faults) answers.1 });
 }
 run_of words (About topic) old new before after status asks answers = record {
   asks = asks;

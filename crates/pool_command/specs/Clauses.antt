@@ -9,19 +9,21 @@ use Rattle.machine_command.specs.Session.{HasFailedCall, IsSession, Prints, Serv
 use Rattle.machine_serving.specs.Serve.{AllCame, IsServe, Serving as Place, ServesStore, entries_line, serving}
 use Rattle.machine_serving.specs.Views.{ListenerView, ListeningFailed, NobodyCame, NoneFailed}
 use Rattle.number_pools.specs.declared.calls.PoolCall.{PoolCall}
-use Rattle.number_pools.specs.Rows.{empty_pools}
+use Rattle.number_pools.specs.Rows.{Pools, empty_pools}
+use Rattle.pool_texts.specs.Print.{IsListing}
 use Rattle.pool_keeper.specs.Keeping.{started}
 use Rattle.pool_opening.specs.declared.faults.PoolFault.{PoolFault}
 use Rattle.pool_opening.specs.declared.faults.PoolFault.TheVariants.{BadRange, BadMember, BadNext, Keeper, Memory}
 use Rattle.pool_register.specs.Kept.{Seen, seen_step}
-use Rattle.pool_register.specs.Opened.{IsUnopened}
+use Rattle.pool_register.specs.Opened.{IsOpened, IsUnopened}
 use Rattle.pool_service.specs.Protocol.{pool_protocol}
 use Rattle.pool_store.specs.FaultWords.{fault_line}
 use Rattle.pool_store.specs.Meaning.{pool_opener}
 use Rattle.pool_store.specs.Opening.{AreSame, IsLoaded}
 use Rattle.pool_words.specs.Asked.{Asks, IsNoCommand}
 use Rattle.pool_words.specs.declared.asked.Command.{Command}
-use Rattle.pool_words.specs.declared.asked.Command.TheVariants.{Session, Serve, About}
+use Rattle.pool_words.specs.declared.asked.Command.TheVariants.{Session, Serve, Print, About}
+use Rattle.pool_words.specs.declared.asked.Listing.{Listing}
 use Rattle.pool_words.specs.declared.asked.Topic.{Topic}
 use Rattle.pool_words.specs.declared.asked.Serving.{Serving}
 use Rattle.pool_command.specs.About.{topic_text}
@@ -35,6 +37,10 @@ AsksSession words db = Asks words (Session db)
 abbrev pub AsksServe : List (List ℕ) → Serving → Type 0
 AsksServe words s = Asks words (Serve s)
 
+-- the arguments ask for a text of the pools of this path, or of none
+abbrev pub AsksPrint : List (List ℕ) → Listing → Option (List ℕ) → Type 0
+AsksPrint words listing db = Asks words (Print listing db)
+
 -- the arguments ask for a text about the program
 abbrev pub AsksAbout : List (List ℕ) → Topic → Type 0
 AsksAbout words topic = Asks words (About topic)
@@ -45,7 +51,7 @@ place_of s = serving s.bind s.workers s.connections
 
 -- the arguments ask for pools of this file, or of none
 abbrev pub Opens : List (List ℕ) → Option (List ℕ) → Type 0
-Opens words path = AsksSession words path ⊎ ((s : Serving) × AsksServe words s × (s.db ≡ path))
+Opens words path = AsksSession words path ⊎ ((s : Serving) × AsksServe words s × (s.db ≡ path)) ⊎ ((listing : Listing) × AsksPrint words listing path)
 
 -- one of the streams or the opener failed meanwhile
 abbrev pub AnyFailed : PoolOutside → PoolOutside → Type 0
@@ -55,6 +61,7 @@ AnyFailed old new = SomeFailed old.streams new.streams ⊎ StoreFailed old new
 abbrev pub ListenerFailed : Command → ListenerView → ListenerView → Type 0
 ListenerFailed (Session db) before after = ⊥
 ListenerFailed (Serve s) before after = ListeningFailed before after
+ListenerFailed (Print listing db) before after = ⊥
 ListenerFailed (About topic) before after = ⊥
 
 -- nothing was read and nothing printed, and known tables are unchanged
@@ -102,11 +109,22 @@ pub record Counts (s : Serving) (old new : PoolOutside) (before after : Listener
   pub serves : ServesStore pool_protocol pool_opener s.db (place_of s) old new before after entries
   pub said : Gains old.streams.output new.streams.output (entries_line entries)
 
+-- the text of the pools that the tables of this path represent is on the output, and known tables are unchanged
+pub record HasPrinted (listing : Listing) (path : Option (List ℕ)) (old new : PoolOutside) : Type 0 where
+  pub pools : Pools
+  pub loaded : IsOpened (started old.stores.stored path) pools
+  pub text : List ℕ
+  pub is : IsListing listing pools text
+  pub said : Gains old.streams.output new.streams.output text
+  pub input : new.streams.input ≡ old.streams.input
+  pub stored : AreSame old.stores.stored new.stores.stored
+
 -- what the arguments ask for is on the output; of `serve` that is the count of the changes, once all that connect were served
 abbrev pub IsDone : List (List ℕ) → PoolOutside → PoolOutside → ListenerView → ListenerView → Type 0
 IsDone words old new before after =
     ((db : Option (List ℕ)) × AsksSession words db × IsAnswered db old new) ⊎ ((s : Serving) × AsksServe words s × Counts s old new before after)
     ⊎ ((topic : Topic) × AsksAbout words topic × Gains old.streams.output new.streams.output (topic_text topic))
+    ⊎ ((listing : Listing) × (db : Option (List ℕ)) × AsksPrint words listing db × HasPrinted listing db old new)
 
 -- no count of faults rose; but after a `session` that of the opener may have, if a call was answered by a failed keeper
 pub record IsQuiet (words : List (List ℕ)) (old new : PoolOutside) (before after : ListenerView) : Type 0 where

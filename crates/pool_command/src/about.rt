@@ -13,6 +13,8 @@ use program_entry::{print_text, version_line};
 const COMMANDS: &str = "usage: poold COMMAND [OPTIONS]
   session         one HTTP session over standard input and output
   serve           HTTP for all that connect
+  export KIND     ranges, groups, AS numbers or VLANs as a CSV file
+  report          a line for each range: what is taken and what is free
   version         the version of this program
   help [COMMAND]  this text, or what a command takes
 poold help COMMAND has the options of a command with their defaults.
@@ -33,6 +35,19 @@ Serves HTTP/1.1 for all that connect.
   --db FILE              the SQLite file of the pools; without it empty pools in memory
 ";
 
+/// What `export` takes.
+const EXPORT: &str = "usage: poold export KIND [--db FILE]
+Prints the ranges or the members of a kind as a CSV file.
+  KIND                   asn-ranges, vlan-groups, asns or vlans
+  --db FILE              the SQLite file of the pools; without it empty pools in memory
+";
+
+/// What `report` takes.
+const REPORT: &str = "usage: poold report [--db FILE]
+Prints a line for each range: its numbers, how many are taken and how many are free, and the free ones.
+  --db FILE              the SQLite file of the pools; without it empty pools in memory
+";
+
 /// What `version` takes.
 const VERSION_HELP: &str = "usage: poold version
 Prints the version of the program. Also --version, -V.
@@ -50,6 +65,8 @@ fn usage_of(name: CommandName) -> &'static str
     match name {
         CommandName::Session => SESSION,
         CommandName::Serve => SERVE,
+        CommandName::Export => EXPORT,
+        CommandName::Report => REPORT,
         CommandName::Version => VERSION_HELP,
         CommandName::Help => HELP,
     }

@@ -5,6 +5,7 @@
 mod about;
 mod entry;
 mod laws;
+mod print;
 mod run;
 mod serve;
 mod session;

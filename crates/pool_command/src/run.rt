@@ -9,6 +9,7 @@ ghost use Rattle.pool_command.specs.Headline.{HasHeadlines};
 ghost use Rattle.pool_command.specs.Runs.{Answers, IsUsage, Runs};
 
 use crate::about::run_about;
+use crate::print::print_words;
 use crate::session::{run_session, serve_words};
 use command_streams::{MEMORY, USAGE, end_with};
 use ipam_edge::{Sink, Source};
@@ -57,6 +58,9 @@ fn run_command<
         (listener_view L.bound L.lanes L.returned L.faults listener.old) (listener_view L.bound L.lanes L.returned L.faults listener.new) result }
 {
     match command {
+        Command::Print(listing, db) => {
+            print_words(alloc, *listing, db, output, errors, opener)
+        }
         Command::About(topic) => run_about(*topic, output),
         Command::Session(db) => run_session(alloc, db, input, output, errors, opener),
         Command::Serve(serving) => {

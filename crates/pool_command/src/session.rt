@@ -26,7 +26,7 @@ use stored_tables::tables::Text;
 use word_values::WordText;
 
 /// The path that was given, if any. `Err` means out of memory.
-fn path_of(alloc: Global, word: &Option<WordText>) -> Result<Option<Text>, AllocError>
+pub(crate) fn path_of(alloc: Global, word: &Option<WordText>) -> Result<Option<Text>, AllocError>
     ensures { IfOk result (λ path. path ≡ word.now) }
 {
     match word {

@@ -1,4 +1,4 @@
--- A page of the members of a kind in JSON, with the links to the pages beside it.
+-- A page of the members of a kind in JSON, with the links to the next page and the previous one.
 use Rattle.std.specs.Prelude.{ℕ, ◌+◌, ◌-◌, ◌==◌, nat_le, List, [], ◌++◌, codes, decimal, length, Option, Some, None, option_map, if◌then◌else◌}
 use Rattle.form_urlencoded.specs.Form.{append_pair}
 use Rattle.serde_json.specs.Data.{Data}

@@ -196,7 +196,7 @@ impl PoolRows {
     }
 
     /// The pool of the range of this id; without one, that id.
-    fn pool(&self, id: u32) -> u32
+    pub fn pool(&self, id: u32) -> u32
         ensures { (m : OneMember) → m.range ≡ id → result ≡ pool_at self.now.pools.ranges.rows m }
     {
         match self.ranges.get(id) {

@@ -4,9 +4,10 @@ use Rattle.clap.specs.Simple.{App}
 use Rattle.clap.specs.Walk.{Row}
 use Rattle.command_grammar.specs.Grammar.{Takes, given}
 use Rattle.pool_words.specs.declared.asked.Command.{Command}
-use Rattle.pool_words.specs.declared.asked.Command.TheVariants.{Session, Serve, About}
+use Rattle.pool_words.specs.declared.asked.Command.TheVariants.{Session, Serve, Print, About}
+use Rattle.pool_words.specs.declared.asked.Listing.TheVariants.{Rows, Report}
 use Rattle.pool_words.specs.declared.asked.Topic.TheVariants as topic
-use Rattle.pool_words.specs.Grammar.{session_app}
+use Rattle.pool_words.specs.Grammar.{export_app, report_app, session_app}
 use Rattle.pool_words.specs.declared.asked.CommandName.{CommandName}
 use Rattle.pool_words.specs.Asked.{Asks, IsFile, IsNoCommand, IsReadAs, command_word, name_in, name_of}
 use Rattle.word_values.specs.Values.{main_name}
@@ -42,15 +43,54 @@ none_named first main words m h none = λ c asks. none (name_in c) (m ∙ named_
 none_asked : (words : List (List ℕ)) (rows : List Row) → rows ≡ given session_app words → ((d : Option (List ℕ)) → ¬ IsFile rows d) → (c : Command) → name_of c ≡ codes "session" → ¬ Asks words c
 none_asked words rows is none (Session d) same asks = none d (subst (λ (r : List Row). IsFile r d) (sym is) asks.values)
 none_asked words rows is none (Serve s) same asks = let e = ap sum same in absurd (omega arith)
+none_asked words rows is none (Print (Rows sheet) d) same asks = let e = ap sum same in absurd (omega arith)
+none_asked words rows is none (Print Report d) same asks = let e = ap sum same in absurd (omega arith)
 none_asked words rows is none (About topic.Version) same asks = let e = ap sum same in absurd (omega arith)
 none_asked words rows is none (About topic.Commands) same asks = let e = ap sum same in absurd (omega arith)
 none_asked words rows is none (About (topic.Command n)) same asks = let e = ap sum same in absurd (omega arith)
 
--- words with the name of `session` that give no file as they should ask for nothing
+none_exported : (words : List (List ℕ)) (rows : List Row) → rows ≡ given export_app words → ((d : Option (List ℕ)) → ¬ IsFile rows d) → (c : Command) → name_of c ≡ codes "export" → ¬ Asks words c
+none_exported words rows is none (Print (Rows sheet) d) same asks = none d (subst (λ (r : List Row). IsFile r d) (sym is) asks.values.1)
+none_exported words rows is none (Print Report d) same asks = let e = ap sum same in absurd (omega arith)
+none_exported words rows is none (Session d) same asks = let e = ap sum same in absurd (omega arith)
+none_exported words rows is none (Serve s) same asks = let e = ap sum same in absurd (omega arith)
+none_exported words rows is none (About topic.Version) same asks = let e = ap sum same in absurd (omega arith)
+none_exported words rows is none (About topic.Commands) same asks = let e = ap sum same in absurd (omega arith)
+none_exported words rows is none (About (topic.Command n)) same asks = let e = ap sum same in absurd (omega arith)
+
+none_reported : (words : List (List ℕ)) (rows : List Row) → rows ≡ given report_app words → ((d : Option (List ℕ)) → ¬ IsFile rows d) → (c : Command) → name_of c ≡ codes "report" → ¬ Asks words c
+none_reported words rows is none (Print Report d) same asks = none d (subst (λ (r : List Row). IsFile r d) (sym is) asks.values)
+none_reported words rows is none (Print (Rows sheet) d) same asks = let e = ap sum same in absurd (omega arith)
+none_reported words rows is none (Session d) same asks = let e = ap sum same in absurd (omega arith)
+none_reported words rows is none (Serve s) same asks = let e = ap sum same in absurd (omega arith)
+none_reported words rows is none (About topic.Version) same asks = let e = ap sum same in absurd (omega arith)
+none_reported words rows is none (About topic.Commands) same asks = let e = ap sum same in absurd (omega arith)
+none_reported words rows is none (About (topic.Command n)) same asks = let e = ap sum same in absurd (omega arith)
+
+-- what was taken of the words of a command gives no file as it should
+no_file : {M : Type 0} (words : List (List ℕ)) (rows_of : M → List Row) (wanted app : App) (took : Option M) (m : M) (found : Option (Option (List ℕ))) → app ≡ wanted → took ≡ Some m
+    → MatchOption took (¬ Takes app words) (λ n. Takes app words × (rows_of n ≡ given app words)) → found ≡ None
+    → MatchOption found ((d : Option (List ℕ)) → ¬ IsFile (rows_of m) d) (λ d. IsFile (rows_of m) d) → (rows_of m ≡ given wanted words) × ((d : Option (List ℕ)) → ¬ IsFile (rows_of m) d)
+no_file {M} words rows_of wanted app took m found same is taken none read =
+    let t = subst (λ (k : Option M). MatchOption k (¬ Takes app words) (λ n. Takes app words × (rows_of n ≡ given app words))) is taken in
+    let r = subst (λ (k : Option (Option (List ℕ))). MatchOption k ((d : Option (List ℕ)) → ¬ IsFile (rows_of m) d) (λ d. IsFile (rows_of m) d)) none read in
+    (t.1 ∙ ap (λ (a : App). given a words) same, r)
+
+-- words with the name of one of these that give no file as they should ask for nothing
 pub no_session : {M : Type 0} (words : List (List ℕ)) (rows_of : M → List Row) (app : App) (took : Option M) (m : M) (found : Option (Option (List ℕ))) → app ≡ session_app → took ≡ Some m
     → MatchOption took (¬ Takes app words) (λ n. Takes app words × (rows_of n ≡ given app words)) → found ≡ None
     → MatchOption found ((d : Option (List ℕ)) → ¬ IsFile (rows_of m) d) (λ d. IsFile (rows_of m) d) → (c : Command) → name_of c ≡ codes "session" → ¬ Asks words c
-no_session {M} words rows_of app took m found same is taken none read =
-    let t = subst (λ (k : Option M). MatchOption k (¬ Takes app words) (λ n. Takes app words × (rows_of n ≡ given app words))) is taken in
-    let r = subst (λ (k : Option (Option (List ℕ))). MatchOption k ((d : Option (List ℕ)) → ¬ IsFile (rows_of m) d) (λ d. IsFile (rows_of m) d)) none read in
-    none_asked words (rows_of m) (t.1 ∙ ap (λ (a : App). given a words) same) r
+no_session words rows_of app took m found same is taken none read =
+    let h = no_file words rows_of session_app app took m found same is taken none read in none_asked words (rows_of m) h.0 h.1
+
+pub no_export : {M : Type 0} (words : List (List ℕ)) (rows_of : M → List Row) (app : App) (took : Option M) (m : M) (found : Option (Option (List ℕ))) → app ≡ export_app → took ≡ Some m
+    → MatchOption took (¬ Takes app words) (λ n. Takes app words × (rows_of n ≡ given app words)) → found ≡ None
+    → MatchOption found ((d : Option (List ℕ)) → ¬ IsFile (rows_of m) d) (λ d. IsFile (rows_of m) d) → (c : Command) → name_of c ≡ codes "export" → ¬ Asks words c
+no_export words rows_of app took m found same is taken none read =
+    let h = no_file words rows_of export_app app took m found same is taken none read in none_exported words (rows_of m) h.0 h.1
+
+pub no_report : {M : Type 0} (words : List (List ℕ)) (rows_of : M → List Row) (app : App) (took : Option M) (m : M) (found : Option (Option (List ℕ))) → app ≡ report_app → took ≡ Some m
+    → MatchOption took (¬ Takes app words) (λ n. Takes app words × (rows_of n ≡ given app words)) → found ≡ None
+    → MatchOption found ((d : Option (List ℕ)) → ¬ IsFile (rows_of m) d) (λ d. IsFile (rows_of m) d) → (c : Command) → name_of c ≡ codes "report" → ¬ Asks words c
+no_report words rows_of app took m found same is taken none read =
+    let h = no_file words rows_of report_app app took m found same is taken none read in none_reported words (rows_of m) h.0 h.1

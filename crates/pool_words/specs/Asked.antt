@@ -7,17 +7,22 @@ use Rattle.command_grammar.specs.Grammar.{Takes, given, help_app, version_app}
 use Rattle.word_values.specs.Values.{IsNumberOr, IsNumberValue, IsTextOrNone, IsTextValue, main_name, most_connections, most_workers}
 use Rattle.pool_words.specs.declared.asked.Serving.{Serving}
 use Rattle.pool_words.specs.declared.asked.Command.{Command}
-use Rattle.pool_words.specs.declared.asked.Command.TheVariants.{Session, Serve, About}
+use Rattle.pool_words.specs.declared.asked.Command.TheVariants.{Session, Serve, Print, About}
+use Rattle.pool_words.specs.declared.asked.Listing.TheVariants.{Rows, Report}
+use Rattle.pool_words.specs.declared.asked.Sheet.{Sheet}
+use Rattle.pool_words.specs.declared.asked.Sheet.TheVariants.{AsnRanges, VlanGroups, Asns, Vlans}
 use Rattle.pool_words.specs.declared.asked.CommandName.{CommandName}
 use Rattle.pool_words.specs.declared.asked.CommandName.TheVariants as names
 use Rattle.pool_words.specs.declared.asked.Topic.{Topic}
 use Rattle.pool_words.specs.declared.asked.Topic.TheVariants.{Version, Commands, Command as OfCommand}
-use Rattle.pool_words.specs.Grammar.{serve_app, session_app}
+use Rattle.pool_words.specs.Grammar.{export_app, report_app, serve_app, session_app}
 
 -- the name of a command
 abbrev pub command_word : CommandName → List ℕ
 command_word names.Session = codes "session"
 command_word names.Serve = codes "serve"
+command_word names.Export = codes "export"
+command_word names.Report = codes "report"
 command_word names.Version = codes "version"
 command_word names.Help = codes "help"
 
@@ -25,6 +30,8 @@ command_word names.Help = codes "help"
 abbrev pub name_in : Command → CommandName
 name_in (Session db) = names.Session
 name_in (Serve serving) = names.Serve
+name_in (Print (Rows sheet) db) = names.Export
+name_in (Print Report db) = names.Report
 name_in (About Version) = names.Version
 name_in (About Commands) = names.Help
 name_in (About (OfCommand named)) = names.Help
@@ -36,6 +43,8 @@ name_of command = command_word (name_in command)
 abbrev pub app_of_name : CommandName → App
 app_of_name names.Session = session_app
 app_of_name names.Serve = serve_app
+app_of_name names.Export = export_app
+app_of_name names.Report = report_app
 app_of_name names.Version = version_app
 app_of_name names.Help = help_app
 
@@ -47,6 +56,16 @@ abbrev pub IsTopicValue : Option (List ℕ) → Topic → Type 0
 IsTopicValue text Version = ⊥
 IsTopicValue text Commands = text ≡ None
 IsTopicValue text (OfCommand named) = text ≡ Some (command_word named)
+
+-- the name of what a file lists, as its path has it
+abbrev pub sheet_word : Sheet → List ℕ
+sheet_word AsnRanges = codes "asn-ranges"
+sheet_word VlanGroups = codes "vlan-groups"
+sheet_word Asns = codes "asns"
+sheet_word Vlans = codes "vlans"
+
+abbrev pub IsSheetValue : Option (List ℕ) → Sheet → Type 0
+IsSheetValue text sheet = text ≡ Some (sheet_word sheet)
 
 -- the file that was given, if any
 pub record IsFile (rows : List Row) (db : Option (List ℕ)) : Type 0 where
@@ -63,6 +82,8 @@ pub record IsServing (rows : List Row) (serving : Serving) : Type 0 where
 abbrev pub HasValues : List Row → Command → Type 0
 HasValues rows (Session db) = IsFile rows db
 HasValues rows (Serve serving) = IsServing rows serving
+HasValues rows (Print (Rows sheet) db) = IsSheetValue (first_of (codes "kind") rows) sheet × IsFile rows db
+HasValues rows (Print Report db) = IsFile rows db
 HasValues rows (About Version) = Unit {0}
 HasValues rows (About Commands) = IsTopicValue (first_of (codes "command") rows) Commands
 HasValues rows (About (OfCommand named)) = IsTopicValue (first_of (codes "command") rows) (OfCommand named)

@@ -1,7 +1,7 @@
 -- The words that each command of `poold` takes, as clap's definition has it.
 use Rattle.std.specs.Prelude.{codes}
 use Rattle.clap.specs.Simple.{App, with_rule}
-use Rattle.command_grammar.specs.Grammar.{command_app, needed_rule, option_rule}
+use Rattle.command_grammar.specs.Grammar.{command_app, needed_rule, option_rule, place_rule}
 
 -- `session`
 unfoldable pub session_app : App
@@ -11,3 +11,11 @@ session_app = with_rule (command_app (codes "session")) (option_rule (codes "db"
 unfoldable pub serve_app : App
 serve_app = with_rule (with_rule (with_rule (with_rule (command_app (codes "serve")) (needed_rule (codes "bind"))) (needed_rule (codes "workers")))
     (option_rule (codes "connections"))) (option_rule (codes "db"))
+
+-- `report`
+unfoldable pub report_app : App
+report_app = with_rule (command_app (codes "report")) (option_rule (codes "db"))
+
+-- `export KIND`
+unfoldable pub export_app : App
+export_app = with_rule (with_rule (command_app (codes "export")) (place_rule (codes "kind"))) (option_rule (codes "db"))

@@ -11,11 +11,35 @@ pub struct Serving {
     pub db: Option<WordText>,
 }
 
+/// What a file of pools lists, a row each.
+#[derive(Clone, Copy, Debug)]
+pub enum Sheet {
+    /// Ranges of numbers of autonomous systems.
+    AsnRanges,
+    /// Groups of VLANs.
+    VlanGroups,
+    /// Numbers of autonomous systems.
+    Asns,
+    /// VLANs.
+    Vlans,
+}
+
+/// What is printed of pools.
+#[derive(Clone, Copy, Debug)]
+pub enum Listing {
+    /// The rows of a file: `export`.
+    Rows(Sheet),
+    /// A line for each range: `report`.
+    Report,
+}
+
 /// A command by its name.
 #[derive(Clone, Copy, Debug)]
 pub enum CommandName {
     Session,
     Serve,
+    Export,
+    Report,
     Version,
     Help,
 }
@@ -38,6 +62,8 @@ pub enum Command {
     Session(Option<WordText>),
     /// Sessions with all that connect.
     Serve(Serving),
+    /// A text about the pools of this file, if any: `export` and `report`.
+    Print(Listing, Option<WordText>),
     /// A text about the program: `version` and `help`.
     About(Topic),
 }

@@ -13,6 +13,8 @@ use std::thread::Threads;
 /// Each command, with its places and options as its manual page has them.
 const COMMANDS: &str = "session --db
 serve --bind --workers --connections --db
+export KIND --db
+report --db
 version
 help [COMMAND]";
 

@@ -27,15 +27,19 @@ const CASES: [&str; 10] = [
 0|session --db a|~POST /api/ipam/asn-ranges/|{"name":"a","start":1,"end":1}|507 Insufficient Storage|Ipam-Place: 0|{"code":"limit","detail":"ids would exceed 4294967294"}"#,
     r#"2 1;range 1 asn a 5 4
 1|session --db a|store: range 1
-1|serve --bind x --workers 1 --db a|store: range 1"#,
+1|serve --bind x --workers 1 --db a|store: range 1
+1|export vlan-groups --db a|store: range 1
+1|report --db a|store: range 1"#,
     r#"2 3;range 1 asn a 1 9;member 1 1 5;member 2 1 5
-1|session --db a|store: member 2"#,
+1|session --db a|store: member 2
+1|export asn-ranges --db a|store: member 2"#,
     r#"1 0
 1|session --db a|store: bad next id
 0|session --db b|"#,
     r#"1 1;fails 0
 4|session --db a|store: the store could not be read
-4|serve --bind x --workers 2 --db a|store: the store could not be read"#,
+4|serve --bind x --workers 2 --db a|store: the store could not be read
+4|export asns --db=a|store: the store could not be read"#,
     r#"1 1;fails 1
 0|session --db a|~POST /api/ipam/asn-ranges/|{"name":"a","start":1,"end":9}|503 Service Unavailable|Ipam-Place: 0|{"code":"keeper","detail":"the store could not be written"}~POST /api/ipam/asn-ranges/|{"name":"a","start":1,"end":9}|201 Created|Ipam-Place: 0|{"end":9,"id":1,"name":"a","start":1}
 0|session --db a|~GET /api/ipam/asn-ranges/1/asns/||200 OK|Ipam-Place: 0|[]"#,
@@ -53,6 +57,14 @@ const CASES: [&str; 10] = [
 2|session --db a --db a|usage: poold COMMAND
 2|session --global-unique yes|usage: poold COMMAND
 2|session --help|usage: poold COMMAND
+2|export|usage: poold COMMAND
+2|export --db a|usage: poold COMMAND
+2|export asn|usage: poold COMMAND
+2|export ASNS|usage: poold COMMAND
+2|export asns vlans|usage: poold COMMAND
+2|export vlans --db=|usage: poold COMMAND
+2|report x|usage: poold COMMAND
+2|report --db=|usage: poold COMMAND
 2|serve|usage: poold COMMAND
 2|serve --bind x|usage: poold COMMAND
 2|serve --bind x --workers 0|usage: poold COMMAND

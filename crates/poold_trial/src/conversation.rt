@@ -1,6 +1,6 @@
 //! A conversation with the pools, and its answers by other pools, written from the rules alone: model/pool_conversation.py makes it.
 
-/// What is asked: 194 requests, each on a line.
+/// What is asked: 206 requests, each on a line.
 pub(crate) const ASKED: &str = "\
 POST /api/ipam/asn-ranges/ HTTP/1.1\r\nHost: x\r\nContent-Length: 38\r\n\r\n{\"name\":\"a\",\"start\":64512,\"end\":64514}\
 POST /api/ipam/asn-ranges/1/available-asns/ HTTP/1.1\r\nHost: x\r\nContent-Length: 7\r\n\r\n[{},{}]\
@@ -73,129 +73,141 @@ PATCH /api/ipam/asn-ranges/1/ HTTP/1.1\r\nHost: x\r\nContent-Length: 24\r\n\r\n{
 PATCH /api/ipam/vlan-groups/4/ HTTP/1.1\r\nHost: x\r\nContent-Length: 20\r\n\r\n{\"end\":3,\"name\":\"c\"}\
 GET /api/ipam/vlan-groups/4/available-vlans/ HTTP/1.1\r\nHost: x\r\n\r\n\
 PATCH /api/ipam/vlan-groups/4/ HTTP/1.1\r\nHost: x\r\nContent-Length: 2\r\n\r\n{}\
+GET /api/ipam/asns/?limit=2 HTTP/1.1\r\nHost: x\r\n\r\n\
+GET /api/ipam/asns/?offset=2&limit=2&range_id=1 HTTP/1.1\r\nHost: x\r\n\r\n\
+GET /api/ipam/asns/?asn=64514&range_id=2 HTTP/1.1\r\nHost: x\r\n\r\n\
+GET /api/ipam/asns/?offset=9 HTTP/1.1\r\nHost: x\r\n\r\n\
+GET /api/ipam/vlans/?name=voice HTTP/1.1\r\nHost: x\r\n\r\n\
+GET /api/ipam/vlans/?vid=1&group_id=4&limit=1 HTTP/1.1\r\nHost: x\r\n\r\n\
+GET /api/ipam/vlans/?vid=0 HTTP/1.1\r\nHost: x\r\n\r\n\
+GET /api/ipam/vlans/?group_id=01&limit=x HTTP/1.1\r\nHost: x\r\n\r\n\
+GET /api/ipam/asns/?limit=x&offset=x HTTP/1.1\r\nHost: x\r\n\r\n\
+GET /api/ipam/asns/?offset=-1 HTTP/1.1\r\nHost: x\r\n\r\n\
+POST /api/ipam/asns/ HTTP/1.1\r\nHost: x\r\nContent-Length: 2\r\n\r\n{}\
 DELETE /api/ipam/vlans/4/ HTTP/1.1\r\nHost: x\r\n\r\n\
 DELETE /api/ipam/vlan-groups/4/ HTTP/1.1\r\nHost: x\r\n\r\n\
 GET /api/ipam/vlan-groups/ HTTP/1.1\r\nHost: x\r\n\r\n\
 POST /api/ipam/vlan-groups/3/available-vlans/ HTTP/1.1\r\nHost: x\r\nContent-Length: 751\r\n\r\n[{\"name\":\"room 0\"},{\"name\":\"room 1\"},{\"name\":\"room 2\"},{\"name\":\"room 3\"},{\"name\":\"room 4\"},{\"name\":\"room 5\"},{\"name\":\"room 6\"},{\"name\":\"room 7\"},{\"name\":\"room 8\"},{\"name\":\"room 9\"},{\"name\":\"room 10\"},{\"name\":\"room 11\"},{\"name\":\"room 12\"},{\"name\":\"room 13\"},{\"name\":\"room 14\"},{\"name\":\"room 15\"},{\"name\":\"room 16\"},{\"name\":\"room 17\"},{\"name\":\"room 18\"},{\"name\":\"room 19\"},{\"name\":\"room 20\"},{\"name\":\"room 21\"},{\"name\":\"room 22\"},{\"name\":\"room 23\"},{\"name\":\"room 24\"},{\"name\":\"room 25\"},{\"name\":\"room 26\"},{\"name\":\"room 27\"},{\"name\":\"room 28\"},{\"name\":\"room 29\"},{\"name\":\"room 30\"},{\"name\":\"room 31\"},{\"name\":\"room 32\"},{\"name\":\"room 33\"},{\"name\":\"room 34\"},{\"name\":\"room 35\"},{\"name\":\"room 36\"},{\"name\":\"room 37\"},{\"name\":\"room 38\"},{\"name\":\"room 39\"}]\
-POST /api/ipam/asn-ranges/1/available-asns/?&limit=1001&limit=2 HTTP/1.1\r\nHost: x\r\nContent-Length: 2\r\n\r\n{}\
-POST /api/ipam/asn-ranges/? HTTP/1.1\r\nHost: x\r\nContent-Length: 51\r\n\r\n{\"name\":\"d e2\",\"start\":4294967290,\"end\":4294967290}\
-DELETE /api/ipam/asns/39/ HTTP/1.1\r\nHost: x\r\n\r\n\
-POST /api/ipam/vlan-groups/3/vlans/ HTTP/1.1\r\nHost: x\r\nContent-Length: 30\r\n\r\n[{\"vid\": 6, \"name\": \"\\u00e9\"}]\
-PATCH /api/ipam/asn-ranges/2/?limit=1001&offset=x HTTP/1.1\r\nHost: x\r\nContent-Length: 13\r\n\r\n{\"end\":64513}\
-POST /api/ipam/vlan-groups/3/available-vlans/?limit=1001& HTTP/1.1\r\nHost: x\r\nContent-Length: 15\r\n\r\n[{\"name\":\"é\"}]\
-POST /api/ipam/asn-ranges/3/available-asns/?limit=3 HTTP/1.1\r\nHost: x\r\nContent-Length: 2\r\n\r\n{}\
-POST /api/ipam/asn-ranges/1/available-asns/?name=%&limit=9999999999 HTTP/1.1\r\nHost: x\r\nContent-Length: 36\r\n\r\n[{}, {}, {}, {}, {}, {}, {}, {}, {}]\
-POST /api/ipam/asn-ranges/5/asns/ HTTP/1.1\r\nHost: x\r\nContent-Length: 59\r\n\r\n[{\"asn\": 4294967290, \"name\": \"é\"}, {\"asn\": 4294967290}, 5]\
-GET /api/ipam/asn-ranges/2/asns/?limit=0 HTTP/1.1\r\nHost: x\r\n\r\n\
-POST /api/ipam/asn-ranges/1/available-asns/?limit=7&name=% HTTP/1.1\r\nHost: x\r\nContent-Length: 4\r\n\r\n[{}]\
-DELETE /api/ipam/asns/9/?limit=9999999999&name=% HTTP/1.1\r\nHost: x\r\nContent-Length: 0\r\n\r\n\
-DELETE /api/ipam/asn-ranges/5/?limit=2& HTTP/1.1\r\nHost: x\r\n\r\n\
-PATCH /api/ipam/asn-ranges/1/?limit=2&name=% HTTP/1.1\r\nHost: x\r\nContent-Length: 2\r\n\r\n{}\
-POST /api/ipam/vlan-groups/3/available-vlans/?limit=3 HTTP/1.1\r\nHost: x\r\nContent-Length: 16\r\n\r\n{\"name\": \"\\\"\\\\\"}\
-DELETE /api/ipam/asns/25/ HTTP/1.1\r\nHost: x\r\n\r\n\
-GET /api/ipam/vlan-groups/3/vlans/ HTTP/1.1\r\nHost: x\r\n\r\n\
-PATCH /api/ipam/asns/5/?limit=9999999999& HTTP/1.1\r\nHost: x\r\nContent-Length: 14\r\n\r\n{\"x\":\"\\udc00\"}\
-GET /api/ipam/asn-ranges/4294967296/asns/ HTTP/1.1\r\nHost: x\r\n\r\n\
-PATCH /api/ipam/asns/2/ HTTP/1.1\r\nHost: x\r\nContent-Length: 12\r\n\r\n{\"name\":\"b\"}\
-GET /api/ipam/asn-ranges/2/available-asns/?limit=9999999999&limit=1 HTTP/1.1\r\nHost: x\r\n\r\n\
+GET /api/ipam/asn-ranges/1/asns/ HTTP/1.1\r\nHost: x\r\n\r\n\
+PATCH /api/ipam/asns/99/?&limit=0 HTTP/1.1\r\nHost: x\r\nContent-Length: 14\r\n\r\n{\"name\": \"é\"}\
 POST /api/ipam/asn-ranges/1/available-asns/ HTTP/1.1\r\nHost: x\r\nContent-Length: 2\r\n\r\n{}\
-POST /api/ipam/vlan-groups/3/available-vlans/ HTTP/1.1\r\nHost: x\r\nContent-Length: 13\r\n\r\n{\"name\": \"b\"}\
-GET /api/ipam/asn-ranges/1/available-asns/? HTTP/1.1\r\nHost: x\r\n\r\n\
-DELETE /api/ipam/vlans/29/?limit=&limit=1 HTTP/1.1\r\nHost: x\r\nContent-Length: 0\r\n\r\n\
-PATCH /api/ipam/vlans/42/ HTTP/1.1\r\nHost: x\r\nContent-Length: 13\r\n\r\n{\"name\": \"a\"}\
-DELETE /api/ipam/vlans/28/ HTTP/1.1\r\nHost: x\r\n\r\n\
-GET /api/ipam/vlan-groups/3/available-vlans/?limit=0 HTTP/1.1\r\nHost: x\r\n\r\n\
-GET /api/ipam/asn-ranges/2/asns/?limit=7 HTTP/1.1\r\nHost: x\r\n\r\n\
-GET /api/ipam/vlan-groups/3/vlans/?limit=1001 HTTP/1.1\r\nHost: x\r\n\r\n\
-GET /api/ipam/vlan-groups/3/available-vlans/?name=%&limit=1 HTTP/1.1\r\nHost: x\r\n\r\n\
-POST /api/ipam/vlan-groups/?limit=0 HTTP/1.1\r\nHost: x\r\nContent-Length: 49\r\n\r\n{\"name\":\"\\\"\\\\0\",\"start\":2,\"end\":4,\"x\":4294967295}\
-POST /api/ipam/asn-ranges/1/asns/?limit=9999999999 HTTP/1.1\r\nHost: x\r\nContent-Length: 68\r\n\r\n[{\"asn\": 64512}, {\"asn\": 64512, \"name\": \"\\\"\\\\\"}, {}, {\"asn\": 64513}]\
-GET /api/ipam/vlan-groups/1/available-vlans/ HTTP/1.1\r\nHost: x\r\nContent-Length: 0\r\n\r\n\
-GET /api/ipam/asn-ranges/2/available-asns/?limit=7 HTTP/1.1\r\nHost: x\r\n\r\n\
-POST /api/ipam/vlan-groups/?limit=9999999999&offset=x HTTP/1.1\r\nHost: x\r\nContent-Length: 47\r\n\r\n{\"name\":\"\\\"\\\\1\",\"start\":100,\"end\":4095,\"x\":\"1\"}\
-DELETE /api/ipam/vlans/3/ HTTP/1.1\r\nHost: x\r\n\r\n\
-POST /api/ipam/vlan-groups/6/available-vlans/ HTTP/1.1\r\nHost: x\r\nContent-Length: 12\r\n\r\n{\"name\":\"a\"}\
-PATCH /api/ipam/asns/8/?limit=1& HTTP/1.1\r\nHost: x\r\nContent-Length: 12\r\n\r\n{\"name\": \"\"}\
-POST /api/ipam/vlan-groups/3/available-vlans/?name=% HTTP/1.1\r\nHost: x\r\nContent-Length: 13\r\n\r\n{\"name\": \"c\"}\
-POST /api/ipam/vlan-groups/3/available-vlans/? HTTP/1.1\r\nHost: x\r\nContent-Length: 43\r\n\r\n[{\"name\":\"b\"},{\"name\":\"\\\"\\\\\"},{\"name\":\"a\"}]\
-GET /api/ipam/vlan-groups/6/available-vlans/?&limit=1 HTTP/1.1\r\nHost: x\r\n\r\n\
-PATCH /api/ipam/vlans/19/?name=% HTTP/1.1\r\nHost: x\r\nContent-Length: 12\r\n\r\n{\"name\":\"c\"}\
-DELETE /api/ipam/asns/8/?limit=1 HTTP/1.1\r\nHost: x\r\n\r\n\
-POST /api/ipam/asn-ranges/1/available-asns/?name=% HTTP/1.1\r\nHost: x\r\nContent-Length: 7\r\n\r\n[{},{}]\
-GET /api/ipam/vlan-groups/3/ HTTP/1.1\r\nHost: x\r\n\r\n\
-POST /api/ipam/vlan-groups/3/vlans/ HTTP/1.1\r\nHost: x\r\nContent-Length: 24\r\n\r\n{\"vid\": 12, \"name\": \"c\"}\
-POST /api/ipam/asn-ranges/ HTTP/1.1\r\nHost: x\r\nContent-Length: 54\r\n\r\n{\"name\": \"a0\", \"start\": 4294967290, \"end\": 4294967294}\
-PATCH /api/ipam/vlans/99/ HTTP/1.1\r\nHost: x\r\nContent-Length: 12\r\n\r\n{\"name\":\"b\"}\
-GET /api/ipam/vlan-groups/6/vlans/?name=%&limit=1 HTTP/1.1\r\nHost: x\r\n\r\n\
-GET /api/ipam/asn-ranges/1/available-asns/?limit=1& HTTP/1.1\r\nHost: x\r\n\r\n\
-GET /api/ipam/asn-ranges/1/available-asns/ HTTP/1.1\r\nHost: x\r\nContent-Length: 0\r\n\r\n\
-POST /api/ipam/vlan-groups/6/vlans/?limit=7 HTTP/1.1\r\nHost: x\r\nContent-Length: 20\r\n\r\n{\"vid\":2,\"name\":\"b\"}\
-POST /api/ipam/vlan-groups/3/available-vlans/?name=%&limit=9999999999 HTTP/1.1\r\nHost: x\r\nContent-Length: 12\r\n\r\n{\"name\":\"a\"}\
-DELETE /api/ipam/asn-ranges/2/?&limit=3 HTTP/1.1\r\nHost: x\r\nContent-Length: 0\r\n\r\n\
-GET /api/ipam/vlan-groups/6/available-vlans/?name=%&limit=2 HTTP/1.1\r\nHost: x\r\n\r\n\
-GET /api/ipam/asns/48/?limit=1.0&limit=2 HTTP/1.1\r\nHost: x\r\nContent-Length: 0\r\n\r\n\
-GET /api/ipam/vlan-groups/6/available-vlans/ HTTP/1.1\r\nHost: x\r\n\r\n\
-POST /api/ipam/vlan-groups/6/vlans/?limit=1001&limit=%31 HTTP/1.1\r\nHost: x\r\nContent-Length: 23\r\n\r\n{\"vid\": 2, \"name\": \"b\"}\
-GET /api/ipam/asn-ranges/ HTTP/1.1\r\nHost: x\r\nContent-Length: 0\r\n\r\n\
-GET /api/ipam/vlan-groups/6/available-vlans/ HTTP/1.1\r\nHost: x\r\n\r\n\
-PATCH /api/ipam/asn-ranges/1/ HTTP/1.1\r\nHost: x\r\nContent-Length: 28\r\n\r\n{\"start\":64514,\"name\":\"é1\"}\
-POST /api/ipam/vlan-groups/3/available-vlans/?offset=x&limit=0 HTTP/1.1\r\nHost: x\r\nContent-Length: 15\r\n\r\n[{\"name\": \"b\"}]\
-get /api/ipam/vlans/43/? HTTP/1.1\r\nHost: x\r\nContent-Length: 12\r\n\r\n{\"name\":\"b\"}\
-PATCH /API/IPAM/VLAN-GROUPS/6/ HTTP/1.1\r\nHost: x\r\nContent-Length: 22\r\n\r\n{\"start\": 0, \"end\": 3}\
-PATCH /api/ipam/asns/5/?name=% HTTP/1.1\r\nHost: x\r\nContent-Length: 13\r\n\r\n{\"name\": \"a\"}\
-GET /api/ipam/vlan-groups/3/available-vlans/?&limit=7 HTTP/1.1\r\nHost: x\r\n\r\n\
-DELETE /api/ipam/vlans/31/ HTTP/1.1\r\nHost: x\r\n\r\n\
-DELETE /api/ipam/asns/40/ HTTP/1.1\r\nHost: x\r\n\r\n\
-POST /api/ipam/vlan-groups/3/available-vlans/?name=% HTTP/1.1\r\nHost: x\r\nContent-Length: 16\r\n\r\n[{\"name\":\"d e\"}]\
-POST /api/ipam/asn-ranges/4294967295/asns/?limit=7 HTTP/1.1\r\nHost: x\r\nContent-Length: 2\r\n\r\n{}\
-POST /api/ipam/asn-ranges/7/asns/ HTTP/1.1\r\nHost: x\r\nContent-Length: 98\r\n\r\n[{\"asn\":4294967294},{\"asn\":4294967291},{\"asn\":4294967291,\"name\":\"b\"},{\"asn\":4294967293,\"name\":\"\"}]\
-GET /api/ipam/vlan-groups/3/available-vlans/ HTTP/1.1\r\nHost: x\r\n\r\n\
-GET /api/ipam/asn-ranges/7/available-asns/?name=% HTTP/1.1\r\nHost: x\r\n\r\n\
-PATCH /api/ipam/asn-ranges/1/?limit=0&limit=1&name=% HTTP/1.1\r\nHost: x\r\nContent-Length: 27\r\n\r\n{\"start\":64511,\"name\":\"a2\"}\
-GET /api/ipam/vlan-groups/6/vlans/ HTTP/1.1\r\nHost: x\r\n\r\n\
-POST /api/ipam/asn-ranges/?limit=3 HTTP/1.1\r\nHost: x\r\nContent-Length: 36\r\n\r\n{\"name\": \"b2\", \"start\": 3, \"end\": 4}\
-GET /api/ipam/vlans/20/ HTTP/1.1\r\nHost: x\r\n\r\n\
-GET /api/ipam/vlan-groups/3/available-vlans/?&limit=&limit=0 HTTP/1.1\r\nHost: x\r\n\r\n\
-POST /api/ipam/asn-ranges/8/available-asns/?limit=1&limit=3 HTTP/1.1\r\nHost: x\r\nContent-Length: 4\r\n\r\n[{}]\
-POST /api/ipam/asn-ranges/7/available-asns/? HTTP/1.1\r\nHost: x\r\nContent-Length: 2\r\n\r\n{}\
-PATCH /api/ipam/vlans/19/?limit=1 HTTP/1.1\r\nHost: x\r\nContent-Length: 12\r\n\r\n{\"vid\":true}\
-PATCH /api/ipam/asns/2/?limit=1001&offset=x&limit=1 HTTP/1.1\r\nHost: x\r\nContent-Length: 18\r\n\r\n{\"name\": \"\\u00e9\"}\
-PATCH /api/ipam/asns/33/ HTTP/1.1\r\nHost: x\r\nContent-Length: 28\r\n\r\n{\"asn\":18446744073709551616}\
-POST /api/ipam/vlan-groups/3/available-vlans/ HTTP/1.1\r\nHost: x\r\nContent-Length: 40\r\n\r\n[{\"name\":\"a\"},{\"name\":\"b\"},{\"name\":\"c\"}]\
-PATCH /api/ipam/asns/5/?name=% HTTP/1.1\r\nHost: x\r\nContent-Length: 16\r\n\r\n{\"name\": \"\\\"\\\\\"}\
-POST /api/ipam/asn-ranges/7/available-asns/?limit=3&limit=1.0 HTTP/1.1\r\nHost: x\r\nContent-Length: 2\r\n\r\n{}\
-POST /api/ipam/vlan-groups/8/available-vlans/ HTTP/1.1\r\nHost: x\r\nContent-Length: 13\r\n\r\n{\"name\": \"a\"}\
-POST /api/ipam/asn-ranges/7/available-asns/ HTTP/1.1\r\nHost: x\r\nContent-Length: 2\r\n\r\n{}\
-POST /api/ipam/asn-ranges/7/asns/?offset=x HTTP/1.1\r\nHost: x\r\nContent-Length: 18\r\n\r\n{\"asn\":4294967293}\
-POST /api/ipam/asn-ranges/8/asns/ HTTP/1.1\r\nHost: x\r\nContent-Length: 34\r\n\r\n[{\"asn\":4,\"name\":\"d e\"},{\"asn\":3}]\
-GET /api/ipam/vlan-groups/3/available-vlans/ HTTP/1.1\r\nHost: x\r\n\r\n\
-POST /api/ipam/vlan-groups/99/available-vlans/ HTTP/1.1\r\nHost: x\r\nContent-Length: 16\r\n\r\n{\"name\": \"\\\"\\\\\"}\
+POST /api/ipam/asn-ranges/2/available-asns/ HTTP/1.1\r\nHost: x\r\nContent-Length: 2\r\n\r\n{}\
+PUT /api/ipam/vlan-groups/3/vlans/ HTTP/1.1\r\nHost: x\r\n\r\n\
+GET /api/ipam/asn-ranges/1/ HTTP/1.1\r\nHost: x\r\nContent-Length: 2\r\n\r\n{}\
+POST /api/ipam/vlan-groups/ HTTP/1.1\r\nHost: x\r\nContent-Length: 42\r\n\r\n{\"name\": \"a0\", \"start\": 4090, \"end\": 4091}\
+GET /api/ipam/asn-ranges/4294967295/available-asns/ HTTP/1.1\r\nHost: x\r\n\r\n\
+POST /api/ipam/asn-ranges/2/available-asns/ HTTP/1.1\r\nHost: x\r\nContent-Length: 23\r\n\r\n[{}, {}, {\"name\": \"b\"}]\
+POST /api/ipam/asn-ranges/1/asns/?offset=x&limit=0 HTTP/1.1\r\nHost: x\r\nContent-Length: 14\r\n\r\n{\"asn\": 64514}\
+POST /api/ipam/vlan-groups/5/available-vlans/?limit=1&limit=7 HTTP/1.1\r\nHost: x\r\nContent-Length: 45\r\n\r\n[{\"name\": \"b\"}, {\"name\": \"b\"}, {\"name\": \"b\"}]\
+POST /api/ipam/asn-ranges/1/available-asns/ HTTP/1.1\r\nHost: x\r\nContent-Length: 20\r\n\r\n[{\"name\": \"é\"}, {}]\
+DELETE /api/ipam/asn-ranges/1/?limit=1001&name=% HTTP/1.1\r\nHost: x\r\n\r\n\
+DELETE /api/ipam/vlan-groups/5/vlans/ HTTP/1.1\r\nHost: x\r\n\r\n\
 GET /api/ipam/vlan-groups/ HTTP/1.1\r\nHost: x\r\n\r\n\
-POST /api/ipam/asn-ranges/6/available-asns/?limit=7& HTTP/1.1\r\nHost: x\r\nContent-Length: 38\r\n\r\n[{},{},{},{},{},{\"name\":\"a\"},{},{},{}]\
-PATCH /api/ipam/vlans/62/ HTTP/1.1\r\nHost: x\r\nContent-Length: 2\r\n\r\n{}\
-POST /api/ipam/vlan-groups/3/available-vlans/ HTTP/1.1\r\nHost: x\r\nContent-Length: 13\r\n\r\n{\"name\": \"c\"}\
-DELETE /api/ipam/vlans/24/?limit=7 HTTP/1.1\r\nHost: x\r\n\r\n\
-PATCH /api/ipam/vlans/62/ HTTP/1.1\r\nHost: x\r\nContent-Length: 12\r\n\r\n{\"name\":\"b\"}\
-POST /api/ipam/asn-ranges/8/asns/ HTTP/1.1\r\nHost: x\r\nContent-Length: 19\r\n\r\n{\"asn\":4,\"name\":\"\"}\
-GET /api/ipam/vlan-groups/3/ HTTP/1.1\r\nHost: x\r\n\r\n\
-DELETE /api/ipam/vlan-groups/6/?limit=9999999999&offset=x HTTP/1.1\r\nHost: x\r\n\r\n\
-PATCH /api/ipam/vlans/69/?name=% HTTP/1.1\r\nHost: x\r\nContent-Length: 27\r\n\r\n{\"name\": \"é\", \"vid\": -0.0}\
-POST /api/ipam/asn-ranges/7/asns/? HTTP/1.1\r\nHost: x\r\nContent-Length: 100\r\n\r\n[{\"asn\":4294967294,\"name\":\"é\"},{\"asn\":4294967290,\"name\":\"c\"},{\"asn\":4294967293},{\"asn\":4294967293}]\
-PATCH /api/ipam/asn-ranges/8/ HTTP/1.1\r\nHost: x\r\nContent-Length: 16\r\n\r\n{\"name\": \"d e0\"}\
-POST /api/ipam/vlan-groups/ HTTP/1.1\r\nHost: x\r\nContent-Length: 39\r\n\r\n{\"name\": \"\\\"\\\\1\", \"start\": 1, \"end\": 5}\
-PATCH /api/ipam/vlans/21/ HTTP/1.1\r\nHost: x\r\nContent-Length: 13\r\n\r\n{\"name\": \"c\"}\
-PATCH /api/ipam/asn-ranges/7/?limit=1001&limit=3 HTTP/1.1\r\nHost: x\r\nContent-Length: 49\r\n\r\n{\"start\":4294967294,\"end\":4294967294,\"name\":\"b1\"}\
-POST /api/ipam/vlan-groups/ HTTP/1.1\r\nHost: x\r\nContent-Length: 36\r\n\r\n{\"name\": \"a1\", \"start\": 2, \"end\": 4}\
-POST /api/ipam/vlan-groups/9/available-vlans/ HTTP/1.1\r\nHost: x\r\nContent-Length: 42\r\n\r\n[{\"name\":\"d e\"},{\"name\":\"a\"},{\"name\":\"a\"}]\
-POST /api/ipam/asn-ranges/8/asns/ HTTP/1.1\r\nHost: x\r\nContent-Length: 9\r\n\r\n{\"asn\":3}\
-POST /api/ipam/asn-ranges/8/asns/?limit=3 HTTP/1.1\r\nHost: x\r\nContent-Length: 38\r\n\r\n[{\"asn\": 2, \"name\": \"é\"}, {\"asn\": 4}]\
-GET /api/ipam/vlan-groups/6/available-vlans/? HTTP/1.1\r\nHost: x\r\n\r\n\
-DELETE /api/ipam/asns/3/?limit=0 HTTP/1.1\r\nHost: x\r\n\r\n\
-POST /api/ipam/asn-ranges/9/asns/ HTTP/1.1\r\nHost: x\r\nContent-Length: 24\r\n\r\n{\"asn\": 3, \"name\": \"é\"}\
-POST /api/ipam/asn-ranges/10/asns/x/?&limit=01 HTTP/1.1\r\nHost: x\r\nContent-Length: 21\r\n\r\n[{\"asn\":4},{\"asn\":3}]\
-POST /api/ipam/vlan-groups/9/vlans/? HTTP/1.1\r\nHost: x\r\nContent-Length: 25\r\n\r\n[{\"vid\":4,\"name\":\"a\"},{}]\
-GET /api/ipam/asn-ranges/10/available-asns/?limit=3&offset=x HTTP/1.1\r\nHost: x\r\n\r\n\
-DELETE /api/ipam/asns/60/ HTTP/1.1\r\nHost: x\r\nContent-Length: 0\r\n\r\n\
+PATCH /api/ipam/asn-ranges/2/?&limit=1 HTTP/1.1\r\nHost: x\r\nContent-Length: 46\r\n\r\n{\"start\": 64515, \"end\": 64515, \"name\": \"d e0\"}\
+GET /api/ipam/asn-ranges/1/available-asns/x/?offset=x&limit=0 HTTP/1.1\r\nHost: x\r\n\r\n\
+DELETE /api/ipam/asns/5/?limit=3&limit=%ff&offset=x HTTP/1.1\r\nHost: x\r\n\r\n\
+GET /api/ipam/asn-ranges/2/available-asns/?limit=0& HTTP/1.1\r\nHost: x\r\n\r\n\
+POST /api/ipam/asn-ranges/2/available-asns/ HTTP/1.1\r\nHost: x\r\nContent-Length: 2\r\n\r\n{}\
+POST /api/ipam/vlan-groups/5/available-vlans/ HTTP/1.1\r\nHost: x\r\nContent-Length: 40\r\n\r\n[{\"name\":\"b\"},{\"name\":\"1\"},{\"name\":\"c\"}]\
+POST /API/IPAM/VLAN-GROUPS/5/AVAILABLE-VLANS/?offset=x&limit=+1 HTTP/1.1\r\nHost: x\r\nContent-Length: 14\r\n\r\n{\"name\": \"é\"}\
+GET /api/ipam/asn-ranges/2/available-asns/ HTTP/1.1\r\nHost: x\r\n\r\n\
+POST /api/ipam/vlan-groups/5/available-vlans/ HTTP/1.1\r\nHost: x\r\nContent-Length: 4\r\n\r\n[{}]\
+GET /api/ipam/vlans/42/?limit=1&limit=3&offset=x HTTP/1.1\r\nHost: x\r\n\r\n\
+POST /api/ipam/vlan-groups/5/vlans/? HTTP/1.1\r\nHost: x\r\nContent-Length: 25\r\n\r\n{\"vid\":4090,\"name\":\"d e\"}\
+PATCH /api/ipam/vlan-groups/3/? HTTP/1.1\r\nHost: x\r\nContent-Length: 25\r\n\r\n{\"start\":5,\"name\":\"d e1\"}\
+POST /api/ipam/asn-ranges/1/available-asns/?limit=2 HTTP/1.1\r\nHost: x\r\nContent-Length: 15\r\n\r\n{\"name\":\"\\\"\\\\\"}\
+POST /api/ipam/vlan-groups/5/vlans/ HTTP/1.1\r\nHost: x\r\nContent-Length: 24\r\n\r\n{\"vid\":4090,\"name\":\"é\"}\
+POST /api/ipam/vlan-groups/5/vlans/ HTTP/1.1\r\nHost: x\r\nContent-Length: 23\r\n\r\n{\"vid\":4091,\"name\":\"b\"}\
+POST /api/ipam/asn-ranges/ HTTP/1.1\r\nHost: x\r\nContent-Length: 54\r\n\r\n{\"name\": \"b2\", \"start\": 4294967290, \"end\": 4294967290}\
+POST /api/ipam/vlan-groups/5/available-vlans/?&limit=01 HTTP/1.1\r\nHost: x\r\nContent-Length: 36\r\n\r\n[{\"name\": \"a\"}, {}, {\"name\": \"d e\"}]\
+GET /api/ipam/vlan-groups/3/available-vlans/ HTTP/1.1\r\nHost: x\r\n\r\n\
+POST /api/ipam/asn-ranges/? HTTP/1.1\r\nHost: x\r\nContent-Length: 32\r\n\r\n{\"name\":\"b2\",\"start\":3,\"end\":23}\
+GET /api/ipam/vlan-groups/5/vlans/?name=%&limit=0 HTTP/1.1\r\nHost: x\r\n\r\n\
+POST /api/ipam/asn-ranges/1/asns/?name=% HTTP/1.1\r\nHost: x\r\nContent-Length: 14\r\n\r\n{\"asn\": 64513}\
+GET /api/ipam/asn-ranges/1/?limit=2&name=% HTTP/1.1\r\nHost: x\r\n\r\n\
+DELETE /api/ipam/asns/8/?limit=3&limit=2&offset=x HTTP/1.1\r\nHost: x\r\n\r\n\
+DELETE /api/ipam/asns/51/ HTTP/1.1\r\nHost: x\r\n\r\n\
+GET /api/ipam/asn-ranges/3/asns/?name=%&limit=7&limit=1001 HTTP/1.1\r\nHost: x\r\n\r\n\
+POST /api/ipam/vlan-groups/5/vlans/?limit=2&limit=9999999999 HTTP/1.1\r\nHost: x\r\nContent-Length: 84\r\n\r\n[{\"vid\": 4090, \"name\": \"a\"}, {\"vid\": 4091, \"name\": \"c\"}, {\"vid\": 4090, \"name\": \"b\"}]\
+POST /api/ipam/vlan-groups/3/vlans/?name=% HTTP/1.1\r\nHost: x\r\nContent-Length: 20\r\n\r\n{\"vid\":2,\"name\":\"a\"}\
+GET /api/ipam/asns/?range_id=3 HTTP/1.1\r\nHost: x\r\n\r\n\
+POST /api/ipam/asn-ranges/2/available-asns/ HTTP/1.1\r\nHost: x\r\nContent-Length: 7\r\n\r\n[{},{}]\
+GET /api/ipam/vlan-groups/3/available-vlans/? HTTP/1.1\r\nHost: x\r\n\r\n\
+GET /api/ipam/asns/ HTTP/1.1\r\nHost: x\r\n\r\n\
+POST /api/ipam/vlan-groups/5/available-vlans/ HTTP/1.1\r\nHost: x\r\nContent-Length: 12\r\n\r\n{\"name\":\"c\"}\
+POST /api/ipam/asn-ranges/1/asns/ HTTP/1.1\r\nHost: x\r\nContent-Length: 40\r\n\r\n[{}, {\"asn\": 64513, \"name\": \"\\\"\\\\\"}, []]\
+POST /api/ipam/asn-ranges/1/asns/ HTTP/1.1\r\nHost: x\r\nContent-Length: 26\r\n\r\n{\"asn\":64513,\"name\":\"d e\"}\
+POST /api/ipam/asn-ranges/6/available-asns/ HTTP/1.1\r\nHost: x\r\nContent-Length: 14\r\n\r\n{\"name\": \"é\"}\
+DELETE /api/ipam/asns/2/?limit=3&limit=7 HTTP/1.1\r\nHost: x\r\n\r\n\
+POST /api/ipam/asn-ranges/6/asns/?name=% HTTP/1.1\r\nHost: x\r\nContent-Length: 42\r\n\r\n[{\"asn\": 4294967290}, {\"asn\": 4294967290}]\
+POST /api/ipam/vlan-groups/3/available-vlans/?limit=1001&offset=x&limit=1.0&limit=1 HTTP/1.1\r\nHost: x\r\nContent-Length: 15\r\n\r\n[{\"name\":\"é\"}]\
+POST /api/ipam/vlan-groups/5/available-vlans/?limit=1 HTTP/1.1\r\nHost: x\r\nContent-Length: 14\r\n\r\n[{\"name\":\"b\"}]\
+POST /api/ipam/vlan-groups/?limit=1 HTTP/1.1\r\nHost: x\r\nContent-Length: 47\r\n\r\n{\"name\": \"b2\", \"start\": 4294967296, \"end\": 120}\
+POST /api/ipam/asn-ranges/6/available-asns/ HTTP/1.1\r\nHost: x\r\nContent-Length: 2\r\n\r\n[]\
+POST /api/ipam/vlan-groups/?offset=x&limit=9999999999&limit=1 HTTP/1.1\r\nHost: x\r\nContent-Length: 42\r\n\r\n{\"name\": \"a1\", \"start\": 4090, \"end\": 4091}\
+POST /api/ipam/vlan-groups/5/vlans/ HTTP/1.1\r\nHost: x\r\nContent-Length: 23\r\n\r\n{\"vid\":4091,\"name\":\"b\"}\
+POST /api/ipam/asn-ranges/1/asns/?name=% HTTP/1.1\r\nHost: x\r\nContent-Length: 61\r\n\r\n[{\"asn\": 64514}, {\"asn\": 64512, \"name\": \"b\"}, {\"asn\": 64512}]\
+POST /api/ipam/vlan-groups/7/vlans/? HTTP/1.1\r\nHost: x\r\nContent-Length: 28\r\n\r\n{\"vid\": 4090, \"name\": \"d e\"}\
+POST /api/ipam/vlan-groups/5/vlans/? HTTP/1.1\r\nHost: x\r\nContent-Length: 63\r\n\r\n[{}, {\"vid\": 4091, \"name\": \"é\"}, {\"vid\": 4090, \"name\": \"d e\"}]\
+POST /api/ipam/vlan-groups/?offset=x&limit=3&limit=0 HTTP/1.1\r\nHost: x\r\nContent-Length: 58\r\n\r\n{\"name\": \"c1\", \"start\": 4090, \"end\": 18446744073709551616}\
+PATCH /api/ipam/asns/42/?limit=9999999999& HTTP/1.1\r\nHost: x\r\nContent-Length: 18\r\n\r\n{\"name\": \"\\u00e9\"}\
+GET /api/ipam/vlans/ HTTP/1.1\r\nHost: x\r\n\r\n\
+POST /api/ipam/asn-ranges/ HTTP/1.1\r\nHost: x\r\nContent-Length: 40\r\n\r\n{\"name\":\"é0\",\"start\":64512,\"end\":64516}\
+POST /api/ipam/vlan-groups/5/available-vlans/ HTTP/1.1\r\nHost: x\r\nContent-Length: 27\r\n\r\n[{\"name\":\"a\"},{\"name\":\"a\"}]\
+POST /api/ipam/vlan-groups/7/available-vlans/?limit=1001&name=% HTTP/1.1\r\nHost: x\r\nContent-Length: 13\r\n\r\n{\"name\": \"a\"}\
+POST /api/ipam/vlan-groups/5/vlans/ HTTP/1.1\r\nHost: x\r\nContent-Length: 26\r\n\r\n{\"vid\": 4090, \"name\": \"c\"}\
+POST /api/ipam/asn-ranges/5/available-asns/?offset=x HTTP/1.1\r\nHost: x\r\nContent-Length: 2\r\n\r\n{}\
+POST /api/ipam/vlan-groups/7/vlans/?limit=2&limit=7&offset=x HTTP/1.1\r\nHost: x\r\nContent-Length: 75\r\n\r\n[{\"vid\":4091,\"name\":\"b\"},{\"vid\":4090,\"name\":\"d e\"},{\"vid\":4091,\"name\":\"a\"}]\
+POST /api/ipam/vlan-groups/ HTTP/1.1\r\nHost: x\r\nContent-Length: 31\r\n\r\n{\"name\":\"a2\",\"start\":5,\"end\":5}\
+GET /api/ipam/vlans/ HTTP/1.1\r\nHost: x\r\nContent-Length: 0\r\n\r\n\
+PUT /api/ipam/asn-ranges/?limit=3&offset=x HTTP/1.1\r\nHost: x\r\n\r\n\
+DELETE /api/ipam/asns/12/?name=% HTTP/1.1\r\nHost: x\r\n\r\n\
+GET /api/ipam/vlan-groups/7/vlans/ HTTP/1.1\r\nHost: x\r\n\r\n\
+POST /api/ipam/vlan-groups/5/vlans/?limit=9999999999& HTTP/1.1\r\nHost: x\r\nContent-Length: 49\r\n\r\n[{\"vid\":4090,\"name\":\"a\"},{\"vid\":4090,\"name\":\"a\"}]\
+POST /api/ipam/vlan-groups/5/vlans/ HTTP/1.1\r\nHost: x\r\nContent-Length: 93\r\n\r\n[{}, {\"vid\": 4090, \"name\": \"c\"}, {\"vid\": 4091, \"name\": \"\\u00e9\"}, {\"vid\": 4091, \"name\": \"b\"}]\
+DELETE /api/ipam/asn-ranges/1/?limit=7&limit=2 HTTP/1.1\r\nHost: x\r\n\r\n\
+POST /api/ipam/vlan-groups/3/vlans/ HTTP/1.1\r\nHost: x\r\nContent-Length: 43\r\n\r\n[{\"vid\":3,\"name\":\"c\"},{\"vid\":8,\"name\":\"b\"}]\
+POST /api/ipam/vlan-groups/5/vlans/?limit=3&limit=0& HTTP/1.1\r\nHost: x\r\nContent-Length: 26\r\n\r\n{\"vid\": 4090, \"name\": \"a\"}\
+POST /api/ipam/asn-ranges/8/asns/? HTTP/1.1\r\nHost: x\r\nContent-Length: 23\r\n\r\n{\"asn\":64514,\"name\":\"\"}\
+GET /api/ipam/asns/?range_id=3&limit=1& HTTP/1.1\r\nHost: x\r\n\r\n\
+POST /api/ipam/vlan-groups/5/vlans/?limit=7&name=% HTTP/1.1\r\nHost: x\r\nContent-Length: 26\r\n\r\n{\"vid\": 4091, \"name\": \"a\"}\
+PATCH /api/ipam/vlan-groups/3/ HTTP/1.1\r\nHost: x\r\nContent-Length: 11\r\n\r\n{\"start\":3}\
+DELETE /api/ipam/asns/49/ HTTP/1.1\r\nHost: x\r\n\r\n\
+PATCH /api/ipam/vlans/30/ HTTP/1.1\r\nHost: x\r\nContent-Length: 16\r\n\r\n{\"name\": \"\\\"\\\\\"}\
+POST /api/ipam/asn-ranges/ HTTP/1.1\r\nHost: x\r\nContent-Length: 44\r\n\r\n{\"name\":\"\\u00e90\",\"start\":64512,\"end\":64520}\
+GET /api/ipam/asns/52/ HTTP/1.1\r\nHost: x\r\n\r\n\
+POST /api/ipam/vlan-groups/9/vlans/? HTTP/1.1\r\nHost: x\r\nContent-Length: 46\r\n\r\n[{\"vid\":5,\"name\":\"d e\"},{\"vid\":5,\"name\":\"é\"}]\
+POST /api/ipam/vlan-groups/9/vlans/ HTTP/1.1\r\nHost: x\r\nContent-Length: 54\r\n\r\n[{\"vid\": 5, \"name\": \"é\"}, {\"vid\": 5, \"name\": \"\\\"\\\\\"}]\
+DELETE /api/ipam/vlans/55/ HTTP/1.1\r\nHost: x\r\n\r\n\
+POST /api/ipam/vlan-groups/3/available-vlans/?limit=9999999999&limit=1001& HTTP/1.1\r\nHost: x\r\nContent-Length: 32\r\n\r\n[{\"name\": \"c\"}, {\"name\": \"d e\"}]\
+GET /api/ipam/vlans/99/?limit=1 HTTP/1.1\r\nHost: x\r\n\r\n\
+PATCH /api/ipam/vlan-groups/5/?limit=7&limit=0&offset=x HTTP/1.1\r\nHost: x\r\nContent-Length: 28\r\n\r\n{\"start\":4089,\"name\":\"d e1\"}\
+DELETE /api/ipam/asns/57/ HTTP/1.1\r\nHost: x\r\nContent-Length: 0\r\n\r\n\
+GET /api/ipam/vlans/ HTTP/1.1\r\nHost: x\r\n\r\n\
+PATCH /api/ipam/asn-ranges/2/ HTTP/1.1\r\nHost: x\r\nContent-Length: 30\r\n\r\n{\"end\": 64517, \"name\": \"d e2\"}\
+GET /api/ipam/vlans/?offset=x&vid=28 HTTP/1.1\r\nHost: x\r\n\r\n\
+POST /api/ipam/asn-ranges/2/asns/ HTTP/1.1\r\nHost: x\r\nContent-Length: 14\r\n\r\n{\"asn\": 64514}\
+POST /api/ipam/asn-ranges/6/available-asns/?&limit=1001 HTTP/1.1\r\nHost: x\r\nContent-Length: 2\r\n\r\n{}\
+POST /api/ipam/vlan-groups/7/vlans/? HTTP/1.1\r\nHost: x\r\nContent-Length: 26\r\n\r\n{\"vid\":4090,\"name\":\"\\\"\\\\\"}\
+POST /api/ipam/asn-ranges/?name=%&limit=0&limit=7 HTTP/1.1\r\nHost: x\r\nContent-Length: 34\r\n\r\n{\"name\":\"\\\"\\\\1\",\"start\":3,\"end\":7}\
+POST /api/ipam/asn-ranges/ HTTP/1.1\r\nHost: x\r\nContent-Length: 30\r\n\r\n{\"name\": \"c1\", \"start\": 64512}\
+POST /api/ipam/asn-ranges/2/asns/ HTTP/1.1\r\nHost: x\r\nContent-Length: 61\r\n\r\n[{\"asn\": 64517, \"name\": \"b\"}, {\"asn\": 64517}, {\"asn\": 64516}]\
+GET /api/ipam/asn-ranges/10/asns/ HTTP/1.1\r\nHost: x\r\n\r\n\
+DELETE /api/ipam/asns/53/ HTTP/1.1\r\nHost: x\r\n\r\n\
+PATCH /api/ipam/vlans/22/?limit=3 HTTP/1.1\r\nHost: x\r\nContent-Length: 13\r\n\r\n{\"name\": \"c\"}\
+DELETE /api/ipam/vlans/44/?limit=3&name=% HTTP/1.1\r\nHost: x\r\n\r\n\
+POST /api/ipam/asn-ranges/7/asns/ HTTP/1.1\r\nHost: x\r\nContent-Length: 13\r\n\r\n{\"asn\": 4091}\
+POST /api/ipam/asn-ranges/6/available-asns/ HTTP/1.1\r\nHost: x\r\nContent-Length: 2\r\n\r\n{}\
+POST /api/ipam/vlan-groups/9/available-vlans/?offset=x&limit=3&limit=9999999999 HTTP/1.1\r\nHost: x\r\nContent-Length: 13\r\n\r\n{\"name\":\"é\"}\
+GET /api/ipam/asn-ranges/8/available-asns/ HTTP/1.1\r\nHost: x\r\n\r\n\
+DELETE /api/ipam/asns/61/ HTTP/1.1\r\nHost: x\r\n\r\n\
+POST /api/ipam/vlan-groups/5/available-vlans/?limit=7 HTTP/1.1\r\nHost: x\r\nContent-Length: 15\r\n\r\n[{\"name\": \"a\"}]\
+PUT /api/ipam/vlan-groups/9/available-vlans/?limit=1001&limit=9999999999& HTTP/1.1\r\nHost: x\r\nContent-Length: 16\r\n\r\n{\"name\": \"\\\"\\\\\"}\
+POST /api/ipam/asn-ranges/10/available-asns/?limit=1001&name=% HTTP/1.1\r\nHost: x\r\nContent-Length: 7\r\n\r\n[{},{}]\
+POST /api/ipam/asn-ranges/2/available-asns/? HTTP/1.1\r\nHost: x\r\nContent-Length: 12\r\n\r\n[{}, {}, {}]\
+GET /api/ipam/vlan-groups/3/available-vlans/?limit=7&limit=9999999999 HTTP/1.1\r\nHost: x\r\n\r\n\
+PATCH /api/ipam/vlans/54/ HTTP/1.1\r\nHost: x\r\nContent-Length: 12\r\n\r\n{\"name\":\"a\"}\
+GET /api/ipam/asn-ranges/10/?name=% HTTP/1.1\r\nHost: x\r\n\r\n\
 ";
 
 /// The answers, likewise.
@@ -271,127 +283,139 @@ HTTP/1.1 400 Bad Request\r\nContent-Type: application/json\r\nContent-Length: 57
 HTTP/1.1 200 OK\r\nContent-Type: application/json\r\nContent-Length: 37\r\nIpam-Place: 18\r\n\r\n{\"end\":3,\"id\":4,\"name\":\"c\",\"start\":1}\
 HTTP/1.1 200 OK\r\nContent-Type: application/json\r\nContent-Length: 5\r\nIpam-Place: 19\r\n\r\n[2,3]\
 HTTP/1.1 200 OK\r\nContent-Type: application/json\r\nContent-Length: 37\r\nIpam-Place: 19\r\n\r\n{\"end\":3,\"id\":4,\"name\":\"c\",\"start\":1}\
+HTTP/1.1 200 OK\r\nContent-Type: application/json\r\nContent-Length: 143\r\nIpam-Place: 20\r\n\r\n{\"count\":3,\"next\":\"/api/ipam/asns/?limit=2&offset=2\",\"previous\":null,\"results\":[{\"asn\":64513,\"id\":2,\"range\":1},{\"asn\":64514,\"id\":5,\"range\":1}]}\
+HTTP/1.1 200 OK\r\nContent-Type: application/json\r\nContent-Length: 123\r\nIpam-Place: 20\r\n\r\n{\"count\":3,\"next\":null,\"previous\":\"/api/ipam/asns/?range_id=1&limit=2&offset=0\",\"results\":[{\"asn\":64512,\"id\":8,\"range\":1}]}\
+HTTP/1.1 200 OK\r\nContent-Type: application/json\r\nContent-Length: 52\r\nIpam-Place: 20\r\n\r\n{\"count\":0,\"next\":null,\"previous\":null,\"results\":[]}\
+HTTP/1.1 200 OK\r\nContent-Type: application/json\r\nContent-Length: 83\r\nIpam-Place: 20\r\n\r\n{\"count\":3,\"next\":null,\"previous\":\"/api/ipam/asns/?limit=50&offset=0\",\"results\":[]}\
+HTTP/1.1 200 OK\r\nContent-Type: application/json\r\nContent-Length: 93\r\nIpam-Place: 20\r\n\r\n{\"count\":1,\"next\":null,\"previous\":null,\"results\":[{\"group\":3,\"id\":3,\"name\":\"voice\",\"vid\":1}]}\
+HTTP/1.1 200 OK\r\nContent-Type: application/json\r\nContent-Length: 92\r\nIpam-Place: 20\r\n\r\n{\"count\":1,\"next\":null,\"previous\":null,\"results\":[{\"group\":4,\"id\":4,\"name\":\"data\",\"vid\":1}]}\
+HTTP/1.1 400 Bad Request\r\nContent-Type: application/json\r\nContent-Length: 55\r\n\r\n{\"code\":\"field\",\"detail\":\"vid is missing or malformed\"}\
+HTTP/1.1 400 Bad Request\r\nContent-Type: application/json\r\nContent-Length: 60\r\n\r\n{\"code\":\"field\",\"detail\":\"group_id is missing or malformed\"}\
+HTTP/1.1 400 Bad Request\r\nContent-Type: application/json\r\nContent-Length: 57\r\n\r\n{\"code\":\"field\",\"detail\":\"limit is missing or malformed\"}\
+HTTP/1.1 400 Bad Request\r\nContent-Type: application/json\r\nContent-Length: 58\r\n\r\n{\"code\":\"field\",\"detail\":\"offset is missing or malformed\"}\
+HTTP/1.1 405 Method Not Allowed\r\nContent-Type: application/json\r\nContent-Length: 63\r\nAllow: GET\r\n\r\n{\"code\":\"method\",\"detail\":\"the path does not have this method\"}\
 HTTP/1.1 204 No Content\r\nIpam-Place: 20\r\n\r\n\
 HTTP/1.1 204 No Content\r\nIpam-Place: 21\r\n\r\n\
 HTTP/1.1 200 OK\r\nContent-Type: application/json\r\nContent-Length: 42\r\nIpam-Place: 22\r\n\r\n[{\"end\":4094,\"id\":3,\"name\":\"a\",\"start\":1}]\
 HTTP/1.1 201 Created\r\nContent-Type: application/json\r\nContent-Length: 1822\r\nIpam-Place: 22\r\n\r\n[{\"group\":3,\"id\":9,\"name\":\"room 0\",\"vid\":2},{\"group\":3,\"id\":10,\"name\":\"room 1\",\"vid\":3},{\"group\":3,\"id\":11,\"name\":\"room 2\",\"vid\":4},{\"group\":3,\"id\":12,\"name\":\"room 3\",\"vid\":5},{\"group\":3,\"id\":13,\"name\":\"room 4\",\"vid\":6},{\"group\":3,\"id\":14,\"name\":\"room 5\",\"vid\":7},{\"group\":3,\"id\":15,\"name\":\"room 6\",\"vid\":8},{\"group\":3,\"id\":16,\"name\":\"room 7\",\"vid\":9},{\"group\":3,\"id\":17,\"name\":\"room 8\",\"vid\":10},{\"group\":3,\"id\":18,\"name\":\"room 9\",\"vid\":11},{\"group\":3,\"id\":19,\"name\":\"room 10\",\"vid\":12},{\"group\":3,\"id\":20,\"name\":\"room 11\",\"vid\":13},{\"group\":3,\"id\":21,\"name\":\"room 12\",\"vid\":14},{\"group\":3,\"id\":22,\"name\":\"room 13\",\"vid\":15},{\"group\":3,\"id\":23,\"name\":\"room 14\",\"vid\":16},{\"group\":3,\"id\":24,\"name\":\"room 15\",\"vid\":17},{\"group\":3,\"id\":25,\"name\":\"room 16\",\"vid\":18},{\"group\":3,\"id\":26,\"name\":\"room 17\",\"vid\":19},{\"group\":3,\"id\":27,\"name\":\"room 18\",\"vid\":20},{\"group\":3,\"id\":28,\"name\":\"room 19\",\"vid\":21},{\"group\":3,\"id\":29,\"name\":\"room 20\",\"vid\":22},{\"group\":3,\"id\":30,\"name\":\"room 21\",\"vid\":23},{\"group\":3,\"id\":31,\"name\":\"room 22\",\"vid\":24},{\"group\":3,\"id\":32,\"name\":\"room 23\",\"vid\":25},{\"group\":3,\"id\":33,\"name\":\"room 24\",\"vid\":26},{\"group\":3,\"id\":34,\"name\":\"room 25\",\"vid\":27},{\"group\":3,\"id\":35,\"name\":\"room 26\",\"vid\":28},{\"group\":3,\"id\":36,\"name\":\"room 27\",\"vid\":29},{\"group\":3,\"id\":37,\"name\":\"room 28\",\"vid\":30},{\"group\":3,\"id\":38,\"name\":\"room 29\",\"vid\":31},{\"group\":3,\"id\":39,\"name\":\"room 30\",\"vid\":32},{\"group\":3,\"id\":40,\"name\":\"room 31\",\"vid\":33},{\"group\":3,\"id\":41,\"name\":\"room 32\",\"vid\":34},{\"group\":3,\"id\":42,\"name\":\"room 33\",\"vid\":35},{\"group\":3,\"id\":43,\"name\":\"room 34\",\"vid\":36},{\"group\":3,\"id\":44,\"name\":\"room 35\",\"vid\":37},{\"group\":3,\"id\":45,\"name\":\"room 36\",\"vid\":38},{\"group\":3,\"id\":46,\"name\":\"room 37\",\"vid\":39},{\"group\":3,\"id\":47,\"name\":\"room 38\",\"vid\":40},{\"group\":3,\"id\":48,\"name\":\"room 39\",\"vid\":41}]\
+HTTP/1.1 200 OK\r\nContent-Type: application/json\r\nContent-Length: 94\r\nIpam-Place: 23\r\n\r\n[{\"asn\":64513,\"id\":2,\"range\":1},{\"asn\":64514,\"id\":5,\"range\":1},{\"asn\":64512,\"id\":8,\"range\":1}]\
+HTTP/1.1 404 Not Found\r\nContent-Type: application/json\r\nContent-Length: 47\r\nIpam-Place: 23\r\n\r\n{\"code\":\"not_found\",\"detail\":\"99 is not there\"}\
 HTTP/1.1 409 Conflict\r\nContent-Type: application/json\r\nContent-Length: 51\r\nIpam-Place: 23\r\n\r\n{\"code\":\"no_space\",\"detail\":\"no space for claim 0\"}\
-HTTP/1.1 201 Created\r\nContent-Type: application/json\r\nContent-Length: 58\r\nIpam-Place: 23\r\n\r\n{\"end\":4294967290,\"id\":5,\"name\":\"d e2\",\"start\":4294967290}\
-HTTP/1.1 404 Not Found\r\nContent-Type: application/json\r\nContent-Length: 47\r\nIpam-Place: 24\r\n\r\n{\"code\":\"not_found\",\"detail\":\"39 is not there\"}\
-HTTP/1.1 409 Conflict\r\nContent-Type: application/json\r\nContent-Length: 57\r\nIpam-Place: 24\r\n\r\n{\"code\":\"taken\",\"detail\":\"number 6 is that of member 13\"}\
-HTTP/1.1 200 OK\r\nContent-Type: application/json\r\nContent-Length: 45\r\nIpam-Place: 24\r\n\r\n{\"end\":64513,\"id\":2,\"name\":\"b\",\"start\":64513}\
-HTTP/1.1 201 Created\r\nContent-Type: application/json\r\nContent-Length: 42\r\nIpam-Place: 25\r\n\r\n[{\"group\":3,\"id\":49,\"name\":\"é\",\"vid\":42}]\
-HTTP/1.1 404 Not Found\r\nContent-Type: application/json\r\nContent-Length: 46\r\nIpam-Place: 26\r\n\r\n{\"code\":\"not_found\",\"detail\":\"3 is not there\"}\
-HTTP/1.1 409 Conflict\r\nContent-Type: application/json\r\nContent-Length: 51\r\nIpam-Place: 26\r\n\r\n{\"code\":\"no_space\",\"detail\":\"no space for claim 0\"}\
-HTTP/1.1 400 Bad Request\r\nContent-Type: application/json\r\nContent-Length: 73\r\n\r\n{\"code\":\"bad_json\",\"detail\":\"the body is not the JSON that is asked for\"}\
-HTTP/1.1 200 OK\r\nContent-Type: application/json\r\nContent-Length: 2\r\nIpam-Place: 26\r\n\r\n[]\
-HTTP/1.1 409 Conflict\r\nContent-Type: application/json\r\nContent-Length: 51\r\nIpam-Place: 26\r\n\r\n{\"code\":\"no_space\",\"detail\":\"no space for claim 0\"}\
-HTTP/1.1 404 Not Found\r\nContent-Type: application/json\r\nContent-Length: 46\r\nIpam-Place: 26\r\n\r\n{\"code\":\"not_found\",\"detail\":\"9 is not there\"}\
+HTTP/1.1 201 Created\r\nContent-Type: application/json\r\nContent-Length: 31\r\nIpam-Place: 23\r\n\r\n{\"asn\":64515,\"id\":49,\"range\":2}\
+HTTP/1.1 405 Method Not Allowed\r\nContent-Type: application/json\r\nContent-Length: 63\r\nAllow: GET, POST\r\n\r\n{\"code\":\"method\",\"detail\":\"the path does not have this method\"}\
+HTTP/1.1 200 OK\r\nContent-Type: application/json\r\nContent-Length: 45\r\nIpam-Place: 24\r\n\r\n{\"end\":64514,\"id\":1,\"name\":\"a\",\"start\":64512}\
+HTTP/1.1 201 Created\r\nContent-Type: application/json\r\nContent-Length: 44\r\nIpam-Place: 24\r\n\r\n{\"end\":4091,\"id\":5,\"name\":\"a0\",\"start\":4090}\
+HTTP/1.1 404 Not Found\r\nContent-Type: application/json\r\nContent-Length: 55\r\nIpam-Place: 25\r\n\r\n{\"code\":\"not_found\",\"detail\":\"4294967295 is not there\"}\
+HTTP/1.1 409 Conflict\r\nContent-Type: application/json\r\nContent-Length: 51\r\nIpam-Place: 25\r\n\r\n{\"code\":\"no_space\",\"detail\":\"no space for claim 0\"}\
+HTTP/1.1 409 Conflict\r\nContent-Type: application/json\r\nContent-Length: 60\r\nIpam-Place: 25\r\n\r\n{\"code\":\"taken\",\"detail\":\"number 64514 is that of member 5\"}\
+HTTP/1.1 409 Conflict\r\nContent-Type: application/json\r\nContent-Length: 51\r\nIpam-Place: 25\r\n\r\n{\"code\":\"no_space\",\"detail\":\"no space for claim 2\"}\
+HTTP/1.1 409 Conflict\r\nContent-Type: application/json\r\nContent-Length: 51\r\nIpam-Place: 25\r\n\r\n{\"code\":\"no_space\",\"detail\":\"no space for claim 0\"}\
+HTTP/1.1 409 Conflict\r\nContent-Type: application/json\r\nContent-Length: 46\r\nIpam-Place: 25\r\n\r\n{\"code\":\"in_use\",\"detail\":\"named by member 2\"}\
+HTTP/1.1 405 Method Not Allowed\r\nContent-Type: application/json\r\nContent-Length: 63\r\nAllow: GET, POST\r\n\r\n{\"code\":\"method\",\"detail\":\"the path does not have this method\"}\
+HTTP/1.1 200 OK\r\nContent-Type: application/json\r\nContent-Length: 87\r\nIpam-Place: 25\r\n\r\n[{\"end\":4094,\"id\":3,\"name\":\"a\",\"start\":1},{\"end\":4091,\"id\":5,\"name\":\"a0\",\"start\":4090}]\
+HTTP/1.1 200 OK\r\nContent-Type: application/json\r\nContent-Length: 48\r\nIpam-Place: 25\r\n\r\n{\"end\":64515,\"id\":2,\"name\":\"d e0\",\"start\":64515}\
+HTTP/1.1 404 Not Found\r\nContent-Type: application/json\r\nContent-Length: 43\r\n\r\n{\"code\":\"no_route\",\"detail\":\"no such path\"}\
 HTTP/1.1 204 No Content\r\nIpam-Place: 26\r\n\r\n\
-HTTP/1.1 200 OK\r\nContent-Type: application/json\r\nContent-Length: 45\r\nIpam-Place: 27\r\n\r\n{\"end\":64514,\"id\":1,\"name\":\"a\",\"start\":64512}\
-HTTP/1.1 201 Created\r\nContent-Type: application/json\r\nContent-Length: 42\r\nIpam-Place: 28\r\n\r\n{\"group\":3,\"id\":50,\"name\":\"\\\"\\\\\",\"vid\":43}\
-HTTP/1.1 404 Not Found\r\nContent-Type: application/json\r\nContent-Length: 47\r\nIpam-Place: 29\r\n\r\n{\"code\":\"not_found\",\"detail\":\"25 is not there\"}\
-HTTP/1.1 200 OK\r\nContent-Type: application/json\r\nContent-Length: 1948\r\nIpam-Place: 29\r\n\r\n[{\"group\":3,\"id\":3,\"name\":\"voice\",\"vid\":1},{\"group\":3,\"id\":9,\"name\":\"room 0\",\"vid\":2},{\"group\":3,\"id\":10,\"name\":\"room 1\",\"vid\":3},{\"group\":3,\"id\":11,\"name\":\"room 2\",\"vid\":4},{\"group\":3,\"id\":12,\"name\":\"room 3\",\"vid\":5},{\"group\":3,\"id\":13,\"name\":\"room 4\",\"vid\":6},{\"group\":3,\"id\":14,\"name\":\"room 5\",\"vid\":7},{\"group\":3,\"id\":15,\"name\":\"room 6\",\"vid\":8},{\"group\":3,\"id\":16,\"name\":\"room 7\",\"vid\":9},{\"group\":3,\"id\":17,\"name\":\"room 8\",\"vid\":10},{\"group\":3,\"id\":18,\"name\":\"room 9\",\"vid\":11},{\"group\":3,\"id\":19,\"name\":\"room 10\",\"vid\":12},{\"group\":3,\"id\":20,\"name\":\"room 11\",\"vid\":13},{\"group\":3,\"id\":21,\"name\":\"room 12\",\"vid\":14},{\"group\":3,\"id\":22,\"name\":\"room 13\",\"vid\":15},{\"group\":3,\"id\":23,\"name\":\"room 14\",\"vid\":16},{\"group\":3,\"id\":24,\"name\":\"room 15\",\"vid\":17},{\"group\":3,\"id\":25,\"name\":\"room 16\",\"vid\":18},{\"group\":3,\"id\":26,\"name\":\"room 17\",\"vid\":19},{\"group\":3,\"id\":27,\"name\":\"room 18\",\"vid\":20},{\"group\":3,\"id\":28,\"name\":\"room 19\",\"vid\":21},{\"group\":3,\"id\":29,\"name\":\"room 20\",\"vid\":22},{\"group\":3,\"id\":30,\"name\":\"room 21\",\"vid\":23},{\"group\":3,\"id\":31,\"name\":\"room 22\",\"vid\":24},{\"group\":3,\"id\":32,\"name\":\"room 23\",\"vid\":25},{\"group\":3,\"id\":33,\"name\":\"room 24\",\"vid\":26},{\"group\":3,\"id\":34,\"name\":\"room 25\",\"vid\":27},{\"group\":3,\"id\":35,\"name\":\"room 26\",\"vid\":28},{\"group\":3,\"id\":36,\"name\":\"room 27\",\"vid\":29},{\"group\":3,\"id\":37,\"name\":\"room 28\",\"vid\":30},{\"group\":3,\"id\":38,\"name\":\"room 29\",\"vid\":31},{\"group\":3,\"id\":39,\"name\":\"room 30\",\"vid\":32},{\"group\":3,\"id\":40,\"name\":\"room 31\",\"vid\":33},{\"group\":3,\"id\":41,\"name\":\"room 32\",\"vid\":34},{\"group\":3,\"id\":42,\"name\":\"room 33\",\"vid\":35},{\"group\":3,\"id\":43,\"name\":\"room 34\",\"vid\":36},{\"group\":3,\"id\":44,\"name\":\"room 35\",\"vid\":37},{\"group\":3,\"id\":45,\"name\":\"room 36\",\"vid\":38},{\"group\":3,\"id\":46,\"name\":\"room 37\",\"vid\":39},{\"group\":3,\"id\":47,\"name\":\"room 38\",\"vid\":40},{\"group\":3,\"id\":48,\"name\":\"room 39\",\"vid\":41},{\"group\":3,\"id\":49,\"name\":\"é\",\"vid\":42},{\"group\":3,\"id\":50,\"name\":\"\\\"\\\\\",\"vid\":43}]\
-HTTP/1.1 400 Bad Request\r\nContent-Type: application/json\r\nContent-Length: 73\r\n\r\n{\"code\":\"bad_json\",\"detail\":\"the body is not the JSON that is asked for\"}\
+HTTP/1.1 200 OK\r\nContent-Type: application/json\r\nContent-Length: 2\r\nIpam-Place: 27\r\n\r\n[]\
+HTTP/1.1 409 Conflict\r\nContent-Type: application/json\r\nContent-Length: 51\r\nIpam-Place: 27\r\n\r\n{\"code\":\"no_space\",\"detail\":\"no space for claim 0\"}\
+HTTP/1.1 409 Conflict\r\nContent-Type: application/json\r\nContent-Length: 51\r\nIpam-Place: 27\r\n\r\n{\"code\":\"no_space\",\"detail\":\"no space for claim 2\"}\
 HTTP/1.1 404 Not Found\r\nContent-Type: application/json\r\nContent-Length: 43\r\n\r\n{\"code\":\"no_route\",\"detail\":\"no such path\"}\
-HTTP/1.1 200 OK\r\nContent-Type: application/json\r\nContent-Length: 41\r\nIpam-Place: 29\r\n\r\n{\"asn\":64513,\"id\":2,\"name\":\"b\",\"range\":1}\
-HTTP/1.1 200 OK\r\nContent-Type: application/json\r\nContent-Length: 2\r\nIpam-Place: 30\r\n\r\n[]\
-HTTP/1.1 409 Conflict\r\nContent-Type: application/json\r\nContent-Length: 51\r\nIpam-Place: 30\r\n\r\n{\"code\":\"no_space\",\"detail\":\"no space for claim 0\"}\
-HTTP/1.1 201 Created\r\nContent-Type: application/json\r\nContent-Length: 39\r\nIpam-Place: 30\r\n\r\n{\"group\":3,\"id\":51,\"name\":\"b\",\"vid\":44}\
-HTTP/1.1 200 OK\r\nContent-Type: application/json\r\nContent-Length: 2\r\nIpam-Place: 31\r\n\r\n[]\
+HTTP/1.1 200 OK\r\nContent-Type: application/json\r\nContent-Length: 2\r\nIpam-Place: 27\r\n\r\n[]\
+HTTP/1.1 400 Bad Request\r\nContent-Type: application/json\r\nContent-Length: 56\r\n\r\n{\"code\":\"field\",\"detail\":\"name is missing or malformed\"}\
+HTTP/1.1 200 OK\r\nContent-Type: application/json\r\nContent-Length: 45\r\nIpam-Place: 27\r\n\r\n{\"group\":3,\"id\":42,\"name\":\"room 33\",\"vid\":35}\
+HTTP/1.1 201 Created\r\nContent-Type: application/json\r\nContent-Length: 43\r\nIpam-Place: 27\r\n\r\n{\"group\":5,\"id\":50,\"name\":\"d e\",\"vid\":4090}\
+HTTP/1.1 409 Conflict\r\nContent-Type: application/json\r\nContent-Length: 46\r\nIpam-Place: 28\r\n\r\n{\"code\":\"in_use\",\"detail\":\"named by member 3\"}\
+HTTP/1.1 201 Created\r\nContent-Type: application/json\r\nContent-Length: 31\r\nIpam-Place: 28\r\n\r\n{\"asn\":64514,\"id\":51,\"range\":1}\
+HTTP/1.1 409 Conflict\r\nContent-Type: application/json\r\nContent-Length: 60\r\nIpam-Place: 29\r\n\r\n{\"code\":\"taken\",\"detail\":\"number 4090 is that of member 50\"}\
+HTTP/1.1 201 Created\r\nContent-Type: application/json\r\nContent-Length: 41\r\nIpam-Place: 29\r\n\r\n{\"group\":5,\"id\":52,\"name\":\"b\",\"vid\":4091}\
+HTTP/1.1 201 Created\r\nContent-Type: application/json\r\nContent-Length: 56\r\nIpam-Place: 30\r\n\r\n{\"end\":4294967290,\"id\":6,\"name\":\"b2\",\"start\":4294967290}\
+HTTP/1.1 400 Bad Request\r\nContent-Type: application/json\r\nContent-Length: 56\r\n\r\n{\"code\":\"field\",\"detail\":\"name is missing or malformed\"}\
+HTTP/1.1 200 OK\r\nContent-Type: application/json\r\nContent-Length: 151\r\nIpam-Place: 31\r\n\r\n[42,43,44,45,46,47,48,49,50,51,52,53,54,55,56,57,58,59,60,61,62,63,64,65,66,67,68,69,70,71,72,73,74,75,76,77,78,79,80,81,82,83,84,85,86,87,88,89,90,91]\
+HTTP/1.1 400 Bad Request\r\nContent-Type: application/json\r\nContent-Length: 54\r\nIpam-Place: 31\r\n\r\n{\"code\":\"name_taken\",\"detail\":\"the name is that of 6\"}\
+HTTP/1.1 200 OK\r\nContent-Type: application/json\r\nContent-Length: 87\r\nIpam-Place: 31\r\n\r\n[{\"group\":5,\"id\":50,\"name\":\"d e\",\"vid\":4090},{\"group\":5,\"id\":52,\"name\":\"b\",\"vid\":4091}]\
+HTTP/1.1 409 Conflict\r\nContent-Type: application/json\r\nContent-Length: 60\r\nIpam-Place: 31\r\n\r\n{\"code\":\"taken\",\"detail\":\"number 64513 is that of member 2\"}\
+HTTP/1.1 200 OK\r\nContent-Type: application/json\r\nContent-Length: 45\r\nIpam-Place: 31\r\n\r\n{\"end\":64514,\"id\":1,\"name\":\"a\",\"start\":64512}\
 HTTP/1.1 204 No Content\r\nIpam-Place: 31\r\n\r\n\
-HTTP/1.1 200 OK\r\nContent-Type: application/json\r\nContent-Length: 39\r\nIpam-Place: 32\r\n\r\n{\"group\":3,\"id\":42,\"name\":\"a\",\"vid\":35}\
-HTTP/1.1 204 No Content\r\nIpam-Place: 33\r\n\r\n\
-HTTP/1.1 200 OK\r\nContent-Type: application/json\r\nContent-Length: 3987\r\nIpam-Place: 34\r\n\r\n[21,22,45,46,47,48,49,50,51,52,53,54,55,56,57,58,59,60,61,62,63,64,65,66,67,68,69,70,71,72,73,74,75,76,77,78,79,80,81,82,83,84,85,86,87,88,89,90,91,92,93,94,95,96,97,98,99,100,101,102,103,104,105,106,107,108,109,110,111,112,113,114,115,116,117,118,119,120,121,122,123,124,125,126,127,128,129,130,131,132,133,134,135,136,137,138,139,140,141,142,143,144,145,146,147,148,149,150,151,152,153,154,155,156,157,158,159,160,161,162,163,164,165,166,167,168,169,170,171,172,173,174,175,176,177,178,179,180,181,182,183,184,185,186,187,188,189,190,191,192,193,194,195,196,197,198,199,200,201,202,203,204,205,206,207,208,209,210,211,212,213,214,215,216,217,218,219,220,221,222,223,224,225,226,227,228,229,230,231,232,233,234,235,236,237,238,239,240,241,242,243,244,245,246,247,248,249,250,251,252,253,254,255,256,257,258,259,260,261,262,263,264,265,266,267,268,269,270,271,272,273,274,275,276,277,278,279,280,281,282,283,284,285,286,287,288,289,290,291,292,293,294,295,296,297,298,299,300,301,302,303,304,305,306,307,308,309,310,311,312,313,314,315,316,317,318,319,320,321,322,323,324,325,326,327,328,329,330,331,332,333,334,335,336,337,338,339,340,341,342,343,344,345,346,347,348,349,350,351,352,353,354,355,356,357,358,359,360,361,362,363,364,365,366,367,368,369,370,371,372,373,374,375,376,377,378,379,380,381,382,383,384,385,386,387,388,389,390,391,392,393,394,395,396,397,398,399,400,401,402,403,404,405,406,407,408,409,410,411,412,413,414,415,416,417,418,419,420,421,422,423,424,425,426,427,428,429,430,431,432,433,434,435,436,437,438,439,440,441,442,443,444,445,446,447,448,449,450,451,452,453,454,455,456,457,458,459,460,461,462,463,464,465,466,467,468,469,470,471,472,473,474,475,476,477,478,479,480,481,482,483,484,485,486,487,488,489,490,491,492,493,494,495,496,497,498,499,500,501,502,503,504,505,506,507,508,509,510,511,512,513,514,515,516,517,518,519,520,521,522,523,524,525,526,527,528,529,530,531,532,533,534,535,536,537,538,539,540,541,542,543,544,545,546,547,548,549,550,551,552,553,554,555,556,557,558,559,560,561,562,563,564,565,566,567,568,569,570,571,572,573,574,575,576,577,578,579,580,581,582,583,584,585,586,587,588,589,590,591,592,593,594,595,596,597,598,599,600,601,602,603,604,605,606,607,608,609,610,611,612,613,614,615,616,617,618,619,620,621,622,623,624,625,626,627,628,629,630,631,632,633,634,635,636,637,638,639,640,641,642,643,644,645,646,647,648,649,650,651,652,653,654,655,656,657,658,659,660,661,662,663,664,665,666,667,668,669,670,671,672,673,674,675,676,677,678,679,680,681,682,683,684,685,686,687,688,689,690,691,692,693,694,695,696,697,698,699,700,701,702,703,704,705,706,707,708,709,710,711,712,713,714,715,716,717,718,719,720,721,722,723,724,725,726,727,728,729,730,731,732,733,734,735,736,737,738,739,740,741,742,743,744,745,746,747,748,749,750,751,752,753,754,755,756,757,758,759,760,761,762,763,764,765,766,767,768,769,770,771,772,773,774,775,776,777,778,779,780,781,782,783,784,785,786,787,788,789,790,791,792,793,794,795,796,797,798,799,800,801,802,803,804,805,806,807,808,809,810,811,812,813,814,815,816,817,818,819,820,821,822,823,824,825,826,827,828,829,830,831,832,833,834,835,836,837,838,839,840,841,842,843,844,845,846,847,848,849,850,851,852,853,854,855,856,857,858,859,860,861,862,863,864,865,866,867,868,869,870,871,872,873,874,875,876,877,878,879,880,881,882,883,884,885,886,887,888,889,890,891,892,893,894,895,896,897,898,899,900,901,902,903,904,905,906,907,908,909,910,911,912,913,914,915,916,917,918,919,920,921,922,923,924,925,926,927,928,929,930,931,932,933,934,935,936,937,938,939,940,941,942,943,944,945,946,947,948,949,950,951,952,953,954,955,956,957,958,959,960,961,962,963,964,965,966,967,968,969,970,971,972,973,974,975,976,977,978,979,980,981,982,983,984,985,986,987,988,989,990,991,992,993,994,995,996,997,998,999,1000,1001,1002,1003,1004,1005,1006,1007,1008,1009,1010,1011,1012,1013,1014,1015,1016,1017,1018,1019,1020,1021,1022,1023,1024,1025,1026,1027,1028,1029,1030,1031,1032,1033,1034,1035,1036,1037,1038,1039,1040,1041,1042]\
-HTTP/1.1 200 OK\r\nContent-Type: application/json\r\nContent-Length: 2\r\nIpam-Place: 34\r\n\r\n[]\
-HTTP/1.1 200 OK\r\nContent-Type: application/json\r\nContent-Length: 1890\r\nIpam-Place: 34\r\n\r\n[{\"group\":3,\"id\":3,\"name\":\"voice\",\"vid\":1},{\"group\":3,\"id\":9,\"name\":\"room 0\",\"vid\":2},{\"group\":3,\"id\":10,\"name\":\"room 1\",\"vid\":3},{\"group\":3,\"id\":11,\"name\":\"room 2\",\"vid\":4},{\"group\":3,\"id\":12,\"name\":\"room 3\",\"vid\":5},{\"group\":3,\"id\":13,\"name\":\"room 4\",\"vid\":6},{\"group\":3,\"id\":14,\"name\":\"room 5\",\"vid\":7},{\"group\":3,\"id\":15,\"name\":\"room 6\",\"vid\":8},{\"group\":3,\"id\":16,\"name\":\"room 7\",\"vid\":9},{\"group\":3,\"id\":17,\"name\":\"room 8\",\"vid\":10},{\"group\":3,\"id\":18,\"name\":\"room 9\",\"vid\":11},{\"group\":3,\"id\":19,\"name\":\"room 10\",\"vid\":12},{\"group\":3,\"id\":20,\"name\":\"room 11\",\"vid\":13},{\"group\":3,\"id\":21,\"name\":\"room 12\",\"vid\":14},{\"group\":3,\"id\":22,\"name\":\"room 13\",\"vid\":15},{\"group\":3,\"id\":23,\"name\":\"room 14\",\"vid\":16},{\"group\":3,\"id\":24,\"name\":\"room 15\",\"vid\":17},{\"group\":3,\"id\":25,\"name\":\"room 16\",\"vid\":18},{\"group\":3,\"id\":26,\"name\":\"room 17\",\"vid\":19},{\"group\":3,\"id\":27,\"name\":\"room 18\",\"vid\":20},{\"group\":3,\"id\":30,\"name\":\"room 21\",\"vid\":23},{\"group\":3,\"id\":31,\"name\":\"room 22\",\"vid\":24},{\"group\":3,\"id\":32,\"name\":\"room 23\",\"vid\":25},{\"group\":3,\"id\":33,\"name\":\"room 24\",\"vid\":26},{\"group\":3,\"id\":34,\"name\":\"room 25\",\"vid\":27},{\"group\":3,\"id\":35,\"name\":\"room 26\",\"vid\":28},{\"group\":3,\"id\":36,\"name\":\"room 27\",\"vid\":29},{\"group\":3,\"id\":37,\"name\":\"room 28\",\"vid\":30},{\"group\":3,\"id\":38,\"name\":\"room 29\",\"vid\":31},{\"group\":3,\"id\":39,\"name\":\"room 30\",\"vid\":32},{\"group\":3,\"id\":40,\"name\":\"room 31\",\"vid\":33},{\"group\":3,\"id\":41,\"name\":\"room 32\",\"vid\":34},{\"group\":3,\"id\":42,\"name\":\"a\",\"vid\":35},{\"group\":3,\"id\":43,\"name\":\"room 34\",\"vid\":36},{\"group\":3,\"id\":44,\"name\":\"room 35\",\"vid\":37},{\"group\":3,\"id\":45,\"name\":\"room 36\",\"vid\":38},{\"group\":3,\"id\":46,\"name\":\"room 37\",\"vid\":39},{\"group\":3,\"id\":47,\"name\":\"room 38\",\"vid\":40},{\"group\":3,\"id\":48,\"name\":\"room 39\",\"vid\":41},{\"group\":3,\"id\":49,\"name\":\"é\",\"vid\":42},{\"group\":3,\"id\":50,\"name\":\"\\\"\\\\\",\"vid\":43},{\"group\":3,\"id\":51,\"name\":\"b\",\"vid\":44}]\
-HTTP/1.1 200 OK\r\nContent-Type: application/json\r\nContent-Length: 4\r\nIpam-Place: 34\r\n\r\n[21]\
-HTTP/1.1 201 Created\r\nContent-Type: application/json\r\nContent-Length: 41\r\nIpam-Place: 34\r\n\r\n{\"end\":4,\"id\":6,\"name\":\"\\\"\\\\0\",\"start\":2}\
-HTTP/1.1 400 Bad Request\r\nContent-Type: application/json\r\nContent-Length: 55\r\n\r\n{\"code\":\"field\",\"detail\":\"asn is missing or malformed\"}\
-HTTP/1.1 404 Not Found\r\nContent-Type: application/json\r\nContent-Length: 46\r\nIpam-Place: 35\r\n\r\n{\"code\":\"not_found\",\"detail\":\"1 is not there\"}\
-HTTP/1.1 200 OK\r\nContent-Type: application/json\r\nContent-Length: 2\r\nIpam-Place: 35\r\n\r\n[]\
-HTTP/1.1 400 Bad Request\r\nContent-Type: application/json\r\nContent-Length: 54\r\nIpam-Place: 35\r\n\r\n{\"code\":\"bounds\",\"detail\":\"first and last do not fit\"}\
-HTTP/1.1 204 No Content\r\nIpam-Place: 35\r\n\r\n\
-HTTP/1.1 201 Created\r\nContent-Type: application/json\r\nContent-Length: 38\r\nIpam-Place: 36\r\n\r\n{\"group\":6,\"id\":52,\"name\":\"a\",\"vid\":2}\
-HTTP/1.1 200 OK\r\nContent-Type: application/json\r\nContent-Length: 30\r\nIpam-Place: 37\r\n\r\n{\"asn\":64512,\"id\":8,\"range\":1}\
-HTTP/1.1 201 Created\r\nContent-Type: application/json\r\nContent-Length: 38\r\nIpam-Place: 38\r\n\r\n{\"group\":3,\"id\":53,\"name\":\"c\",\"vid\":1}\
-HTTP/1.1 201 Created\r\nContent-Type: application/json\r\nContent-Length: 124\r\nIpam-Place: 39\r\n\r\n[{\"group\":3,\"id\":54,\"name\":\"b\",\"vid\":21},{\"group\":3,\"id\":55,\"name\":\"\\\"\\\\\",\"vid\":22},{\"group\":3,\"id\":56,\"name\":\"a\",\"vid\":45}]\
-HTTP/1.1 200 OK\r\nContent-Type: application/json\r\nContent-Length: 3\r\nIpam-Place: 40\r\n\r\n[3]\
-HTTP/1.1 200 OK\r\nContent-Type: application/json\r\nContent-Length: 39\r\nIpam-Place: 40\r\n\r\n{\"group\":3,\"id\":19,\"name\":\"c\",\"vid\":12}\
-HTTP/1.1 204 No Content\r\nIpam-Place: 41\r\n\r\n\
-HTTP/1.1 409 Conflict\r\nContent-Type: application/json\r\nContent-Length: 51\r\nIpam-Place: 42\r\n\r\n{\"code\":\"no_space\",\"detail\":\"no space for claim 1\"}\
-HTTP/1.1 200 OK\r\nContent-Type: application/json\r\nContent-Length: 40\r\nIpam-Place: 42\r\n\r\n{\"end\":4094,\"id\":3,\"name\":\"a\",\"start\":1}\
-HTTP/1.1 409 Conflict\r\nContent-Type: application/json\r\nContent-Length: 58\r\nIpam-Place: 42\r\n\r\n{\"code\":\"taken\",\"detail\":\"number 12 is that of member 19\"}\
-HTTP/1.1 201 Created\r\nContent-Type: application/json\r\nContent-Length: 56\r\nIpam-Place: 42\r\n\r\n{\"end\":4294967294,\"id\":7,\"name\":\"a0\",\"start\":4294967290}\
-HTTP/1.1 404 Not Found\r\nContent-Type: application/json\r\nContent-Length: 47\r\nIpam-Place: 43\r\n\r\n{\"code\":\"not_found\",\"detail\":\"99 is not there\"}\
-HTTP/1.1 200 OK\r\nContent-Type: application/json\r\nContent-Length: 40\r\nIpam-Place: 43\r\n\r\n[{\"group\":6,\"id\":52,\"name\":\"a\",\"vid\":2}]\
-HTTP/1.1 200 OK\r\nContent-Type: application/json\r\nContent-Length: 7\r\nIpam-Place: 43\r\n\r\n[64512]\
-HTTP/1.1 200 OK\r\nContent-Type: application/json\r\nContent-Length: 7\r\nIpam-Place: 43\r\n\r\n[64512]\
-HTTP/1.1 409 Conflict\r\nContent-Type: application/json\r\nContent-Length: 57\r\nIpam-Place: 43\r\n\r\n{\"code\":\"taken\",\"detail\":\"number 2 is that of member 52\"}\
-HTTP/1.1 201 Created\r\nContent-Type: application/json\r\nContent-Length: 39\r\nIpam-Place: 43\r\n\r\n{\"group\":3,\"id\":57,\"name\":\"a\",\"vid\":46}\
-HTTP/1.1 204 No Content\r\nIpam-Place: 44\r\n\r\n\
-HTTP/1.1 200 OK\r\nContent-Type: application/json\r\nContent-Length: 5\r\nIpam-Place: 45\r\n\r\n[3,4]\
-HTTP/1.1 404 Not Found\r\nContent-Type: application/json\r\nContent-Length: 47\r\nIpam-Place: 45\r\n\r\n{\"code\":\"not_found\",\"detail\":\"48 is not there\"}\
-HTTP/1.1 200 OK\r\nContent-Type: application/json\r\nContent-Length: 5\r\nIpam-Place: 45\r\n\r\n[3,4]\
-HTTP/1.1 409 Conflict\r\nContent-Type: application/json\r\nContent-Length: 57\r\nIpam-Place: 45\r\n\r\n{\"code\":\"taken\",\"detail\":\"number 2 is that of member 52\"}\
-HTTP/1.1 200 OK\r\nContent-Type: application/json\r\nContent-Length: 104\r\nIpam-Place: 45\r\n\r\n[{\"end\":64514,\"id\":1,\"name\":\"a\",\"start\":64512},{\"end\":4294967294,\"id\":7,\"name\":\"a0\",\"start\":4294967290}]\
-HTTP/1.1 200 OK\r\nContent-Type: application/json\r\nContent-Length: 5\r\nIpam-Place: 45\r\n\r\n[3,4]\
-HTTP/1.1 409 Conflict\r\nContent-Type: application/json\r\nContent-Length: 46\r\nIpam-Place: 45\r\n\r\n{\"code\":\"in_use\",\"detail\":\"named by member 2\"}\
-HTTP/1.1 201 Created\r\nContent-Type: application/json\r\nContent-Length: 41\r\nIpam-Place: 45\r\n\r\n[{\"group\":3,\"id\":58,\"name\":\"b\",\"vid\":47}]\
-HTTP/1.1 405 Method Not Allowed\r\nContent-Type: application/json\r\nContent-Length: 63\r\nAllow: GET, PATCH, DELETE\r\n\r\n{\"code\":\"method\",\"detail\":\"the path does not have this method\"}\
-HTTP/1.1 404 Not Found\r\nContent-Type: application/json\r\nContent-Length: 43\r\n\r\n{\"code\":\"no_route\",\"detail\":\"no such path\"}\
-HTTP/1.1 200 OK\r\nContent-Type: application/json\r\nContent-Length: 41\r\nIpam-Place: 46\r\n\r\n{\"asn\":64514,\"id\":5,\"name\":\"a\",\"range\":1}\
-HTTP/1.1 200 OK\r\nContent-Type: application/json\r\nContent-Length: 22\r\nIpam-Place: 47\r\n\r\n[48,49,50,51,52,53,54]\
-HTTP/1.1 204 No Content\r\nIpam-Place: 47\r\n\r\n\
-HTTP/1.1 404 Not Found\r\nContent-Type: application/json\r\nContent-Length: 47\r\nIpam-Place: 48\r\n\r\n{\"code\":\"not_found\",\"detail\":\"40 is not there\"}\
-HTTP/1.1 201 Created\r\nContent-Type: application/json\r\nContent-Length: 43\r\nIpam-Place: 48\r\n\r\n[{\"group\":3,\"id\":59,\"name\":\"d e\",\"vid\":24}]\
-HTTP/1.1 400 Bad Request\r\nContent-Type: application/json\r\nContent-Length: 55\r\n\r\n{\"code\":\"field\",\"detail\":\"asn is missing or malformed\"}\
-HTTP/1.1 409 Conflict\r\nContent-Type: application/json\r\nContent-Length: 72\r\nIpam-Place: 49\r\n\r\n{\"code\":\"taken\",\"detail\":\"number 4294967291 is that of an earlier item\"}\
-HTTP/1.1 200 OK\r\nContent-Type: application/json\r\nContent-Length: 151\r\nIpam-Place: 49\r\n\r\n[48,49,50,51,52,53,54,55,56,57,58,59,60,61,62,63,64,65,66,67,68,69,70,71,72,73,74,75,76,77,78,79,80,81,82,83,84,85,86,87,88,89,90,91,92,93,94,95,96,97]\
-HTTP/1.1 200 OK\r\nContent-Type: application/json\r\nContent-Length: 56\r\nIpam-Place: 49\r\n\r\n[4294967290,4294967291,4294967292,4294967293,4294967294]\
-HTTP/1.1 200 OK\r\nContent-Type: application/json\r\nContent-Length: 46\r\nIpam-Place: 49\r\n\r\n{\"end\":64514,\"id\":1,\"name\":\"a2\",\"start\":64511}\
-HTTP/1.1 200 OK\r\nContent-Type: application/json\r\nContent-Length: 40\r\nIpam-Place: 50\r\n\r\n[{\"group\":6,\"id\":52,\"name\":\"a\",\"vid\":2}]\
-HTTP/1.1 201 Created\r\nContent-Type: application/json\r\nContent-Length: 38\r\nIpam-Place: 50\r\n\r\n{\"end\":4,\"id\":8,\"name\":\"b2\",\"start\":3}\
-HTTP/1.1 200 OK\r\nContent-Type: application/json\r\nContent-Length: 45\r\nIpam-Place: 51\r\n\r\n{\"group\":3,\"id\":20,\"name\":\"room 11\",\"vid\":13}\
-HTTP/1.1 200 OK\r\nContent-Type: application/json\r\nContent-Length: 3997\r\nIpam-Place: 51\r\n\r\n[48,49,50,51,52,53,54,55,56,57,58,59,60,61,62,63,64,65,66,67,68,69,70,71,72,73,74,75,76,77,78,79,80,81,82,83,84,85,86,87,88,89,90,91,92,93,94,95,96,97,98,99,100,101,102,103,104,105,106,107,108,109,110,111,112,113,114,115,116,117,118,119,120,121,122,123,124,125,126,127,128,129,130,131,132,133,134,135,136,137,138,139,140,141,142,143,144,145,146,147,148,149,150,151,152,153,154,155,156,157,158,159,160,161,162,163,164,165,166,167,168,169,170,171,172,173,174,175,176,177,178,179,180,181,182,183,184,185,186,187,188,189,190,191,192,193,194,195,196,197,198,199,200,201,202,203,204,205,206,207,208,209,210,211,212,213,214,215,216,217,218,219,220,221,222,223,224,225,226,227,228,229,230,231,232,233,234,235,236,237,238,239,240,241,242,243,244,245,246,247,248,249,250,251,252,253,254,255,256,257,258,259,260,261,262,263,264,265,266,267,268,269,270,271,272,273,274,275,276,277,278,279,280,281,282,283,284,285,286,287,288,289,290,291,292,293,294,295,296,297,298,299,300,301,302,303,304,305,306,307,308,309,310,311,312,313,314,315,316,317,318,319,320,321,322,323,324,325,326,327,328,329,330,331,332,333,334,335,336,337,338,339,340,341,342,343,344,345,346,347,348,349,350,351,352,353,354,355,356,357,358,359,360,361,362,363,364,365,366,367,368,369,370,371,372,373,374,375,376,377,378,379,380,381,382,383,384,385,386,387,388,389,390,391,392,393,394,395,396,397,398,399,400,401,402,403,404,405,406,407,408,409,410,411,412,413,414,415,416,417,418,419,420,421,422,423,424,425,426,427,428,429,430,431,432,433,434,435,436,437,438,439,440,441,442,443,444,445,446,447,448,449,450,451,452,453,454,455,456,457,458,459,460,461,462,463,464,465,466,467,468,469,470,471,472,473,474,475,476,477,478,479,480,481,482,483,484,485,486,487,488,489,490,491,492,493,494,495,496,497,498,499,500,501,502,503,504,505,506,507,508,509,510,511,512,513,514,515,516,517,518,519,520,521,522,523,524,525,526,527,528,529,530,531,532,533,534,535,536,537,538,539,540,541,542,543,544,545,546,547,548,549,550,551,552,553,554,555,556,557,558,559,560,561,562,563,564,565,566,567,568,569,570,571,572,573,574,575,576,577,578,579,580,581,582,583,584,585,586,587,588,589,590,591,592,593,594,595,596,597,598,599,600,601,602,603,604,605,606,607,608,609,610,611,612,613,614,615,616,617,618,619,620,621,622,623,624,625,626,627,628,629,630,631,632,633,634,635,636,637,638,639,640,641,642,643,644,645,646,647,648,649,650,651,652,653,654,655,656,657,658,659,660,661,662,663,664,665,666,667,668,669,670,671,672,673,674,675,676,677,678,679,680,681,682,683,684,685,686,687,688,689,690,691,692,693,694,695,696,697,698,699,700,701,702,703,704,705,706,707,708,709,710,711,712,713,714,715,716,717,718,719,720,721,722,723,724,725,726,727,728,729,730,731,732,733,734,735,736,737,738,739,740,741,742,743,744,745,746,747,748,749,750,751,752,753,754,755,756,757,758,759,760,761,762,763,764,765,766,767,768,769,770,771,772,773,774,775,776,777,778,779,780,781,782,783,784,785,786,787,788,789,790,791,792,793,794,795,796,797,798,799,800,801,802,803,804,805,806,807,808,809,810,811,812,813,814,815,816,817,818,819,820,821,822,823,824,825,826,827,828,829,830,831,832,833,834,835,836,837,838,839,840,841,842,843,844,845,846,847,848,849,850,851,852,853,854,855,856,857,858,859,860,861,862,863,864,865,866,867,868,869,870,871,872,873,874,875,876,877,878,879,880,881,882,883,884,885,886,887,888,889,890,891,892,893,894,895,896,897,898,899,900,901,902,903,904,905,906,907,908,909,910,911,912,913,914,915,916,917,918,919,920,921,922,923,924,925,926,927,928,929,930,931,932,933,934,935,936,937,938,939,940,941,942,943,944,945,946,947,948,949,950,951,952,953,954,955,956,957,958,959,960,961,962,963,964,965,966,967,968,969,970,971,972,973,974,975,976,977,978,979,980,981,982,983,984,985,986,987,988,989,990,991,992,993,994,995,996,997,998,999,1000,1001,1002,1003,1004,1005,1006,1007,1008,1009,1010,1011,1012,1013,1014,1015,1016,1017,1018,1019,1020,1021,1022,1023,1024,1025,1026,1027,1028,1029,1030,1031,1032,1033,1034,1035,1036,1037,1038,1039,1040,1041,1042,1043,1044,1045,1046,1047]\
-HTTP/1.1 201 Created\r\nContent-Type: application/json\r\nContent-Length: 29\r\nIpam-Place: 51\r\n\r\n[{\"asn\":3,\"id\":60,\"range\":8}]\
-HTTP/1.1 201 Created\r\nContent-Type: application/json\r\nContent-Length: 36\r\nIpam-Place: 52\r\n\r\n{\"asn\":4294967290,\"id\":61,\"range\":7}\
-HTTP/1.1 200 OK\r\nContent-Type: application/json\r\nContent-Length: 39\r\nIpam-Place: 53\r\n\r\n{\"group\":3,\"id\":19,\"name\":\"c\",\"vid\":12}\
-HTTP/1.1 200 OK\r\nContent-Type: application/json\r\nContent-Length: 42\r\nIpam-Place: 54\r\n\r\n{\"asn\":64513,\"id\":2,\"name\":\"é\",\"range\":1}\
-HTTP/1.1 404 Not Found\r\nContent-Type: application/json\r\nContent-Length: 47\r\nIpam-Place: 55\r\n\r\n{\"code\":\"not_found\",\"detail\":\"33 is not there\"}\
-HTTP/1.1 201 Created\r\nContent-Type: application/json\r\nContent-Length: 121\r\nIpam-Place: 55\r\n\r\n[{\"group\":3,\"id\":62,\"name\":\"a\",\"vid\":48},{\"group\":3,\"id\":63,\"name\":\"b\",\"vid\":49},{\"group\":3,\"id\":64,\"name\":\"c\",\"vid\":50}]\
-HTTP/1.1 200 OK\r\nContent-Type: application/json\r\nContent-Length: 44\r\nIpam-Place: 56\r\n\r\n{\"asn\":64514,\"id\":5,\"name\":\"\\\"\\\\\",\"range\":1}\
-HTTP/1.1 201 Created\r\nContent-Type: application/json\r\nContent-Length: 36\r\nIpam-Place: 57\r\n\r\n{\"asn\":4294967291,\"id\":65,\"range\":7}\
-HTTP/1.1 404 Not Found\r\nContent-Type: application/json\r\nContent-Length: 46\r\nIpam-Place: 58\r\n\r\n{\"code\":\"not_found\",\"detail\":\"8 is not there\"}\
-HTTP/1.1 201 Created\r\nContent-Type: application/json\r\nContent-Length: 36\r\nIpam-Place: 58\r\n\r\n{\"asn\":4294967292,\"id\":66,\"range\":7}\
-HTTP/1.1 201 Created\r\nContent-Type: application/json\r\nContent-Length: 36\r\nIpam-Place: 59\r\n\r\n{\"asn\":4294967293,\"id\":67,\"range\":7}\
-HTTP/1.1 409 Conflict\r\nContent-Type: application/json\r\nContent-Length: 57\r\nIpam-Place: 60\r\n\r\n{\"code\":\"taken\",\"detail\":\"number 3 is that of member 60\"}\
-HTTP/1.1 200 OK\r\nContent-Type: application/json\r\nContent-Length: 152\r\nIpam-Place: 60\r\n\r\n[51,52,53,54,55,56,57,58,59,60,61,62,63,64,65,66,67,68,69,70,71,72,73,74,75,76,77,78,79,80,81,82,83,84,85,86,87,88,89,90,91,92,93,94,95,96,97,98,99,100]\
-HTTP/1.1 404 Not Found\r\nContent-Type: application/json\r\nContent-Length: 47\r\nIpam-Place: 60\r\n\r\n{\"code\":\"not_found\",\"detail\":\"99 is not there\"}\
-HTTP/1.1 200 OK\r\nContent-Type: application/json\r\nContent-Length: 84\r\nIpam-Place: 60\r\n\r\n[{\"end\":4094,\"id\":3,\"name\":\"a\",\"start\":1},{\"end\":4,\"id\":6,\"name\":\"\\\"\\\\0\",\"start\":2}]\
-HTTP/1.1 404 Not Found\r\nContent-Type: application/json\r\nContent-Length: 46\r\nIpam-Place: 60\r\n\r\n{\"code\":\"not_found\",\"detail\":\"6 is not there\"}\
-HTTP/1.1 200 OK\r\nContent-Type: application/json\r\nContent-Length: 39\r\nIpam-Place: 60\r\n\r\n{\"group\":3,\"id\":62,\"name\":\"a\",\"vid\":48}\
-HTTP/1.1 201 Created\r\nContent-Type: application/json\r\nContent-Length: 39\r\nIpam-Place: 61\r\n\r\n{\"group\":3,\"id\":68,\"name\":\"c\",\"vid\":51}\
-HTTP/1.1 204 No Content\r\nIpam-Place: 62\r\n\r\n\
-HTTP/1.1 200 OK\r\nContent-Type: application/json\r\nContent-Length: 39\r\nIpam-Place: 63\r\n\r\n{\"group\":3,\"id\":62,\"name\":\"b\",\"vid\":48}\
-HTTP/1.1 201 Created\r\nContent-Type: application/json\r\nContent-Length: 27\r\nIpam-Place: 64\r\n\r\n{\"asn\":4,\"id\":69,\"range\":8}\
-HTTP/1.1 200 OK\r\nContent-Type: application/json\r\nContent-Length: 40\r\nIpam-Place: 65\r\n\r\n{\"end\":4094,\"id\":3,\"name\":\"a\",\"start\":1}\
-HTTP/1.1 409 Conflict\r\nContent-Type: application/json\r\nContent-Length: 47\r\nIpam-Place: 65\r\n\r\n{\"code\":\"in_use\",\"detail\":\"named by member 52\"}\
-HTTP/1.1 404 Not Found\r\nContent-Type: application/json\r\nContent-Length: 47\r\nIpam-Place: 65\r\n\r\n{\"code\":\"not_found\",\"detail\":\"69 is not there\"}\
-HTTP/1.1 409 Conflict\r\nContent-Type: application/json\r\nContent-Length: 66\r\nIpam-Place: 65\r\n\r\n{\"code\":\"taken\",\"detail\":\"number 4294967290 is that of member 61\"}\
-HTTP/1.1 200 OK\r\nContent-Type: application/json\r\nContent-Length: 40\r\nIpam-Place: 65\r\n\r\n{\"end\":4,\"id\":8,\"name\":\"d e0\",\"start\":3}\
-HTTP/1.1 201 Created\r\nContent-Type: application/json\r\nContent-Length: 41\r\nIpam-Place: 66\r\n\r\n{\"end\":5,\"id\":9,\"name\":\"\\\"\\\\1\",\"start\":1}\
-HTTP/1.1 200 OK\r\nContent-Type: application/json\r\nContent-Length: 39\r\nIpam-Place: 67\r\n\r\n{\"group\":3,\"id\":21,\"name\":\"c\",\"vid\":14}\
-HTTP/1.1 409 Conflict\r\nContent-Type: application/json\r\nContent-Length: 47\r\nIpam-Place: 68\r\n\r\n{\"code\":\"in_use\",\"detail\":\"named by member 61\"}\
-HTTP/1.1 201 Created\r\nContent-Type: application/json\r\nContent-Length: 39\r\nIpam-Place: 68\r\n\r\n{\"end\":4,\"id\":10,\"name\":\"a1\",\"start\":2}\
-HTTP/1.1 201 Created\r\nContent-Type: application/json\r\nContent-Length: 120\r\nIpam-Place: 69\r\n\r\n[{\"group\":9,\"id\":70,\"name\":\"d e\",\"vid\":1},{\"group\":9,\"id\":71,\"name\":\"a\",\"vid\":2},{\"group\":9,\"id\":72,\"name\":\"a\",\"vid\":3}]\
-HTTP/1.1 409 Conflict\r\nContent-Type: application/json\r\nContent-Length: 57\r\nIpam-Place: 70\r\n\r\n{\"code\":\"taken\",\"detail\":\"number 3 is that of member 60\"}\
-HTTP/1.1 400 Bad Request\r\nContent-Type: application/json\r\nContent-Length: 57\r\nIpam-Place: 70\r\n\r\n{\"code\":\"bounds\",\"detail\":\"number 2 is not in the range\"}\
-HTTP/1.1 200 OK\r\nContent-Type: application/json\r\nContent-Length: 5\r\nIpam-Place: 70\r\n\r\n[3,4]\
-HTTP/1.1 404 Not Found\r\nContent-Type: application/json\r\nContent-Length: 46\r\nIpam-Place: 70\r\n\r\n{\"code\":\"not_found\",\"detail\":\"3 is not there\"}\
-HTTP/1.1 404 Not Found\r\nContent-Type: application/json\r\nContent-Length: 46\r\nIpam-Place: 70\r\n\r\n{\"code\":\"not_found\",\"detail\":\"9 is not there\"}\
-HTTP/1.1 404 Not Found\r\nContent-Type: application/json\r\nContent-Length: 43\r\n\r\n{\"code\":\"no_route\",\"detail\":\"no such path\"}\
+HTTP/1.1 204 No Content\r\nIpam-Place: 32\r\n\r\n\
+HTTP/1.1 404 Not Found\r\nContent-Type: application/json\r\nContent-Length: 46\r\nIpam-Place: 33\r\n\r\n{\"code\":\"not_found\",\"detail\":\"3 is not there\"}\
+HTTP/1.1 409 Conflict\r\nContent-Type: application/json\r\nContent-Length: 60\r\nIpam-Place: 33\r\n\r\n{\"code\":\"taken\",\"detail\":\"number 4090 is that of member 50\"}\
+HTTP/1.1 409 Conflict\r\nContent-Type: application/json\r\nContent-Length: 56\r\nIpam-Place: 33\r\n\r\n{\"code\":\"taken\",\"detail\":\"number 2 is that of member 9\"}\
+HTTP/1.1 200 OK\r\nContent-Type: application/json\r\nContent-Length: 52\r\nIpam-Place: 33\r\n\r\n{\"count\":0,\"next\":null,\"previous\":null,\"results\":[]}\
+HTTP/1.1 409 Conflict\r\nContent-Type: application/json\r\nContent-Length: 51\r\nIpam-Place: 33\r\n\r\n{\"code\":\"no_space\",\"detail\":\"no space for claim 0\"}\
+HTTP/1.1 200 OK\r\nContent-Type: application/json\r\nContent-Length: 151\r\nIpam-Place: 33\r\n\r\n[42,43,44,45,46,47,48,49,50,51,52,53,54,55,56,57,58,59,60,61,62,63,64,65,66,67,68,69,70,71,72,73,74,75,76,77,78,79,80,81,82,83,84,85,86,87,88,89,90,91]\
+HTTP/1.1 200 OK\r\nContent-Type: application/json\r\nContent-Length: 114\r\nIpam-Place: 33\r\n\r\n{\"count\":2,\"next\":null,\"previous\":null,\"results\":[{\"asn\":64513,\"id\":2,\"range\":1},{\"asn\":64515,\"id\":49,\"range\":2}]}\
+HTTP/1.1 409 Conflict\r\nContent-Type: application/json\r\nContent-Length: 51\r\nIpam-Place: 33\r\n\r\n{\"code\":\"no_space\",\"detail\":\"no space for claim 0\"}\
+HTTP/1.1 400 Bad Request\r\nContent-Type: application/json\r\nContent-Length: 73\r\n\r\n{\"code\":\"bad_json\",\"detail\":\"the body is not the JSON that is asked for\"}\
+HTTP/1.1 409 Conflict\r\nContent-Type: application/json\r\nContent-Length: 60\r\nIpam-Place: 33\r\n\r\n{\"code\":\"taken\",\"detail\":\"number 64513 is that of member 2\"}\
+HTTP/1.1 201 Created\r\nContent-Type: application/json\r\nContent-Length: 36\r\nIpam-Place: 33\r\n\r\n{\"asn\":4294967290,\"id\":53,\"range\":6}\
+HTTP/1.1 204 No Content\r\nIpam-Place: 34\r\n\r\n\
+HTTP/1.1 409 Conflict\r\nContent-Type: application/json\r\nContent-Length: 66\r\nIpam-Place: 35\r\n\r\n{\"code\":\"taken\",\"detail\":\"number 4294967290 is that of member 53\"}\
+HTTP/1.1 201 Created\r\nContent-Type: application/json\r\nContent-Length: 42\r\nIpam-Place: 35\r\n\r\n[{\"group\":3,\"id\":54,\"name\":\"é\",\"vid\":42}]\
+HTTP/1.1 409 Conflict\r\nContent-Type: application/json\r\nContent-Length: 51\r\nIpam-Place: 36\r\n\r\n{\"code\":\"no_space\",\"detail\":\"no space for claim 0\"}\
+HTTP/1.1 400 Bad Request\r\nContent-Type: application/json\r\nContent-Length: 57\r\n\r\n{\"code\":\"field\",\"detail\":\"start is missing or malformed\"}\
+HTTP/1.1 400 Bad Request\r\nContent-Type: application/json\r\nContent-Length: 56\r\n\r\n{\"code\":\"field\",\"detail\":\"body is missing or malformed\"}\
+HTTP/1.1 201 Created\r\nContent-Type: application/json\r\nContent-Length: 44\r\nIpam-Place: 36\r\n\r\n{\"end\":4091,\"id\":7,\"name\":\"a1\",\"start\":4090}\
+HTTP/1.1 409 Conflict\r\nContent-Type: application/json\r\nContent-Length: 60\r\nIpam-Place: 37\r\n\r\n{\"code\":\"taken\",\"detail\":\"number 4091 is that of member 52\"}\
+HTTP/1.1 409 Conflict\r\nContent-Type: application/json\r\nContent-Length: 67\r\nIpam-Place: 37\r\n\r\n{\"code\":\"taken\",\"detail\":\"number 64512 is that of an earlier item\"}\
+HTTP/1.1 201 Created\r\nContent-Type: application/json\r\nContent-Length: 43\r\nIpam-Place: 37\r\n\r\n{\"group\":7,\"id\":55,\"name\":\"d e\",\"vid\":4090}\
 HTTP/1.1 400 Bad Request\r\nContent-Type: application/json\r\nContent-Length: 55\r\n\r\n{\"code\":\"field\",\"detail\":\"vid is missing or malformed\"}\
-HTTP/1.1 404 Not Found\r\nContent-Type: application/json\r\nContent-Length: 47\r\nIpam-Place: 70\r\n\r\n{\"code\":\"not_found\",\"detail\":\"10 is not there\"}\
-HTTP/1.1 204 No Content\r\nIpam-Place: 70\r\n\r\n\
+HTTP/1.1 400 Bad Request\r\nContent-Type: application/json\r\nContent-Length: 55\r\n\r\n{\"code\":\"field\",\"detail\":\"end is missing or malformed\"}\
+HTTP/1.1 404 Not Found\r\nContent-Type: application/json\r\nContent-Length: 47\r\nIpam-Place: 38\r\n\r\n{\"code\":\"not_found\",\"detail\":\"42 is not there\"}\
+HTTP/1.1 200 OK\r\nContent-Type: application/json\r\nContent-Length: 2086\r\nIpam-Place: 38\r\n\r\n{\"count\":45,\"next\":null,\"previous\":null,\"results\":[{\"group\":3,\"id\":3,\"name\":\"voice\",\"vid\":1},{\"group\":3,\"id\":9,\"name\":\"room 0\",\"vid\":2},{\"group\":3,\"id\":10,\"name\":\"room 1\",\"vid\":3},{\"group\":3,\"id\":11,\"name\":\"room 2\",\"vid\":4},{\"group\":3,\"id\":12,\"name\":\"room 3\",\"vid\":5},{\"group\":3,\"id\":13,\"name\":\"room 4\",\"vid\":6},{\"group\":3,\"id\":14,\"name\":\"room 5\",\"vid\":7},{\"group\":3,\"id\":15,\"name\":\"room 6\",\"vid\":8},{\"group\":3,\"id\":16,\"name\":\"room 7\",\"vid\":9},{\"group\":3,\"id\":17,\"name\":\"room 8\",\"vid\":10},{\"group\":3,\"id\":18,\"name\":\"room 9\",\"vid\":11},{\"group\":3,\"id\":19,\"name\":\"room 10\",\"vid\":12},{\"group\":3,\"id\":20,\"name\":\"room 11\",\"vid\":13},{\"group\":3,\"id\":21,\"name\":\"room 12\",\"vid\":14},{\"group\":3,\"id\":22,\"name\":\"room 13\",\"vid\":15},{\"group\":3,\"id\":23,\"name\":\"room 14\",\"vid\":16},{\"group\":3,\"id\":24,\"name\":\"room 15\",\"vid\":17},{\"group\":3,\"id\":25,\"name\":\"room 16\",\"vid\":18},{\"group\":3,\"id\":26,\"name\":\"room 17\",\"vid\":19},{\"group\":3,\"id\":27,\"name\":\"room 18\",\"vid\":20},{\"group\":3,\"id\":28,\"name\":\"room 19\",\"vid\":21},{\"group\":3,\"id\":29,\"name\":\"room 20\",\"vid\":22},{\"group\":3,\"id\":30,\"name\":\"room 21\",\"vid\":23},{\"group\":3,\"id\":31,\"name\":\"room 22\",\"vid\":24},{\"group\":3,\"id\":32,\"name\":\"room 23\",\"vid\":25},{\"group\":3,\"id\":33,\"name\":\"room 24\",\"vid\":26},{\"group\":3,\"id\":34,\"name\":\"room 25\",\"vid\":27},{\"group\":3,\"id\":35,\"name\":\"room 26\",\"vid\":28},{\"group\":3,\"id\":36,\"name\":\"room 27\",\"vid\":29},{\"group\":3,\"id\":37,\"name\":\"room 28\",\"vid\":30},{\"group\":3,\"id\":38,\"name\":\"room 29\",\"vid\":31},{\"group\":3,\"id\":39,\"name\":\"room 30\",\"vid\":32},{\"group\":3,\"id\":40,\"name\":\"room 31\",\"vid\":33},{\"group\":3,\"id\":41,\"name\":\"room 32\",\"vid\":34},{\"group\":3,\"id\":42,\"name\":\"room 33\",\"vid\":35},{\"group\":3,\"id\":43,\"name\":\"room 34\",\"vid\":36},{\"group\":3,\"id\":44,\"name\":\"room 35\",\"vid\":37},{\"group\":3,\"id\":45,\"name\":\"room 36\",\"vid\":38},{\"group\":3,\"id\":46,\"name\":\"room 37\",\"vid\":39},{\"group\":3,\"id\":47,\"name\":\"room 38\",\"vid\":40},{\"group\":3,\"id\":48,\"name\":\"room 39\",\"vid\":41},{\"group\":5,\"id\":50,\"name\":\"d e\",\"vid\":4090},{\"group\":5,\"id\":52,\"name\":\"b\",\"vid\":4091},{\"group\":3,\"id\":54,\"name\":\"é\",\"vid\":42},{\"group\":7,\"id\":55,\"name\":\"d e\",\"vid\":4090}]}\
+HTTP/1.1 201 Created\r\nContent-Type: application/json\r\nContent-Length: 47\r\nIpam-Place: 38\r\n\r\n{\"end\":64516,\"id\":8,\"name\":\"é0\",\"start\":64512}\
+HTTP/1.1 409 Conflict\r\nContent-Type: application/json\r\nContent-Length: 51\r\nIpam-Place: 39\r\n\r\n{\"code\":\"no_space\",\"detail\":\"no space for claim 0\"}\
+HTTP/1.1 201 Created\r\nContent-Type: application/json\r\nContent-Length: 41\r\nIpam-Place: 39\r\n\r\n{\"group\":7,\"id\":56,\"name\":\"a\",\"vid\":4091}\
+HTTP/1.1 409 Conflict\r\nContent-Type: application/json\r\nContent-Length: 60\r\nIpam-Place: 40\r\n\r\n{\"code\":\"taken\",\"detail\":\"number 4090 is that of member 50\"}\
+HTTP/1.1 404 Not Found\r\nContent-Type: application/json\r\nContent-Length: 46\r\nIpam-Place: 40\r\n\r\n{\"code\":\"not_found\",\"detail\":\"5 is not there\"}\
+HTTP/1.1 409 Conflict\r\nContent-Type: application/json\r\nContent-Length: 60\r\nIpam-Place: 40\r\n\r\n{\"code\":\"taken\",\"detail\":\"number 4091 is that of member 56\"}\
+HTTP/1.1 201 Created\r\nContent-Type: application/json\r\nContent-Length: 38\r\nIpam-Place: 40\r\n\r\n{\"end\":5,\"id\":9,\"name\":\"a2\",\"start\":5}\
+HTTP/1.1 200 OK\r\nContent-Type: application/json\r\nContent-Length: 2128\r\nIpam-Place: 41\r\n\r\n{\"count\":46,\"next\":null,\"previous\":null,\"results\":[{\"group\":3,\"id\":3,\"name\":\"voice\",\"vid\":1},{\"group\":3,\"id\":9,\"name\":\"room 0\",\"vid\":2},{\"group\":3,\"id\":10,\"name\":\"room 1\",\"vid\":3},{\"group\":3,\"id\":11,\"name\":\"room 2\",\"vid\":4},{\"group\":3,\"id\":12,\"name\":\"room 3\",\"vid\":5},{\"group\":3,\"id\":13,\"name\":\"room 4\",\"vid\":6},{\"group\":3,\"id\":14,\"name\":\"room 5\",\"vid\":7},{\"group\":3,\"id\":15,\"name\":\"room 6\",\"vid\":8},{\"group\":3,\"id\":16,\"name\":\"room 7\",\"vid\":9},{\"group\":3,\"id\":17,\"name\":\"room 8\",\"vid\":10},{\"group\":3,\"id\":18,\"name\":\"room 9\",\"vid\":11},{\"group\":3,\"id\":19,\"name\":\"room 10\",\"vid\":12},{\"group\":3,\"id\":20,\"name\":\"room 11\",\"vid\":13},{\"group\":3,\"id\":21,\"name\":\"room 12\",\"vid\":14},{\"group\":3,\"id\":22,\"name\":\"room 13\",\"vid\":15},{\"group\":3,\"id\":23,\"name\":\"room 14\",\"vid\":16},{\"group\":3,\"id\":24,\"name\":\"room 15\",\"vid\":17},{\"group\":3,\"id\":25,\"name\":\"room 16\",\"vid\":18},{\"group\":3,\"id\":26,\"name\":\"room 17\",\"vid\":19},{\"group\":3,\"id\":27,\"name\":\"room 18\",\"vid\":20},{\"group\":3,\"id\":28,\"name\":\"room 19\",\"vid\":21},{\"group\":3,\"id\":29,\"name\":\"room 20\",\"vid\":22},{\"group\":3,\"id\":30,\"name\":\"room 21\",\"vid\":23},{\"group\":3,\"id\":31,\"name\":\"room 22\",\"vid\":24},{\"group\":3,\"id\":32,\"name\":\"room 23\",\"vid\":25},{\"group\":3,\"id\":33,\"name\":\"room 24\",\"vid\":26},{\"group\":3,\"id\":34,\"name\":\"room 25\",\"vid\":27},{\"group\":3,\"id\":35,\"name\":\"room 26\",\"vid\":28},{\"group\":3,\"id\":36,\"name\":\"room 27\",\"vid\":29},{\"group\":3,\"id\":37,\"name\":\"room 28\",\"vid\":30},{\"group\":3,\"id\":38,\"name\":\"room 29\",\"vid\":31},{\"group\":3,\"id\":39,\"name\":\"room 30\",\"vid\":32},{\"group\":3,\"id\":40,\"name\":\"room 31\",\"vid\":33},{\"group\":3,\"id\":41,\"name\":\"room 32\",\"vid\":34},{\"group\":3,\"id\":42,\"name\":\"room 33\",\"vid\":35},{\"group\":3,\"id\":43,\"name\":\"room 34\",\"vid\":36},{\"group\":3,\"id\":44,\"name\":\"room 35\",\"vid\":37},{\"group\":3,\"id\":45,\"name\":\"room 36\",\"vid\":38},{\"group\":3,\"id\":46,\"name\":\"room 37\",\"vid\":39},{\"group\":3,\"id\":47,\"name\":\"room 38\",\"vid\":40},{\"group\":3,\"id\":48,\"name\":\"room 39\",\"vid\":41},{\"group\":5,\"id\":50,\"name\":\"d e\",\"vid\":4090},{\"group\":5,\"id\":52,\"name\":\"b\",\"vid\":4091},{\"group\":3,\"id\":54,\"name\":\"é\",\"vid\":42},{\"group\":7,\"id\":55,\"name\":\"d e\",\"vid\":4090},{\"group\":7,\"id\":56,\"name\":\"a\",\"vid\":4091}]}\
+HTTP/1.1 405 Method Not Allowed\r\nContent-Type: application/json\r\nContent-Length: 63\r\nAllow: GET, POST\r\n\r\n{\"code\":\"method\",\"detail\":\"the path does not have this method\"}\
+HTTP/1.1 404 Not Found\r\nContent-Type: application/json\r\nContent-Length: 47\r\nIpam-Place: 41\r\n\r\n{\"code\":\"not_found\",\"detail\":\"12 is not there\"}\
+HTTP/1.1 200 OK\r\nContent-Type: application/json\r\nContent-Length: 87\r\nIpam-Place: 41\r\n\r\n[{\"group\":7,\"id\":55,\"name\":\"d e\",\"vid\":4090},{\"group\":7,\"id\":56,\"name\":\"a\",\"vid\":4091}]\
+HTTP/1.1 409 Conflict\r\nContent-Type: application/json\r\nContent-Length: 60\r\nIpam-Place: 41\r\n\r\n{\"code\":\"taken\",\"detail\":\"number 4090 is that of member 50\"}\
+HTTP/1.1 400 Bad Request\r\nContent-Type: application/json\r\nContent-Length: 55\r\n\r\n{\"code\":\"field\",\"detail\":\"vid is missing or malformed\"}\
+HTTP/1.1 204 No Content\r\nIpam-Place: 41\r\n\r\n\
+HTTP/1.1 409 Conflict\r\nContent-Type: application/json\r\nContent-Length: 57\r\nIpam-Place: 42\r\n\r\n{\"code\":\"taken\",\"detail\":\"number 3 is that of member 10\"}\
+HTTP/1.1 409 Conflict\r\nContent-Type: application/json\r\nContent-Length: 60\r\nIpam-Place: 42\r\n\r\n{\"code\":\"taken\",\"detail\":\"number 4090 is that of member 50\"}\
+HTTP/1.1 201 Created\r\nContent-Type: application/json\r\nContent-Length: 31\r\nIpam-Place: 42\r\n\r\n{\"asn\":64514,\"id\":57,\"range\":8}\
+HTTP/1.1 200 OK\r\nContent-Type: application/json\r\nContent-Length: 52\r\nIpam-Place: 43\r\n\r\n{\"count\":0,\"next\":null,\"previous\":null,\"results\":[]}\
+HTTP/1.1 409 Conflict\r\nContent-Type: application/json\r\nContent-Length: 60\r\nIpam-Place: 43\r\n\r\n{\"code\":\"taken\",\"detail\":\"number 4091 is that of member 52\"}\
+HTTP/1.1 409 Conflict\r\nContent-Type: application/json\r\nContent-Length: 46\r\nIpam-Place: 43\r\n\r\n{\"code\":\"in_use\",\"detail\":\"named by member 3\"}\
+HTTP/1.1 204 No Content\r\nIpam-Place: 43\r\n\r\n\
+HTTP/1.1 200 OK\r\nContent-Type: application/json\r\nContent-Length: 42\r\nIpam-Place: 44\r\n\r\n{\"group\":3,\"id\":30,\"name\":\"\\\"\\\\\",\"vid\":23}\
+HTTP/1.1 400 Bad Request\r\nContent-Type: application/json\r\nContent-Length: 54\r\nIpam-Place: 45\r\n\r\n{\"code\":\"name_taken\",\"detail\":\"the name is that of 8\"}\
+HTTP/1.1 404 Not Found\r\nContent-Type: application/json\r\nContent-Length: 47\r\nIpam-Place: 45\r\n\r\n{\"code\":\"not_found\",\"detail\":\"52 is not there\"}\
+HTTP/1.1 409 Conflict\r\nContent-Type: application/json\r\nContent-Length: 63\r\nIpam-Place: 45\r\n\r\n{\"code\":\"taken\",\"detail\":\"number 5 is that of an earlier item\"}\
+HTTP/1.1 409 Conflict\r\nContent-Type: application/json\r\nContent-Length: 63\r\nIpam-Place: 45\r\n\r\n{\"code\":\"taken\",\"detail\":\"number 5 is that of an earlier item\"}\
+HTTP/1.1 204 No Content\r\nIpam-Place: 45\r\n\r\n\
+HTTP/1.1 201 Created\r\nContent-Type: application/json\r\nContent-Length: 83\r\nIpam-Place: 46\r\n\r\n[{\"group\":3,\"id\":58,\"name\":\"c\",\"vid\":43},{\"group\":3,\"id\":59,\"name\":\"d e\",\"vid\":44}]\
+HTTP/1.1 404 Not Found\r\nContent-Type: application/json\r\nContent-Length: 47\r\nIpam-Place: 47\r\n\r\n{\"code\":\"not_found\",\"detail\":\"99 is not there\"}\
+HTTP/1.1 200 OK\r\nContent-Type: application/json\r\nContent-Length: 46\r\nIpam-Place: 47\r\n\r\n{\"end\":4091,\"id\":5,\"name\":\"d e1\",\"start\":4089}\
+HTTP/1.1 204 No Content\r\nIpam-Place: 48\r\n\r\n\
+HTTP/1.1 200 OK\r\nContent-Type: application/json\r\nContent-Length: 2163\r\nIpam-Place: 49\r\n\r\n{\"count\":47,\"next\":null,\"previous\":null,\"results\":[{\"group\":3,\"id\":3,\"name\":\"voice\",\"vid\":1},{\"group\":3,\"id\":9,\"name\":\"room 0\",\"vid\":2},{\"group\":3,\"id\":10,\"name\":\"room 1\",\"vid\":3},{\"group\":3,\"id\":11,\"name\":\"room 2\",\"vid\":4},{\"group\":3,\"id\":12,\"name\":\"room 3\",\"vid\":5},{\"group\":3,\"id\":13,\"name\":\"room 4\",\"vid\":6},{\"group\":3,\"id\":14,\"name\":\"room 5\",\"vid\":7},{\"group\":3,\"id\":15,\"name\":\"room 6\",\"vid\":8},{\"group\":3,\"id\":16,\"name\":\"room 7\",\"vid\":9},{\"group\":3,\"id\":17,\"name\":\"room 8\",\"vid\":10},{\"group\":3,\"id\":18,\"name\":\"room 9\",\"vid\":11},{\"group\":3,\"id\":19,\"name\":\"room 10\",\"vid\":12},{\"group\":3,\"id\":20,\"name\":\"room 11\",\"vid\":13},{\"group\":3,\"id\":21,\"name\":\"room 12\",\"vid\":14},{\"group\":3,\"id\":22,\"name\":\"room 13\",\"vid\":15},{\"group\":3,\"id\":23,\"name\":\"room 14\",\"vid\":16},{\"group\":3,\"id\":24,\"name\":\"room 15\",\"vid\":17},{\"group\":3,\"id\":25,\"name\":\"room 16\",\"vid\":18},{\"group\":3,\"id\":26,\"name\":\"room 17\",\"vid\":19},{\"group\":3,\"id\":27,\"name\":\"room 18\",\"vid\":20},{\"group\":3,\"id\":28,\"name\":\"room 19\",\"vid\":21},{\"group\":3,\"id\":29,\"name\":\"room 20\",\"vid\":22},{\"group\":3,\"id\":30,\"name\":\"\\\"\\\\\",\"vid\":23},{\"group\":3,\"id\":31,\"name\":\"room 22\",\"vid\":24},{\"group\":3,\"id\":32,\"name\":\"room 23\",\"vid\":25},{\"group\":3,\"id\":33,\"name\":\"room 24\",\"vid\":26},{\"group\":3,\"id\":34,\"name\":\"room 25\",\"vid\":27},{\"group\":3,\"id\":35,\"name\":\"room 26\",\"vid\":28},{\"group\":3,\"id\":36,\"name\":\"room 27\",\"vid\":29},{\"group\":3,\"id\":37,\"name\":\"room 28\",\"vid\":30},{\"group\":3,\"id\":38,\"name\":\"room 29\",\"vid\":31},{\"group\":3,\"id\":39,\"name\":\"room 30\",\"vid\":32},{\"group\":3,\"id\":40,\"name\":\"room 31\",\"vid\":33},{\"group\":3,\"id\":41,\"name\":\"room 32\",\"vid\":34},{\"group\":3,\"id\":42,\"name\":\"room 33\",\"vid\":35},{\"group\":3,\"id\":43,\"name\":\"room 34\",\"vid\":36},{\"group\":3,\"id\":44,\"name\":\"room 35\",\"vid\":37},{\"group\":3,\"id\":45,\"name\":\"room 36\",\"vid\":38},{\"group\":3,\"id\":46,\"name\":\"room 37\",\"vid\":39},{\"group\":3,\"id\":47,\"name\":\"room 38\",\"vid\":40},{\"group\":3,\"id\":48,\"name\":\"room 39\",\"vid\":41},{\"group\":5,\"id\":50,\"name\":\"d e\",\"vid\":4090},{\"group\":5,\"id\":52,\"name\":\"b\",\"vid\":4091},{\"group\":3,\"id\":54,\"name\":\"é\",\"vid\":42},{\"group\":7,\"id\":56,\"name\":\"a\",\"vid\":4091},{\"group\":3,\"id\":58,\"name\":\"c\",\"vid\":43},{\"group\":3,\"id\":59,\"name\":\"d e\",\"vid\":44}]}\
+HTTP/1.1 200 OK\r\nContent-Type: application/json\r\nContent-Length: 48\r\nIpam-Place: 49\r\n\r\n{\"end\":64517,\"id\":2,\"name\":\"d e2\",\"start\":64515}\
+HTTP/1.1 400 Bad Request\r\nContent-Type: application/json\r\nContent-Length: 58\r\n\r\n{\"code\":\"field\",\"detail\":\"offset is missing or malformed\"}\
+HTTP/1.1 400 Bad Request\r\nContent-Type: application/json\r\nContent-Length: 61\r\nIpam-Place: 50\r\n\r\n{\"code\":\"bounds\",\"detail\":\"number 64514 is not in the range\"}\
+HTTP/1.1 409 Conflict\r\nContent-Type: application/json\r\nContent-Length: 51\r\nIpam-Place: 50\r\n\r\n{\"code\":\"no_space\",\"detail\":\"no space for claim 0\"}\
+HTTP/1.1 201 Created\r\nContent-Type: application/json\r\nContent-Length: 44\r\nIpam-Place: 50\r\n\r\n{\"group\":7,\"id\":60,\"name\":\"\\\"\\\\\",\"vid\":4090}\
+HTTP/1.1 201 Created\r\nContent-Type: application/json\r\nContent-Length: 42\r\nIpam-Place: 51\r\n\r\n{\"end\":7,\"id\":10,\"name\":\"\\\"\\\\1\",\"start\":3}\
+HTTP/1.1 400 Bad Request\r\nContent-Type: application/json\r\nContent-Length: 55\r\n\r\n{\"code\":\"field\",\"detail\":\"end is missing or malformed\"}\
+HTTP/1.1 409 Conflict\r\nContent-Type: application/json\r\nContent-Length: 67\r\nIpam-Place: 52\r\n\r\n{\"code\":\"taken\",\"detail\":\"number 64517 is that of an earlier item\"}\
+HTTP/1.1 200 OK\r\nContent-Type: application/json\r\nContent-Length: 2\r\nIpam-Place: 52\r\n\r\n[]\
+HTTP/1.1 204 No Content\r\nIpam-Place: 52\r\n\r\n\
+HTTP/1.1 200 OK\r\nContent-Type: application/json\r\nContent-Length: 39\r\nIpam-Place: 53\r\n\r\n{\"group\":3,\"id\":22,\"name\":\"c\",\"vid\":15}\
+HTTP/1.1 204 No Content\r\nIpam-Place: 54\r\n\r\n\
+HTTP/1.1 404 Not Found\r\nContent-Type: application/json\r\nContent-Length: 46\r\nIpam-Place: 55\r\n\r\n{\"code\":\"not_found\",\"detail\":\"7 is not there\"}\
+HTTP/1.1 201 Created\r\nContent-Type: application/json\r\nContent-Length: 36\r\nIpam-Place: 55\r\n\r\n{\"asn\":4294967290,\"id\":61,\"range\":6}\
+HTTP/1.1 201 Created\r\nContent-Type: application/json\r\nContent-Length: 39\r\nIpam-Place: 56\r\n\r\n{\"group\":9,\"id\":62,\"name\":\"é\",\"vid\":5}\
+HTTP/1.1 200 OK\r\nContent-Type: application/json\r\nContent-Length: 31\r\nIpam-Place: 57\r\n\r\n[64512,64513,64514,64515,64516]\
+HTTP/1.1 204 No Content\r\nIpam-Place: 57\r\n\r\n\
+HTTP/1.1 201 Created\r\nContent-Type: application/json\r\nContent-Length: 43\r\nIpam-Place: 58\r\n\r\n[{\"group\":5,\"id\":63,\"name\":\"a\",\"vid\":4089}]\
+HTTP/1.1 405 Method Not Allowed\r\nContent-Type: application/json\r\nContent-Length: 63\r\nAllow: GET, POST\r\n\r\n{\"code\":\"method\",\"detail\":\"the path does not have this method\"}\
+HTTP/1.1 201 Created\r\nContent-Type: application/json\r\nContent-Length: 59\r\nIpam-Place: 59\r\n\r\n[{\"asn\":3,\"id\":64,\"range\":10},{\"asn\":4,\"id\":65,\"range\":10}]\
+HTTP/1.1 201 Created\r\nContent-Type: application/json\r\nContent-Length: 97\r\nIpam-Place: 60\r\n\r\n[{\"asn\":64515,\"id\":66,\"range\":2},{\"asn\":64516,\"id\":67,\"range\":2},{\"asn\":64517,\"id\":68,\"range\":2}]\
+HTTP/1.1 200 OK\r\nContent-Type: application/json\r\nContent-Length: 3989\r\nIpam-Place: 61\r\n\r\n[37,45,46,47,48,49,50,51,52,53,54,55,56,57,58,59,60,61,62,63,64,65,66,67,68,69,70,71,72,73,74,75,76,77,78,79,80,81,82,83,84,85,86,87,88,89,90,91,92,93,94,95,96,97,98,99,100,101,102,103,104,105,106,107,108,109,110,111,112,113,114,115,116,117,118,119,120,121,122,123,124,125,126,127,128,129,130,131,132,133,134,135,136,137,138,139,140,141,142,143,144,145,146,147,148,149,150,151,152,153,154,155,156,157,158,159,160,161,162,163,164,165,166,167,168,169,170,171,172,173,174,175,176,177,178,179,180,181,182,183,184,185,186,187,188,189,190,191,192,193,194,195,196,197,198,199,200,201,202,203,204,205,206,207,208,209,210,211,212,213,214,215,216,217,218,219,220,221,222,223,224,225,226,227,228,229,230,231,232,233,234,235,236,237,238,239,240,241,242,243,244,245,246,247,248,249,250,251,252,253,254,255,256,257,258,259,260,261,262,263,264,265,266,267,268,269,270,271,272,273,274,275,276,277,278,279,280,281,282,283,284,285,286,287,288,289,290,291,292,293,294,295,296,297,298,299,300,301,302,303,304,305,306,307,308,309,310,311,312,313,314,315,316,317,318,319,320,321,322,323,324,325,326,327,328,329,330,331,332,333,334,335,336,337,338,339,340,341,342,343,344,345,346,347,348,349,350,351,352,353,354,355,356,357,358,359,360,361,362,363,364,365,366,367,368,369,370,371,372,373,374,375,376,377,378,379,380,381,382,383,384,385,386,387,388,389,390,391,392,393,394,395,396,397,398,399,400,401,402,403,404,405,406,407,408,409,410,411,412,413,414,415,416,417,418,419,420,421,422,423,424,425,426,427,428,429,430,431,432,433,434,435,436,437,438,439,440,441,442,443,444,445,446,447,448,449,450,451,452,453,454,455,456,457,458,459,460,461,462,463,464,465,466,467,468,469,470,471,472,473,474,475,476,477,478,479,480,481,482,483,484,485,486,487,488,489,490,491,492,493,494,495,496,497,498,499,500,501,502,503,504,505,506,507,508,509,510,511,512,513,514,515,516,517,518,519,520,521,522,523,524,525,526,527,528,529,530,531,532,533,534,535,536,537,538,539,540,541,542,543,544,545,546,547,548,549,550,551,552,553,554,555,556,557,558,559,560,561,562,563,564,565,566,567,568,569,570,571,572,573,574,575,576,577,578,579,580,581,582,583,584,585,586,587,588,589,590,591,592,593,594,595,596,597,598,599,600,601,602,603,604,605,606,607,608,609,610,611,612,613,614,615,616,617,618,619,620,621,622,623,624,625,626,627,628,629,630,631,632,633,634,635,636,637,638,639,640,641,642,643,644,645,646,647,648,649,650,651,652,653,654,655,656,657,658,659,660,661,662,663,664,665,666,667,668,669,670,671,672,673,674,675,676,677,678,679,680,681,682,683,684,685,686,687,688,689,690,691,692,693,694,695,696,697,698,699,700,701,702,703,704,705,706,707,708,709,710,711,712,713,714,715,716,717,718,719,720,721,722,723,724,725,726,727,728,729,730,731,732,733,734,735,736,737,738,739,740,741,742,743,744,745,746,747,748,749,750,751,752,753,754,755,756,757,758,759,760,761,762,763,764,765,766,767,768,769,770,771,772,773,774,775,776,777,778,779,780,781,782,783,784,785,786,787,788,789,790,791,792,793,794,795,796,797,798,799,800,801,802,803,804,805,806,807,808,809,810,811,812,813,814,815,816,817,818,819,820,821,822,823,824,825,826,827,828,829,830,831,832,833,834,835,836,837,838,839,840,841,842,843,844,845,846,847,848,849,850,851,852,853,854,855,856,857,858,859,860,861,862,863,864,865,866,867,868,869,870,871,872,873,874,875,876,877,878,879,880,881,882,883,884,885,886,887,888,889,890,891,892,893,894,895,896,897,898,899,900,901,902,903,904,905,906,907,908,909,910,911,912,913,914,915,916,917,918,919,920,921,922,923,924,925,926,927,928,929,930,931,932,933,934,935,936,937,938,939,940,941,942,943,944,945,946,947,948,949,950,951,952,953,954,955,956,957,958,959,960,961,962,963,964,965,966,967,968,969,970,971,972,973,974,975,976,977,978,979,980,981,982,983,984,985,986,987,988,989,990,991,992,993,994,995,996,997,998,999,1000,1001,1002,1003,1004,1005,1006,1007,1008,1009,1010,1011,1012,1013,1014,1015,1016,1017,1018,1019,1020,1021,1022,1023,1024,1025,1026,1027,1028,1029,1030,1031,1032,1033,1034,1035,1036,1037,1038,1039,1040,1041,1042,1043]\
+HTTP/1.1 200 OK\r\nContent-Type: application/json\r\nContent-Length: 39\r\nIpam-Place: 61\r\n\r\n{\"group\":3,\"id\":54,\"name\":\"a\",\"vid\":42}\
+HTTP/1.1 200 OK\r\nContent-Type: application/json\r\nContent-Length: 42\r\nIpam-Place: 62\r\n\r\n{\"end\":7,\"id\":10,\"name\":\"\\\"\\\\1\",\"start\":3}\
 ";

@@ -12,6 +12,8 @@ mod conversation;
 #[cfg(test)]
 mod exchanges;
 #[cfg(test)]
+mod exports;
+#[cfg(test)]
 mod running;
 #[cfg(test)]
 mod stores;

@@ -40,13 +40,13 @@ fn range_of(alloc: Global, part: &str) -> Result<NumberRange, AllocError> {
     })
 }
 
-/// `member ID RANGE NUMBER`.
+/// `member ID RANGE NUMBER NAME`, or without a name.
 fn member_of(alloc: Global, part: &str) -> Result<Member, AllocError> {
     Ok(Member {
         id: number(part, 1)?,
         range: number(part, 2)?,
         number: number(part, 3)?,
-        name: text_of(alloc, "")?,
+        name: text_of(alloc, part.split(' ').nth(4).unwrap_or(""))?,
     })
 }
 

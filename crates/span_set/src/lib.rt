@@ -16,7 +16,8 @@ mod runs;
 
 use blocks::push_blocks;
 use inet_num::{Block, Family, Span};
-use runs::{Run, add_run, count_between, subtract_run};
+pub use runs::{Run, count_between};
+use runs::{add_run, subtract_run};
 use std::alloc::{AllocError, Global};
 use std::marker::Model;
 
@@ -57,6 +58,13 @@ impl SpanSet {
         ensures lawful { IsSpans self.now }
     {
         self.family
+    }
+
+    /// The runs of the set's numbers, in order: between two of them at least one number is left out.
+    pub fn runs(&self) -> &[Run]
+        ensures { result.now ≡ self.now.runs }
+    {
+        self.runs.as_slice()
     }
 
     /// Adds the addresses of a span of the set's family, whose first is not above its last: the set then has an address

@@ -14,3 +14,9 @@ returns-in-Version c = read_is_asked (codes "version") _ _ _ c.read_version.resu
 
 pub returns-in-Help : goal.returns-in-Help
 returns-in-Help c = read_is_asked (codes "help") _ _ _ c.read_help.result (word_of _ _ names.Help c.in-Help.is c.in-Some-command_named.ensures) c.main_name.ensures c.in-Some.ensures c.read_help.ensures
+
+pub returns-in-Export : goal.returns-in-Export
+returns-in-Export c = read_is_asked (codes "export") _ _ _ c.read_export.result (word_of _ _ names.Export c.in-Export.is c.in-Some-command_named.ensures) c.main_name.ensures c.in-Some.ensures c.read_export.ensures
+
+pub returns-in-Report : goal.returns-in-Report
+returns-in-Report c = read_is_asked (codes "report") _ _ _ c.read_report.result (word_of _ _ names.Report c.in-Report.is c.in-Some-command_named.ensures) c.main_name.ensures c.in-Some.ensures c.read_report.ensures

@@ -1,0 +1,7 @@
+//! The report of number pools.
+#![tactic(auto)]
+
+mod free;
+mod report;
+
+pub use report::report_text;
