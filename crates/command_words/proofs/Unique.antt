@@ -19,7 +19,7 @@ use Rattle.command_words.specs.declared.asked.Mirroring.{Mirroring}
 use Rattle.command_words.specs.declared.asked.TableName.{TableName}
 use Rattle.command_words.specs.declared.asked.TableName.TheVariants.{Global, Vrf}
 use Rattle.command_words.specs.declared.asked.StyleName.{StyleName}
-use Rattle.command_words.specs.declared.asked.StyleName.TheVariants.{Plain, Ios, Junos, IosXr, Bird, OpenBgpd}
+use Rattle.command_words.specs.declared.asked.StyleName.TheVariants.{Plain, Ios, Junos, IosXr, Bird, OpenBgpd, Vyos, Nftables}
 use Rattle.command_words.specs.declared.asked.ListAsked.{ListAsked}
 use Rattle.command_words.specs.declared.asked.Matching.{Matching}
 use Rattle.command_words.specs.declared.asked.Matching.TheVariants as matching
@@ -125,6 +125,8 @@ one_style Junos Junos e = refl
 one_style IosXr IosXr e = refl
 one_style Bird Bird e = refl
 one_style OpenBgpd OpenBgpd e = refl
+one_style Vyos Vyos e = refl
+one_style Nftables Nftables e = refl
 one_style s t e = absurd (omega arith)
 
 styles_are_one : (text : Option (List ℕ)) (s t : StyleName) → IsStyleValue text s → IsStyleValue text t → s ≡ t

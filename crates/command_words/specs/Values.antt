@@ -17,7 +17,7 @@ use Rattle.command_words.specs.declared.asked.Topic.TheVariants.{Version, Comman
 use Rattle.command_words.specs.declared.asked.TableName.{TableName}
 use Rattle.command_words.specs.declared.asked.TableName.TheVariants.{Global, Vrf}
 use Rattle.command_words.specs.declared.asked.StyleName.{StyleName}
-use Rattle.command_words.specs.declared.asked.StyleName.TheVariants.{Plain, Ios, Junos, IosXr, Bird, OpenBgpd}
+use Rattle.command_words.specs.declared.asked.StyleName.TheVariants.{Plain, Ios, Junos, IosXr, Bird, OpenBgpd, Vyos, Nftables}
 
 -- the most readers of a mirror
 abbrev pub most_readers : ℕ
@@ -88,6 +88,8 @@ style_word Junos = codes "junos"
 style_word IosXr = codes "iosxr"
 style_word Bird = codes "bird"
 style_word OpenBgpd = codes "openbgpd"
+style_word Vyos = codes "vyos"
+style_word Nftables = codes "nftables"
 
 -- a list of this style is read too
 abbrev pub is_read : StyleName → Bool
@@ -97,6 +99,8 @@ is_read Junos = true
 is_read IosXr = false
 is_read Bird = false
 is_read OpenBgpd = false
+is_read Vyos = false
+is_read Nftables = false
 
 -- a style by its name
 abbrev pub IsStyleValue : Option (List ℕ) → StyleName → Type 0

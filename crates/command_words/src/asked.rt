@@ -65,6 +65,8 @@ pub enum StyleName {
     IosXr,
     Bird,
     OpenBgpd,
+    Vyos,
+    Nftables,
 }
 
 /// What a prefix list lets in.

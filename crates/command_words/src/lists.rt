@@ -83,6 +83,12 @@ fn style_named(text: &str) -> Option<StyleName>
     if is_word(text, "openbgpd") {
         return Some(StyleName::OpenBgpd);
     }
+    if is_word(text, "vyos") {
+        return Some(StyleName::Vyos);
+    }
+    if is_word(text, "nftables") {
+        return Some(StyleName::Nftables);
+    }
     None
 }
 
@@ -174,6 +180,8 @@ fn is_read(style: StyleName) -> bool
         StyleName::IosXr => false,
         StyleName::Bird => false,
         StyleName::OpenBgpd => false,
+        StyleName::Vyos => false,
+        StyleName::Nftables => false,
     }
 }
 

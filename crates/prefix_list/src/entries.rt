@@ -6,6 +6,7 @@ ghost use Rattle.prefix_list.specs.declared.styles.ListForm.TheVariants.{Ios, Ro
 ghost use Rattle.prefix_list.specs.Entries.{head_of, opening_of, comma_at, place_text, longer_text, alone_text, length_text, close_of, entry_text, all_routes, width_text, nothing_of, foot_of, end_text};
 
 use crate::routes::Entry;
+use crate::rules::{push_deny_rule, push_rule, push_rules};
 use crate::styles::{ListForm, Style};
 use crate::writing::{LINE_END, STEP, push_all, push_front, push_number};
 use arrayvec::ArrayVec;
@@ -14,7 +15,12 @@ use itoa::Buffer;
 use std::alloc::AllocError;
 
 /// Appends a name between two texts.
-fn push_named(before: &[u8], name: &str, after: &[u8], out: &mut Vec<u8>) -> Result<(), AllocError>
+pub(crate) fn push_named(
+    before: &[u8],
+    name: &str,
+    after: &[u8],
+    out: &mut Vec<u8>,
+) -> Result<(), AllocError>
     ensures { OnOk result (out.new.items ≡ out.old.items ++ (before.now ++ name.now ++ after.now)) }
 {
     out.extend_from_slice(before)?;
@@ -34,6 +40,8 @@ pub fn push_head(form: ListForm, name: &str, out: &mut Vec<u8>) -> Result<(), Al
         ListForm::IosXr => push_named(b"prefix-set ", name, b"\n", out),
         ListForm::Bird => push_named(b"define '", name, b"' = [\n", out),
         ListForm::OpenBgpd => push_named(b"prefix-set \"", name, b"\" {\n", out),
+        ListForm::Vyos => Ok(()),
+        ListForm::Nftables => out.extend_from_slice(b"elements = {\n"),
     }
 }
 
@@ -59,6 +67,8 @@ pub fn push_opening(
         ListForm::IosXr => Ok(()),
         ListForm::Bird => Ok(()),
         ListForm::OpenBgpd => Ok(()),
+        ListForm::Vyos => push_rules(name, family, out),
+        ListForm::Nftables => Ok(()),
     }
 }
 
@@ -84,11 +94,13 @@ fn push_place(form: ListForm, number: u64, end: &mut ArrayVec<u8, LINE_END>)
         ListForm::IosXr => push_all(end, comma(number)),
         ListForm::Bird => push_all(end, comma(number)),
         ListForm::OpenBgpd => push_all(end, comma(number)),
+        ListForm::Vyos => push_rule(number, b" prefix ", end),
+        ListForm::Nftables => push_all(end, comma(number)),
     }
 }
 
 /// Appends a length after a text.
-fn push_length(before: &[u8], len: u8, end: &mut ArrayVec<u8, LINE_END>)
+pub(crate) fn push_length(before: &[u8], len: u8, end: &mut ArrayVec<u8, LINE_END>)
     requires { array_vec_len end.old + length before.now ≤ 125 }
     ensures items { end.new.items ≡ end.old.items ++ (before.now ++ decimal len) }
     ensures len { array_vec_len end.new ≤ array_vec_len end.old + length before.now + 3 }
@@ -139,6 +151,8 @@ fn push_longer(form: ListForm, entry: &Entry, end: &mut ArrayVec<u8, LINE_END>)
             push_all(end, b"}");
         }
         ListForm::OpenBgpd => push_lengths(b" prefixlen ", b" - ", entry, end),
+        ListForm::Vyos => {}
+        ListForm::Nftables => {}
     }
 }
 
@@ -155,6 +169,8 @@ fn alone(form: ListForm) -> &'static [u8]
         ListForm::IosXr => b"",
         ListForm::Bird => b"",
         ListForm::OpenBgpd => b"",
+        ListForm::Vyos => b"",
+        ListForm::Nftables => b"",
     }
 }
 
@@ -171,6 +187,8 @@ fn close(form: ListForm) -> &'static [u8]
         ListForm::IosXr => b"",
         ListForm::Bird => b"",
         ListForm::OpenBgpd => b"",
+        ListForm::Vyos => b"\n",
+        ListForm::Nftables => b"",
     }
 }
 
@@ -201,7 +219,7 @@ pub fn entry_end(form: ListForm, number: u64, entry: &Entry) -> ArrayVec<u8, LIN
 }
 
 /// All routes of the family.
-fn all_routes(family: Family) -> &'static [u8]
+pub(crate) fn all_routes(family: Family) -> &'static [u8]
     ensures { result.now ≡ all_routes family }
 {
     match family {
@@ -211,7 +229,7 @@ fn all_routes(family: Family) -> &'static [u8]
 }
 
 /// The greatest length of the family on a line of IOS.
-fn width_text(family: Family) -> &'static [u8]
+pub(crate) fn width_text(family: Family) -> &'static [u8]
     ensures { result.now ≡ width_text family }
 {
     match family {
@@ -256,6 +274,8 @@ fn push_nothing(
         ListForm::IosXr => out.extend_from_slice(b"end-set\n"),
         ListForm::Bird => out.extend_from_slice(b"];\n"),
         ListForm::OpenBgpd => out.extend_from_slice(b"}\n"),
+        ListForm::Vyos => push_deny_rule(name, family, out),
+        ListForm::Nftables => out.extend_from_slice(b"}\n"),
     }
 }
 
@@ -271,6 +291,8 @@ fn foot(form: ListForm) -> &'static [u8]
         ListForm::IosXr => b"\nend-set\n",
         ListForm::Bird => b"\n];\n",
         ListForm::OpenBgpd => b"\n}\n",
+        ListForm::Vyos => b"",
+        ListForm::Nftables => b"\n}\n",
     }
 }
 

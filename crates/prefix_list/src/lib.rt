@@ -4,6 +4,7 @@
 mod entries;
 mod reading;
 mod routes;
+mod rules;
 mod sets;
 mod styles;
 mod writing;
@@ -11,6 +12,7 @@ mod writing;
 pub use entries::{entry_end, push_end, push_head, push_opening};
 pub use reading::{ListFault, read_list, reading_is_one, written_is_read};
 pub use routes::{Entry, exact_entries, outermost, route_entries};
+pub use rules::{has_rules, rule_action, rule_most};
 pub use sets::{fewest, uncovered};
 pub use styles::{ListForm, Style};
 pub use writing::{LINE_END, STEP, line_end, push_front, write_lines, write_list};

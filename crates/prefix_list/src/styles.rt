@@ -28,4 +28,8 @@ pub enum ListForm {
     Bird,
     /// OpenBGPD: `prefix-set "NAME"`, with the elements `B` or `B prefixlen L - N`.
     OpenBgpd,
+    /// VyOS: `set policy prefix-list NAME rule R ..`, with `prefix-list6` for IPv6: a line for the action, one for `prefix B`, and one for `le N`.
+    Vyos,
+    /// nftables: the elements `B` of an interval set, for entries of one length.
+    Nftables,
 }
