@@ -1,6 +1,7 @@
 #!/usr/bin/env python3
 """Prefix lists in each style, read by the routers' own programs: FRR and BIRD 2 say of routes whether they are let in, which Python's `ipaddress` says too;
-OpenBGPD reads the lists. Junos and IOS XR have no free parser: their lines are compared with the published grammar.
+OpenBGPD and `nft` read the lists, and the elements of a set are compared with those of `ipaddress`. Junos and IOS XR have no free parser, and no VyOS was tried:
+their lines are compared with the published grammar.
 
 lists.py IPAMD [ROUTES]   a line for each style, match and family; ROUTES is how many routes are tried of each list
 """
@@ -13,16 +14,27 @@ import sys
 import tempfile
 import time
 
+STYLES = ("openbgpd", "junos", "iosxr", "plain", "vyos")
+GIVEN = "Junos, IOS XR, VyOS, plain"
 STATUSES = ("container", "active", "reserved", "deprecated")
 MATCHES = (("addresses", None), ("routes", None), ("longer", None), ("longer", 24), ("longer", 9))
 NAME = "N-1_x"
 BLOCK = r"[0-9a-f.:]+/\d+"
-GRAMMAR = {  # Junos OS: prefix-list, route-filter-list (policy statement hierarchy); IOS XR: prefix-set (Routing Policy Language)
+GRAMMAR = {  # Junos OS: prefix-list, route-filter-list (policy statement hierarchy); IOS XR: prefix-set (Routing Policy Language); VyOS: Policy, Prefix Lists
     "junos": rf"(set policy-options prefix-list {NAME}( {BLOCK})?\n)*"
              rf"|(set policy-options route-filter-list {NAME} {BLOCK} (exact|orlonger|upto /\d+|orlonger reject)\n)+",
     "iosxr": rf"prefix-set {NAME}\n(  {BLOCK}( le \d+)?(,\n  {BLOCK}( le \d+)?)*\n)?end-set\n",
     "plain": rf"({BLOCK}( le \d+)?\n)*",
+    "vyos": rf"(set policy prefix-list6? {NAME} rule \d+ (action (permit|deny)|prefix {BLOCK}|le \d+)\n)+",
 }
+SET = """table inet t {{
+  set s {{
+    type {type}
+    flags interval
+    include "{file}"
+  }}
+}}
+"""
 
 
 def run(*words, given=None):
@@ -145,6 +157,38 @@ def read_by_openbgpd(folder, text):
     run("/usr/sbin/bgpd", "-n", "-f", f"{folder}/bgpd.conf")
 
 
+def read_by_nft(folder, text, version):
+    """The file that has the elements is included in a set, as docs/USING.md says."""
+    with open(f"{folder}/elements.nft", "w", encoding="utf-8") as file:
+        file.write(text)
+    with open(f"{folder}/set.nft", "w", encoding="utf-8") as file:
+        file.write(SET.format(type="ipv4_addr" if version == 4 else "ipv6_addr", file=f"{folder}/elements.nft"))
+    run("/usr/sbin/nft", "-c", "-f", f"{folder}/set.nft")
+
+
+def vyos_entries(text, version):
+    """The rules of a list for VyOS as actions, blocks and greatest lengths; each has its action, its block and at most one length, in this order."""
+    word = "prefix-list6" if version == 6 else "prefix-list"
+    rules = []
+    for line in text.splitlines():
+        front, number, name, value = re.fullmatch(r"(.*) rule (\d+) (action|prefix|le) (\S+)", line).groups()
+        if front != f"set policy {word} {NAME}" or (name == "action") != (int(number) == len(rules) + 1) or not 1 <= int(number) <= 65535:
+            raise SystemExit(f"vyos: {line}")
+        if name == "action":
+            rules.append([value])
+        else:
+            rules[-1].append(ipaddress.ip_network(value) if name == "prefix" else int(value))
+    return rules
+
+
+def is_permitted(rules, route):
+    """What the first rule says that the route matches: it is inside the block, and of its length, or up to the greatest one."""
+    for action, block, *most in rules:
+        if route.subnet_of(block) and route.prefixlen <= (most or [block.prefixlen])[0]:
+            return action == "permit"
+    return False
+
+
 class Lists:
     def __init__(self, ipamd, count):
         self.ipamd, self.count, self.chosen = ipamd, count, random.Random(4632)
@@ -155,11 +199,14 @@ class Lists:
         lines = "".join(f"{row},{status}\n" for row, status in self.rows)
         run(self.ipamd, "import", "prefixes", "--db", self.db, given=f"prefix,status\n{lines}")
 
-    def text(self, style, version, match, most, statuses):
-        words = ["--style", style, "--family", str(version), "--table", "global", "--name", NAME, "--match", match, "--db", self.db]
+    def words(self, style, version, match, most, statuses):
+        words = ["prefix-list", "--style", style, "--family", str(version), "--table", "global", "--name", NAME, "--match", match, "--db", self.db]
         if most:
             words += ["--le", str(most)]
-        return run(self.ipamd, "prefix-list", *words, "--status", ",".join(statuses))
+        return [*words, "--status", ",".join(statuses)]
+
+    def text(self, *asked):
+        return run(self.ipamd, *self.words(*asked))
 
     def compare(self, router, version, match, most, statuses):
         counted = [row for row, status in self.rows if row.version == version and status in statuses]
@@ -182,11 +229,35 @@ class Lists:
 
     def check(self, style, version, match, most, statuses):
         text = self.text(style, version, match, most, statuses)
+        counted = [row for row, status in self.rows if row.version == version and status in statuses]
+        if style == "vyos":
+            rules = vyos_entries(text, version)
+            for route in tried(self.chosen, counted, version, self.count):
+                if is_permitted(rules, route) != is_let_in(route, counted, match, most):
+                    raise SystemExit(f"{style} {match} {most}: {route}\n{text}")
         if style == "openbgpd":
             with tempfile.TemporaryDirectory() as folder:
                 read_by_openbgpd(folder, text)
         elif not re.fullmatch(GRAMMAR[style], text):
             raise SystemExit(f"{style} {match} {most}: not of the grammar\n{text}")
+
+
+    def elements(self, version, match, most, statuses):
+        """What `nft` makes of a set: it reads just the blocks of the addresses; a list without one, or for routes, is refused."""
+        counted = [row for row, status in self.rows if row.version == version and status in statuses]
+        words = self.words("nftables", version, match, most, statuses)
+        if match != "addresses" or not counted:
+            done = subprocess.run([self.ipamd, *words], capture_output=True, text=True, timeout=60)
+            if (done.returncode, done.stdout) != (1, "") or not re.fullmatch(r"nftables: .*\n", done.stderr):
+                raise SystemExit(f"nftables {match}: status {done.returncode}: {done.stdout}{done.stderr}")
+            return done.stderr.strip()
+        text = run(self.ipamd, *words)
+        found = [ipaddress.ip_network(block) for block in re.findall(BLOCK, text)]
+        if found != list(ipaddress.collapse_addresses(counted)):
+            raise SystemExit(f"nftables: other elements\n{text}")
+        with tempfile.TemporaryDirectory() as folder:
+            read_by_nft(folder, text, version)
+        return f"reads {len(found)} elements"
 
 
 def main(ipamd, count="40"):
@@ -199,17 +270,19 @@ def main(ipamd, count="40"):
                     said = f"--match {match}{f' --le {most}' if most else ''} --family {version} --status {','.join(statuses)}"
                     for router in (Frr, Bird):
                         print(f"{router.__name__}: {lists.compare(router, version, match, most, statuses)} routes as asked: {said}", flush=True)
-                    for style in ("openbgpd", "junos", "iosxr", "plain"):
+                    for style in STYLES:
                         lists.check(style, version, match, most, statuses)
-                    print(f"OpenBGPD reads it; Junos, IOS XR, plain: as the grammar has it: {said}", flush=True)
+                    print(f"OpenBGPD reads it; {GIVEN}: as the grammar has it: {said}", flush=True)
+                    print(f"nft: {lists.elements(version, match, most, statuses)}: {said}", flush=True)
     with tempfile.TemporaryDirectory() as folder:
         lists.rows = [(ipaddress.ip_network("192.0.2.0/30"), "active")]
         lists.store(folder)
         for match, most in MATCHES:
             for version, statuses in ((4, ("reserved",)), (6, STATUSES)):
                 routes = [lists.compare(router, version, match, most, statuses) for router in (Frr, Bird)]
-                for style in ("openbgpd", "junos", "iosxr", "plain"):
+                for style in STYLES:
                     lists.check(style, version, match, most, statuses)
+                lists.elements(version, match, most, statuses)
                 print(f"without a prefix, --match {match} --family {version}: FRR and BIRD deny {sum(routes)} routes", flush=True)
 
 

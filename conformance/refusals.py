@@ -61,6 +61,10 @@ def ranges(count):
     return "start_address,end_address\n" + "".join(f"10.{n >> 8}.{n & 255}.1/24,10.{n >> 8}.{n & 255}.9/24\n" for n in range(count))
 
 
+def hosts(first, end):
+    return "prefix\n" + "".join(f"10.0.{n >> 8}.{n & 255}/32\n" for n in range(first, end))
+
+
 def written(text):
     return lambda path: open(path, "w").write(text)
 
@@ -95,6 +99,7 @@ def on_import(row, line, words, sent, then_sent=None, **more):
 TWO = (("import prefixes --global-unique no", "prefix\n10.0.0.0/24\n10.0.0.0/24\n"),)
 ONE = ((PREFIXES, "prefix\n10.0.0.0/24\n"),)
 LISTED, CHECKED = (command + " --family 4 --style plain --name X" for command in ("prefix-list", "prefix-check"))
+MANY = "prefix-list --table global --family 4 --name X"
 UNREAD, UNWRITTEN = "store: the store could not be read", "keeper: the store could not be written"
 CASES = [
     Case("usage: ipamd COMMAND", "usage: ipamd COMMAND", 2, "load 01", then_words="load 1"),
@@ -130,6 +135,12 @@ CASES = [
     Case("not_found: prefixes N is not there", "not_found: prefixes 9 is not there", 1, "reverse --prefix 9", before=ONE, then_words="reverse --prefix 1"),
     Case("not_found: vrfs N is not there", "not_found: vrfs 9 is not there", 1, LISTED + " --table 9", before=ONE, then_words=LISTED + " --table global"),
     Case("not_found: vrfs N is not there", "not_found: vrfs 9 is not there", 1, CHECKED + " --table 9", before=ONE, then_words=CHECKED + " --table global"),
+    Case("vyos: more than 65535 rules", "vyos: more than 65535 rules", 1, MANY + " --style vyos --match routes",
+         before=tuple((PREFIXES, hosts(n, min(n + 10000, 65536))) for n in range(0, 65536, 10000)), then_words=MANY + " --style vyos --match routes --status container"),
+    Case("nftables: a set has an element", "nftables: a set has an element", 1, MANY + " --style nftables --status container", before=ONE,
+         then_words=MANY + " --style nftables"),
+    Case("nftables: a set has no routes", "nftables: a set has no routes", 1, MANY + " --style nftables --match routes", before=ONE,
+         then_words=MANY + " --style nftables"),
     Case("line N: not of the style", "line 2: not of the style", 1, CHECKED + " --table global", "10.0.0.0/24\n10.0.1.0/24\r\n", before=ONE,
          then_sent="10.0.0.0/24\n10.0.1.0/24\n"),
     Case("line N: not a PTR line", "line 1: not a PTR line", 1, "reverse-read", "1 IN PTR x.\n", then_sent="1.2.0.192.in-addr.arpa. IN PTR x.\n"),

@@ -35,9 +35,9 @@ SHOWN_BY = {
     "chromium": "chromium", "chromium-driver": "chromedriver", "curl": "curl", "debootstrap": "debootstrap", "dpkg-dev": "dpkg-shlibdeps",
     "firefox-esr": "firefox-esr", "frr": "vtysh", "gcc": "cc", "iprange": "iprange", "knot": "knotd", "knot-dnssecutils": "kzonecheck",
     "libnginx-mod-http-js": "/usr/lib/nginx/modules/ngx_http_js_module.so", "lintian": "lintian", "nginx-light": "nginx", "nodejs": "node", "nsd": "nsd",
-    "openbgpd": "/usr/sbin/bgpd", "openssl": "openssl", "pdns-backend-bind": "/usr/lib/x86_64-linux-gnu/pdns/libbindbackend.so", "postgresql": "psql",
-    "rustc": "rustc", "socat": "socat", "sqlite3": "sqlite3", "systemd-container": "systemd-nspawn", "time": "/usr/bin/time", "util-linux": "runuser",
-    "valgrind": "valgrind", "wrk": "wrk",
+    "nftables": "/usr/sbin/nft", "openbgpd": "/usr/sbin/bgpd", "openssl": "openssl", "pdns-backend-bind": "/usr/lib/x86_64-linux-gnu/pdns/libbindbackend.so",
+    "postgresql": "psql", "rustc": "rustc", "socat": "socat", "sqlite3": "sqlite3", "systemd-container": "systemd-nspawn", "time": "/usr/bin/time",
+    "util-linux": "runuser", "valgrind": "valgrind", "wrk": "wrk",
 }
 
 

@@ -14,8 +14,8 @@ use Rattle.prefix_list.specs.declared.styles.ListForm.TheVariants.{Plain, Ios, J
 use Rattle.prefix_list.specs.Lists.{AreOf}
 use Rattle.prefix_list.specs.Styles.{front_of, number_of, lines_from}
 use Rattle.prefix_list.specs.Routes.{exactly}
-use Rattle.prefix_list.specs.Entries.{opening_of, place_text, length_text, alone_text, close_of, entries_from}
-use Rattle.command_lists.specs.Texts.{opened_entry, marked_line}
+use Rattle.prefix_list.specs.Entries.{opening_of, place_text, length_text, alone_text, close_of, entry_text, opened_entry, entries_from}
+use Rattle.command_lists.specs.Texts.{marked_line}
 use Rattle.text_pieces.specs.Pieces.{Passes}
 use Rattle.text_pieces.proofs.Passing.{passes_both, front_both, front_first}
 
@@ -70,7 +70,7 @@ alone form b = (let same : (b.len == b.len) ≡ true = grind (arith, nat_tests) 
 regroup : (f n t r : List ℕ) → (f ++ (n ++ t ++ [] ++ 10 ∷ [])) ++ r ≡ (f ++ (n ++ t)) ++ 10 ∷ r
 regroup f n t r = simp append_assoc
 
-one_alone : (form : ListForm) (opening : List ℕ) (n : ℕ) (b : Cidr) → opened_entry form opening n (exactly b) ≡ opening ++ (place_text form n ++ block_text_of b ++ alone_text form ++ close_of form)
+one_alone : (form : ListForm) (opening : List ℕ) (n : ℕ) (b : Cidr) → opening ++ entry_text form n (exactly b) ≡ opening ++ (place_text form n ++ block_text_of b ++ alone_text form ++ close_of form)
 one_alone form opening n b = ap (λ (t : List ℕ). opening ++ (place_text form n ++ block_text_of b ++ t ++ close_of form)) (alone form b)
 
 -- in three styles entries of one length are the lines of their blocks

@@ -1,5 +1,5 @@
 -- What a run leaves where it stops before anything is printed: where the table was not read, or the input gave no list.
-use Rattle.std.proofs.Common.{◌≡◌, ℕ, ◌⊎◌, List, inl, inr, refl, ap, arith}
+use Rattle.std.proofs.Common.{◌≡◌, ℕ, ◌<◌, ◌⊎◌, List, inl, inr, refl, ap, arith}
 use Rattle.std.proofs.Math.Logic.{⊎_map}
 use Rattle.ipam_data.specs.State.{State}
 use Rattle.stored_tables.specs.declared.opening.OpenFault.{OpenFault}
@@ -105,6 +105,6 @@ quiet_input_stop old new NoRoom status kept said wrote same five =
     record { streams = record { input = unless (λ k. cc k) kept; output = wrote; errors = ap (λ (t : Told). t.faults) said.1 }; stores = same }
 
 -- a text that was printed, or could not be, is no want of memory
-pub not_want : (old new : Told) (text : List ℕ) (status : ℕ) → EndsWith old new text 0 status → status ≡ 5 → ⊥
-not_want old new text status (inl e) five = (let zero_ = e.0 in absurd (omega arith))
-not_want old new text status (inr e) five = (let three = e.0 in absurd (omega arith))
+pub not_want : (old new : Told) (text : List ℕ) (done status : ℕ) → done < 5 → EndsWith old new text done status → status ≡ 5 → ⊥
+not_want old new text done status less (inl e) five = (let it = e.0 in absurd (omega arith))
+not_want old new text done status less (inr e) five = (let three = e.0 in absurd (omega arith))

@@ -1,4 +1,5 @@
 pub mod Tables
+pub mod Fitting
 pub mod Texts
 pub mod Inputs
 pub mod Reading

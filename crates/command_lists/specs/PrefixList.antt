@@ -1,5 +1,4 @@
--- What a run of the command `prefix-list` promises of each status: the prefixes of a table as the fewest blocks for a router, and the store
--- unchanged.
+-- What a run of the command `prefix-list` promises of each status: the prefixes of a table as a list for a router, and the store unchanged.
 use Rattle.std.specs.Prelude.{◌≡◌, ℕ, ◌⊎◌, List, true, IsSome}
 use Rattle.ipam_data.specs.State.{State}
 use Rattle.stored_tables.specs.declared.opening.OpenFault.{OpenFault}
@@ -8,8 +7,9 @@ use Rattle.command_streams.specs.Streams.{Gains, GainsFront, Failed}
 use Rattle.command_store.specs.Outside.{Outside, AnyFailed, AreSame, IsUnused, NoCountFalls, NoCountRises}
 use Rattle.command_store.specs.Opening.{found_tables, IsLoaded, IsBadStore, NamesFault, NamesFailure, FailsToSay}
 use Rattle.command_lists.specs.Tables.{is_there, IsAbsentIn}
-use Rattle.command_lists.specs.Texts.{IsTableText}
-use Rattle.command_lists.specs.Said.{absent_text}
+use Rattle.command_lists.specs.declared.fitting.Unfit.{Unfit}
+use Rattle.command_lists.specs.Texts.{IsTableText, IsTableUnfit}
+use Rattle.command_lists.specs.Said.{absent_text, unfit_text}
 
 -- ---- for both commands
 
@@ -60,9 +60,29 @@ pub record FailsToPrintList (asked : ListAsked) (old new : Outside) : Type 0 whe
   pub silent : new.streams.errors ≡ old.streams.errors
   pub unread : new.streams.input ≡ old.streams.input
 
--- what is refused: the store's tables have a fault, or the VRF is not there
+-- the style has no text for the list of a state that was loaded and has the table
+abbrev pub IsUnfit : ListAsked → Outside → Unfit → Type 0
+IsUnfit asked old unfit = (state : State) × IsLoadedTable asked old state × IsTableUnfit asked state unfit
+
+-- that was said, and nothing else was used
+pub record NamesUnfit (asked : ListAsked) (old new : Outside) : Type 0 where
+  pub unfit : Unfit
+  pub cause : IsUnfit asked old unfit
+  pub said : Gains old.streams.errors new.streams.errors (unfit_text unfit)
+  pub unused : IsUnused old new
+
+-- it could not be said
+pub record FailsToSayUnfit (asked : ListAsked) (old new : Outside) : Type 0 where
+  pub failed : Failed old.streams.errors new.streams.errors
+  pub unfit : Unfit
+  pub cause : IsUnfit asked old unfit
+  pub front : GainsFront old.streams.errors new.streams.errors (unfit_text unfit)
+  pub unused : IsUnused old new
+
+-- what is refused: the store's tables have a fault, or the VRF is not there, or the style has no text for the list
 abbrev pub IsListRefused : ListAsked → Outside → Type 0
-IsListRefused asked old = ((fault : OpenFault) × IsBadStore asked.store old fault) ⊎ ((n : ℕ) × IsAbsent asked old n)
+IsListRefused asked old =
+    ((fault : OpenFault) × IsBadStore asked.store old fault) ⊎ ((n : ℕ) × IsAbsent asked old n) ⊎ ((unfit : Unfit) × IsUnfit asked old unfit)
 
 -- the status says whether the list is refused: 1 if it is, 0 if the tables were loaded and no VRF is absent, and 5 for lack of memory
 abbrev pub IsListExact : ListAsked → Outside → ℕ → Type 0
@@ -75,10 +95,10 @@ IsListExact asked old status =
 pub record IsPrefixList (asked : ListAsked) (old new : Outside) (status : ℕ) : Type 0 where
   pub statuses : (status ≡ 0) ⊎ (status ≡ 1) ⊎ (status ≡ 3) ⊎ (status ≡ 4) ⊎ (status ≡ 5)
   pub done : status ≡ 0 → PrintsList asked old new
-  -- 1: the opening was refused for what the store holds, or the VRF is not there
-  pub refused : status ≡ 1 → NamesFault asked.store old new ⊎ NamesAbsent asked old new
+  -- 1: the opening was refused for what the store holds, or the VRF is not there, or the style has no text for the list
+  pub refused : status ≡ 1 → NamesFault asked.store old new ⊎ NamesAbsent asked old new ⊎ NamesUnfit asked old new
   -- 3: the output failed, or what was to be said could not be
-  pub fault : status ≡ 3 → FailsToPrintList asked old new ⊎ FailsToSay asked.store old new ⊎ FailsToSayAbsent asked old new
+  pub fault : status ≡ 3 → FailsToPrintList asked old new ⊎ FailsToSay asked.store old new ⊎ FailsToSayAbsent asked old new ⊎ FailsToSayUnfit asked old new
   -- 4: the store failed
   pub store_fault : status ≡ 4 → NamesFailure old new
   -- 5: out of memory. Nothing was printed, and nothing said

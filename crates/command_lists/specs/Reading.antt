@@ -32,9 +32,11 @@ use Rattle.command_store.specs.Outside.{Stores}
 use Rattle.command_lists.specs.declared.table.TableStop.{TableStop}
 use Rattle.command_lists.specs.declared.table.TableStop.TheVariants.{Opening, Absent, Memory}
 use Rattle.command_lists.specs.declared.list.RouterList.{RouterList}
+use Rattle.command_lists.specs.declared.list.Listed.{Listed}
+use Rattle.command_lists.specs.declared.list.Listed.TheVariants.{List as AsList, Unfit as AsUnfit}
 use Rattle.command_lists.specs.declared.check.Difference.{Difference}
 use Rattle.command_lists.specs.Tables.{is_there, table_blocks, IsAbsentIn}
-use Rattle.command_lists.specs.Texts.{form_named, AreFewest, IsTableText}
+use Rattle.command_lists.specs.Texts.{form_named, AreFewest, IsMatchText, IsMatchUnfit}
 use Rattle.command_lists.specs.Inputs.{GivesList}
 
 -- ---- the VRF
@@ -111,12 +113,17 @@ abbrev pub end_asked : ListAsked → List Entry → List ℕ
 end_asked asked entries =
     if is_bare asked.style asked.matching then [] else end_text (form_named asked.style asked.matching) asked.name asked.family entries
 
--- the list's text is that of the table's prefixes
-pub record IsRouterList (asked : ListAsked) (old : Stores) (list : RouterList) : Type 0 where
+-- the list's text is that of these prefixes, or the style has none for them
+abbrev pub IsListed : ListAsked → List Cidr → Listed → Type 0
+IsListed asked prefixes (AsList list) = IsMatchText asked.matching asked prefixes (router_text (form_named asked.style asked.matching) list)
+IsListed asked prefixes (AsUnfit unfit) = IsMatchUnfit asked prefixes unfit
+
+-- so it is of the table's prefixes
+pub record IsRouterList (asked : ListAsked) (old : Stores) (listed : Listed) : Type 0 where
   pub state : State
   pub found : IsFound asked.store old state
   pub there : is_there state asked.table ≡ true
-  pub of_table : IsTableText asked state (router_text (form_named asked.style asked.matching) list)
+  pub of_table : IsListed asked (table_blocks state asked.table asked.family asked.counted) listed
 
 -- the entries are those of the fewest blocks of the addresses
 abbrev pub IsExactly : (Address → Bool) → List Entry → Type 0

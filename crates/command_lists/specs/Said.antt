@@ -9,6 +9,8 @@ use Rattle.command_streams.specs.Streams.{Told, EndsWith}
 use Rattle.command_store.specs.FaultWords.{IsSaid}
 use Rattle.command_lists.specs.declared.reading.InputStop.{InputStop}
 use Rattle.command_lists.specs.declared.reading.InputStop.TheVariants.{Unread, TooLong, Line, Memory}
+use Rattle.command_lists.specs.declared.fitting.Unfit.{Unfit}
+use Rattle.command_lists.specs.declared.fitting.Unfit.TheVariants.{Rules, Empty, Routes}
 use Rattle.command_lists.specs.declared.table.TableStop.{TableStop}
 use Rattle.command_lists.specs.declared.table.TableStop.TheVariants.{Opening, Absent, Memory as NoMemory}
 
@@ -27,6 +29,12 @@ too_large_text = refusal_text (TooLarge Body)
 -- the line with this number, counted from 1, is not of the style
 abbrev pub line_text : ℕ → List ℕ
 line_text n = codes "line " ++ decimal n ++ codes ": not of the style\n"
+
+-- the style has no text for the list
+abbrev pub unfit_text : Unfit → List ℕ
+unfit_text Rules = codes "vyos: more than 65535 rules\n"
+unfit_text Empty = codes "nftables: a set has an element\n"
+unfit_text Routes = codes "nftables: a set has no routes\n"
 
 -- the message was said and the status is 1, or it could not be; or memory ran out, and nothing was said
 abbrev pub NamesIt : List ℕ → Told → Told → ℕ → Type 0

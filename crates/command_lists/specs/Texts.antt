@@ -1,5 +1,5 @@
 -- What the two commands print: the fewest blocks of a table in a router's style, and what a table and a list have beyond each other.
-use Rattle.std.specs.Prelude.{◌≡◌, ℕ, Bool, List, ◌∷◌, [], ◌++◌, map, codes}
+use Rattle.std.specs.Prelude.{◌≡◌, ℕ, Bool, List, ◌∷◌, [], ◌++◌, map, length, codes, Some, None}
 use Rattle.std.specs.List.{flat_map, AllByRecursion}
 use Rattle.inet_num.specs.declared.Family.{Family}
 use Rattle.inet_num.specs.Net.{Address, Cidr, IsBlock}
@@ -13,16 +13,18 @@ use Rattle.prefix_list.specs.Styles.{list_text_of}
 use Rattle.prefix_list.specs.declared.routes.Entry.{Entry}
 use Rattle.prefix_list.specs.declared.styles.ListForm.{ListForm}
 use Rattle.prefix_list.specs.declared.styles.ListForm.TheVariants as form
-use Rattle.prefix_list.specs.Entries.{entry_text, entries_text}
+use Rattle.prefix_list.specs.Entries.{entries_text}
 use Rattle.prefix_list.specs.Routes.{exactly, AreExact, AreOutermost}
 use Rattle.command_words.specs.declared.asked.ListAsked.{ListAsked}
 use Rattle.command_words.specs.declared.asked.StyleName.{StyleName}
-use Rattle.command_words.specs.declared.asked.StyleName.TheVariants.{Plain, Ios, Junos, IosXr, Bird, OpenBgpd}
+use Rattle.command_words.specs.declared.asked.StyleName.TheVariants.{Plain, Ios, Junos, IosXr, Bird, OpenBgpd, Vyos, Nftables}
 use Rattle.command_words.specs.declared.asked.Matching.{Matching}
 use Rattle.command_words.specs.declared.asked.Matching.TheVariants.{Addresses, Routes, Longer}
+use Rattle.command_lists.specs.declared.fitting.Unfit.{Unfit}
 use Rattle.command_lists.specs.Tables.{table_blocks}
+use Rattle.command_lists.specs.Fitting.{unfit_of}
 
--- the style of this name in which a list is read; lists of the other three are not read, and `prefix-check` is never asked for one
+-- the style of this name in which a list is read; lists of the others are not read, and `prefix-check` is never asked for one
 abbrev pub style_named : StyleName → Style
 style_named Plain = style.Plain
 style_named Ios = style.Ios
@@ -30,6 +32,8 @@ style_named Junos = style.Junos
 style_named IosXr = style.Plain
 style_named Bird = style.Plain
 style_named OpenBgpd = style.Plain
+style_named Vyos = style.Plain
+style_named Nftables = style.Plain
 
 -- the form in which a list of this style is written
 abbrev pub form_named : StyleName → Matching → ListForm
@@ -41,6 +45,8 @@ form_named Junos (Longer most) = form.RouteFilter
 form_named IosXr matching = form.IosXr
 form_named Bird matching = form.Bird
 form_named OpenBgpd matching = form.OpenBgpd
+form_named Vyos matching = form.Vyos
+form_named Nftables matching = form.Nftables
 
 -- the blocks are the fewest of a set of addresses: in address order, no address twice, just the addresses of the set, and no shorter
 -- list of blocks has them
@@ -60,20 +66,43 @@ addresses_text Junos name family blocks = list_text_of style.Junos name blocks
 addresses_text IosXr name family blocks = entries_text form.IosXr name family (map exactly blocks)
 addresses_text Bird name family blocks = entries_text form.Bird name family (map exactly blocks)
 addresses_text OpenBgpd name family blocks = entries_text form.OpenBgpd name family (map exactly blocks)
+addresses_text Vyos name family blocks = entries_text form.Vyos name family (map exactly blocks)
+addresses_text Nftables name family blocks = entries_text form.Nftables name family (map exactly blocks)
+
+-- the style has a text for so many entries
+abbrev pub Fits : ListAsked → ℕ → Type 0
+Fits asked count = unfit_of asked.style asked.matching count ≡ None
 
 -- the text of a list of these prefixes: of the fewest blocks of their addresses; of the prefixes, each once; or of the outermost ones, up to a length
 abbrev pub IsMatchText : Matching → ListAsked → List Cidr → List ℕ → Type 0
 IsMatchText Addresses asked prefixes text =
-    (blocks : List Cidr) × AreFewest (addresses_of_list prefixes) blocks × (text ≡ addresses_text asked.style asked.name asked.family blocks)
+    (blocks : List Cidr) × AreFewest (addresses_of_list prefixes) blocks × Fits asked (length blocks)
+    × (text ≡ addresses_text asked.style asked.name asked.family blocks)
 IsMatchText Routes asked prefixes text =
-    (entries : List Entry) × AreExact prefixes entries × (text ≡ entries_text (form_named asked.style Routes) asked.name asked.family entries)
+    (entries : List Entry) × AreExact prefixes entries × Fits asked (length entries)
+    × (text ≡ entries_text (form_named asked.style Routes) asked.name asked.family entries)
 IsMatchText (Longer most) asked prefixes text =
-    (entries : List Entry) × AreOutermost most prefixes entries
+    (entries : List Entry) × AreOutermost most prefixes entries × Fits asked (length entries)
     × (text ≡ entries_text (form_named asked.style (Longer most)) asked.name asked.family entries)
+
+-- so many entries have these prefixes
+abbrev pub IsMatchCount : Matching → List Cidr → ℕ → Type 0
+IsMatchCount Addresses prefixes count = (blocks : List Cidr) × AreFewest (addresses_of_list prefixes) blocks × (count ≡ length blocks)
+IsMatchCount Routes prefixes count = (entries : List Entry) × AreExact prefixes entries × (count ≡ length entries)
+IsMatchCount (Longer most) prefixes count = (entries : List Entry) × AreOutermost most prefixes entries × (count ≡ length entries)
+
+-- the style has no text for the list of these prefixes
+abbrev pub IsMatchUnfit : ListAsked → List Cidr → Unfit → Type 0
+IsMatchUnfit asked prefixes unfit =
+    (count : ℕ) × IsMatchCount asked.matching prefixes count × (unfit_of asked.style asked.matching count ≡ Some unfit)
 
 -- the text of the list of a state: of the table's prefixes that count
 abbrev pub IsTableText : ListAsked → State → List ℕ → Type 0
 IsTableText asked s text = IsMatchText asked.matching asked (table_blocks s asked.table asked.family asked.counted) text
+
+-- the style has no text for it
+abbrev pub IsTableUnfit : ListAsked → State → Unfit → Type 0
+IsTableUnfit asked s unfit = IsMatchUnfit asked (table_blocks s asked.table asked.family asked.counted) unfit
 
 -- ---- `prefix-check`
 
@@ -91,9 +120,3 @@ abbrev pub IsDifferenceText : List Cidr → List Cidr → List ℕ → Type 0
 IsDifferenceText table list text =
     (missing beyond : List Cidr) × AreFewest (addresses_beyond table list) missing × AreFewest (addresses_beyond list table) beyond
     × (text ≡ difference_text missing beyond)
-
--- ---- entries as they are written
-
--- an opening, and what an entry has after it
-abbrev pub opened_entry : ListForm → List ℕ → ℕ → Entry → List ℕ
-opened_entry form opening n e = opening ++ entry_text form n e

@@ -1,8 +1,9 @@
-//! The commands on a router's lists: `prefix-list`, which prints the prefixes of a table as the fewest blocks, and `prefix-check`, which compares a
+//! The commands on a router's lists: `prefix-list`, which prints the prefixes of a table as a list, and `prefix-check`, which compares a
 //! router's list on the input with them. Each opens the register for its one call, and gives its keeper back.
 #![tactic(auto)]
 
 mod check;
+mod fitting;
 mod list;
 mod pieces;
 mod reading;

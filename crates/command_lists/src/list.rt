@@ -1,18 +1,20 @@
 //! The command `prefix-list`.
 
-ghost use Rattle.std.specs.Prelude.{◌≡◌, ◌≤◌, ◌⊎◌, IfOk, IfErr, IsErrOf};
+ghost use Rattle.std.specs.Prelude.{◌≡◌, ◌≤◌, ◌⊎◌, List, None, length, IfOk, IfErr, IsErrOf};
 ghost use Rattle.inet_num.specs.declared.Family.{Family as AnyFamily};
+ghost use Rattle.inet_num.specs.Net.{Cidr};
 ghost use Rattle.prefix_list.specs.Lists.{AreOf, HaveOneFamily};
 ghost use Rattle.prefix_list.specs.Entries.{head_of, opening_of};
 ghost use Rattle.command_words.specs.declared.asked.Matching.TheVariants.{Addresses};
 ghost use Rattle.command_streams.specs.Streams.{Told, EndsWith, streams, told};
-ghost use Rattle.command_store.specs.Outside.{AreSame, outside, stores};
-ghost use Rattle.command_lists.specs.Texts.{form_named as form_of_name, IsMatchText};
-ghost use Rattle.command_lists.specs.Reading.{IsRouterList, IsStopped, ArePicked, is_bare, end_asked, router_text};
+ghost use Rattle.command_store.specs.Outside.{Stores, AreSame, outside, stores};
+ghost use Rattle.command_lists.specs.Texts.{form_named as form_of_name, Fits, IsMatchText};
+ghost use Rattle.command_lists.specs.Reading.{IsListed, IsRouterList, IsStopped, ArePicked, is_bare, end_asked, router_text};
 ghost use Rattle.command_lists.specs.PrefixList.{IsPrefixList};
 
+use crate::fitting::{Unfit, unfit_of};
 use crate::pieces::write_list;
-use crate::said::say_table_stop;
+use crate::said::{say_table_stop, say_unfit};
 use crate::table::{TableStop, read_table};
 use command_streams::{DONE, FAULT};
 use command_words::{ListAsked, Matching, StyleName};
@@ -35,6 +37,14 @@ pub struct RouterList {
     pub(crate) end: Vec<u8>,
 }
 
+/// What becomes of the prefixes of a table.
+#[derive(Drop)]
+pub enum Listed {
+    List(RouterList),
+    /// The style has no text for them.
+    Unfit(Unfit),
+}
+
 /// The form of a list that is written in this style.
 fn form_named(style: StyleName, matching: Matching) -> ListForm
     ensures { result ≡ form_of_name style matching }
@@ -50,6 +60,8 @@ fn form_named(style: StyleName, matching: Matching) -> ListForm
         StyleName::IosXr => ListForm::IosXr,
         StyleName::Bird => ListForm::Bird,
         StyleName::OpenBgpd => ListForm::OpenBgpd,
+        StyleName::Vyos => ListForm::Vyos,
+        StyleName::Nftables => ListForm::Nftables,
     }
 }
 
@@ -65,6 +77,8 @@ fn is_bare(style: StyleName, matching: Matching) -> bool
             StyleName::IosXr => false,
             StyleName::Bird => false,
             StyleName::OpenBgpd => false,
+            StyleName::Vyos => false,
+            StyleName::Nftables => false,
         },
         Matching::Routes => false,
         Matching::Longer(_) => false,
@@ -125,12 +139,16 @@ fn end_of_list(alloc: Global, asked: &ListAsked, entries: &[Entry]) -> Result<Ve
     Ok(text)
 }
 
-/// The list of these prefixes. `Err` means out of memory.
-fn list_text(alloc: Global, asked: &ListAsked, prefixes: &[Block]) -> Result<RouterList, AllocError>
-    requires { AreOf asked.now.family prefixes.now }
-    ensures { IfOk result (λ l. IsMatchText asked.now.matching asked.now prefixes.now (router_text (form_of_name asked.now.style asked.now.matching) l)) }
+/// The list of these entries, which the style has a text for. `Err` means out of memory.
+fn list_text(
+    alloc: Global,
+    asked: &ListAsked,
+    entries: Vec<Entry>,
+) -> Result<RouterList, AllocError>
+    requires { Fits asked.now (length entries.items) }
+    ensures { (prefixes : List Cidr) → ArePicked asked.now.matching asked.now.family prefixes entries.items
+        → IfOk result (λ l. IsMatchText asked.now.matching asked.now prefixes (router_text (form_of_name asked.now.style asked.now.matching) l)) }
 {
-    let entries = picked(alloc, asked, prefixes)?;
     let head = head_text(alloc, asked)?;
     let opening = opening_text(alloc, asked)?;
     let end = end_of_list(alloc, asked, &entries)?;
@@ -142,12 +160,25 @@ fn list_text(alloc: Global, asked: &ListAsked, prefixes: &[Block]) -> Result<Rou
     })
 }
 
+/// The list of these prefixes, or why the style has none. `Err` means out of memory.
+fn list_or_none(alloc: Global, asked: &ListAsked, prefixes: &[Block]) -> Result<Listed, AllocError>
+    requires { AreOf asked.now.family prefixes.now }
+    ensures { IfOk result (IsListed asked.now prefixes.now) }
+{
+    let entries = picked(alloc, asked, prefixes)?;
+    if let Some(unfit) = unfit_of(asked.style, asked.matching, entries.len()) {
+        return Ok(Listed::Unfit(unfit));
+    }
+    let list = list_text(alloc, asked, entries)?;
+    Ok(Listed::List(list))
+}
+
 /// The list that is asked for. The keeper went back, and known tables are unchanged.
 fn list_of<O: KeeperOpener>(
     alloc: Global,
     asked: &ListAsked,
     opener: &mut O,
-) -> Result<RouterList, TableStop>
+) -> Result<Listed, TableStop>
     ensures list { IfOk result (λ l. IsRouterList asked.now (stores O.stored O.faults opener.old) l) }
     ensures stop { IfErr result (IsStopped asked.now (stores O.stored O.faults opener.old) (stores O.stored O.faults opener.new)) }
     ensures same { AreSame (O.stored opener.old) (O.stored opener.new) }
@@ -155,8 +186,8 @@ fn list_of<O: KeeperOpener>(
     ensures still { IsErrOf result (TableStop.Opening OpenFault.Keeper) ⊎ (O.faults opener.new ≡ O.faults opener.old) }
 {
     let table = read_table(alloc, asked, opener)?;
-    let list = list_text(alloc, asked, &table)?;
-    Ok(list)
+    let found = list_or_none(alloc, asked, &table)?;
+    Ok(found)
 }
 
 /// Prints a list, and gives the status.
@@ -167,6 +198,23 @@ fn print_list<Si: Sink>(output: &mut Si, form: ListForm, list: &RouterList) -> u
     match write_list(output, form, list) {
         Ok(()) => DONE,
         Err(_) => FAULT,
+    }
+}
+
+/// Prints a list, or says why the style has none, and gives the status.
+fn end_list<Si: Sink, Se: Sink>(
+    asked: &ListAsked,
+    found: &Listed,
+    output: &mut Si,
+    errors: &mut Se,
+) -> u8
+    ensures { (old new : Stores) (input : Told) → IsRouterList asked.now old found.now → AreSame old.stored new.stored → new.faults ≡ old.faults → IsPrefixList asked.now
+        (outside (streams input (told Si.written Si.faults output.old) (told Se.written Se.faults errors.old)) old)
+        (outside (streams input (told Si.written Si.faults output.new) (told Se.written Se.faults errors.new)) new) result }
+{
+    match found {
+        Listed::List(list) => print_list(output, form_named(asked.style, asked.matching), list),
+        Listed::Unfit(unfit) => say_unfit(*unfit, errors),
     }
 }
 
@@ -184,7 +232,7 @@ pub fn run_prefix_list<Si: Sink, Se: Sink, O: KeeperOpener>(
         (outside (streams input (told Si.written Si.faults output.new) (told Se.written Se.faults errors.new)) (stores O.stored O.faults opener.new)) result }
 {
     match list_of(alloc, asked, opener) {
-        Ok(list) => print_list(output, form_named(asked.style, asked.matching), &list),
+        Ok(found) => end_list(asked, &found, output, errors),
         Err(stop) => say_table_stop(alloc, &stop, errors),
     }
 }

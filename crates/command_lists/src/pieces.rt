@@ -1,20 +1,99 @@
 //! Lists of entries, written through a buffer.
 
-ghost use Rattle.std.specs.Prelude.{◌++◌};
+ghost use Rattle.std.specs.Prelude.{◌++◌, codes};
 ghost use Rattle.ipam_edge.specs.Faults.{HasCause};
 ghost use Rattle.ipam_edge.specs.Writing.{WritesAll};
 ghost use Rattle.text_pieces.specs.Pieces.{Puts};
-ghost use Rattle.prefix_list.specs.Entries.{entries_from};
-ghost use Rattle.command_lists.specs.Texts.{opened_entry};
+ghost use Rattle.prefix_list.specs.Entries.{rule_text, most_line, rule_lines, entry_text, opened_entry, entries_from};
+ghost use Rattle.prefix_list.specs.declared.styles.ListForm.TheVariants.{Vyos};
 ghost use Rattle.command_lists.specs.Reading.{marked_entries, router_text};
 
 use crate::list::RouterList;
 use arrayvec::ArrayVec;
 use ipam_edge::{Failed, Sink, write_all};
-use prefix_list::{Entry, ListForm, STEP, entry_end};
+use prefix_list::{Entry, ListForm, STEP, entry_end, has_rules, rule_action, rule_most};
 use text_pieces::{ROOM, put, put_both};
 
-/// Puts an entry into the buffer: an opening, and what an entry of the form has after it.
+/// Puts an opening into the buffer, and what an entry of the form has after it.
+fn put_line<Si: Sink>(
+    output: &mut Si,
+    piece: &mut ArrayVec<u8, ROOM>,
+    form: ListForm,
+    opening: &[u8],
+    number: u64,
+    entry: &Entry,
+) -> Result<(), Failed>
+    ensures told { Puts (Si.written output.old) (Si.written output.new) piece.old.items piece.new.items (opening.now ++ entry_text form number entry.now) result }
+    ensures cause { HasCause (Si.faults output.old) (Si.faults output.new) result }
+{
+    let end = entry_end(form, number, entry);
+    put_both(output, piece, opening, end.as_slice())
+}
+
+/// Puts the line of a rule's action into the buffer.
+fn put_action<Si: Sink>(
+    output: &mut Si,
+    piece: &mut ArrayVec<u8, ROOM>,
+    opening: &[u8],
+    number: u64,
+) -> Result<(), Failed>
+    ensures told { Puts (Si.written output.old) (Si.written output.new) piece.old.items piece.new.items (opening.now ++ rule_text number (codes " action permit\n")) result }
+    ensures cause { HasCause (Si.faults output.old) (Si.faults output.new) result }
+{
+    let end = rule_action(number);
+    put_both(output, piece, opening, end.as_slice())
+}
+
+/// Puts the line of a rule's greatest length into the buffer, if its block is shorter.
+fn put_most<Si: Sink>(
+    output: &mut Si,
+    piece: &mut ArrayVec<u8, ROOM>,
+    opening: &[u8],
+    number: u64,
+    entry: &Entry,
+) -> Result<(), Failed>
+    ensures told { Puts (Si.written output.old) (Si.written output.new) piece.old.items piece.new.items (most_line opening.now number entry.now) result }
+    ensures cause { HasCause (Si.faults output.old) (Si.faults output.new) result }
+{
+    if entry.most == entry.block.len() {
+        return put(output, piece, b"");
+    }
+    let end = rule_most(number, entry);
+    put_both(output, piece, opening, end.as_slice())
+}
+
+/// Puts the lines of a rule into the buffer, but that of its greatest length.
+fn put_permit<Si: Sink>(
+    output: &mut Si,
+    piece: &mut ArrayVec<u8, ROOM>,
+    opening: &[u8],
+    number: u64,
+    entry: &Entry,
+) -> Result<(), Failed>
+    ensures told { Puts (Si.written output.old) (Si.written output.new) piece.old.items piece.new.items
+        ((opening.now ++ rule_text number (codes " action permit\n")) ++ (opening.now ++ entry_text Vyos number entry.now)) result }
+    ensures cause { HasCause (Si.faults output.old) (Si.faults output.new) result }
+{
+    put_action(output, piece, opening, number)?;
+    put_line(output, piece, ListForm::Vyos, opening, number, entry)
+}
+
+/// Puts the lines of a rule into the buffer.
+fn put_rule<Si: Sink>(
+    output: &mut Si,
+    piece: &mut ArrayVec<u8, ROOM>,
+    opening: &[u8],
+    number: u64,
+    entry: &Entry,
+) -> Result<(), Failed>
+    ensures told { Puts (Si.written output.old) (Si.written output.new) piece.old.items piece.new.items (rule_lines opening.now number entry.now) result }
+    ensures cause { HasCause (Si.faults output.old) (Si.faults output.new) result }
+{
+    put_permit(output, piece, opening, number, entry)?;
+    put_most(output, piece, opening, number, entry)
+}
+
+/// Puts an entry into the buffer.
 fn put_entry<Si: Sink>(
     output: &mut Si,
     piece: &mut ArrayVec<u8, ROOM>,
@@ -26,8 +105,10 @@ fn put_entry<Si: Sink>(
     ensures told { Puts (Si.written output.old) (Si.written output.new) piece.old.items piece.new.items (opened_entry form opening.now number entry.now) result }
     ensures cause { HasCause (Si.faults output.old) (Si.faults output.new) result }
 {
-    let end = entry_end(form, number, entry);
-    put_both(output, piece, opening, end.as_slice())
+    if has_rules(form) {
+        return put_rule(output, piece, opening, number, entry);
+    }
+    put_line(output, piece, form, opening, number, entry)
 }
 
 /// Puts entries into the buffer.

@@ -40,7 +40,7 @@ impl From<AllocError> for InputStop {
     }
 }
 
-/// The style of this name in which a list is read. Lists of the last three are not read, and `prefix-check` is never asked for one.
+/// The style of this name in which a list is read. Lists of the others are not read, and `prefix-check` is never asked for one.
 fn style_named(style: StyleName) -> Style
     ensures { result ≡ style_of_name style }
 {
@@ -51,6 +51,8 @@ fn style_named(style: StyleName) -> Style
         StyleName::IosXr => Style::Plain,
         StyleName::Bird => Style::Plain,
         StyleName::OpenBgpd => Style::Plain,
+        StyleName::Vyos => Style::Plain,
+        StyleName::Nftables => Style::Plain,
     }
 }
 

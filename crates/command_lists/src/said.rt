@@ -1,9 +1,10 @@
 //! What is said if a list is not printed or not compared.
 
 ghost use Rattle.std.specs.Prelude.{◌≡◌, ◌≤◌, IfOk, string_bytes};
-ghost use Rattle.command_streams.specs.Streams.{told};
-ghost use Rattle.command_lists.specs.Said.{refusal_text, line_text as text_of_line, NamesIt, IsTableStopSaid, IsInputStopSaid};
+ghost use Rattle.command_streams.specs.Streams.{EndsWith, told};
+ghost use Rattle.command_lists.specs.Said.{refusal_text, unfit_text, line_text as text_of_line, NamesIt, IsTableStopSaid, IsInputStopSaid};
 
+use crate::fitting::Unfit;
 use crate::reading::InputStop;
 use crate::table::TableStop;
 use command_store::say_fault;
@@ -32,6 +33,25 @@ fn say_refusal<Se: Sink>(alloc: Global, refusal: &Refusal, errors: &mut Se) -> u
         Ok(line) => end_with(errors, line.as_bytes(), REFUSED),
         Err(_) => MEMORY,
     }
+}
+
+/// The line that says why the style has no text for a list.
+fn unfit_text(unfit: Unfit) -> &'static [u8]
+    ensures { result.now ≡ unfit_text unfit }
+{
+    match unfit {
+        Unfit::Rules => b"vyos: more than 65535 rules\n",
+        Unfit::Empty => b"nftables: a set has an element\n",
+        Unfit::Routes => b"nftables: a set has no routes\n",
+    }
+}
+
+/// Says why the style has no text for a list, and gives the status 1; or that of a fault if it can't be said.
+pub(crate) fn say_unfit<Se: Sink>(unfit: Unfit, errors: &mut Se) -> u8
+    ensures said { EndsWith (told Se.written Se.faults errors.old) (told Se.written Se.faults errors.new) (unfit_text unfit) 1 result }
+    ensures later { Se.faults errors.old ≤ Se.faults errors.new }
+{
+    end_with(errors, unfit_text(unfit), REFUSED)
 }
 
 /// The line that names a refused line of the input. `Err` means out of memory.

@@ -106,6 +106,12 @@ const CASES: [&str; 18] = [
 0|prefix-list --table global --family 4 --style plain --name OFFICE --match longer --db a||10.0.0.0/24 le 32;10.0.1.0/24 le 32;10.0.2.0/24 le 32;|
 0|prefix-list --table global --family 6 --style ios --name OFFICE --match routes --db a||ipv6 prefix-list OFFICE seq 5 deny ::/0 le 128;|
 0|prefix-list --table global --family 6 --style iosxr --name OFFICE --db a||prefix-set OFFICE;end-set;|
+0|prefix-list --table global --family 4 --style vyos --name OFFICE --match longer --le 24 --db a||set policy prefix-list OFFICE rule 1 action permit;set policy prefix-list OFFICE rule 1 prefix 10.0.0.0/24;set policy prefix-list OFFICE rule 2 action permit;set policy prefix-list OFFICE rule 2 prefix 10.0.1.0/24;set policy prefix-list OFFICE rule 3 action permit;set policy prefix-list OFFICE rule 3 prefix 10.0.2.0/24;|
+0|prefix-list --table global --family 6 --style vyos --name OFFICE --db a||set policy prefix-list6 OFFICE rule 1 action deny;set policy prefix-list6 OFFICE rule 1 prefix ::/0;set policy prefix-list6 OFFICE rule 1 le 128;|
+0|prefix-list --table global --family 4 --style nftables --name OFFICE --db a||elements = {;  10.0.0.0/23,;  10.0.2.0/24;};|
+1|prefix-list --table global --family 6 --style nftables --name OFFICE --db a|||nftables: a set has an element;
+1|prefix-list --table global --family 4 --style nftables --name OFFICE --match routes --db a|||nftables: a set has no routes;
+1|prefix-list --table global --family 6 --style nftables --name OFFICE --match longer --le 64 --db a|||nftables: a set has no routes;
 0|prefix-list --table global --family 4 --style plain --name OFFICE --status reserved,deprecated --db a|||
 0|prefix-check --table global --family 4 --style plain --name OFFICE --status reserved --db a|10.0.0.0/24;|beyond 10.0.0.0/24;|
 0|prefix-check --table global --family 4 --style plain --name OFFICE --db a|10.0.0.0/24;10.0.2.0/23;|missing 10.0.1.0/24;beyond 10.0.3.0/24;|
@@ -124,6 +130,7 @@ const CASES: [&str; 18] = [
 0|prefix-list --table global --family 4 --style plain --name X --status container --db a||0.0.0.0/1;|
 0|prefix-list --table global --family 4 --style plain --name X --match longer --le 8 --status deprecated,active --db a||128.0.0.0/1 le 8;|
 0|prefix-list --table global --family 6 --style openbgpd --name X --db a||prefix-set "X" {;  2001:db8::/32;};|
+0|prefix-list --table global --family 6 --style vyos --name X --match longer --le 48 --db a||set policy prefix-list6 X rule 1 action permit;set policy prefix-list6 X rule 1 prefix 2001:db8::/33;set policy prefix-list6 X rule 1 le 48;set policy prefix-list6 X rule 2 action permit;set policy prefix-list6 X rule 2 prefix 2001:db8:8000::/33;set policy prefix-list6 X rule 2 le 48;|
 0|prefix-list --table global --family 6 --style openbgpd --name X --match longer --le 48 --db a||prefix-set "X" {;  2001:db8::/33 prefixlen 33 - 48,;  2001:db8:8000::/33 prefixlen 33 - 48;};|
 0|prefix-list --table 1 --family 4 --style plain --name X --db a|||
 0|prefix-check --table 1 --family 6 --style junos --name X --db a|set policy-options prefix-list X 2001:db8::/32;|beyond 2001:db8::/32;|

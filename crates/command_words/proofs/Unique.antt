@@ -1,5 +1,5 @@
 -- Words ask for one command: each value is determined by the text that was given, and the names of commands differ.
-use Rattle.std.proofs.Common.{◌≡◌, ◌⊎◌, inl, inr, ℕ, ◌+◌, ◌<◌, ◌^◌, refl, sym, ◌∙◌, ap, ap₂, arith, Bool, true, false, List, Option, Some, None, codes, sum, take, subst, decimal}
+use Rattle.std.proofs.Common.{◌≡◌, ◌⊎◌, inl, inr, ℕ, ◌+◌, ◌<◌, ◌^◌, refl, sym, ◌∙◌, ap, ap₂, arith, Bool, true, false, List, Option, Some, None, codes, sum, take, get_or, subst, decimal}
 use Rattle.std.specs.Str.Parse.{AllDigits}
 use Rattle.std.proofs.lemmas.Fmt.{decimal_injective, digits_decimal}
 use Rattle.std.proofs.lemmas.Str.Parse.{digit_at, numerals_by_value, tells_digits}
@@ -118,7 +118,11 @@ one_family d f e = absurd (omega arith)
 families_are_one : (text : Option (List ℕ)) (e f : Family) → IsFamilyValue text e → IsFamilyValue text f → e ≡ f
 families_are_one text e f h k = one_family e f (ap sum (one_of_two (family_word e) (family_word f) (sym h ∙ k)))
 
-one_style : (s t : StyleName) → sum (style_word s) ≡ sum (style_word t) → s ≡ t
+-- tells the names of styles apart
+abbrev weight : List ℕ → ℕ
+weight word = sum word + get_or word 0 0
+
+one_style : (s t : StyleName) → weight (style_word s) ≡ weight (style_word t) → s ≡ t
 one_style Plain Plain e = refl
 one_style Ios Ios e = refl
 one_style Junos Junos e = refl
@@ -130,7 +134,7 @@ one_style Nftables Nftables e = refl
 one_style s t e = absurd (omega arith)
 
 styles_are_one : (text : Option (List ℕ)) (s t : StyleName) → IsStyleValue text s → IsStyleValue text t → s ≡ t
-styles_are_one text s t h k = one_style s t (ap sum (one_of_two (style_word s) (style_word t) (sym h ∙ k)))
+styles_are_one text s t h k = one_style s t (ap weight (one_of_two (style_word s) (style_word t) (sym h ∙ k)))
 
 one_name : (text : Option (List ℕ)) (s t : List ℕ) → IsNameValue text s → IsNameValue text t → s ≡ t
 one_name None s t h k = absurd h

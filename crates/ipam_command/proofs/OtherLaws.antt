@@ -122,7 +122,10 @@ of_prefix_list words old new before after status asked asks s same_listener = of
   statuses = s.statuses;
   done = λ z. (let t = s.done z in (inr (inr (inr (inr (inr (inr (inr (inl (asked, asks, t)))))))), t.silent));
   refused = λ z. inr (inr (inr (inr (inr (inr (inl (asked, asks, s.refused z)))))));
-  fault = λ z. elim (s.fault z) [ inl h ↦ inr (inl h.failed) | inr more ↦ elim more [ inl h ↦ inr (inr h.failed) | inr h ↦ inr (inr h.failed) ] ];
+  fault = λ z. elim (s.fault z) [
+    | inl h ↦ inr (inl h.failed)
+    | inr a ↦ elim a [ inl h ↦ inr (inr h.failed) | inr b ↦ elim b [ inl h ↦ inr (inr h.failed) | inr h ↦ inr (inr h.failed) ] ]
+  ];
   store_fault = λ z. inl (inr (inr (inr (inr (inl (asked, inl asks))))), s.store_fault z);
   memory = λ z. ((s.memory z).1, (s.memory z).0.output);
   same_listener = same_listener;

@@ -30,7 +30,7 @@ use Rattle.command_files.specs.Files.{kind_named}
 use Rattle.command_files.specs.Import.{PrintsCounts, NamesRefusal, NamesTables, NamesUnread, NamesUnwritten, IsStored, IsImport}
 use Rattle.command_files.specs.Export.{IsExportText, Prints as PrintsText, IsExport}
 use Rattle.command_files.specs.Report.{IsReportText, NamesAbsent, IsReport}
-use Rattle.command_lists.specs.PrefixList.{PrintsList, NamesAbsent as NamesAbsentTable}
+use Rattle.command_lists.specs.PrefixList.{PrintsList, NamesAbsent as NamesAbsentTable, NamesUnfit as NamesUnfitList}
 use Rattle.command_lists.specs.PrefixCheck.{PrintsDifference, NamesInput}
 use Rattle.command_migrate.specs.Migrate.{PrintsMigrated, NamesUnfit, NamesUnwritten as NamesUnwrittenFile, IsWhole}
 use Rattle.command_zones.specs.Reverse.{PrintsZone, NamesZoneRefusal}
@@ -154,7 +154,7 @@ IsNamed words old new =
     ⊎ ((kind : KindName) × (store : Store) × AsksImport words kind store × (NamesRefusal (kind_named kind) store old new ⊎ NamesTables store old new))
     ⊎ ((kind : KindName) × (store : Store) × AsksExport words kind store × NamesFault store old new)
     ⊎ ((report : ReportName) × (store : Store) × AsksReport words report store × (NamesFault store old new ⊎ NamesAbsent report store old new))
-    ⊎ ((asked : ListAsked) × AsksPrefixList words asked × (NamesFault asked.store old new ⊎ NamesAbsentTable asked old new))
+    ⊎ ((asked : ListAsked) × AsksPrefixList words asked × (NamesFault asked.store old new ⊎ NamesAbsentTable asked old new ⊎ NamesUnfitList asked old new))
     ⊎ ((asked : ListAsked) × AsksPrefixCheck words asked × (NamesFault asked.store old new ⊎ NamesAbsentTable asked old new ⊎ NamesInput asked old new))
     ⊎ ((prefix : ℕ) × (store : Store) × AsksReverse words prefix store × (NamesFault store old new ⊎ NamesZoneRefusal prefix store old new))
     ⊎ (AsksReverseRead words × NamesRead old.streams new.streams)

@@ -91,7 +91,7 @@ const PREFIX_LIST: &str =
 Prints the prefixes of a table as a list for a router.
   --table global|ID      the global table, or that of the VRF with this id
   --family 4|6           IPv4 or IPv6
-  --style S              the form of the list: plain, ios, junos, iosxr, bird or openbgpd
+  --style S              the form of the list: plain, ios, junos, iosxr, bird, openbgpd, vyos or nftables
   --name NAME            the name of the list
   --match M              addresses: the fewest blocks; routes: each prefix; longer: also what is inside a prefix (addresses)
   --le N                 for longer alone: up to this length (32 or 128)

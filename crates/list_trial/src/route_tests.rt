@@ -3,8 +3,8 @@
 use crate::prefix_list_tests::plain_blocks;
 use inet_num::Family;
 use prefix_list::{
-    Entry, ListForm, entry_end, exact_entries, outermost, push_end, push_head, push_opening,
-    route_entries,
+    Entry, ListForm, entry_end, exact_entries, has_rules, outermost, push_end, push_head,
+    push_opening, route_entries, rule_action, rule_most,
 };
 use std::alloc::Global;
 use std::test::Fail;
@@ -33,7 +33,13 @@ bird|6|routes|2001:db8::/32;|define 'N' = [;  2001:db8::/32;];;
 bird|4|24||define 'N' = [;];;
 openbgpd|4|24|10.0.0.0/8;172.16.0.0/24;|prefix-set \"N\" {;  10.0.0.0/8 prefixlen 8 - 24,;  172.16.0.0/24;};
 openbgpd|6|24||prefix-set \"N\" {;};
-openbgpd|4|blocks|10.0.0.0/24;10.0.1.0/24;|prefix-set \"N\" {;  10.0.0.0/24,;  10.0.1.0/24;};";
+openbgpd|4|blocks|10.0.0.0/24;10.0.1.0/24;|prefix-set \"N\" {;  10.0.0.0/24,;  10.0.1.0/24;};
+vyos|4|24|10.0.0.0/8;172.16.0.0/24;|set policy prefix-list N rule 1 action permit;set policy prefix-list N rule 1 prefix 10.0.0.0/8;set policy prefix-list N rule 1 le 24;set policy prefix-list N rule 2 action permit;set policy prefix-list N rule 2 prefix 172.16.0.0/24;
+vyos|6|routes|2001:db8::/32;|set policy prefix-list6 N rule 1 action permit;set policy prefix-list6 N rule 1 prefix 2001:db8::/32;
+vyos|4|24||set policy prefix-list N rule 1 action deny;set policy prefix-list N rule 1 prefix 0.0.0.0/0;set policy prefix-list N rule 1 le 32;
+vyos|6|routes||set policy prefix-list6 N rule 1 action deny;set policy prefix-list6 N rule 1 prefix ::/0;set policy prefix-list6 N rule 1 le 128;
+nftables|4|blocks|10.0.0.0/24;10.0.2.0/24;|elements = {;  10.0.0.0/24,;  10.0.2.0/24;};
+nftables|6|blocks|2001:db8::/32;|elements = {;  2001:db8::/32;};";
 
 /// The form of a column.
 fn form_of(column: &str) -> ListForm {
@@ -44,6 +50,8 @@ fn form_of(column: &str) -> ListForm {
         "iosxr" => ListForm::IosXr,
         "bird" => ListForm::Bird,
         "openbgpd" => ListForm::OpenBgpd,
+        "vyos" => ListForm::Vyos,
+        "nftables" => ListForm::Nftables,
         _ => ListForm::Plain,
     }
 }
@@ -74,6 +82,27 @@ fn entries_of(
     }
 }
 
+/// Appends an entry.
+fn push_entry(
+    form: ListForm,
+    family: Family,
+    number: u64,
+    entry: &Entry,
+    text: &mut Vec<u8>,
+) -> Result<(), Fail> {
+    if has_rules(form) {
+        push_opening(form, "N", family, text)?;
+        text.extend_from_slice(rule_action(number).as_slice())?;
+    }
+    push_opening(form, "N", family, text)?;
+    text.extend_from_slice(entry_end(form, number, entry).as_slice())?;
+    if has_rules(form) && entry.most != entry.block.len() {
+        push_opening(form, "N", family, text)?;
+        text.extend_from_slice(rule_most(number, entry).as_slice())?;
+    }
+    Ok(())
+}
+
 /// The text of entries.
 fn text_of(
     alloc: Global,
@@ -85,8 +114,7 @@ fn text_of(
     push_head(form, "N", &mut text)?;
     let mut number = 5u64;
     for entry in entries {
-        push_opening(form, "N", family, &mut text)?;
-        text.extend_from_slice(entry_end(form, number, entry).as_slice())?;
+        push_entry(form, family, number, entry, &mut text)?;
         number = number.saturating_add(5);
     }
     push_end(form, "N", family, entries, &mut text)?;

@@ -139,11 +139,16 @@ prefix-list --table global --family 4 --style plain --name N --status active --s
 prefix-list --table global --family 4 --style iosxr --name N | Some(PrefixList(ListAsked { table: Global, family: V4, style: IosXr, name: WordText { string: \"N\" }, matching: Addresses, counted: Statuses { container: true, active: true, reserved: true, deprecated: true }, store: Store { db: None, global_unique: true } }))
 prefix-list --table global --family 4 --style bird --name N --match longer --le 24 | Some(PrefixList(ListAsked { table: Global, family: V4, style: Bird, name: WordText { string: \"N\" }, matching: Longer(24), counted: Statuses { container: true, active: true, reserved: true, deprecated: true }, store: Store { db: None, global_unique: true } }))
 prefix-list --table global --family 4 --style openbgpd --name N | Some(PrefixList(ListAsked { table: Global, family: V4, style: OpenBgpd, name: WordText { string: \"N\" }, matching: Addresses, counted: Statuses { container: true, active: true, reserved: true, deprecated: true }, store: Store { db: None, global_unique: true } }))
+prefix-list --table global --family 4 --style vyos --name N --match longer | Some(PrefixList(ListAsked { table: Global, family: V4, style: Vyos, name: WordText { string: \"N\" }, matching: Longer(32), counted: Statuses { container: true, active: true, reserved: true, deprecated: true }, store: Store { db: None, global_unique: true } }))
+prefix-list --table global --family 6 --style nftables --name N | Some(PrefixList(ListAsked { table: Global, family: V6, style: Nftables, name: WordText { string: \"N\" }, matching: Addresses, counted: Statuses { container: true, active: true, reserved: true, deprecated: true }, store: Store { db: None, global_unique: true } }))
+prefix-list --table global --family 4 --style nft --name N | None
 prefix-check --table global --family 4 --style plain --name N --status active | Some(PrefixCheck(ListAsked { table: Global, family: V4, style: Plain, name: WordText { string: \"N\" }, matching: Addresses, counted: Statuses { container: false, active: true, reserved: false, deprecated: false }, store: Store { db: None, global_unique: true } }))
 prefix-check --table global --family 4 --style plain --name N --match routes | None
 prefix-check --table global --family 4 --style bird --name N | None
 prefix-check --table global --family 4 --style iosxr --name N | None
 prefix-check --table global --family 4 --style openbgpd --name N | None
+prefix-check --table global --family 4 --style vyos --name N | None
+prefix-check --table global --family 4 --style nftables --name N | None
 prefix-check --table global --family 4 --style plain | None
 prefix-check --table 0 --family 4 --style plain --name N | None
 prefix-check --table 7 --family 4 --style ios --name OFFICE | Some(PrefixCheck(ListAsked { table: Vrf(7), family: V4, style: Ios, name: WordText { string: \"OFFICE\" }, matching: Addresses, counted: Statuses { container: true, active: true, reserved: true, deprecated: true }, store: Store { db: None, global_unique: true } }))

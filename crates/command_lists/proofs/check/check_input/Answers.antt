@@ -13,7 +13,7 @@ returns-in-Ok g c = λ old new read same still.
     let found = c.in-Ok.ensures.compared in
     of_printed c.args.asked.now _ _ _ same
     (record { streams = record { input = c.compare.ensures.later; output = c.print_difference.ensures.later; errors = omega arith }; stores = omega (arith, still) })
-    (λ five. absurd (not_want _ _ _ _ c.print_difference.ensures.ends five))
+    (λ five. absurd (not_want _ _ _ 0 _ (omega arith) c.print_difference.ensures.ends five))
     _ (
       read.state,
       found.list,

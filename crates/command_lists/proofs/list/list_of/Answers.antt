@@ -2,12 +2,11 @@ use Rattle.std.proofs.Common.{◌≡◌, sym, ◌∙◌, subst, List}
 use Rattle.inet_num.specs.Net.{Cidr}
 use Rattle.prefix_list.specs.Lists.{AreOf}
 use Rattle.command_lists.specs.Tables.{table_blocks}
-use Rattle.command_lists.specs.Texts.{form_named, IsMatchText}
-use Rattle.command_lists.specs.Reading.{router_text}
+use Rattle.command_lists.specs.Reading.{IsListed}
 use Rattle.command_lists.proofs.list.list_of.Goals as goal
 
-pub list_text-requires : goal.list_text-requires
-list_text-requires g c = subst (AreOf c.args.asked.now.family) (sym c.deref.ensures.value) c.in_ok-table.ensures.family
+pub list_or_none-requires : goal.list_or_none-requires
+list_or_none-requires g c = subst (AreOf c.args.asked.now.family) (sym c.deref.ensures.value) c.in_ok-table.ensures.family
 
 pub returns-clause-list : goal.returns-clause-list
 returns-clause-list g c =
@@ -18,5 +17,5 @@ returns-clause-list g c =
       state = read.state;
       found = read.found;
       there = read.there;
-      of_table = subst (λ (bs : List Cidr). IsMatchText asked.matching asked bs (router_text (form_named asked.style asked.matching) c.in_ok-list.list)) have c.in_ok-list.ensures;
+      of_table = subst (λ (bs : List Cidr). IsListed asked bs c.in_ok-found.found) have c.in_ok-found.ensures;
     }
