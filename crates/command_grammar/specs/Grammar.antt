@@ -69,13 +69,17 @@ list_app name = with_store (with_rule (with_rule (with_rule (with_rule (command_
 abbrev pub counted_app : List ℕ → App
 counted_app name = with_rule (list_app name) (option_rule (codes "status"))
 
--- `prefix-list`, also with `--match M` and `--le N`
+-- also with `--match M` and `--le N`
+abbrev pub matched_app : List ℕ → App
+matched_app name = with_rule (with_rule (counted_app name) (option_rule (codes "match"))) (option_rule (codes "le"))
+
+-- `prefix-list`
 unfoldable pub prefix_list_app : App
-prefix_list_app = with_rule (with_rule (counted_app (codes "prefix-list")) (option_rule (codes "match"))) (option_rule (codes "le"))
+prefix_list_app = matched_app (codes "prefix-list")
 
 -- `prefix-check`
 unfoldable pub prefix_check_app : App
-prefix_check_app = counted_app (codes "prefix-check")
+prefix_check_app = matched_app (codes "prefix-check")
 
 -- `reverse --prefix ID`
 unfoldable pub reverse_app : App

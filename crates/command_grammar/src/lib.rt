@@ -4,7 +4,7 @@
 ghost use Rattle.std.specs.Prelude.{◌≡◌, ◌↔◌, Option, IfOk, IsTrue, MatchOption, map, option_map, true, false, codes};
 ghost use Rattle.clap.specs.Words.{app_of, first_of, found_of, kind_of, rows_of, rule_of};
 ghost use Rattle.clap.specs.Simple.{App, with_rule};
-ghost use Rattle.command_grammar.specs.Grammar.{IsPlainCommand, Takes, given, command_app, option_rule, needed_rule, place_rule, with_store, list_app, counted_app, free_app, session_app, serve_app, mirror_app, import_app, export_app, report_app, prefix_list_app, prefix_check_app, reverse_app, reverse_read_app, migrate_app, load_app, version_app, help_app, spare_place_rule};
+ghost use Rattle.command_grammar.specs.Grammar.{IsPlainCommand, Takes, given, command_app, option_rule, needed_rule, place_rule, with_store, list_app, counted_app, matched_app, free_app, session_app, serve_app, mirror_app, import_app, export_app, report_app, prefix_list_app, prefix_check_app, reverse_app, reverse_read_app, migrate_app, load_app, version_app, help_app, spare_place_rule};
 
 use clap::error::ErrorKind;
 use clap::{Arg, ArgAction, ArgMatches, Error};
@@ -153,22 +153,29 @@ fn counted_command<'a>(alloc: Global, name: &'a str) -> Result<clap::Command<'a>
     with(command, option(alloc, "status"))
 }
 
+/// Such a command that also has what the list lets in. `Err` means out of memory.
+fn matched_command<'a>(alloc: Global, name: &'a str) -> Result<clap::Command<'a>, AllocError>
+    ensures { IfOk result (λ c. app_of c ≡ matched_app name.entry.now) }
+{
+    let command = counted_command(alloc, name)?;
+    let command = with(command, option(alloc, "match"))?;
+    with(command, option(alloc, "le"))
+}
+
 /// `prefix-list --table T --family F --style S --name NAME --match M --le N`. `Err` means out of memory.
 #[tactic(auto, unfolding(crate::specs::Grammar::prefix_list_app))]
 pub fn prefix_list_command<'a>(alloc: Global) -> Result<clap::Command<'a>, AllocError>
     ensures { IfOk result (λ c. app_of c ≡ prefix_list_app) }
 {
-    let command = counted_command(alloc, "prefix-list")?;
-    let command = with(command, option(alloc, "match"))?;
-    with(command, option(alloc, "le"))
+    matched_command(alloc, "prefix-list")
 }
 
-/// `prefix-check --table T --family F --style S --name NAME`. `Err` means out of memory.
+/// `prefix-check --table T --family F --style S --name NAME --match M --le N`. `Err` means out of memory.
 #[tactic(auto, unfolding(crate::specs::Grammar::prefix_check_app))]
 pub fn prefix_check_command<'a>(alloc: Global) -> Result<clap::Command<'a>, AllocError>
     ensures { IfOk result (λ c. app_of c ≡ prefix_check_app) }
 {
-    counted_command(alloc, "prefix-check")
+    matched_command(alloc, "prefix-check")
 }
 
 /// `reverse --prefix ID`. `Err` means out of memory.

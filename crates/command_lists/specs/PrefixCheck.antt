@@ -9,16 +9,25 @@ use Rattle.command_streams.specs.Streams.{Told, Gains, GainsFront, Failed}
 use Rattle.command_store.specs.Outside.{Outside, AnyFailed, AreSame, NoCountFalls, NoCountRises}
 use Rattle.command_store.specs.Opening.{found_tables, IsBadStore, NamesFault, NamesFailure, FailsToSay}
 use Rattle.command_lists.specs.Tables.{table_blocks}
-use Rattle.command_lists.specs.Texts.{IsDifferenceText}
-use Rattle.command_lists.specs.Inputs.{most_bytes, IsRefusedLine, GivesList, IsTooLong, RefusesLine}
+use Rattle.prefix_list.specs.declared.filters.Filter.{Filter}
+use Rattle.command_words.specs.declared.asked.Matching.{Matching}
+use Rattle.command_words.specs.declared.asked.Matching.TheVariants.{Addresses, Routes, Longer}
+use Rattle.command_lists.specs.Texts.{IsDifferenceText, IsLackingText}
+use Rattle.command_lists.specs.Inputs.{most_bytes, IsRefusedLine, GivesList, GivesFilters, IsTooLong, RefusesLine}
 use Rattle.command_lists.specs.Said.{too_large_text, line_text}
 use Rattle.command_lists.specs.PrefixList.{IsLoadedTable, IsAbsent, NamesAbsent, FailsToSayAbsent}
+
+-- the text of the difference of these prefixes and the list that the input gave: as addresses, or as routes
+abbrev pub IsComparison : Matching → ListAsked → List Cidr → Told → Told → List ℕ → Type 0
+IsComparison Addresses asked table old new text = (list : List Cidr) × GivesList asked old new list × IsDifferenceText table list text
+IsComparison Routes asked table old new text = (list : List Filter) × GivesFilters asked old new list × IsLackingText Routes table list text
+IsComparison (Longer most) asked table old new text = (list : List Filter) × GivesFilters asked old new list × IsLackingText (Longer most) table list text
 
 -- the text of the difference, of a state that was loaded and has the table and of the list that the input gave, which was read to its end
 abbrev pub IsCheckText : ListAsked → Outside → Outside → List ℕ → Type 0
 IsCheckText asked old new text =
-    (state : State) × (list : List Cidr) × IsLoadedTable asked old state × GivesList asked old.streams.input new.streams.input list
-    × IsDifferenceText (table_blocks state asked.table asked.family asked.counted) list text
+    (state : State) × IsLoadedTable asked old state
+    × IsComparison asked.matching asked (table_blocks state asked.table asked.family asked.counted) old.streams.input new.streams.input text
 
 -- the difference is on the output, and the messages were left alone
 pub record PrintsDifference (asked : ListAsked) (old new : Outside) : Type 0 where

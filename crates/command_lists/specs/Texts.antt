@@ -15,6 +15,8 @@ use Rattle.prefix_list.specs.declared.styles.ListForm.{ListForm}
 use Rattle.prefix_list.specs.declared.styles.ListForm.TheVariants as form
 use Rattle.prefix_list.specs.Entries.{entries_text}
 use Rattle.prefix_list.specs.Routes.{exactly, AreExact, AreOutermost}
+use Rattle.prefix_list.specs.declared.filters.Filter.{Filter}
+use Rattle.prefix_list.specs.Filters.{filter_of, filter_line, AreLacking}
 use Rattle.command_words.specs.declared.asked.ListAsked.{ListAsked}
 use Rattle.command_words.specs.declared.asked.StyleName.{StyleName}
 use Rattle.command_words.specs.declared.asked.StyleName.TheVariants.{Plain, Ios, Junos, IosXr, Bird, OpenBgpd, Vyos, Nftables}
@@ -120,3 +122,20 @@ abbrev pub IsDifferenceText : List Cidr → List Cidr → List ℕ → Type 0
 IsDifferenceText table list text =
     (missing beyond : List Cidr) × AreFewest (addresses_beyond table list) missing × AreFewest (addresses_beyond list table) beyond
     × (text ≡ difference_text missing beyond)
+
+-- the entries of these prefixes
+abbrev pub AreEntries : Matching → List Cidr → List Entry → Type 0
+AreEntries Addresses prefixes entries = (blocks : List Cidr) × AreFewest (addresses_of_list prefixes) blocks × (entries ≡ map exactly blocks)
+AreEntries Routes prefixes entries = AreExact prefixes entries
+AreEntries (Longer most) prefixes entries = AreOutermost most prefixes entries
+
+-- a line for each filter that is missing, and then one for each that is beyond
+abbrev pub lacking_text : List Filter → List Filter → List ℕ
+lacking_text missing beyond = flat_map (λ f. codes "missing " ++ filter_line f) missing ++ flat_map (λ f. codes "beyond " ++ filter_line f) beyond
+
+-- the text for a table's prefixes and the filters of a list, as routes: the entries that the list does not let in wholly, and the filters of the list
+-- that the entries do not
+abbrev pub IsLackingText : Matching → List Cidr → List Filter → List ℕ → Type 0
+IsLackingText matching table list text =
+    (entries : List Entry) × (missing beyond : List Filter) × AreEntries matching table entries × AreLacking list (map filter_of entries) missing
+    × AreLacking (map filter_of entries) list beyond × (text ≡ lacking_text missing beyond)

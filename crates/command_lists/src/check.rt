@@ -8,16 +8,17 @@ ghost use Rattle.command_lists.specs.Inputs.{IsInputStop};
 ghost use Rattle.command_lists.specs.Reading.{IsRead, IsExactly, IsCompared, marked_entries};
 ghost use Rattle.command_lists.specs.PrefixCheck.{IsPrefixCheck};
 
-use crate::pieces::write_difference;
-use crate::reading::{InputStop, read_input};
+use crate::list::picked;
+use crate::pieces::{write_difference, write_lacking};
+use crate::reading::{InputStop, read_device, read_input};
 use crate::said::{say_input_stop, say_table_stop};
 use crate::table::read_table;
 use command_streams::{DONE, FAULT};
-use command_words::ListAsked;
+use command_words::{ListAsked, Matching};
 use inet_num::Block;
 use ipam_edge::{Sink, Source};
 use ipam_keeper::keeper::KeeperOpener;
-use prefix_list::{Entry, exact_entries, uncovered};
+use prefix_list::{Entry, Filter, exact_entries, filters_of, lacking, uncovered};
 use std::alloc::{AllocError, Global};
 
 /// The entries of the fewest blocks of the addresses that only the table has, and of those that only the list has.
@@ -65,6 +66,66 @@ fn compare<So: Source>(
     Ok(found)
 }
 
+/// The filters of a table that a list does not pass wholly, and those of the list that the table's do not.
+#[derive(Drop)]
+pub struct Lacking {
+    missing: Vec<Filter>,
+    beyond: Vec<Filter>,
+}
+
+/// What the filters of a table and of a list lack of each other. `Err` means out of memory.
+fn lacking_of(alloc: Global, table: &[Filter], list: &[Filter]) -> Result<Lacking, AllocError> {
+    let missing = lacking(alloc, list, table)?;
+    let beyond = lacking(alloc, table, list)?;
+    Ok(Lacking { missing, beyond })
+}
+
+/// The filters of the entries of a table's prefixes. `Err` means out of memory.
+fn table_filters(
+    alloc: Global,
+    asked: &ListAsked,
+    table: &[Block],
+) -> Result<Vec<Filter>, AllocError> {
+    let entries = picked(alloc, asked, table)?;
+    filters_of(alloc, &entries)
+}
+
+/// Compares the list on the input with a table as routes.
+fn compare_routes<So: Source>(
+    alloc: Global,
+    asked: &ListAsked,
+    table: &[Block],
+    input: &mut So,
+) -> Result<Lacking, InputStop> {
+    let list = read_device(alloc, asked, input)?;
+    let own = table_filters(alloc, asked, table)?;
+    let found = lacking_of(alloc, &own, &list)?;
+    Ok(found)
+}
+
+/// Prints what a table and a list lack of each other, and gives the status.
+fn print_lacking<Si: Sink>(output: &mut Si, found: &Lacking) -> u8 {
+    match write_lacking(output, &found.missing, &found.beyond) {
+        Ok(()) => DONE,
+        Err(_) => FAULT,
+    }
+}
+
+/// Compares the list on the input with a table that was read as routes, and prints the difference.
+fn check_routes<So: Source, Si: Sink, Se: Sink>(
+    alloc: Global,
+    asked: &ListAsked,
+    table: &[Block],
+    input: &mut So,
+    output: &mut Si,
+    errors: &mut Se,
+) -> u8 {
+    match compare_routes(alloc, asked, table, input) {
+        Ok(found) => print_lacking(output, &found),
+        Err(stop) => say_input_stop(alloc, &stop, errors),
+    }
+}
+
 /// Prints a difference, and gives the status.
 fn print_difference<Si: Sink>(output: &mut Si, found: &Difference) -> u8
     ensures ends { EndsWith (told Si.written Si.faults output.old) (told Si.written Si.faults output.new)
@@ -74,6 +135,26 @@ fn print_difference<Si: Sink>(output: &mut Si, found: &Difference) -> u8
     match write_difference(output, &found.missing, &found.beyond) {
         Ok(()) => DONE,
         Err(_) => FAULT,
+    }
+}
+
+/// Compares the list on the input with a table that was read as addresses, and prints the difference.
+fn check_addresses<So: Source, Si: Sink, Se: Sink>(
+    alloc: Global,
+    asked: &ListAsked,
+    table: &[Block],
+    input: &mut So,
+    output: &mut Si,
+    errors: &mut Se,
+) -> u8
+    requires { AreOf asked.now.family table.now }
+    ensures { (old new : Stores) → IsRead asked.now old table.now → AreSame old.stored new.stored → new.faults ≡ old.faults → IsPrefixCheck asked.now
+        (outside (streams (told So.left So.faults input.old) (told Si.written Si.faults output.old) (told Se.written Se.faults errors.old)) old)
+        (outside (streams (told So.left So.faults input.new) (told Si.written Si.faults output.new) (told Se.written Se.faults errors.new)) new) result }
+{
+    match compare(alloc, asked, table, input) {
+        Ok(found) => print_difference(output, &found),
+        Err(stop) => say_input_stop(alloc, &stop, errors),
     }
 }
 
@@ -91,9 +172,10 @@ fn check_input<So: Source, Si: Sink, Se: Sink>(
         (outside (streams (told So.left So.faults input.old) (told Si.written Si.faults output.old) (told Se.written Se.faults errors.old)) old)
         (outside (streams (told So.left So.faults input.new) (told Si.written Si.faults output.new) (told Se.written Se.faults errors.new)) new) result }
 {
-    match compare(alloc, asked, table, input) {
-        Ok(found) => print_difference(output, &found),
-        Err(stop) => say_input_stop(alloc, &stop, errors),
+    match asked.matching {
+        Matching::Addresses => check_addresses(alloc, asked, table, input, output, errors),
+        Matching::Routes => check_routes(alloc, asked, table, input, output, errors),
+        Matching::Longer(_) => check_routes(alloc, asked, table, input, output, errors),
     }
 }
 

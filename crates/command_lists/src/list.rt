@@ -95,7 +95,7 @@ fn fewest_entries(alloc: Global, prefixes: &[Block]) -> Result<Vec<Entry>, Alloc
 }
 
 /// The entries of a list of these prefixes. `Err` means out of memory.
-fn picked(alloc: Global, asked: &ListAsked, prefixes: &[Block]) -> Result<Vec<Entry>, AllocError>
+pub(crate) fn picked(alloc: Global, asked: &ListAsked, prefixes: &[Block]) -> Result<Vec<Entry>, AllocError>
     requires { AreOf asked.now.family prefixes.now }
     ensures { IfOk result (λ v. ArePicked asked.now.matching asked.now.family prefixes.now v.items) }
 {

@@ -6,12 +6,15 @@ ghost use Rattle.ipam_edge.specs.Writing.{WritesAll};
 ghost use Rattle.text_pieces.specs.Pieces.{Puts};
 ghost use Rattle.prefix_list.specs.Entries.{rule_text, most_line, rule_lines, entry_text, opened_entry, entries_from};
 ghost use Rattle.prefix_list.specs.declared.styles.ListForm.TheVariants.{Vyos};
+ghost use Rattle.std.specs.List.{flat_map};
+ghost use Rattle.prefix_list.specs.Filters.{filter_line};
+ghost use Rattle.command_lists.specs.Texts.{lacking_text};
 ghost use Rattle.command_lists.specs.Reading.{marked_entries, router_text};
 
 use crate::list::RouterList;
 use arrayvec::ArrayVec;
 use ipam_edge::{Failed, Sink, write_all};
-use prefix_list::{Entry, ListForm, STEP, entry_end, has_rules, rule_action, rule_most};
+use prefix_list::{Entry, Filter, ListForm, STEP, entry_end, filter_end, has_rules, rule_action, rule_most};
 use text_pieces::{ROOM, put, put_both};
 
 /// Puts an opening into the buffer, and what an entry of the form has after it.
@@ -198,5 +201,50 @@ pub(crate) fn write_difference<Si: Sink>(
 {
     let mut piece = ArrayVec::<u8, ROOM>::new();
     put_difference(output, &mut piece, missing, beyond)?;
+    write_all(output, piece.as_slice())
+}
+
+/// Puts a line for each filter into the buffer: a word, and the filter.
+fn put_filters<Si: Sink>(
+    output: &mut Si,
+    piece: &mut ArrayVec<u8, ROOM>,
+    word: &[u8],
+    filters: &[Filter],
+) -> Result<(), Failed>
+    ensures told { Puts (Si.written output.old) (Si.written output.new) piece.old.items piece.new.items (flat_map (λ f. word.now ++ filter_line f) filters.now) result }
+    ensures cause { HasCause (Si.faults output.old) (Si.faults output.new) result }
+{
+    'each: for filter in filters {
+        let end = filter_end(filter);
+        put_both(output, piece, word, end.as_slice())?;
+    }
+    Ok(())
+}
+
+/// Puts a line for each filter that is missing into the buffer, and then one for each that is beyond.
+fn put_lacking<Si: Sink>(
+    output: &mut Si,
+    piece: &mut ArrayVec<u8, ROOM>,
+    missing: &[Filter],
+    beyond: &[Filter],
+) -> Result<(), Failed>
+    ensures told { Puts (Si.written output.old) (Si.written output.new) piece.old.items piece.new.items (lacking_text missing.now beyond.now) result }
+    ensures cause { HasCause (Si.faults output.old) (Si.faults output.new) result }
+{
+    put_filters(output, piece, b"missing ", missing)?;
+    put_filters(output, piece, b"beyond ", beyond)
+}
+
+/// Writes a line for each filter that is missing, and then one for each that is beyond. It takes no memory but its own buffer.
+pub(crate) fn write_lacking<Si: Sink>(
+    output: &mut Si,
+    missing: &[Filter],
+    beyond: &[Filter],
+) -> Result<(), Failed>
+    ensures told { WritesAll (Si.written output.old) (Si.written output.new) result (lacking_text missing.now beyond.now) }
+    ensures cause { HasCause (Si.faults output.old) (Si.faults output.new) result }
+{
+    let mut piece = ArrayVec::<u8, ROOM>::new();
+    put_lacking(output, &mut piece, missing, beyond)?;
     write_all(output, piece.as_slice())
 }

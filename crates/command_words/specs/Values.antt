@@ -16,6 +16,8 @@ use Rattle.command_words.specs.declared.asked.Topic.{Topic}
 use Rattle.command_words.specs.declared.asked.Topic.TheVariants.{Version, Commands, Command}
 use Rattle.command_words.specs.declared.asked.TableName.{TableName}
 use Rattle.command_words.specs.declared.asked.TableName.TheVariants.{Global, Vrf}
+use Rattle.command_words.specs.declared.asked.Matching.{Matching}
+use Rattle.command_words.specs.declared.asked.Matching.TheVariants as matching
 use Rattle.command_words.specs.declared.asked.StyleName.{StyleName}
 use Rattle.command_words.specs.declared.asked.StyleName.TheVariants.{Plain, Ios, Junos, IosXr, Bird, OpenBgpd, Vyos, Nftables}
 
@@ -91,16 +93,18 @@ style_word OpenBgpd = codes "openbgpd"
 style_word Vyos = codes "vyos"
 style_word Nftables = codes "nftables"
 
--- a list of this style is read too
-abbrev pub is_read : StyleName → Bool
-is_read Plain = true
-is_read Ios = true
-is_read Junos = true
-is_read IosXr = false
-is_read Bird = false
-is_read OpenBgpd = false
-is_read Vyos = false
-is_read Nftables = false
+-- a list of this style is read too; of Junos, those that have no greatest lengths
+abbrev pub is_read : StyleName → Matching → Bool
+is_read Plain m = true
+is_read Ios m = true
+is_read Junos matching.Addresses = true
+is_read Junos matching.Routes = true
+is_read Junos (matching.Longer most) = false
+is_read IosXr m = false
+is_read Bird m = false
+is_read OpenBgpd m = false
+is_read Vyos m = false
+is_read Nftables m = false
 
 -- a style by its name
 abbrev pub IsStyleValue : Option (List ℕ) → StyleName → Type 0

@@ -5,7 +5,7 @@ ghost use Rattle.clap.specs.Words.{found_of, rows_of};
 ghost use Rattle.command_words.specs.Values.{IsTableValue, IsFamilyValue, IsStyleValue, IsNameValue, is_read, family_word, style_word};
 ghost use Rattle.command_words.specs.Asked.{IsListAsked, IsReadAs};
 
-use crate::asked::{Command, ListAsked, StyleName, TableName};
+use crate::asked::{Command, ListAsked, Matching, StyleName, TableName};
 use crate::matching::match_value;
 use crate::values::{MOST_ID, store_value};
 use clap::ArgMatches;
@@ -170,13 +170,17 @@ pub(crate) fn read_prefix_list<'a>(
 }
 
 /// Whether a list of this style is read too.
-fn is_read(style: StyleName) -> bool
-    ensures { result ≡ is_read style }
+fn is_read(style: StyleName, matching: Matching) -> bool
+    ensures { result ≡ is_read style matching }
 {
     match style {
         StyleName::Plain => true,
         StyleName::Ios => true,
-        StyleName::Junos => true,
+        StyleName::Junos => match matching {
+            Matching::Addresses => true,
+            Matching::Routes => true,
+            Matching::Longer(_) => false,
+        },
         StyleName::IosXr => false,
         StyleName::Bird => false,
         StyleName::OpenBgpd => false,
@@ -200,7 +204,7 @@ pub(crate) fn read_prefix_check<'a>(
     let Some(asked) = list_value(alloc, &matches)? else {
         return Ok(None);
     };
-    if !is_read(asked.style) {
+    if !is_read(asked.style, asked.matching) {
         return Ok(None);
     }
     Ok(Some(Command::PrefixCheck(asked)))

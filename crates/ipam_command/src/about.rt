@@ -108,6 +108,8 @@ Compares a list of a router, on standard input, with the prefixes of a table.
   --family 4|6           IPv4 or IPv6
   --style plain|ios|junos the form of the list
   --name NAME            the name of the list
+  --match M              addresses; routes: each prefix; longer: also what is inside a prefix, in plain and ios (addresses)
+  --le N                 for longer alone: up to this length (32 or 128)
   --status A,B           which prefixes count, of container, active, reserved, deprecated (all)
   --db FILE              the SQLite file of the register; without it an empty register in memory
   --global-unique yes|no whether the global table refuses a block or an address that it has already (yes)

@@ -9,3 +9,4 @@ pub mod Written
 pub mod Choices
 pub mod Outer
 pub mod Picked
+pub mod Lacking

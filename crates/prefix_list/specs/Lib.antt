@@ -6,3 +6,5 @@ pub mod Forms
 pub mod Routes
 pub mod Choices
 pub mod Entries
+pub mod Filters
+pub mod Mended

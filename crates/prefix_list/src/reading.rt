@@ -50,7 +50,7 @@ impl<T: Drop> From<AllocFailed<T>> for ListFault {
 }
 
 /// The first line of the bytes, and what follows its line feed, or `None` if it has none.
-fn cut_line(bytes: &[u8]) -> (&[u8], Option<&[u8]>)
+pub(crate) fn cut_line(bytes: &[u8]) -> (&[u8], Option<&[u8]>)
     ensures some { IfSome result.1 (λ rest. lines_of bytes.now ≡ result.0.now ∷ lines_of rest.now) }
     ensures shorter { IfSome result.1 (λ rest. length rest.now < length bytes.now) }
     ensures none { IfNone result.1 (lines_of bytes.now ≡ result.0.now ∷ []) }
@@ -64,7 +64,7 @@ fn cut_line(bytes: &[u8]) -> (&[u8], Option<&[u8]>)
 }
 
 /// What the text has before its first space, and the rest.
-fn cut_word(text: &[u8]) -> (&[u8], &[u8])
+pub(crate) fn cut_word(text: &[u8]) -> (&[u8], &[u8])
     ensures word { result.0.now ≡ before_first is_space text.now }
     ensures whole { text.now ≡ result.0.now ++ result.1.now }
 {
@@ -85,7 +85,7 @@ fn are_digits(text: &[u8]) -> bool
 }
 
 /// Whether the text is a number in decimal, of one to ten digits and without a leading zero.
-fn is_number(text: &[u8]) -> bool
+pub(crate) fn is_number(text: &[u8]) -> bool
     ensures { result ≡ is_number text.now }
 {
     if text.is_empty() || text.len() > 10 {
@@ -123,7 +123,7 @@ fn behind(style: Style, text: &[u8]) -> Option<&[u8]>
 }
 
 /// The block of the family that the text is.
-fn block_of(family: Family, text: &[u8]) -> Option<Block>
+pub(crate) fn block_of(family: Family, text: &[u8]) -> Option<Block>
     ensures some { IfSome result (λ b. IsBlockText text.now b × (b.family ≡ family)) }
     ensures none { IfNone result ((b : Cidr) → IsBlockText text.now b → b.family ≢ family) }
 {
@@ -152,7 +152,7 @@ fn block_behind(style: Style, front: &[u8], family: Family, line: &[u8]) -> Opti
 }
 
 /// Whether the name can be on a line of the style.
-fn can_name(style: Style, name: &str) -> bool
+pub(crate) fn can_name(style: Style, name: &str) -> bool
     ensures { IsTrue result ↔ CanName style name.now }
 {
     match style {

@@ -20,7 +20,7 @@ pub const STEP: u64 = 5;
 pub const LINE_END: usize = 128;
 
 /// The protocol as IOS names it.
-fn protocol(family: Family) -> &'static [u8]
+pub(crate) fn protocol(family: Family) -> &'static [u8]
     ensures { result.now ≡ protocol_of family }
 {
     match family {

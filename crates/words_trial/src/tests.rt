@@ -143,7 +143,10 @@ prefix-list --table global --family 4 --style vyos --name N --match longer | Som
 prefix-list --table global --family 6 --style nftables --name N | Some(PrefixList(ListAsked { table: Global, family: V6, style: Nftables, name: WordText { string: \"N\" }, matching: Addresses, counted: Statuses { container: true, active: true, reserved: true, deprecated: true }, store: Store { db: None, global_unique: true } }))
 prefix-list --table global --family 4 --style nft --name N | None
 prefix-check --table global --family 4 --style plain --name N --status active | Some(PrefixCheck(ListAsked { table: Global, family: V4, style: Plain, name: WordText { string: \"N\" }, matching: Addresses, counted: Statuses { container: false, active: true, reserved: false, deprecated: false }, store: Store { db: None, global_unique: true } }))
-prefix-check --table global --family 4 --style plain --name N --match routes | None
+prefix-check --table global --family 4 --style plain --name N --match routes | Some(PrefixCheck(ListAsked { table: Global, family: V4, style: Plain, name: WordText { string: \"N\" }, matching: Routes, counted: Statuses { container: true, active: true, reserved: true, deprecated: true }, store: Store { db: None, global_unique: true } }))
+prefix-check --table global --family 4 --style ios --name N --match longer --le 24 | Some(PrefixCheck(ListAsked { table: Global, family: V4, style: Ios, name: WordText { string: \"N\" }, matching: Longer(24), counted: Statuses { container: true, active: true, reserved: true, deprecated: true }, store: Store { db: None, global_unique: true } }))
+prefix-check --table global --family 4 --style junos --name N --match longer | None
+prefix-check --table global --family 4 --style ios --name N --le 24 | None
 prefix-check --table global --family 4 --style bird --name N | None
 prefix-check --table global --family 4 --style iosxr --name N | None
 prefix-check --table global --family 4 --style openbgpd --name N | None
