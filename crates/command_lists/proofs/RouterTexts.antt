@@ -41,7 +41,7 @@ module _ (asked : ListAsked) (prefixes : List Cidr) where
   match_text s Addresses entries (blocks, few, of, is) fits = (
     blocks,
     few,
-    subst (λ (n : ℕ). unfit_of s Addresses n ≡ None) (ap length is ∙ length-map exactly blocks) fits,
+    subst (λ (n : ℕ). unfit_of s Addresses n ≡ None) (ap length is ∙ length-map blocks exactly) fits,
     ap (whole s Addresses) is ∙ of_blocks s blocks of,
   )
   match_text style.Plain Routes entries exact fits = (entries, exact, fits, refl)

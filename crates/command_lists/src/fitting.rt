@@ -24,11 +24,7 @@ fn unfit_set(matching: Matching, count: usize) -> Option<Unfit>
     ensures { result ≡ unfit_set matching count }
 {
     match matching {
-        Matching::Addresses => if count == 0 {
-            Some(Unfit::Empty)
-        } else {
-            None
-        },
+        Matching::Addresses => if count == 0 { Some(Unfit::Empty) } else { None },
         Matching::Routes => Some(Unfit::Routes),
         Matching::Longer(_) => Some(Unfit::Routes),
     }

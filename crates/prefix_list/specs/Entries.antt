@@ -116,7 +116,7 @@ has_rules OpenBgpd = false
 has_rules Vyos = true
 has_rules Nftables = false
 
--- the greatest length of a rule whose block is shorter, on a line of its own
+-- the greatest length of a rule whose block is shorter, on a separate line
 abbrev pub most_line : List ℕ → ℕ → Entry → List ℕ
 most_line opening n e = if e.most == e.block.len then [] else opening ++ rule_text n (codes " le " ++ decimal e.most ++ 10 ∷ [])
 
