@@ -15,7 +15,7 @@ returns-in-List g c = λ old new input is same still.
     (record { streams = record { input = omega arith; output = c.print_list.ensures.later; errors = omega arith }; stores = omega (arith, still) })
     (λ five. absurd (not_want _ _ _ 0 _ (omega arith) c.print_list.ensures.ends five))
     _ (is.state, record { loaded = is.found; there = is.there }, text)
-    (subst (λ (form : ListForm). EndsWith (told g.Si.Sink.written g.Si.Sink.faults c.args.output.now) (told g.Si.Sink.written g.Si.Sink.faults c.print_list.new.output) (router_text form c.in-List.list.now) 0
+    (subst (λ (form : ListForm). EndsWith (told g.Si.Sink.written g.Si.Sink.faults c.args.output.now) (told g.Si.Sink.written g.Si.Sink.faults c.print_list.new.output) (router_text form c.in-List.list) 0
     c.print_list.result) c.form_named.ensures c.print_list.ensures.ends)
     refl refl
 
