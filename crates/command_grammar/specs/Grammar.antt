@@ -77,9 +77,14 @@ prefix_list_app = with_rule (with_rule (counted_app (codes "prefix-list")) (opti
 unfoldable pub prefix_check_app : App
 prefix_check_app = counted_app (codes "prefix-check")
 
--- `reverse --prefix ID`
+-- with what a zone file says before its records: `--ttl N --primary HOST --contact MAIL --serial N --ns A,B`
+abbrev pub with_head : App → App
+with_head app = with_rule (with_rule (with_rule (with_rule (with_rule app (option_rule (codes "ttl"))) (option_rule (codes "primary")))
+    (option_rule (codes "contact"))) (option_rule (codes "serial"))) (option_rule (codes "ns"))
+
+-- `reverse --prefix ID`, also with `--zone ORIGIN`
 unfoldable pub reverse_app : App
-reverse_app = with_store (with_rule (command_app (codes "reverse")) (needed_rule (codes "prefix")))
+reverse_app = with_store (with_head (with_rule (with_rule (command_app (codes "reverse")) (needed_rule (codes "prefix"))) (option_rule (codes "zone"))))
 
 -- `reverse-read`
 unfoldable pub reverse_read_app : App

@@ -18,7 +18,7 @@ export KIND --db --global-unique
 report NAME --prefix --db --global-unique
 prefix-list --table --family --style --name --match --le --status --db --global-unique
 prefix-check --table --family --style --name --status --db --global-unique
-reverse --prefix --db --global-unique
+reverse --prefix --zone --primary --contact --serial --ns --ttl --db --global-unique
 reverse-read
 migrate --db --populated
 load N --workers

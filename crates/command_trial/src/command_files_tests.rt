@@ -153,18 +153,29 @@ const CASES: [&str; 18] = [
 0|import ip-addresses --db a|address,dns_name;192.0.2.9/24,www.example.com;192.0.2.7/24,<64:a>.example;192.0.2.1/24,<64:b>.example;|created 3 present 0;|
 1|reverse --prefix 1 --db a|||address 2: the name does not fit the DNS;"#,
     r#"2
+0|import prefixes --db a|prefix;10.2.0.0/20;2001:db8:47::/48;|created 2 present 0;|
+0|import ip-addresses --db a|address,dns_name;10.2.1.7/20,h.example.net.;10.2.0.9/20,a_b.example.net;10.2.11.7/20,w.example.net;10.2.1.1/20,x-1.example.net;2001:db8:47::1/48,h.example.net;|created 5 present 0;|
+0|reverse --prefix 1 --zone 1.2.10.in-addr.arpa --serial 7 --primary ns1.example.org --contact first.last@example.org --ns ns1.example.org,ns2.example.org --db a||$ORIGIN 1.2.10.in-addr.arpa.;$TTL 3600;~ IN SOA ns1.example.org. first\.last.example.org. 7 7200 3600 1209600 3600;~ IN NS ns1.example.org.;~ IN NS ns2.example.org.;1.1.2.10.in-addr.arpa. IN PTR x-1.example.net.;7.1.2.10.in-addr.arpa. IN PTR h.example.net.;|
+0|reverse --prefix 2 --zone 8.b.d.0.1.0.0.2.ip6.arpa --ttl 60 --serial 4294967295 --primary a --contact a_b+c@d --ns e --db a||$ORIGIN 8.b.d.0.1.0.0.2.ip6.arpa.;$TTL 60;~ IN SOA a. a_b+c.d. 4294967295 7200 3600 1209600 3600;~ IN NS e.;1.0.0.0.0.0.0.0.0.0.0.0.0.0.0.0.0.0.0.0.7.4.0.0.8.b.d.0.1.0.0.2.ip6.arpa. IN PTR h.example.net.;|
+0|reverse --prefix 1 --zone 2.2.10.in-addr.arpa --serial 1 --primary a --contact a@d --ns e --db a||$ORIGIN 2.2.10.in-addr.arpa.;$TTL 3600;~ IN SOA a. a.d. 1 7200 3600 1209600 3600;~ IN NS e.;|
+1|reverse --prefix 1 --zone 0.2.10.in-addr.arpa --serial 1 --primary a --contact a@d --ns e --db a|||address 2: the name does not fit the DNS;
+1|reverse --prefix 3 --zone 0.2.10.in-addr.arpa --serial 1 --primary a --contact a@d --ns e --db a|||not_found: prefixes 3 is not there;
+0|reverse --prefix 1 --db a||9.0.2.10.in-addr.arpa. IN PTR a_b.example.net.;1.1.2.10.in-addr.arpa. IN PTR x-1.example.net.;7.1.2.10.in-addr.arpa. IN PTR h.example.net.;7.11.2.10.in-addr.arpa. IN PTR w.example.net.;|
+3|reverse --prefix 1 --zone 2.2.10.in-addr.arpa --serial 1 --primary a --contact a@d --ns e --db a||||0"#,
+    r#"2
 0|import vrfs --db a|name;red;blue;|created 2 present 0;|
 0|import prefixes --db a|prefix,status;10.0.0.0/16,container;|created 1 present 0;|
 0|import ip-addresses --db a|address,vrf,dns_name;<250:10.0.3.@/16,,h@.example;>10.0.3.250/16,red,t250.example;<250:10.0.2.@/16,blue,h@.example;>10.0.2.250/16,,t250.example;<250:10.0.1.@/16,red,h@.example;>10.0.1.250/16,blue,t250.example;<250:10.0.0.@/16,,h@.example;>10.0.0.250/16,red,t250.example;|created 1004 present 0;|
 0|reverse --prefix 1 --db a||<250:@.0.0.10.in-addr.arpa. IN PTR h@.example.;>250.0.0.10.in-addr.arpa. IN PTR t250.example.;<250:@.1.0.10.in-addr.arpa. IN PTR h@.example.;>250.1.0.10.in-addr.arpa. IN PTR t250.example.;<250:@.2.0.10.in-addr.arpa. IN PTR h@.example.;>250.2.0.10.in-addr.arpa. IN PTR t250.example.;<250:@.3.0.10.in-addr.arpa. IN PTR h@.example.;>250.3.0.10.in-addr.arpa. IN PTR t250.example.;|"#,
 ];
 
-/// Puts a text: a semicolon is the end of a line, a caret a carriage return, and `@` this number.
+/// Puts a text: a semicolon is the end of a line, a caret a carriage return, a tilde an `@`, and `@` this number.
 fn put_text(alloc: Global, bytes: &mut Vec<u8>, text: &str, number: u32) -> Result<(), AllocError> {
     for byte in text.bytes() {
         match byte {
             b';' => bytes.push(b'\n')?,
             b'^' => bytes.push(b'\r')?,
+            b'~' => bytes.push(b'@')?,
             b'@' => bytes.extend_from_slice(format!(in alloc; "{number}")?.as_bytes())?,
             other => bytes.push(other)?,
         }
@@ -190,7 +201,7 @@ fn put_piece(alloc: Global, bytes: &mut Vec<u8>, piece: &str) -> Result<(), Allo
     put_text(alloc, bytes, rest, 0)
 }
 
-/// What a part of a line represents: a semicolon is the end of a line, a caret a carriage return, and `<N:text>` the text N times, in which `@` is
+/// What a part of a line represents: a semicolon is the end of a line, a caret a carriage return, a tilde an `@`, and `<N:text>` the text N times, in which `@` is
 /// 1 the first time, 2 the second, and so on.
 pub fn bytes_of(alloc: Global, part: &str) -> Result<Vec<u8>, AllocError> {
     let mut bytes = Vec::new(alloc);

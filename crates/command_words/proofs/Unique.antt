@@ -1,5 +1,5 @@
 -- Words ask for one command: each value is determined by the text that was given, and the names of commands differ.
-use Rattle.std.proofs.Common.{◌≡◌, ◌⊎◌, inl, inr, ℕ, ◌+◌, ◌<◌, ◌^◌, refl, sym, ◌∙◌, ap, ap₂, arith, Bool, true, false, List, Option, Some, None, codes, sum, take, subst, decimal}
+use Rattle.std.proofs.Common.{◌≡◌, ◌⊎◌, inl, inr, ℕ, ◌+◌, ◌<◌, ◌^◌, refl, sym, ◌∙◌, ap, ap₂, arith, Bool, true, false, List, Option, Some, None, codes, sum, take, subst, decimal, IsTrue}
 use Rattle.std.specs.Str.Parse.{AllDigits}
 use Rattle.std.proofs.lemmas.Fmt.{decimal_injective, digits_decimal}
 use Rattle.std.proofs.lemmas.Str.Parse.{digit_at, numerals_by_value, tells_digits}
@@ -26,6 +26,11 @@ use Rattle.command_words.specs.declared.asked.Matching.TheVariants as matching
 use Rattle.word_values.specs.declared.statuses.Statuses.{Statuses}
 use Rattle.word_values.specs.Statuses.{IsStatusesValue}
 use Rattle.command_words.specs.Matching.{IsMatchValue}
+use Rattle.reverse_zone.specs.declared.head.Head.{Head}
+use Rattle.reverse_zone.specs.Hosts.{is_host, are_servers, IsMail}
+use Rattle.reverse_zone.specs.Heads.{IsOrigin}
+use Rattle.command_words.specs.declared.asked.ReverseAsked.{ReverseAsked}
+use Rattle.command_words.specs.Zones.{usual_ttl, most_ttl, IsTextOf, IsHead, IsHeadOrNone, IsReverseAsked}
 use Rattle.command_words.specs.declared.asked.Command.{Command}
 use Rattle.command_words.specs.declared.asked.Command.TheVariants as command
 use Rattle.command_words.specs.declared.asked.CommandName.{CommandName}
@@ -213,6 +218,42 @@ one_list rows a b h k =
     ap₂ (λ (m : Matching) (c : Statuses). record b { matching = m; counted = c; store = a.store }) matching counted in
     first ∙ second ∙ third ∙ ap (λ (s : Store). record b { store = s }) store
 
+one_of_kind : (IsKind : List ℕ → Type 0) (text : Option (List ℕ)) (s t : List ℕ) → IsTextOf IsKind text s → IsTextOf IsKind text t → s ≡ t
+one_of_kind IsKind None s t h k = absurd h
+one_of_kind IsKind (Some text) s t h k = h.0 ∙ sym k.0
+
+one_head : (rows : List Row) (a b : Head) → IsHead rows a → IsHead rows b → a ≡ b
+one_head rows a b h k =
+    let origin : a.origin ≡ b.origin = one_of_kind IsOrigin (first_of (codes "zone") rows) a.origin b.origin h.origin k.origin in
+    let ttl : a.ttl ≡ b.ttl = one_number_or usual_ttl most_ttl (first_of (codes "ttl") rows) a.ttl b.ttl (omega arith) h.ttl k.ttl in
+    let primary : a.primary ≡ b.primary =
+    one_of_kind (λ text. IsTrue (is_host text)) (first_of (codes "primary") rows) a.primary b.primary h.primary k.primary in
+    let contact : a.contact ≡ b.contact = one_of_kind IsMail (first_of (codes "contact") rows) a.contact b.contact h.contact k.contact in
+    let serial : a.serial ≡ b.serial = one_number most_id (first_of (codes "serial") rows) a.serial b.serial (omega arith) h.serial k.serial in
+    let servers : a.servers ≡ b.servers =
+    one_of_kind (λ text. IsTrue (are_servers text)) (first_of (codes "ns") rows) a.servers b.servers h.servers k.servers in
+    let first : a ≡ record b { primary = a.primary; contact = a.contact; serial = a.serial; servers = a.servers } =
+    ap₂ (λ (o : List ℕ) (t : ℕ). record a { origin = o; ttl = t }) origin ttl in
+    let second : record b { primary = a.primary; contact = a.contact; serial = a.serial; servers = a.servers } ≡ record b { serial = a.serial; servers = a.servers } =
+    ap₂ (λ (p c : List ℕ). record b { primary = p; contact = c; serial = a.serial; servers = a.servers }) primary contact in
+    first ∙ second ∙ ap₂ (λ (n : ℕ) (s : List ℕ). record b { serial = n; servers = s }) serial servers
+
+-- one of the two is not given
+not_given : (text : Option (List ℕ)) (IsKind : List ℕ → Type 0) (found : List ℕ) → text ≡ None → IsTextOf IsKind text found → ⊥
+not_given None IsKind found e h = h
+not_given (Some text) IsKind found e h = cc
+
+one_head_or_none : (rows : List Row) (a b : Option Head) → IsHeadOrNone rows a → IsHeadOrNone rows b → a ≡ b
+one_head_or_none rows None None h k = refl
+one_head_or_none rows None (Some b) h k = absurd (not_given (first_of (codes "zone") rows) IsOrigin b.origin h.origin k.origin)
+one_head_or_none rows (Some a) None h k = absurd (not_given (first_of (codes "zone") rows) IsOrigin a.origin k.origin h.origin)
+one_head_or_none rows (Some a) (Some b) h k = ap Some (one_head rows a b h k)
+
+one_reverse : (rows : List Row) (a b : ReverseAsked) → IsReverseAsked rows a → IsReverseAsked rows b → a ≡ b
+one_reverse rows a b h k =
+    ap₂ (λ (p : ℕ) (f : Option Head). record { prefix = p; head = f })
+    (one_number most_id (first_of (codes "prefix") rows) a.prefix b.prefix (omega arith) h.prefix k.prefix) (one_head_or_none rows a.head b.head h.head k.head)
+
 -- the sum of a name's letters, its first one twice: it tells the commands' names apart
 abbrev pub mark : List ℕ → ℕ
 mark name = sum name + sum (take 1 name)
@@ -252,7 +293,7 @@ one_named words (command.Export i s) (command.Export j t) e h k = ap₂ command.
 one_named words (command.Report q s) (command.Report r t) e h k = ap₂ command.Report (one_report _ _ q r h.0 k.0) (one_store _ s t h.1 k.1)
 one_named words (command.PrefixList a) (command.PrefixList b) e h k = ap command.PrefixList (one_list _ a b h k)
 one_named words (command.PrefixCheck a) (command.PrefixCheck b) e h k = ap command.PrefixCheck (one_list _ a b h.0 k.0)
-one_named words (command.Reverse m s) (command.Reverse n t) e h k = ap₂ command.Reverse (one_number most_id _ m n (omega arith) h.0 k.0) (one_store _ s t h.1 k.1)
+one_named words (command.Reverse a s) (command.Reverse b t) e h k = ap₂ command.Reverse (one_reverse _ a b h.0 k.0) (one_store _ s t h.1 k.1)
 one_named words command.ReverseRead command.ReverseRead e h k = refl
 one_named words (command.Migrate d p) (command.Migrate e q) same h k = ap₂ command.Migrate (one_text _ d e h.0 k.0) (one_given_answer _ p q h.1 k.1)
 one_named words (command.Load m w) (command.Load n v) e h k =

@@ -16,7 +16,8 @@ use Rattle.command_words.specs.declared.asked.Topic.TheVariants.{Version, Comman
 use Rattle.command_grammar.specs.Grammar.{Takes, given, free_app, session_app, serve_app, mirror_app, import_app, export_app, report_app, prefix_list_app, prefix_check_app, reverse_app, reverse_read_app, migrate_app, load_app, version_app, help_app}
 use Rattle.word_values.specs.Statuses.{IsStatusesValue}
 use Rattle.command_words.specs.Matching.{IsMatchValue}
-use Rattle.command_words.specs.Values.{most_workers, most_readers, most_connections, most_claims, most_id, IsBlockValue, IsNumberValue, IsNumberOr, IsTextValue, IsTextOrNone, IsYesValue, IsAnswerValue, IsKindValue, IsReportValue, IsTableValue, IsFamilyValue, IsStyleValue, IsNameValue, IsTopicValue, is_read, command_word, main_name}
+use Rattle.command_words.specs.Zones.{IsReverseAsked}
+use Rattle.command_words.specs.Values.{most_workers, most_readers, most_connections, most_claims, IsBlockValue, IsNumberValue, IsNumberOr, IsTextValue, IsTextOrNone, IsYesValue, IsAnswerValue, IsKindValue, IsReportValue, IsTableValue, IsFamilyValue, IsStyleValue, IsNameValue, IsTopicValue, is_read, command_word, main_name}
 
 -- which command it is
 abbrev pub name_in : Command → CommandName
@@ -29,7 +30,7 @@ name_in (Export kind store) = names.Export
 name_in (Report report store) = names.Report
 name_in (PrefixList asked) = names.PrefixList
 name_in (PrefixCheck asked) = names.PrefixCheck
-name_in (Reverse prefix store) = names.Reverse
+name_in (Reverse asked store) = names.Reverse
 name_in ReverseRead = names.ReverseRead
 name_in (Migrate db populated) = names.Migrate
 name_in (Load count workers) = names.Load
@@ -101,7 +102,7 @@ HasValues rows (Export kind store) = IsKindValue (first_of (codes "kind") rows) 
 HasValues rows (Report report store) = IsReportValue (first_of (codes "name") rows) (first_of (codes "prefix") rows) report × IsStore rows store
 HasValues rows (PrefixList asked) = IsListAsked rows asked
 HasValues rows (PrefixCheck asked) = IsListAsked rows asked × (is_read asked.style ≡ true)
-HasValues rows (Reverse prefix store) = IsNumberValue most_id (first_of (codes "prefix") rows) prefix × IsStore rows store
+HasValues rows (Reverse asked store) = IsReverseAsked rows asked × IsStore rows store
 HasValues rows ReverseRead = Unit {0}
 HasValues rows (Migrate db populated) = IsTextValue (first_of (codes "db") rows) db × IsAnswerValue (first_of (codes "populated") rows) populated
 HasValues rows (Load count workers) = IsNumberValue most_claims (first_of (codes "count") rows) count × IsNumberOr 1 most_workers (first_of (codes "workers") rows) workers

@@ -1,6 +1,7 @@
 //! What the program can be asked for.
 
 use inet_num::{Block, Family};
+use reverse_zone::Head;
 use word_values::{Statuses, WordText};
 
 /// A kind of record, by the name that its paths have.
@@ -90,6 +91,13 @@ pub struct ListAsked {
     pub store: Store,
 }
 
+/// The names in the prefix with this id: as lines alone, or as the file of the zone that has this head.
+#[derive(Debug, Drop)]
+pub struct ReverseAsked {
+    pub prefix: u32,
+    pub head: Option<Head>,
+}
+
 /// A command by its name.
 #[derive(Clone, Copy, Debug)]
 pub enum CommandName {
@@ -142,8 +150,8 @@ pub enum Command {
     PrefixList(ListAsked),
     /// A router's list on the input, compared with a table.
     PrefixCheck(ListAsked),
-    /// The names of the addresses of the prefix with this id, as PTR lines.
-    Reverse(u32, Store),
+    /// The names of the addresses of a prefix, as PTR lines or as a zone file.
+    Reverse(ReverseAsked, Store),
     /// PTR lines on the input, as a file that `import ip-addresses` takes.
     ReverseRead,
     /// The file with tables of version 1 into one of this program's version, with every range marked as populated or none.

@@ -16,8 +16,8 @@ mod zones;
 
 use about::{command_named, read_help, read_version};
 pub use asked::{
-    Command, CommandName, KindName, ListAsked, Matching, Mirroring, Report, Serving, Store,
-    StyleName, TableName, Topic,
+    Command, CommandName, KindName, ListAsked, Matching, Mirroring, Report, ReverseAsked, Serving,
+    Store, StyleName, TableName, Topic,
 };
 use lists::{read_prefix_check, read_prefix_list};
 use migrating::read_migrate;

@@ -15,10 +15,11 @@ use Rattle.stored_tables.specs.Stored.{kind_number, tables_of, stored_vrf, store
 use Rattle.stored_tables.specs.Reading.{IsWord, IsAbsentOr, IsTypedPrefix, IsTypedAddress}
 use Rattle.stored_tables.proofs.Alike.{one_prefix, one_address}
 use Rattle.register_core.specs.Opened.{IsOpened}
-use Rattle.reverse_zone.specs.Zones.{is_zone_row}
+use Rattle.reverse_zone.specs.Zones.{is_chosen}
+use Rattle.command_words.specs.declared.asked.ReverseAsked.{ReverseAsked}
 use Rattle.command_zones.specs.declared.zone.ZoneRefusal.{ZoneRefusal}
 use Rattle.command_zones.specs.declared.zone.ZoneRefusal.TheVariants.{Absent, Unfit}
-use Rattle.command_zones.specs.Zone.{is_unfit, IsTextOf, IsZoneRefusal}
+use Rattle.command_zones.specs.Zone.{is_unfit, suffix_asked, IsTextOf, IsZoneRefusal}
 
 -- ---- the rows of one kind among all
 
@@ -182,23 +183,23 @@ opened_alike (Some tables) unique s t known (first, is, opening) (second, also, 
     alike s t opening.lawful other.lawful (opening.tables_are ∙ sym is ∙ also ∙ sym other.tables_are)
 
 module _ (s t : State) (same : AreAlike s t) where
-  pub text_moved : (id : ℕ) (text : List ℕ) → IsTextOf s id text → IsTextOf t id text
-  text_moved id text h = record {
+  pub text_moved : (asked : ReverseAsked) (text : List ℕ) → IsTextOf s asked text → IsTextOf t asked text
+  text_moved asked text h = record {
     prefix = h.prefix;
     rows = h.rows;
-    found = subst (λ (ps : List Prefix). row_at prefix_id ps id ≡ Some h.prefix) same.prefixes h.found;
-    fit = subst (λ (rs : List IpAddress). least address_id (is_unfit h.prefix) rs ≡ None) same.addresses h.fit;
+    found = subst (λ (ps : List Prefix). row_at prefix_id ps asked.prefix ≡ Some h.prefix) same.prefixes h.found;
+    fit = subst (λ (rs : List IpAddress). least address_id (is_unfit h.prefix (suffix_asked asked)) rs ≡ None) same.addresses h.fit;
     zone = record {
-      those = subst (λ (rs : List IpAddress). IsPermutation h.rows (filter (is_zone_row h.prefix) rs)) same.addresses h.zone.those;
+      those = subst (λ (rs : List IpAddress). IsPermutation h.rows (filter (is_chosen h.prefix (suffix_asked asked)) rs)) same.addresses h.zone.those;
       order = h.zone.order;
     };
     text_is = h.text_is;
   }
 
-  pub refusal_moved : (id : ℕ) (refusal : ZoneRefusal) → IsZoneRefusal s id refusal → IsZoneRefusal t id refusal
-  refusal_moved id (Absent n) h = (h.0, subst (λ (ps : List Prefix). row_at prefix_id ps id ≡ None) same.prefixes h.1)
-  refusal_moved id (Unfit n) h = (
+  pub refusal_moved : (asked : ReverseAsked) (refusal : ZoneRefusal) → IsZoneRefusal s asked refusal → IsZoneRefusal t asked refusal
+  refusal_moved asked (Absent n) h = (h.0, subst (λ (ps : List Prefix). row_at prefix_id ps asked.prefix ≡ None) same.prefixes h.1)
+  refusal_moved asked (Unfit n) h = (
     h.0,
-    subst (λ (ps : List Prefix). row_at prefix_id ps id ≡ Some h.0) same.prefixes h.1,
-    subst (λ (rs : List IpAddress). least address_id (is_unfit h.0) rs ≡ Some n) same.addresses h.2,
+    subst (λ (ps : List Prefix). row_at prefix_id ps asked.prefix ≡ Some h.0) same.prefixes h.1,
+    subst (λ (rs : List IpAddress). least address_id (is_unfit h.0 (suffix_asked asked)) rs ≡ Some n) same.addresses h.2,
   )

@@ -9,12 +9,13 @@ use Rattle.ipam_data.specs.declared.prefix.Prefix.{Prefix}
 use Rattle.ipam_data.specs.declared.address.IpAddress.{IpAddress}
 use Rattle.ipam_data.specs.Rows.{address_id}
 use Rattle.reverse_zone.specs.Names.{fits_dns}
-use Rattle.reverse_zone.specs.Zones.{is_zone_row}
+use Rattle.reverse_zone.specs.Hosts.{is_host}
+use Rattle.reverse_zone.specs.Zones.{is_chosen}
 use Rattle.command_zones.specs.declared.zone.Place.{Place}
 use Rattle.command_zones.specs.declared.zone.ZoneRefusal.TheVariants.{Absent, Unfit}
 use Rattle.command_zones.specs.declared.zone.ZoneStop.{ZoneStop}
 use Rattle.command_zones.specs.declared.zone.ZoneStop.TheVariants.{Refused, Unwritten, Memory}
-use Rattle.command_zones.specs.Zone.{name_of, is_unfit, place_of, places_at, IsPlaceIn, ArePlaces, IsRowStop, IsRowsStop}
+use Rattle.command_zones.specs.Zone.{name_of, is_fit, is_unfit, place_of, places_at, IsPlaceIn, ArePlaces, IsRowStop, IsRowsStop}
 
 module _ {T : Type 0} (p : T → Bool) where
   -- a test that finds nothing so far finds nothing yet where the next one does not pass
@@ -39,29 +40,38 @@ module _ {T : Type 0} (p : T → Bool) where
       go true n ih = cc
       go false n ih = ih n
 
+-- a name that fits is one that the DNS can hold
+held : (suffix : Option (List ℕ)) (name : List ℕ) → is_fit suffix name ≡ true → fits_dns name ≡ true
+held None name h = h
+held (Some suffix) name h = both (fits_dns name) (is_host name) h
+  where
+    both : (a b : Bool) → (a && b) ≡ true → a ≡ true
+    both true b h = refl
+    both false b h = cc
+
 fit_of : (z f : Bool) → z ≡ true → (z && not f) ≡ false → f ≡ true
 fit_of true true e h = refl
 fit_of true false e h = cc
 fit_of false f e h = cc
 
-module _ (rows : List IpAddress) (prefix : Prefix) where
+module _ (rows : List IpAddress) (prefix : Prefix) (suffix : Option (List ℕ)) where
   -- no row was looked at
-  pub places_none : (places : List Place) → places ≡ [] → ArePlaces rows prefix [] places
-  places_none places e = subst (ArePlaces rows prefix []) (sym e) (record { named = λ d. refl; there = λ k d h. absurd (omega arith); fit = refl })
+  pub places_none : (places : List Place) → places ≡ [] → ArePlaces rows prefix suffix [] places
+  places_none places e = subst (ArePlaces rows prefix suffix []) (sym e) (record { named = λ d. refl; there = λ k d h. absurd (omega arith); fit = refl })
 
   -- one more row was looked at
-  pub places_more : (k : ℕ) (row : IpAddress) (places more : List Place) → Some row ≡ slice_get rows k → ArePlaces rows prefix (take k rows) places
-      → is_unfit prefix row ≡ false
-      → more ≡ places ++ places_at prefix k row → ArePlaces rows prefix (take (k + 1) rows) more
+  pub places_more : (k : ℕ) (row : IpAddress) (places more : List Place) → Some row ≡ slice_get rows k → ArePlaces rows prefix suffix (take k rows) places
+      → is_unfit prefix suffix row ≡ false
+      → more ≡ places ++ places_at prefix suffix k row → ArePlaces rows prefix suffix (take (k + 1) rows) more
   places_more k row places more at are fit is =
-      subst (λ (some : List IpAddress). ArePlaces rows prefix some more) (sym taken) (subst (ArePlaces rows prefix (take k rows ++ row ∷ [])) (sym is) (record {
+      subst (λ (some : List IpAddress). ArePlaces rows prefix suffix some more) (sym taken) (subst (ArePlaces rows prefix suffix (take k rows ++ row ∷ [])) (sym is) (record {
         named = λ d.
-            map-append (λ (place : Place). get_or rows place.index d) places (places_at prefix k row)
-            ∙ ap (λ (xs : List IpAddress). xs ++ map (λ (place : Place). get_or rows place.index d) (places_at prefix k row)) (are.named d)
-            ∙ ap (λ (xs : List IpAddress). filter (is_zone_row prefix) (take k rows) ++ xs) (one d (is_zone_row prefix row))
-            ∙ sym (filter-append (is_zone_row prefix) (take k rows) (row ∷ []));
-        there = All-append (IsPlaceIn rows) places (places_at prefix k row) are.there (added (is_zone_row prefix row) refl);
-        fit = none_behind (is_unfit prefix) (take k rows) row are.fit fit;
+            map-append (λ (place : Place). get_or rows place.index d) places (places_at prefix suffix k row)
+            ∙ ap (λ (xs : List IpAddress). xs ++ map (λ (place : Place). get_or rows place.index d) (places_at prefix suffix k row)) (are.named d)
+            ∙ ap (λ (xs : List IpAddress). filter (is_chosen prefix suffix) (take k rows) ++ xs) (one d (is_chosen prefix suffix row))
+            ∙ sym (filter-append (is_chosen prefix suffix) (take k rows) (row ∷ []));
+        there = All-append (IsPlaceIn rows) places (places_at prefix suffix k row) are.there (added (is_chosen prefix suffix row) refl);
+        fit = none_behind (is_unfit prefix suffix) (take k rows) row are.fit fit;
       }))
     where
       found : slice_get rows k ≡ Some row
@@ -75,24 +85,24 @@ module _ (rows : List IpAddress) (prefix : Prefix) where
       one d true = ap (λ (r : IpAddress). let rs : List IpAddress = r ∷ [] in rs) (get_or_from_slice_get rows k row d found)
       one d false = refl
 
-      added : (t : Bool) → is_zone_row prefix row ≡ t → All (IsPlaceIn rows) (cond t (place_of k row ∷ []) [])
+      added : (t : Bool) → is_chosen prefix suffix row ≡ t → All (IsPlaceIn rows) (cond t (place_of k row ∷ []) [])
       added true e =
           let here : IsPlaceIn rows (place_of k row) =
-          record { row = row; found = found; address_is = refl; id_is = refl; fits = fit_of (is_zone_row prefix row) (fits_dns (name_of row)) e fit } in
+          record { row = row; found = found; address_is = refl; id_is = refl; fits = held suffix (name_of row) (fit_of (is_chosen prefix suffix row) (is_fit suffix (name_of row)) e fit) } in
           All-cons (IsPlaceIn rows) (place_of k row) [] here (λ j d h. absurd (omega arith))
       added false e = λ j d h. absurd (omega arith)
 
   -- the row stops the command
-  pub rows_stop : (k : ℕ) (row : IpAddress) (places : List Place) (stop : ZoneStop) → Some row ≡ slice_get rows k → ArePlaces rows prefix (take k rows) places
-      → IsRowStop prefix row stop
-      → IsRowsStop prefix rows stop
+  pub rows_stop : (k : ℕ) (row : IpAddress) (places : List Place) (stop : ZoneStop) → Some row ≡ slice_get rows k → ArePlaces rows prefix suffix (take k rows) places
+      → IsRowStop prefix suffix row stop
+      → IsRowsStop prefix suffix rows stop
   rows_stop k row places (Refused (Absent n)) at are h = absurd h
   rows_stop k row places (Refused (Unfit n)) at are h =
-      ap (λ (o : Option IpAddress). option_map address_id o) (found_next (is_unfit prefix) rows k row (sym at) are.fit h.1)
+      ap (λ (o : Option IpAddress). option_map address_id o) (found_next (is_unfit prefix suffix) rows k row (sym at) are.fit h.1)
       ∙ ap (λ (m : ℕ). let o : Option ℕ = Some m in o) (sym h.0)
   rows_stop k row places Unwritten at are h = absurd h
   rows_stop k row places Memory at are h = tt
 
   -- all rows were looked at
-  pub places_all : (k : ℕ) (places : List Place) → length rows ≤ k → ArePlaces rows prefix (take k rows) places → ArePlaces rows prefix rows places
-  places_all k places whole are = subst (λ (some : List IpAddress). ArePlaces rows prefix some places) (take_all k rows whole) are
+  pub places_all : (k : ℕ) (places : List Place) → length rows ≤ k → ArePlaces rows prefix suffix (take k rows) places → ArePlaces rows prefix suffix rows places
+  places_all k places whole are = subst (λ (some : List IpAddress). ArePlaces rows prefix suffix some places) (take_all k rows whole) are

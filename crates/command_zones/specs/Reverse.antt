@@ -8,6 +8,7 @@ use Rattle.command_words.specs.declared.asked.Store.{Store}
 use Rattle.command_streams.specs.Streams.{Told, EndsWith, Gains, GainsFront, Failed}
 use Rattle.command_store.specs.Outside.{Outside, AreSame, NoCountFalls, NoCountRises}
 use Rattle.command_store.specs.Opening.{IsLoaded, NamesFault, NamesFailure, FailsToSay}
+use Rattle.command_words.specs.declared.asked.ReverseAsked.{ReverseAsked}
 use Rattle.command_zones.specs.declared.zone.ZoneRefusal.{ZoneRefusal}
 use Rattle.command_zones.specs.declared.zone.ZoneRefusal.TheVariants.{Absent, Unfit}
 use Rattle.command_zones.specs.declared.zone.ZoneStop.{ZoneStop}
@@ -34,48 +35,48 @@ IsZoneStopSaid Unwritten old new status = (status ≡ 3) × (new ≡ old)
 IsZoneStopSaid Memory old new status = (status ≡ 5) × (new ≡ old)
 
 -- the text that the state which was loaded has for the prefix
-abbrev pub IsZoneText : ℕ → Store → Outside → List ℕ → Type 0
-IsZoneText id store old text = (state : State) × IsLoaded store old state × IsTextOf state id text
+abbrev pub IsZoneText : ReverseAsked → Store → Outside → List ℕ → Type 0
+IsZoneText asked store old text = (state : State) × IsLoaded store old state × IsTextOf state asked text
 
 -- the state that was loaded has none, for this reason
-abbrev pub IsRefusedSo : ℕ → Store → Outside → ZoneRefusal → Type 0
-IsRefusedSo id store old refusal = (state : State) × IsLoaded store old state × IsZoneRefusal state id refusal
+abbrev pub IsRefusedSo : ReverseAsked → Store → Outside → ZoneRefusal → Type 0
+IsRefusedSo asked store old refusal = (state : State) × IsLoaded store old state × IsZoneRefusal state asked refusal
 
 -- the text is on the output, whole, and nothing was said
-abbrev pub PrintsZone : ℕ → Store → Outside → Outside → Type 0
-PrintsZone id store old new =
-    (text : List ℕ) × IsZoneText id store old text × Gains old.streams.output new.streams.output text × (new.streams.errors ≡ old.streams.errors)
+abbrev pub PrintsZone : ReverseAsked → Store → Outside → Outside → Type 0
+PrintsZone asked store old new =
+    (text : List ℕ) × IsZoneText asked store old text × Gains old.streams.output new.streams.output text × (new.streams.errors ≡ old.streams.errors)
 
 -- the output failed, with a prefix of the text, and nothing was said
-abbrev pub PrintsZoneFront : ℕ → Store → Outside → Outside → Type 0
-PrintsZoneFront id store old new =
-    (text : List ℕ) × IsZoneText id store old text × Failed old.streams.output new.streams.output × GainsFront old.streams.output new.streams.output text
+abbrev pub PrintsZoneFront : ReverseAsked → Store → Outside → Outside → Type 0
+PrintsZoneFront asked store old new =
+    (text : List ℕ) × IsZoneText asked store old text × Failed old.streams.output new.streams.output × GainsFront old.streams.output new.streams.output text
     × (new.streams.errors ≡ old.streams.errors)
 
 -- the refusal was said, and nothing was printed
-pub record NamesZoneRefusal (id : ℕ) (store : Store) (old new : Outside) : Type 0 where
+pub record NamesZoneRefusal (asked : ReverseAsked) (store : Store) (old new : Outside) : Type 0 where
   pub refusal : ZoneRefusal
-  pub cause : IsRefusedSo id store old refusal
+  pub cause : IsRefusedSo asked store old refusal
   pub said : Gains old.streams.errors new.streams.errors (refusal_text refusal)
   pub output : new.streams.output ≡ old.streams.output
 
 -- it could not be said, and nothing was printed
-pub record FailsToSayRefusal (id : ℕ) (store : Store) (old new : Outside) : Type 0 where
+pub record FailsToSayRefusal (asked : ReverseAsked) (store : Store) (old new : Outside) : Type 0 where
   pub failed : Failed old.streams.errors new.streams.errors
   pub refusal : ZoneRefusal
-  pub cause : IsRefusedSo id store old refusal
+  pub cause : IsRefusedSo asked store old refusal
   pub front : GainsFront old.streams.errors new.streams.errors (refusal_text refusal)
   pub output : new.streams.output ≡ old.streams.output
 
 -- a run of `reverse`
-pub record IsReverse (id : ℕ) (store : Store) (old new : Outside) (status : ℕ) : Type 0 where
+pub record IsReverse (asked : ReverseAsked) (store : Store) (old new : Outside) (status : ℕ) : Type 0 where
   pub statuses : (status ≡ 0) ⊎ (status ≡ 1) ⊎ (status ≡ 3) ⊎ (status ≡ 4) ⊎ (status ≡ 5)
   -- 0: a line for each address of the prefix that has a name, in order, and no other
-  pub done : status ≡ 0 → PrintsZone id store old new
+  pub done : status ≡ 0 → PrintsZone asked store old new
   -- 1: the opening was refused for what the store holds, or the prefix is not there, or a name does not fit
-  pub refused : status ≡ 1 → NamesFault store old new ⊎ NamesZoneRefusal id store old new
+  pub refused : status ≡ 1 → NamesFault store old new ⊎ NamesZoneRefusal asked store old new
   -- 3: the output failed, or what was to be said could not be
-  pub fault : status ≡ 3 → PrintsZoneFront id store old new ⊎ FailsToSay store old new ⊎ FailsToSayRefusal id store old new
+  pub fault : status ≡ 3 → PrintsZoneFront asked store old new ⊎ FailsToSay store old new ⊎ FailsToSayRefusal asked store old new
   -- 4: the opening was refused since the store failed
   pub store_fault : status ≡ 4 → NamesFailure old new
   -- 5: out of memory. Nothing was printed, and nothing said

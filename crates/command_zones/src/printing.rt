@@ -1,23 +1,24 @@
 //! The lines of a zone on the output, by pieces of one buffer.
 
-ghost use Rattle.std.specs.Prelude.{◌≡◌, ◌≤◌, IsTrue, All};
+ghost use Rattle.std.specs.Prelude.{◌≡◌, ◌≤◌, ◌++◌, IfOk, IsTrue, All};
 ghost use Rattle.ipam_edge.specs.Faults.{HasCause};
 ghost use Rattle.ipam_edge.specs.Writing.{WritesAll};
 ghost use Rattle.reverse_zone.specs.Names.{fits_dns};
 ghost use Rattle.reverse_zone.specs.Zones.{row_line_of};
 ghost use Rattle.command_streams.specs.Streams.{told};
-ghost use Rattle.command_zones.specs.Zone.{name_of, line_at, lines_at, IsPlaceIn, IsZoneEnd};
+ghost use Rattle.command_zones.specs.Zone.{name_of, front_of, line_at, lines_at, IsPlaceIn, IsZoneEnd};
 ghost use Rattle.text_pieces.specs.Pieces.{Puts};
 
 use crate::zone::{Place, ZoneStop, name_of, zone_of};
 use arrayvec::ArrayVec;
+use command_words::ReverseAsked;
 use ipam_data::address::IpAddress;
 use ipam_edge::{Failed, Sink, write_all};
 use ipam_keeper::keeper::Keeper;
 use register_core::Register;
 use register_tables::Addresses;
-use reverse_zone::ptr_line;
-use std::alloc::Global;
+use reverse_zone::{head_text, ptr_line};
+use std::alloc::{AllocError, Global};
 use text_pieces::{ROOM, put};
 
 /// Puts the line of a row whose name fits after what the piece has.
@@ -68,19 +69,50 @@ fn write_lines<Si: Sink>(
     write_all(output, piece.as_slice())
 }
 
-/// Prints the names of a prefix's addresses, a line each, in the order of their addresses and then of their ids. All names are checked, and
-/// all memory is taken, before the first byte is written.
+/// Writes a text, and then the lines of the rows at these places.
+fn write_zone<Si: Sink>(
+    output: &mut Si,
+    front: &[u8],
+    addresses: &Addresses,
+    places: &[Place],
+) -> Result<(), Failed>
+    requires there { All (IsPlaceIn addresses.now.rows) places.now }
+    ensures told { WritesAll (Si.written output.old) (Si.written output.new) result (front.now ++ lines_at addresses.now.rows places.now) }
+    ensures cause { HasCause (Si.faults output.old) (Si.faults output.new) result }
+{
+    write_all(output, front)?;
+    write_lines(output, addresses, places)
+}
+
+/// What is before the lines: nothing, or the head of a zone file.
+fn front_text(alloc: Global, asked: &ReverseAsked) -> Result<Vec<u8>, AllocError>
+    ensures { IfOk result (λ v. v.items ≡ front_of asked.now.head) }
+{
+    match &asked.head {
+        Some(head) => head_text(alloc, head),
+        None => Ok(Vec::new(alloc)),
+    }
+}
+
+/// Prints the names that are asked for, a line each, in the order of their addresses and then of their ids; in a zone file the head comes first.
+/// All names are checked, and all memory is taken, before the first byte is written.
 pub(crate) fn print_zone<K: Keeper, Si: Sink>(
     alloc: Global,
     register: &Register<K>,
-    id: u32,
+    asked: &ReverseAsked,
     output: &mut Si,
 ) -> Result<(), ZoneStop>
-    ensures end { IsZoneEnd register.now.state id (told Si.written Si.faults output.old) (told Si.written Si.faults output.new) result }
+    ensures end { IsZoneEnd register.now.state asked.now (told Si.written Si.faults output.old) (told Si.written Si.faults output.new) result }
     ensures later { Si.faults output.old ≤ Si.faults output.new }
 {
-    let places = zone_of(alloc, register, id)?;
-    match write_lines(output, register.addresses(), places.as_slice()) {
+    let front = front_text(alloc, asked)?;
+    let places = zone_of(alloc, register, asked)?;
+    match write_zone(
+        output,
+        front.as_slice(),
+        register.addresses(),
+        places.as_slice(),
+    ) {
         Ok(()) => Ok(()),
         Err(_) => Err(ZoneStop::Unwritten),
     }

@@ -9,7 +9,7 @@ use crate::printing::print_zone;
 use crate::zone::{ZoneRefusal, ZoneStop};
 use command_store::{open_store, say_fault};
 use command_streams::{DONE, FAULT, MEMORY, REFUSED, end_with};
-use command_words::Store;
+use command_words::{ReverseAsked, Store};
 use ipam_data::kinds::Kind;
 use ipam_data::replies::Refusal;
 use ipam_edge::Sink;
@@ -61,23 +61,23 @@ fn say_stop<Se: Sink>(alloc: Global, stop: ZoneStop, errors: &mut Se) -> u8
     }
 }
 
-/// Runs `reverse`: the names of the addresses in a prefix, as PTR lines in the order of their addresses, from the register of the store,
-/// which stays as it is.
+/// Runs `reverse`: the names of the addresses in a prefix, as PTR lines in the order of their addresses, or as the file of a zone there, from the
+/// register of the store, which stays as it is.
 pub fn run_reverse<Si: Sink, Se: Sink, O: KeeperOpener>(
     alloc: Global,
-    id: u32,
+    asked: &ReverseAsked,
     store: &Store,
     output: &mut Si,
     errors: &mut Se,
     opener: &mut O,
 ) -> u8
-    ensures { (input : Told) → IsReverse id store.now
+    ensures { (input : Told) → IsReverse asked.now store.now
         (outside (streams input (told Si.written Si.faults output.old) (told Se.written Se.faults errors.old)) (stores O.stored O.faults opener.old))
         (outside (streams input (told Si.written Si.faults output.new) (told Se.written Se.faults errors.new)) (stores O.stored O.faults opener.new)) result }
 {
     match open_store(alloc, store, opener) {
         Ok(register) => {
-            let ended = print_zone(alloc, &register, id, output);
+            let ended = print_zone(alloc, &register, asked, output);
             opener.done(register.into_keeper());
             match ended {
                 Ok(()) => DONE,

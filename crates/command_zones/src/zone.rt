@@ -1,11 +1,11 @@
-//! The rows of a prefix's zone: the addresses in it that have a name, by address and then by id.
+//! The rows that are asked for: the addresses in a prefix, or in a zone there, that have a name, by address and then by id.
 
-ghost use Rattle.std.specs.Prelude.{◌≡◌, ◌<◌, ◌++◌, false, Some, IfOk, IfErr, OnOk, IsPermutation, IsSortedByKey, is_some, length, slice_get};
+ghost use Rattle.std.specs.Prelude.{◌≡◌, ◌<◌, ◌++◌, false, Some, option_map, IfOk, IfErr, OnOk, IsPermutation, IsSortedByKey, is_some, length, slice_get};
 ghost use Rattle.ipam_data.specs.Claims.{is_container, sees_all, is_child_address};
-ghost use Rattle.reverse_zone.specs.Names.{fits_dns};
-ghost use Rattle.reverse_zone.specs.Zones.{row_name_of, is_zone_row};
-ghost use Rattle.command_zones.specs.Zone.{name_of, is_unfit, places_at, key_of, key_cmp, ArePlaces, IsRowStop, IsRowsStop, IsZone, IsZoneStop};
+ghost use Rattle.reverse_zone.specs.Zones.{row_name_of, is_zone_row, is_chosen};
+ghost use Rattle.command_zones.specs.Zone.{name_of, is_fit, is_unfit, suffix_asked, places_at, key_of, key_cmp, ArePlaces, IsRowStop, IsRowsStop, IsZone, IsZoneStop};
 
+use command_words::ReverseAsked;
 use inet_num::block_holds;
 use ipam_data::address::IpAddress;
 use ipam_data::kinds::{Table, is_one_table};
@@ -13,7 +13,7 @@ use ipam_data::prefix::{Prefix, PrefixStatus};
 use ipam_keeper::keeper::Keeper;
 use register_core::Register;
 use register_tables::Addresses;
-use reverse_zone::{fits, ptr_name};
+use reverse_zone::{fits, has_owner_in, is_host, ptr_name, suffix};
 use std::alloc::{AllocError, AllocFailed, Global};
 
 /// Why the names of a prefix are not printed, if a message says it.
@@ -113,35 +113,50 @@ pub(crate) fn name_of(row: &IpAddress) -> &str
     }
 }
 
-/// Whether a row is one of the prefix's zone.
-fn is_in_zone(prefix: &Prefix, row: &IpAddress) -> bool
+/// Whether a row is a child address of the prefix and has a name.
+fn is_named_child(prefix: &Prefix, row: &IpAddress) -> bool
     ensures { result ≡ is_zone_row prefix.now row.now }
 {
     is_child(prefix, row) && has_name(row)
 }
 
-/// Whether the name of a row fits the DNS.
-fn has_fit_name(row: &IpAddress) -> bool
-    ensures { result ≡ fits_dns (name_of row.now) }
+/// Whether a row is one of those that are asked for: owners in a zone end with its suffix.
+fn is_chosen(prefix: &Prefix, suffix: Option<&[u8]>, row: &IpAddress) -> bool
+    ensures { result ≡ is_chosen prefix.now (option_map (λ s. s.now) suffix) row.now }
 {
-    fits(name_of(row))
+    match suffix {
+        Some(suffix) => is_named_child(prefix, row) && has_owner_in(row.host.addr(), suffix),
+        None => is_named_child(prefix, row),
+    }
 }
 
-/// Adds the place of the row at an index, if the row is one of the prefix's zone.
+/// Whether the name of a row fits: the DNS can hold it, and in a zone it is a host's too.
+fn has_fit_name(suffix: Option<&[u8]>, row: &IpAddress) -> bool
+    ensures { result ≡ is_fit (option_map (λ s. s.now) suffix) (name_of row.now) }
+{
+    let name = name_of(row);
+    match suffix {
+        Some(_) => fits(name) && is_host(name.as_bytes()),
+        None => fits(name),
+    }
+}
+
+/// Adds the place of the row at an index, if the row is one of those that are asked for.
 fn add_row(
     places: &mut Vec<Place>,
     prefix: &Prefix,
+    suffix: Option<&[u8]>,
     row: &IpAddress,
     index: u32,
 ) -> Result<(), ZoneStop>
-    ensures items { OnOk result (places.new.items ≡ places.old.items ++ places_at prefix.now index row.now) }
-    ensures fits { OnOk result (is_unfit prefix.now row.now ≡ false) }
-    ensures stop { IfErr result (IsRowStop prefix.now row.now) }
+    ensures items { OnOk result (places.new.items ≡ places.old.items ++ places_at prefix.now (option_map (λ s. s.now) suffix) index row.now) }
+    ensures fits { OnOk result (is_unfit prefix.now (option_map (λ s. s.now) suffix) row.now ≡ false) }
+    ensures stop { IfErr result (IsRowStop prefix.now (option_map (λ s. s.now) suffix) row.now) }
 {
-    if !is_in_zone(prefix, row) {
+    if !is_chosen(prefix, suffix, row) {
         return Ok(());
     }
-    if !has_fit_name(row) {
+    if !has_fit_name(suffix, row) {
         return Err(ZoneStop::Refused(ZoneRefusal::Unfit(row.id)));
     }
     places.push(Place {
@@ -163,20 +178,21 @@ fn address_at(addresses: &Addresses, index: u32) -> &IpAddress
     }
 }
 
-/// The places of the rows of a prefix's zone, in the order of their ids, if all their names fit.
+/// The places of the rows that are asked for, in the order of their ids, if all their names fit.
 fn zone_places(
     alloc: Global,
     addresses: &Addresses,
     prefix: &Prefix,
+    suffix: Option<&[u8]>,
 ) -> Result<Vec<Place>, ZoneStop>
-    ensures places { IfOk result (λ v. ArePlaces addresses.now.rows prefix.now addresses.now.rows v.items) }
-    ensures stop { IfErr result (IsRowsStop prefix.now addresses.now.rows) }
+    ensures places { IfOk result (λ v. ArePlaces addresses.now.rows prefix.now (option_map (λ s. s.now) suffix) addresses.now.rows v.items) }
+    ensures stop { IfErr result (IsRowsStop prefix.now (option_map (λ s. s.now) suffix) addresses.now.rows) }
 {
     let mut places = Vec::new(alloc);
     let count = addresses.len();
     'rows: for index in 0..count {
         let row = address_at(addresses, index);
-        add_row(&mut places, prefix, row, index)?;
+        add_row(&mut places, prefix, suffix, row, index)?;
     }
     Ok(places)
 }
@@ -189,22 +205,41 @@ fn sort(places: &mut Vec<Place>)
     places.sort_unstable_by_key(|place| (place.address, place.id));
 }
 
-/// The places of the rows of a prefix's zone, in their order, or why there are none: the prefix is not there, or a name does not fit.
+/// The places of the rows that are asked for, in the order of their ids: all in the prefix, or those in the zone that has this head.
+fn asked_places(
+    alloc: Global,
+    addresses: &Addresses,
+    prefix: &Prefix,
+    asked: &ReverseAsked,
+) -> Result<Vec<Place>, ZoneStop>
+    ensures places { IfOk result (λ v. ArePlaces addresses.now.rows prefix.now (suffix_asked asked.now) addresses.now.rows v.items) }
+    ensures stop { IfErr result (IsRowsStop prefix.now (suffix_asked asked.now) addresses.now.rows) }
+{
+    match &asked.head {
+        Some(head) => {
+            let end = suffix(alloc, head)?;
+            zone_places(alloc, addresses, prefix, Some(end.as_bytes()))
+        }
+        None => zone_places(alloc, addresses, prefix, None),
+    }
+}
+
+/// The places of the rows that are asked for, in their order, or why there are none: the prefix is not there, or a name does not fit.
 pub(crate) fn zone_of<K: Keeper>(
     alloc: Global,
     register: &Register<K>,
-    id: u32,
+    asked: &ReverseAsked,
 ) -> Result<Vec<Place>, ZoneStop>
-    ensures zone { IfOk result (λ v. IsZone register.now.state id v.items) }
-    ensures stop { IfErr result (IsZoneStop register.now.state id) }
+    ensures zone { IfOk result (λ v. IsZone register.now.state asked.now v.items) }
+    ensures stop { IfErr result (IsZoneStop register.now.state asked.now) }
 {
-    let Some(prefix) = register.prefixes().get(id) else {
-        return Err(ZoneStop::Refused(ZoneRefusal::Absent(id)));
+    let Some(prefix) = register.prefixes().get(asked.prefix) else {
+        return Err(ZoneStop::Refused(ZoneRefusal::Absent(asked.prefix)));
     };
     let addresses = register.addresses();
     // A hint to the prover: the ids of the rows rise.
     let _count = addresses.len();
-    let mut places = zone_places(alloc, addresses, prefix)?;
+    let mut places = asked_places(alloc, addresses, prefix, asked)?;
     sort(&mut places);
     Ok(places)
 }

@@ -2,6 +2,7 @@
 use Rattle.std.proofs.Common.{◌≡◌, ℕ, ◌⊎◌, inl, inr, sym, ap, subst, arith, Bool, List, None}
 use Rattle.inet_num.specs.Net.{Cidr}
 use Rattle.command_words.specs.declared.asked.ListAsked.{ListAsked}
+use Rattle.command_words.specs.declared.asked.ReverseAsked.{ReverseAsked}
 use Rattle.command_words.specs.declared.asked.Store.{Store}
 use Rattle.command_words.specs.declared.asked.Command.{Command}
 use Rattle.command_words.specs.declared.asked.Command.TheVariants.{Free, Session, Serve, Mirror, Import, Export, Report, PrefixList, PrefixCheck, Reverse, ReverseRead, Migrate, Load, About}
@@ -35,7 +36,7 @@ IsOther (Export kind store) = ⊥
 IsOther (Report report store) = ⊥
 IsOther (PrefixList asked) = Unit {0}
 IsOther (PrefixCheck asked) = Unit {0}
-IsOther (Reverse prefix store) = Unit {0}
+IsOther (Reverse asked store) = Unit {0}
 IsOther ReverseRead = Unit {0}
 IsOther (Migrate db populated) = Unit {0}
 IsOther (Load count workers) = ⊥
@@ -195,26 +196,26 @@ check_not_begun asked old new status five same = record {
 
 -- ---- `reverse`
 
-pub of_reverse : (words : List (List ℕ)) (old new : Outside) (before after : ListenerView) (status prefix : ℕ) (store : Store) → Asks words (Reverse prefix store)
-    → IsReverse prefix store old new status → after ≡ before → HasClauses words old new before after status
-of_reverse words old new before after status prefix store asks s same_listener = of_other words (Reverse prefix store) old new before after status (record {
+pub of_reverse : (words : List (List ℕ)) (old new : Outside) (before after : ListenerView) (status : ℕ) (asked : ReverseAsked) (store : Store) → Asks words (Reverse asked store)
+    → IsReverse asked store old new status → after ≡ before → HasClauses words old new before after status
+of_reverse words old new before after status asked store asks s same_listener = of_other words (Reverse asked store) old new before after status (record {
   asks = asks;
   other = tt;
   statuses = s.statuses;
-  done = λ z. (let t = s.done z in (inr (inr (inr (inr (inr (inr (inr (inr (inr (inl (prefix, store, asks, t)))))))))), t.3));
-  refused = λ z. inr (inr (inr (inr (inr (inr (inr (inr (inl (prefix, store, asks, s.refused z)))))))));
+  done = λ z. (let t = s.done z in (inr (inr (inr (inr (inr (inr (inr (inr (inr (inl (asked, store, asks, t)))))))))), t.3));
+  refused = λ z. inr (inr (inr (inr (inr (inr (inr (inr (inl (asked, store, asks, s.refused z)))))))));
   fault = λ z. elim (s.fault z) [ inl h ↦ inr (inl h.2) | inr more ↦ elim more [ inl h ↦ inr (inr h.failed) | inr h ↦ inr (inr h.failed) ] ];
-  store_fault = λ z. inl (inr (inr (inr (inr (inr (inl (prefix, store, asks)))))), s.store_fault z);
+  store_fault = λ z. inl (inr (inr (inr (inr (inr (inl (asked, store, asks)))))), s.store_fault z);
   memory = λ z. ((s.memory z).1, (s.memory z).0);
   same_listener = same_listener;
-  migrate_whole = λ db populated a. absurd (let e = words_ask_for_one words (Migrate db populated) (Reverse prefix store) a asks in cc);
+  migrate_whole = λ db populated a. absurd (let e = words_ask_for_one words (Migrate db populated) (Reverse asked store) a asks in cc);
   answers = (s, same_listener);
   later = s.later;
   quiet = s.quiet;
 })
 
-pub reverse_not_begun : (prefix : ℕ) (store : Store) (old new : Outside) (status : ℕ) → status ≡ 5 → new ≡ old → IsReverse prefix store old new status
-reverse_not_begun prefix store old new status five same = record {
+pub reverse_not_begun : (asked : ReverseAsked) (store : Store) (old new : Outside) (status : ℕ) → status ≡ 5 → new ≡ old → IsReverse asked store old new status
+reverse_not_begun asked store old new status five same = record {
   statuses = inr (inr (inr (inr five)));
   done = λ z. absurd (omega arith);
   refused = λ z. absurd (omega arith);

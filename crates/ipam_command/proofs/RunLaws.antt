@@ -383,7 +383,7 @@ not_begun_of (Export kind store) old new before after status five same same_list
 not_begun_of (Report report store) old new before after status five same same_listener = (report_not_begun report store old new status five same, same_listener)
 not_begun_of (PrefixList asked) old new before after status five same same_listener = (list_not_begun asked old new status five same, same_listener)
 not_begun_of (PrefixCheck asked) old new before after status five same same_listener = (check_not_begun asked old new status five same, same_listener)
-not_begun_of (Reverse prefix store) old new before after status five same same_listener = (reverse_not_begun prefix store old new status five same, same_listener)
+not_begun_of (Reverse asked store) old new before after status five same same_listener = (reverse_not_begun asked store old new status five same, same_listener)
 not_begun_of ReverseRead old new before after status five same same_listener =
     (read_not_begun old.streams new.streams status five (ap (λ (t : Outside). t.streams) same), ap (λ (t : Outside). t.stores) same, same_listener)
 not_begun_of (Migrate db populated) old new before after status five same same_listener = (migrate_not_begun db populated old new status five same, same_listener)
@@ -453,7 +453,7 @@ runs_have_clauses words old new before after status (inl (Export kind store, ask
 runs_have_clauses words old new before after status (inl (Report report store, asks, s)) = of_report words old new before after status report store asks s.0 s.1
 runs_have_clauses words old new before after status (inl (PrefixList asked, asks, s)) = of_prefix_list words old new before after status asked asks s.0 s.1
 runs_have_clauses words old new before after status (inl (PrefixCheck asked, asks, s)) = of_prefix_check words old new before after status asked asks s.0 s.1
-runs_have_clauses words old new before after status (inl (Reverse prefix store, asks, s)) = of_reverse words old new before after status prefix store asks s.0 s.1
+runs_have_clauses words old new before after status (inl (Reverse asked store, asks, s)) = of_reverse words old new before after status asked store asks s.0 s.1
 runs_have_clauses words old new before after status (inl (ReverseRead, asks, s)) = of_reverse_read words old new before after status asks s.0 s.1 s.2
 runs_have_clauses words old new before after status (inl (Migrate db populated, asks, s)) = of_migrate words old new before after status db populated asks s.0 s.1
 runs_have_clauses words old new before after status (inl (Load count workers, asks, s)) = of_load words old new before after status count workers asks s.0 s.1 s.2 s.3 s.4

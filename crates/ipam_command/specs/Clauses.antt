@@ -12,6 +12,7 @@ use Rattle.command_words.specs.declared.asked.Store.{Store}
 use Rattle.command_words.specs.declared.asked.Serving.{Serving}
 use Rattle.command_words.specs.declared.asked.Mirroring.{Mirroring}
 use Rattle.command_words.specs.declared.asked.ListAsked.{ListAsked}
+use Rattle.command_words.specs.declared.asked.ReverseAsked.{ReverseAsked}
 use Rattle.command_words.specs.declared.asked.Topic.{Topic}
 use Rattle.command_words.specs.Asked.{Asks, IsNoCommand}
 use Rattle.command_streams.specs.Streams.{Gains, Failed, NeverRises, usage_text}
@@ -82,8 +83,8 @@ abbrev pub AsksPrefixCheck : List (List ℕ) → ListAsked → Type 0
 AsksPrefixCheck words asked = Asks words (PrefixCheck asked)
 
 -- the arguments ask for the names in a prefix of the register of this store, or for the pairs of a zone
-abbrev pub AsksReverse : List (List ℕ) → ℕ → Store → Type 0
-AsksReverse words prefix store = Asks words (Reverse prefix store)
+abbrev pub AsksReverse : List (List ℕ) → ReverseAsked → Store → Type 0
+AsksReverse words asked store = Asks words (Reverse asked store)
 
 abbrev pub AsksReverseRead : List (List ℕ) → Type 0
 AsksReverseRead words = Asks words ReverseRead
@@ -102,7 +103,7 @@ AsksRegister words =
     ((store : Store) × AsksStore words store) ⊎ ((serving : Serving) × AsksServe words serving) ⊎ ((kind : KindName) × (store : Store) × AsksExport words kind store)
     ⊎ ((report : ReportName) × (store : Store) × AsksReport words report store)
     ⊎ ((asked : ListAsked) × (AsksPrefixList words asked ⊎ AsksPrefixCheck words asked))
-    ⊎ ((prefix : ℕ) × (store : Store) × AsksReverse words prefix store) ⊎ ((mirroring : Mirroring) × AsksMirror words mirroring)
+    ⊎ ((asked : ReverseAsked) × (store : Store) × AsksReverse words asked store) ⊎ ((mirroring : Mirroring) × AsksMirror words mirroring)
 
 -- the command is one that uses the listener, which failed meanwhile
 abbrev pub ListenerFailed : Command → ListenerView → ListenerView → Type 0
@@ -115,7 +116,7 @@ ListenerFailed (Export kind store) before after = ⊥
 ListenerFailed (Report report store) before after = ⊥
 ListenerFailed (PrefixList asked) before after = ⊥
 ListenerFailed (PrefixCheck asked) before after = ⊥
-ListenerFailed (Reverse prefix store) before after = ⊥
+ListenerFailed (Reverse asked store) before after = ⊥
 ListenerFailed ReverseRead before after = ⊥
 ListenerFailed (Migrate db populated) before after = ⊥
 ListenerFailed (Load count workers) before after = ⊥
@@ -139,7 +140,7 @@ IsDone words old new before after =
     ⊎ ((report : ReportName) × (store : Store) × AsksReport words report store × PrintsText (IsReportText report store old) old new)
     ⊎ ((asked : ListAsked) × AsksPrefixList words asked × PrintsList asked old new)
     ⊎ ((asked : ListAsked) × AsksPrefixCheck words asked × PrintsDifference asked old new)
-    ⊎ ((prefix : ℕ) × (store : Store) × AsksReverse words prefix store × PrintsZone prefix store old new)
+    ⊎ ((asked : ReverseAsked) × (store : Store) × AsksReverse words asked store × PrintsZone asked store old new)
     ⊎ (AsksReverseRead words × PrintsPairs old.streams new.streams)
     ⊎ ((db : List ℕ) × (populated : Bool) × AsksMigrate words db populated × PrintsMigrated db populated old new)
     ⊎ ((mirroring : Mirroring) × AsksMirror words mirroring × Finishes mirroring old new before after)
@@ -156,7 +157,7 @@ IsNamed words old new =
     ⊎ ((report : ReportName) × (store : Store) × AsksReport words report store × (NamesFault store old new ⊎ NamesAbsent report store old new))
     ⊎ ((asked : ListAsked) × AsksPrefixList words asked × (NamesFault asked.store old new ⊎ NamesAbsentTable asked old new))
     ⊎ ((asked : ListAsked) × AsksPrefixCheck words asked × (NamesFault asked.store old new ⊎ NamesAbsentTable asked old new ⊎ NamesInput asked old new))
-    ⊎ ((prefix : ℕ) × (store : Store) × AsksReverse words prefix store × (NamesFault store old new ⊎ NamesZoneRefusal prefix store old new))
+    ⊎ ((asked : ReverseAsked) × (store : Store) × AsksReverse words asked store × (NamesFault store old new ⊎ NamesZoneRefusal asked store old new))
     ⊎ (AsksReverseRead words × NamesRead old.streams new.streams)
     ⊎ ((db : List ℕ) × (populated : Bool) × AsksMigrate words db populated × NamesUnfit db old new)
     ⊎ ((mirroring : Mirroring) × AsksMirror words mirroring × NamesFault mirroring.store old new)

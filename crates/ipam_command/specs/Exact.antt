@@ -17,6 +17,7 @@ use Rattle.command_words.specs.declared.asked.KindName.{KindName}
 use Rattle.command_words.specs.declared.asked.Report.{Report as ReportName}
 use Rattle.command_words.specs.declared.asked.Store.{Store}
 use Rattle.command_words.specs.declared.asked.ListAsked.{ListAsked}
+use Rattle.command_words.specs.declared.asked.ReverseAsked.{ReverseAsked}
 use Rattle.command_words.specs.declared.asked.Serving.{Serving}
 use Rattle.command_words.specs.declared.asked.Mirroring.{Mirroring}
 use Rattle.command_words.specs.Asked.{Asks}
@@ -34,7 +35,7 @@ abbrev pub Opens : List (List ℕ) → Store → Type 0
 Opens words store =
     AsksStore words store ⊎ ((serving : Serving) × AsksServe words serving × (serving.store ≡ store)) ⊎ ((kind : KindName) × AsksImport words kind store)
     ⊎ ((kind : KindName) × AsksExport words kind store) ⊎ ((report : ReportName) × AsksReport words report store)
-    ⊎ ((asked : ListAsked) × (AsksPrefixList words asked ⊎ AsksPrefixCheck words asked) × (asked.store ≡ store)) ⊎ ((prefix : ℕ) × AsksReverse words prefix store)
+    ⊎ ((asked : ListAsked) × (AsksPrefixList words asked ⊎ AsksPrefixCheck words asked) × (asked.store ≡ store)) ⊎ ((asked : ReverseAsked) × AsksReverse words asked store)
     ⊎ ((mirroring : Mirroring) × AsksMirror words mirroring × (mirroring.store ≡ store))
 
 -- the known tables of the store have a fault

@@ -115,8 +115,14 @@ Compares a list of a router, on standard input, with the prefixes of a table.
 
 /// What `reverse` takes.
 const REVERSE: &str = "usage: ipamd reverse --prefix ID [OPTIONS]
-Prints the PTR lines of the addresses of a prefix that have a DNS name.
+Prints the PTR lines of the addresses of a prefix that have a DNS name; with --zone those of one zone, as a file that a name server loads.
   --prefix ID            the prefix
+  --zone ORIGIN          the zone (2.0.192.in-addr.arpa), which ends at an octet or a nibble; the next four are given with it
+  --primary HOST         the first name server, for the SOA record
+  --contact MAIL         who is responsible (first.last@example.org)
+  --serial N             the serial of the SOA record, 1 to 4294967295
+  --ns A,B               the name servers
+  --ttl N                the time to live in seconds, 1 to 2147483647, with --zone alone (3600)
   --db FILE              the SQLite file of the register; without it an empty register in memory
   --global-unique yes|no whether the global table refuses a block or an address that it has already (yes)
 ";

@@ -89,9 +89,7 @@ fn run_command<
         Command::PrefixCheck(asked) => {
             run_prefix_check(alloc, asked, input, output, errors, opener)
         }
-        Command::Reverse(prefix, store) => {
-            run_reverse(alloc, *prefix, store, output, errors, opener)
-        }
+        Command::Reverse(asked, store) => run_reverse(alloc, asked, store, output, errors, opener),
         Command::ReverseRead => run_reverse_read(alloc, input, output, errors),
         Command::Migrate { db, populated } => {
             run_migrate(alloc, db, *populated, output, errors, opener)

@@ -4,7 +4,7 @@ use Rattle.std.specs.List.{AllByRecursion, AllAdjacentBelow, Contains, filter}
 use Rattle.std.specs.List.Sorted.{IsPermutation}
 use Rattle.std.proofs.lemmas.List.Sorted.{Contains-permutation, IsPermutation-sym}
 use Rattle.ipam_data.specs.declared.address.IpAddress.{IpAddress}
-use Rattle.reverse_zone.specs.Zones.{IsBefore, is_zone_row, ZoneHasOneOrder}
+use Rattle.reverse_zone.specs.Zones.{IsBefore, ZoneHasOneOrder}
 
 -- ---- the order
 
@@ -90,8 +90,8 @@ same_rows (x ∷ xs) (y ∷ ys) h k to from =
     (λ z in_ys. behind y x z ys xs (sym first) k.0 in_ys (from z (inr in_ys))) in cc
 
 pub zone_has_one_order : ZoneHasOneOrder
-zone_has_one_order s prefix one other h k =
-    let rows : List IpAddress = filter (is_zone_row prefix) s.addresses.rows in
+zone_has_one_order s test one other h k =
+    let rows : List IpAddress = filter test s.addresses.rows in
     same_rows one other (ordered one h.order) (ordered other k.order)
     (λ z in_one. moved rows other (IsPermutation-sym other rows k.those) z (moved one rows h.those z in_one))
     (λ z in_other. moved rows one (IsPermutation-sym one rows h.those) z (moved other rows k.those z in_other))

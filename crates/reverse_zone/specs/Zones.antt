@@ -1,12 +1,13 @@
--- The PTR lines of a prefix: one for each address in it that has a name, by address and then by id.
-use Rattle.std.specs.Prelude.{◌≡◌, ◌⊎◌, ◌&&◌, ℕ, ◌<◌, Bool, List, [], Option, length, is_some}
+-- The PTR lines of a prefix, or of a zone in it: one for each address there that has a name, by address and then by id.
+use Rattle.std.specs.Prelude.{◌≡◌, ◌⊎◌, ◌&&◌, ℕ, ◌<◌, Bool, List, [], Option, Some, None, length, is_some, nat_eq}
 use Rattle.std.specs.Option.{unwrap_or}
-use Rattle.std.specs.List.{filter, flat_map, AllAdjacentBelow}
+use Rattle.std.specs.List.{filter, flat_map, ends_with, AllAdjacentBelow}
 use Rattle.std.specs.List.Sorted.{IsPermutation}
 use Rattle.ipam_data.specs.declared.prefix.Prefix.{Prefix}
 use Rattle.ipam_data.specs.declared.address.IpAddress.{IpAddress}
 use Rattle.ipam_data.specs.State.{State}
 use Rattle.ipam_data.specs.Claims.{is_child_address}
+use Rattle.reverse_zone.specs.Owners.{owner_of}
 use Rattle.reverse_zone.specs.Names.{ptr_name_of}
 use Rattle.reverse_zone.specs.Records.{line_of}
 
@@ -23,9 +24,18 @@ abbrev pub IsBefore : IpAddress → IpAddress → Type 0
 IsBefore row other =
     (row.host.addr.value < other.host.addr.value) ⊎ ((row.host.addr.value ≡ other.host.addr.value) × (row.id < other.id))
 
--- the rows of a prefix's zone, in order
-pub record AreZoneRows (s : State) (prefix : Prefix) (rows : List IpAddress) : Type 0 where
-  pub those : IsPermutation rows (filter (is_zone_row prefix) s.addresses.rows)
+-- the owner of the row's record ends so
+abbrev pub is_owned : List ℕ → IpAddress → Bool
+is_owned suffix row = ends_with nat_eq (owner_of row.host.addr) suffix
+
+-- of those rows all, or those whose owners end so
+abbrev pub is_chosen : Prefix → Option (List ℕ) → IpAddress → Bool
+is_chosen prefix None row = is_zone_row prefix row
+is_chosen prefix (Some suffix) row = is_zone_row prefix row && is_owned suffix row
+
+-- the rows that pass a test, in order
+pub record AreZoneRows (s : State) (test : IpAddress → Bool) (rows : List IpAddress) : Type 0 where
+  pub those : IsPermutation rows (filter test s.addresses.rows)
   pub order : AllAdjacentBelow IsBefore rows (length rows)
 
 -- the line of a row that has a name
@@ -36,6 +46,6 @@ row_line_of row = line_of row.host.addr (unwrap_or (row_name_of row) [])
 abbrev pub zone_text_of : List IpAddress → List ℕ
 zone_text_of rows = flat_map row_line_of rows
 
--- a state has one list of rows for the zone of a prefix, and so one text
+-- a state has one list of the rows that pass a test, and so one text
 abbrev pub ZoneHasOneOrder : Type 0
-ZoneHasOneOrder = (s : State) (prefix : Prefix) (one other : List IpAddress) → AreZoneRows s prefix one → AreZoneRows s prefix other → one ≡ other
+ZoneHasOneOrder = (s : State) (test : IpAddress → Bool) (one other : List IpAddress) → AreZoneRows s test one → AreZoneRows s test other → one ≡ other

@@ -18,7 +18,7 @@ pub fn line_has_one_pair()
     ensures { LineHasOnePair }
 {}
 
-/// The rows of a prefix's zone have one order, and so one text.
+/// The rows that pass a test have one order, and so one text.
 pub fn zone_has_one_order()
     ensures { ZoneHasOneOrder }
 {}

@@ -154,8 +154,53 @@ reverse --prefix 0 | None
 reverse --prefix 4294967296 | None
 reverse --prefix 1 --prefix 1 | None
 reverse --prefix 1 --db= | None
-reverse --prefix 4294967295 | Some(Reverse(4294967295, Store { db: None, global_unique: true }))
-reverse --db f --prefix=1 --global-unique no | Some(Reverse(1, Store { db: Some(WordText { string: \"f\" }), global_unique: false }))
+reverse --prefix 4294967295 | Some(Reverse(ReverseAsked { prefix: 4294967295, head: None }, Store { db: None, global_unique: true }))
+reverse --db f --prefix=1 --global-unique no | Some(Reverse(ReverseAsked { prefix: 1, head: None }, Store { db: Some(WordText { string: \"f\" }), global_unique: false }))
+reverse --prefix 1 --serial 1 --primary ns.example --contact a@example --ns ns.example | None
+reverse --prefix 1 --zone 2.0.192.in-addr.arpa --primary ns.example --contact a@example --ns ns.example | None
+reverse --prefix 1 --zone 2.0.192.in-addr.arpa --serial 1 --contact a@example --ns ns.example | None
+reverse --prefix 1 --zone 2.0.192.in-addr.arpa --serial 1 --primary ns.example --ns ns.example | None
+reverse --prefix 1 --zone 2.0.192.in-addr.arpa --serial 1 --primary ns.example --contact a@example | None
+reverse --prefix 1 --zone 02.0.192.in-addr.arpa --serial 1 --primary ns.example --contact a@example --ns ns.example | None
+reverse --prefix 1 --zone 256.0.192.in-addr.arpa --serial 1 --primary ns.example --contact a@example --ns ns.example | None
+reverse --prefix 1 --zone 2.0.192.in-addr.arpa. --serial 1 --primary ns.example --contact a@example --ns ns.example | None
+reverse --prefix 1 --zone 2.0.192.IN-ADDR.ARPA --serial 1 --primary ns.example --contact a@example --ns ns.example | None
+reverse --prefix 1 --zone example.net --serial 1 --primary ns.example --contact a@example --ns ns.example | None
+reverse --prefix 1 --zone 2.2.0.192.in-addr.arpa --serial 1 --primary ns.example --contact a@example --ns ns.example | None
+reverse --prefix 1 --zone 00.ip6.arpa --serial 1 --primary ns.example --contact a@example --ns ns.example | None
+reverse --prefix 1 --zone g.ip6.arpa --serial 1 --primary ns.example --contact a@example --ns ns.example | None
+reverse --prefix 1 --zone  --serial 1 --primary ns.example --contact a@example --ns ns.example | None
+reverse --prefix 1 --zone 2.0.192.in-addr.arpa --serial 0 --primary ns.example --contact a@example --ns ns.example | None
+reverse --prefix 1 --zone 2.0.192.in-addr.arpa --serial 01 --primary ns.example --contact a@example --ns ns.example | None
+reverse --prefix 1 --zone 2.0.192.in-addr.arpa --serial 4294967296 --primary ns.example --contact a@example --ns ns.example | None
+reverse --prefix 1 --zone 2.0.192.in-addr.arpa --serial 1 --primary  --contact a@example --ns ns.example | None
+reverse --prefix 1 --zone 2.0.192.in-addr.arpa --serial 1 --primary ns.example. --contact a@example --ns ns.example | None
+reverse --prefix 1 --zone 2.0.192.in-addr.arpa --serial 1 --primary Ns.example --contact a@example --ns ns.example | None
+reverse --prefix 1 --zone 2.0.192.in-addr.arpa --serial 1 --primary -ns.example --contact a@example --ns ns.example | None
+reverse --prefix 1 --zone 2.0.192.in-addr.arpa --serial 1 --primary ns-.example --contact a@example --ns ns.example | None
+reverse --prefix 1 --zone 2.0.192.in-addr.arpa --serial 1 --primary n_s.example --contact a@example --ns ns.example | None
+reverse --prefix 1 --zone 2.0.192.in-addr.arpa --serial 1 --primary a..b --contact a@example --ns ns.example | None
+reverse --prefix 1 --zone 2.0.192.in-addr.arpa --serial 1 --primary nnnnnnnnnnnnnnnnnnnnnnnnnnnnnnnnnnnnnnnnnnnnnnnnnnnnnnnnnnnnnnnn --contact a@example --ns ns.example | None
+reverse --prefix 1 --zone 2.0.192.in-addr.arpa --serial 1 --primary ns.example --contact example --ns ns.example | None
+reverse --prefix 1 --zone 2.0.192.in-addr.arpa --serial 1 --primary ns.example --contact @example --ns ns.example | None
+reverse --prefix 1 --zone 2.0.192.in-addr.arpa --serial 1 --primary ns.example --contact a.@example --ns ns.example | None
+reverse --prefix 1 --zone 2.0.192.in-addr.arpa --serial 1 --primary ns.example --contact a..b@example --ns ns.example | None
+reverse --prefix 1 --zone 2.0.192.in-addr.arpa --serial 1 --primary ns.example --contact a@b@c --ns ns.example | None
+reverse --prefix 1 --zone 2.0.192.in-addr.arpa --serial 1 --primary ns.example --contact a@example. --ns ns.example | None
+reverse --prefix 1 --zone 2.0.192.in-addr.arpa --serial 1 --primary ns.example --contact a@-b --ns ns.example | None
+reverse --prefix 1 --zone 2.0.192.in-addr.arpa --serial 1 --primary ns.example --contact a@example --ns  | None
+reverse --prefix 1 --zone 2.0.192.in-addr.arpa --serial 1 --primary ns.example --contact a@example --ns a, | None
+reverse --prefix 1 --zone 2.0.192.in-addr.arpa --serial 1 --primary ns.example --contact a@example --ns a,,b | None
+reverse --prefix 1 --zone 2.0.192.in-addr.arpa --serial 1 --primary ns.example --contact a@example --ns ns.2.0.192.in-addr.arpa | None
+reverse --prefix 1 --zone 2.0.192.in-addr.arpa --serial 1 --primary ns.example --contact a@example --ns A | None
+reverse --prefix 1 --zone 2.0.192.in-addr.arpa --serial 1 --primary ns.example --contact a@example --ns ns.example --ttl 0 | None
+reverse --prefix 1 --zone 2.0.192.in-addr.arpa --serial 1 --primary ns.example --contact a@example --ns ns.example --ttl 2147483648 | None
+reverse --prefix 1 --ttl 60 | None
+reverse --prefix 1 --serial 1 | None
+reverse --prefix 1 --zone 2.0.192.in-addr.arpa --serial 1 --primary ns.example --contact a@example --ns ns.example --zone 10.in-addr.arpa | None
+reverse --prefix 1 --zone 2.0.192.in-addr.arpa --serial 1 --primary ns.example --contact a@example --ns ns.example | Some(Reverse(ReverseAsked { prefix: 1, head: Some(Head { origin: Text { string: \"2.0.192.in-addr.arpa\" }, ttl: 3600, primary: Text { string: \"ns.example\" }, contact: Text { string: \"a@example\" }, serial: 1, servers: Text { string: \"ns.example\" } }) }, Store { db: None, global_unique: true }))
+reverse --prefix 1 --zone in-addr.arpa --serial 1 --primary ns.example --contact a@example --ns ns.example --ttl 2147483647 | Some(Reverse(ReverseAsked { prefix: 1, head: Some(Head { origin: Text { string: \"in-addr.arpa\" }, ttl: 2147483647, primary: Text { string: \"ns.example\" }, contact: Text { string: \"a@example\" }, serial: 1, servers: Text { string: \"ns.example\" } }) }, Store { db: None, global_unique: true }))
+reverse --prefix 1 --zone f.ip6.arpa --serial 1 --primary ns.example --contact a@example --ns ns.example | Some(Reverse(ReverseAsked { prefix: 1, head: Some(Head { origin: Text { string: \"f.ip6.arpa\" }, ttl: 3600, primary: Text { string: \"ns.example\" }, contact: Text { string: \"a@example\" }, serial: 1, servers: Text { string: \"ns.example\" } }) }, Store { db: None, global_unique: true }))
 migrate | None
 migrate --db f | None
 migrate --populated yes | None

@@ -19,7 +19,7 @@ returns-in-Ok-ended g c = λ input.
 pub returns-in-Err-ended : goal.returns-in-Err-ended
 returns-in-Err-ended g c = λ input.
     let back = raised_by_none _ _ _ (ap g.O.Kept.Keeper.faults c.into_keeper.ensures ∙ c.in-Ok.ensures.fresh) c.done.ensures.raised ∙ c.in-Ok.ensures.still in
-    of_stop _ _ _ _ _ (λ five. quiet_stop c.args.id _ _ _ c.in-Err-ended.stop c.in-Ok.register.state c.in-Err-ended.ensures.end c.say_stop.ensures.said refl back five) c.in-Err-ended.stop c.in-Ok.register.state c.in-Ok.ensures.state c.in-Err-ended.ensures.end c.say_stop.ensures.said
+    of_stop _ _ _ _ _ (λ five. quiet_stop c.args.asked.now _ _ _ c.in-Err-ended.stop c.in-Ok.register.state c.in-Err-ended.ensures.end c.say_stop.ensures.said refl back five) c.in-Err-ended.stop c.in-Ok.register.state c.in-Ok.ensures.state c.in-Err-ended.ensures.end c.say_stop.ensures.said
     (record {
       input = refl;
       stored = back_after _ _ _ _ _ _ _ c.in-Ok.ensures.lent c.in-Ok.ensures.stays (search rules) c.in-Ok.ensures.told c.done.ensures.returned;
