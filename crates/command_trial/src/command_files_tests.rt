@@ -13,7 +13,7 @@ use std::thread::Threads;
 
 /// A store a case. Its first line is as that of a case of `store_tests`. Each line after it is a run over the store: its status, its words,
 /// its input, its output and what it says, each as `bytes_of` reads it, and the number of the output's call that fails, if one is to fail.
-const CASES: [&str; 18] = [
+const CASES: [&str; 19] = [
     r#"2
 0|import prefixes --db a|prefix,vrf,status;10.0.0.0/24,,active;10.0.1.0/24,,active;10.0.2.0/24,,container;|created 3 present 0;|
 0|import prefixes --db a|prefix,vrf,status;10.0.0.0/24,,active;10.0.1.0/24,,active;10.0.2.0/24,,container;|created 0 present 3;|

@@ -17,7 +17,7 @@ use Rattle.command_zones.specs.declared.zone.ZoneRefusal.{ZoneRefusal}
 use Rattle.command_zones.specs.declared.zone.ZoneRefusal.TheVariants.{Absent, Unfit}
 use Rattle.command_zones.specs.declared.pairs.ReadRefusal.{ReadRefusal}
 use Rattle.command_zones.specs.declared.pairs.ReadRefusal.TheVariants.{TooLong, Line}
-use Rattle.command_zones.specs.Zone.{unfit_id, suffix_asked, front_of, IsTextOf, IsZoneRefusal}
+use Rattle.command_zones.specs.Zone.{unfit_id, suffix_asked, front_of, rows_written, IsTextOf, IsZoneRefusal}
 use Rattle.command_zones.specs.Reverse.{IsZoneText, IsRefusedSo, PrintsZone, IsReverse}
 use Rattle.command_zones.specs.Pairs.{HasPairs, IsReadRefusal, IsReverseRead}
 use Rattle.command_zones.proofs.Loaded.{opened_alike, text_moved, refusal_moved}
@@ -31,7 +31,7 @@ one_text s asked one other h k =
     let rows : h.rows ≡ k.rows = 
     zone_has_one_order s (is_chosen k.prefix (suffix_asked asked)) h.rows k.rows
     (subst (λ (p : Prefix). AreZoneRows s (is_chosen p (suffix_asked asked)) h.rows) same h.zone) k.zone in
-    h.text_is ∙ ap (λ (rs : List IpAddress). front_of asked.head ++ zone_text_of rs) rows ∙ sym k.text_is
+    h.text_is ∙ ap (λ (rs : List IpAddress). front_of asked.head ++ zone_text_of (rows_written asked.head rs)) rows ∙ sym k.text_is
 
 one_refusal : (s : State) (asked : ReverseAsked) (one other : ZoneRefusal) → IsZoneRefusal s asked one → IsZoneRefusal s asked other → one ≡ other
 one_refusal s asked (Absent n) (Absent m) h k = let e : n ≡ m = h.0 ∙ sym k.0 in cc

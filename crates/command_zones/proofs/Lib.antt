@@ -1,5 +1,6 @@
 pub mod Ids
 pub mod Order
+pub mod Onces
 pub mod Zones
 pub mod Rows
 pub mod Ends

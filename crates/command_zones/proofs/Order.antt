@@ -17,7 +17,7 @@ use Rattle.command_zones.proofs.Ids.{having, having_rest, apart}
 
 -- ---- places
 
-no_less : (x y : ℕ × ℕ) → is_lt (key_cmp y x) ≡ false → (x.0 < y.0) ⊎ ((x.0 ≡ y.0) × (x.1 ≤ y.1))
+pub no_less : (x y : ℕ × ℕ) → is_lt (key_cmp y x) ≡ false → (x.0 < y.0) ⊎ ((x.0 ≡ y.0) × (x.1 ≤ y.1))
 no_less x y h = go (nat_cmp y.0 x.0) (ranked y.0 x.0 _ refl) h
   where
     last : (o : Ordering) → MatchOrdering o (y.1 < x.1) (y.1 ≡ x.1) (x.1 < y.1) → is_lt o ≡ false → x.1 ≤ y.1
@@ -50,10 +50,10 @@ module _ (rows : List IpAddress) (d : IpAddress) where
   abbrev pub row_at_place : Place → IpAddress
   row_at_place place = get_or rows place.index d
 
-  row_is : (place : Place) (h : IsPlaceIn rows place) → row_at_place place ≡ h.row
+  pub row_is : (place : Place) (h : IsPlaceIn rows place) → row_at_place place ≡ h.row
   row_is place h = get_or_from_slice_get rows place.index h.row d h.found
 
-  address_is : (place : Place) → IsPlaceIn rows place → place.address ≡ (row_at_place place).host.addr.value
+  pub address_is : (place : Place) → IsPlaceIn rows place → place.address ≡ (row_at_place place).host.addr.value
   address_is place h = h.address_is ∙ ap (λ (r : IpAddress). r.host.addr.value) (sym (row_is place h))
 
   id_is : (place : Place) → IsPlaceIn rows place → place.id ≡ address_id (row_at_place place)

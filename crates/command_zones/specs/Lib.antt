@@ -1,3 +1,4 @@
+pub mod Once
 pub mod Zone
 pub mod Reverse
 pub mod Pairs

@@ -11,20 +11,17 @@ use Rattle.reverse_zone.specs.Names.{fits_dns}
 use Rattle.reverse_zone.specs.declared.head.Head.{Head}
 use Rattle.reverse_zone.specs.Hosts.{is_host}
 use Rattle.reverse_zone.specs.Heads.{suffix_of, head_text_of}
-use Rattle.reverse_zone.specs.Zones.{row_name_of, is_chosen, AreZoneRows, row_line_of, zone_text_of}
+use Rattle.reverse_zone.specs.Zones.{is_chosen, AreZoneRows, row_line_of, zone_text_of}
 use Rattle.command_words.specs.declared.asked.ReverseAsked.{ReverseAsked}
 use Rattle.command_streams.specs.Streams.{Told, Gains, GainsFront, Failed}
 use Rattle.command_zones.specs.declared.zone.Place.{Place}
+pub use Rattle.command_zones.specs.Once.{name_of, once, are_twins, firsts}
 use Rattle.command_zones.specs.declared.zone.ZoneRefusal.{ZoneRefusal}
 use Rattle.command_zones.specs.declared.zone.ZoneRefusal.TheVariants.{Absent, Unfit}
 use Rattle.command_zones.specs.declared.zone.ZoneStop.{ZoneStop}
 use Rattle.command_zones.specs.declared.zone.ZoneStop.TheVariants.{Refused, Unwritten, Memory}
 
 -- ---- what a state has for what is asked
-
--- the name that the DNS has for the row; of a row that has none it is empty
-abbrev pub name_of : IpAddress → List ℕ
-name_of row = unwrap_or (row_name_of row) []
 
 -- a name fits if the DNS can hold it, and in a zone file if it is a host's too
 abbrev pub is_fit : Option (List ℕ) → List ℕ → Bool
@@ -48,15 +45,20 @@ abbrev pub front_of : Option Head → List ℕ
 front_of None = []
 front_of (Some head) = head_text_of head
 
--- the prefix exists, all names that are asked for fit, and the text has a line for each of their rows, in order, and no other; in a zone file the
--- head comes first
+-- the rows that have lines: all of them, or in a zone file those whose record no earlier one has
+abbrev pub rows_written : Option Head → List IpAddress → List IpAddress
+rows_written None rows = rows
+rows_written (Some head) rows = once rows
+
+-- the prefix exists, all names that are asked for fit, and the text has the lines of their rows, in order, and no other; in a zone file the head
+-- comes first, and each record is there once
 pub record IsTextOf (s : State) (asked : ReverseAsked) (text : List ℕ) : Type 0 where
   pub prefix : Prefix
   pub rows : List IpAddress
   pub found : row_at prefix_id s.prefixes.rows asked.prefix ≡ Some prefix
   pub fit : unfit_id s prefix (suffix_asked asked) ≡ None
   pub zone : AreZoneRows s (is_chosen prefix (suffix_asked asked)) rows
-  pub text_is : text ≡ front_of asked.head ++ zone_text_of rows
+  pub text_is : text ≡ front_of asked.head ++ zone_text_of (rows_written asked.head rows)
 
 -- why a state has no text: the prefix is not there, or a name does not fit
 abbrev pub IsZoneRefusal : State → ReverseAsked → ZoneRefusal → Type 0
@@ -93,6 +95,11 @@ pub record ArePlaces (rows : List IpAddress) (prefix : Prefix) (suffix : Option 
   pub named : (d : IpAddress) → map (λ (place : Place). slice_index_or rows place.index d) places ≡ filter (is_chosen prefix suffix) some
   pub there : All (IsPlaceIn rows) places
   pub fit : find (is_unfit prefix suffix) some ≡ None
+
+-- the places of the rows that have lines
+abbrev pub places_written : List IpAddress → Option Head → List Place → List Place
+places_written rows None places = places
+places_written rows (Some head) places = firsts (are_twins rows) [] places
 
 -- the line of the row at an index
 abbrev pub line_at : List IpAddress → ℕ → List ℕ

@@ -4,6 +4,7 @@
 #![tactic(auto)]
 
 pub mod laws;
+mod once;
 mod pairs;
 mod printing;
 mod reverse;

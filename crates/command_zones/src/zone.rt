@@ -3,8 +3,9 @@
 ghost use Rattle.std.specs.Prelude.{◌≡◌, ◌<◌, ◌++◌, false, Some, option_map, IfOk, IfErr, OnOk, IsPermutation, IsSortedByKey, is_some, length, slice_get};
 ghost use Rattle.ipam_data.specs.Claims.{is_container, sees_all, is_child_address};
 ghost use Rattle.reverse_zone.specs.Zones.{row_name_of, is_zone_row, is_chosen};
-ghost use Rattle.command_zones.specs.Zone.{name_of, is_fit, is_unfit, suffix_asked, places_at, key_of, key_cmp, ArePlaces, IsRowStop, IsRowsStop, IsZone, IsZoneStop};
+ghost use Rattle.command_zones.specs.Zone.{name_of, is_fit, is_unfit, suffix_asked, places_at, places_written, key_of, key_cmp, ArePlaces, IsRowStop, IsRowsStop, IsZone, IsZoneStop};
 
+use crate::once::once;
 use command_words::ReverseAsked;
 use inet_num::block_holds;
 use ipam_data::address::IpAddress;
@@ -224,6 +225,22 @@ fn asked_places(
     }
 }
 
+/// The places of the rows that have lines: all of them, or in a zone file those whose record no earlier one has.
+fn written(
+    alloc: Global,
+    addresses: &Addresses,
+    places: Vec<Place>,
+    asked: &ReverseAsked,
+) -> Result<Vec<Place>, AllocError>
+    requires { IsSortedByKey key_of key_cmp places.items }
+    ensures { IfOk result (λ v. v.items ≡ places_written addresses.now.rows asked.now.head places.entry.items) }
+{
+    match &asked.head {
+        Some(_) => once(alloc, addresses, places.as_slice()),
+        None => Ok(places),
+    }
+}
+
 /// The places of the rows that are asked for, in their order, or why there are none: the prefix is not there, or a name does not fit.
 pub(crate) fn zone_of<K: Keeper>(
     alloc: Global,
@@ -241,5 +258,5 @@ pub(crate) fn zone_of<K: Keeper>(
     let _count = addresses.len();
     let mut places = asked_places(alloc, addresses, prefix, asked)?;
     sort(&mut places);
-    Ok(places)
+    Ok(written(alloc, addresses, places, asked)?)
 }

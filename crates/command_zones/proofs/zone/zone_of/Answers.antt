@@ -2,7 +2,7 @@ use Rattle.std.proofs.Common.{◌≡◌, List, Some, subst, rules}
 use Rattle.ipam_data.specs.declared.address.IpAddress.{IpAddress}
 use Rattle.ipam_data.specs.Rows.{prefix_id, address_id}
 use Rattle.ipam_data.specs.RowList.{row_at, Rises}
-use Rattle.command_zones.specs.Zone.{suffix_asked, ArePlaces, IsRowsStop}
+use Rattle.command_zones.specs.Zone.{suffix_asked, places_written, ArePlaces, IsRowsStop}
 use Rattle.command_zones.proofs.Zones.{zone_is, stop_is}
 use Rattle.command_zones.proofs.zone.zone_of.Goals as goal
 
@@ -14,7 +14,8 @@ returns-clause-zone g c =
     let rows = c.addresses-addresses.ensures.rows in
     let rises : Rises address_id 0 state.addresses.rows = subst (λ (rs : List IpAddress). Rises address_id 0 rs) rows c.len-count.ensures.ordered in
     let places = subst (λ (rs : List IpAddress). ArePlaces rs prefix (suffix_asked c.args.asked.now) rs c.in_ok-places.places.items) rows c.in_ok-places.ensures.places in
-    zone_is state c.args.asked.now prefix c.in_ok-places.places.items c.sort.new.places.items found rises places c.sort.ensures.same c.sort.ensures.sorted
+    let written = subst (λ (rs : List IpAddress). c.in_ok-written.field-0.items ≡ places_written rs c.args.asked.now.head c.sort.new.places.items) rows c.in_ok-written.ensures in
+    zone_is state c.args.asked.now prefix c.in_ok-places.places.items c.sort.new.places.items _ found rises places c.sort.ensures.same c.sort.ensures.sorted written
 
 pub returns-in_err-places-clause-stop : goal.returns-in_err-places-clause-stop
 returns-in_err-places-clause-stop g c =
