@@ -185,15 +185,16 @@ STEPS = [
     using("tr -d '\\r' < examples/prefix-lists/ios.txt | grep '^ip prefix-list OFFICE ' | ./ipamd prefix-check --table global --family 4 --style ios --name OFFICE --db office.db", r"\A\Z"),
     office({"prefixes": "prefix\n192.0.2.0/24\n", "ip-addresses": "address,dns_name\n192.0.2.1/24,www.example.com\n192.0.2.10/24,\n192.0.2.11/24,*.example.com\n"}),
     using("./ipamd reverse --prefix 1 --db office.db", r"\A1\.2\.0\.192\.in-addr\.arpa\. IN PTR www\.example\.com\.\n\Z"),
-    using("./ipamd reverse --prefix 1 --db office.db > office.names", r"\A\Z"),
+    using("./ipamd reverse --prefix 1 --zone 2.0.192.in-addr.arpa --primary ns.example.org --contact first.last@example.org --ns ns.example.org --serial 7 "
+          "--db office.db", r"\A\$ORIGIN 2\.0\.192\.in-addr\.arpa\.\n\$TTL 3600\n@ IN SOA ns\.example\.org\. first\\\.last\.example\.org\. 7 7200 3600 1209600 3600\n"
+          r"@ IN NS ns\.example\.org\.\n1\.2\.0\.192\.in-addr\.arpa\. IN PTR www\.example\.com\.\n\Z"),
+    using("./ipamd export ip-addresses --db office.db | examples/zone_files.py forward --zone example.com --table global --primary ns.example.org "
+          "--contact first.last@example.org --ns ns.example.org", r"\nwww\.example\.com\. IN A 192\.0\.2\.1\n"),
+    using("./ipamd reverse --prefix 1 --db office.db | examples/zone_files.py reverse --zone 2.0.192.in-addr.arpa --primary ns.example.org "
+          "--contact first.last@example.org --ns ns.example.org --into 2.0.192.zone", r"\A2\.0\.192\.zone: serial 1, 1 records\n\Z"),
     using("examples/zone_files.py list 192.0.2.0/24", r"\A2\.0\.192\.in-addr\.arpa\n\Z"),
-    using("examples/zone_files.py reverse --zone 2.0.192.in-addr.arpa --primary ns.example.org --contact hostmaster@example.org --ns ns.example.org "
-          "--into 2.0.192.zone < office.names", r"\A2\.0\.192\.zone: serial 1, 1 records\n\Z"),
-    using("./ipamd export ip-addresses --db office.db > office.csv", r"\A\Z"),
-    using("examples/zone_files.py forward --zone example.com --table global --primary ns.example.org --contact hostmaster@example.org --ns ns.example.org "
-          "< office.csv", r"\nwww\.example\.com\. IN A 192\.0\.2\.1\n"),
     using("examples/zone_files.py read --zone 2.0.192.in-addr.arpa < 2.0.192.zone", r"\Aaddress,dns_name\n192\.0\.2\.1,www\.example\.com\n\Z"),
-    using("./ipamd reverse-read < office.names", r"\Aaddress,dns_name\n192\.0\.2\.1,www\.example\.com\n\Z"),
+    using("./ipamd reverse --prefix 1 --db office.db | ./ipamd reverse-read", r"\Aaddress,dns_name\n192\.0\.2\.1,www\.example\.com\n\Z"),
     first_office,
     using("./ipamd migrate --db office.db --populated yes", r"\Amigrated 3\n\Z"),
     using("./ipamd load 1000 --workers 4", r"\Aclaimed 1000\nfirst 10\.0\.0\.1\nlast 10\.0\.3\.232\npercent 24\nentries 1001\n\Z"),

@@ -1,8 +1,8 @@
-"""examples/zone_files.py over a register, with named, NSD, Knot and PowerDNS: it lists the zones that prefixes need, which are written here by hand, and makes
+"""`ipamd reverse --zone` and examples/zone_files.py over a register, with named, NSD, Knot and PowerDNS: the script lists the zones that prefixes need, which are written here by hand, and makes
 the zones of a /22, a /26 (RFC 2317), an IPv6 /48 and example.net. named-checkzone -k fail, nsd-checkzone and kzonecheck find no error. Each server loads all of
 them; what it transfers is what was imported, and it answers a question for each name. The zone above the /26 has the lines that `list` prints, and
 they lead to its names. A second run changes no file; a record more raises the serial by one, and a wanted serial is taken if it is ahead. What is read of
-a zone is what was written, and of one by hand what named-compilezone writes out. What is refused is named.
+a zone is what was written, and of one by hand what named-compilezone writes out. What is refused is named. The program prints the same zones as the script, but that of the /26.
 
     conformance/run zones [PORT]
 """
@@ -120,8 +120,11 @@ class Register:
     def lines(self, zone):
         if zone == "example.net":
             return run([IPAMD, "export", "ip-addresses", "--db", self.file]).stdout
+        return run(self.reverse(zone)).stdout
+
+    def reverse(self, zone):
         at = next(at for at, prefix in enumerate(PREFIXES) if zone in NEEDED[prefix])
-        return run([IPAMD, "reverse", "--prefix", str(at + 1), "--db", self.file]).stdout
+        return [IPAMD, "reverse", "--prefix", str(at + 1), "--db", self.file]
 
     def zone(self, zone, *more, status=0):
         """What the script says of a zone that it makes of the register."""
@@ -248,6 +251,18 @@ def check_lists():
     print(f"   the zones of {len(NEEDED)} prefixes are those that are written here")
 
 
+def check_program(register, zones):
+    """The program prints each reverse zone that ends at an octet or a nibble as it is in its file."""
+    printed = [zone for zone in ZONES if zone not in NEEDED[PREFIXES[1]]]
+    for zone in printed:
+        with open(zones[zone]) as file:
+            if run([*register.reverse(zone), "--zone", zone, *WORDS, "--serial", "7"]).stdout != file.read():
+                fail(f"the program prints another zone {zone}")
+    for words in (["--zone", ZONES[0]], ["--serial", "7"], ["--zone", "example.net", *WORDS, "--serial", "7"]):
+        run([*register.reverse(ZONES[0]), *words], status=2)
+    print(f"   {len(printed)} reverse zones are as the program prints them")
+
+
 def check_above(folder, zones, port, made):
     """The zone above the /26, of the lines that `list` prints, leads to the names."""
     lines = run([SCRIPT, "list", PREFIXES[1], "--ns", "ns1.example.org"]).stdout.splitlines()
@@ -352,6 +367,7 @@ def main(port=18653):
             run(["named-checkzone", "-k", "fail", zone, path])
             run(["nsd-checkzone", zone, path])
             run(["kzonecheck", "-o", zone, path])
+        check_program(register, zones)
         print(f"   {len(zones)} zones with {sum(map(len, records.values()))} records: named-checkzone -k fail, nsd-checkzone and kzonecheck find no error")
         for at, server in enumerate(SERVERS):
             check_server(server, folder, zones, port + at, records, 7)

@@ -1,6 +1,6 @@
 -- Each command is one of those that clap's definition speaks of.
 use Rattle.std.proofs.Common.{refl}
-use Rattle.command_grammar.specs.Grammar.{IsPlainCommand, free_app, session_app, serve_app, mirror_app, import_app, export_app, report_app, prefix_list_app, prefix_check_app, reverse_app, reverse_read_app, migrate_app, load_app, version_app, help_app}
+use Rattle.command_grammar.specs.Grammar.{IsPlainCommand, with_head, free_app, session_app, serve_app, mirror_app, import_app, export_app, report_app, prefix_list_app, prefix_check_app, reverse_app, reverse_read_app, migrate_app, load_app, version_app, help_app}
 
 pub free_is_plain : IsPlainCommand free_app
 unfolding IsPlainCommand free_app
@@ -43,7 +43,7 @@ unfolding IsPlainCommand prefix_check_app
 prefix_check_is_plain = (refl, refl)
 
 pub reverse_is_plain : IsPlainCommand reverse_app
-unfolding IsPlainCommand reverse_app
+unfolding IsPlainCommand reverse_app with_head
 reverse_is_plain = (refl, refl)
 
 pub reverse_read_is_plain : IsPlainCommand reverse_read_app

@@ -78,7 +78,7 @@ unfoldable pub prefix_check_app : App
 prefix_check_app = counted_app (codes "prefix-check")
 
 -- with what a zone file says before its records: `--ttl N --primary HOST --contact MAIL --serial N --ns A,B`
-abbrev pub with_head : App → App
+unfoldable pub with_head : App → App
 with_head app = with_rule (with_rule (with_rule (with_rule (with_rule app (option_rule (codes "ttl"))) (option_rule (codes "primary")))
     (option_rule (codes "contact"))) (option_rule (codes "serial"))) (option_rule (codes "ns"))
 

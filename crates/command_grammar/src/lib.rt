@@ -4,7 +4,7 @@
 ghost use Rattle.std.specs.Prelude.{◌≡◌, ◌↔◌, Option, IfOk, IsTrue, MatchOption, map, option_map, true, false, codes};
 ghost use Rattle.clap.specs.Words.{app_of, first_of, found_of, kind_of, rows_of, rule_of};
 ghost use Rattle.clap.specs.Simple.{App, with_rule};
-ghost use Rattle.command_grammar.specs.Grammar.{IsPlainCommand, Takes, given, command_app, option_rule, needed_rule, place_rule, with_store, list_app, counted_app, free_app, session_app, serve_app, mirror_app, import_app, export_app, report_app, prefix_list_app, prefix_check_app, reverse_app, reverse_read_app, migrate_app, load_app, version_app, help_app, spare_place_rule};
+ghost use Rattle.command_grammar.specs.Grammar.{IsPlainCommand, Takes, given, command_app, option_rule, needed_rule, place_rule, with_store, with_head, list_app, counted_app, free_app, session_app, serve_app, mirror_app, import_app, export_app, report_app, prefix_list_app, prefix_check_app, reverse_app, reverse_read_app, migrate_app, load_app, version_app, help_app, spare_place_rule};
 
 use clap::error::ErrorKind;
 use clap::{Arg, ArgAction, ArgMatches, Error};
@@ -171,6 +171,18 @@ pub fn prefix_check_command<'a>(alloc: Global) -> Result<clap::Command<'a>, Allo
     counted_command(alloc, "prefix-check")
 }
 
+/// The command with the options for what a zone file says before its records. `Err` means out of memory.
+#[tactic(auto, unfolding(crate::specs::Grammar::with_head))]
+fn headed<'a>(alloc: Global, command: clap::Command<'a>) -> Result<clap::Command<'a>, AllocError>
+    ensures { IfOk result (λ c. app_of c ≡ with_head (app_of command.entry)) }
+{
+    let ttl = with(command, option(alloc, "ttl"))?;
+    let primary = with(ttl, option(alloc, "primary"))?;
+    let contact = with(primary, option(alloc, "contact"))?;
+    let serial = with(contact, option(alloc, "serial"))?;
+    with(serial, option(alloc, "ns"))
+}
+
 /// `reverse --prefix ID`, also with `--zone ORIGIN` and what its file says before the records. `Err` means out of memory.
 #[tactic(auto, unfolding(crate::specs::Grammar::reverse_app))]
 pub fn reverse_command<'a>(alloc: Global) -> Result<clap::Command<'a>, AllocError>
@@ -178,11 +190,7 @@ pub fn reverse_command<'a>(alloc: Global) -> Result<clap::Command<'a>, AllocErro
 {
     let command = with(plain_command(alloc, "reverse"), needed(alloc, "prefix"))?;
     let command = with(command, option(alloc, "zone"))?;
-    let command = with(command, option(alloc, "ttl"))?;
-    let command = with(command, option(alloc, "primary"))?;
-    let command = with(command, option(alloc, "contact"))?;
-    let command = with(command, option(alloc, "serial"))?;
-    let command = with(command, option(alloc, "ns"))?;
+    let command = headed(alloc, command)?;
     stored(alloc, command)
 }
 
