@@ -1,6 +1,7 @@
 pub mod Ids
 pub mod Order
 pub mod Onces
+pub mod EachOnce
 pub mod Zones
 pub mod Rows
 pub mod Ends

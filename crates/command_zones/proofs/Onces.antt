@@ -19,11 +19,11 @@ module _ {X : Type 0} (same : X → X → Bool) where
   unfolding firsts
   no_firsts = refl
 
-  firsts_end : (seen : List X) → firsts same seen [] ≡ []
+  pub firsts_end : (seen : List X) → firsts same seen [] ≡ []
   unfolding firsts
   firsts_end seen = refl
 
-  firsts_step : (seen : List X) (x : X) (xs : List X)
+  pub firsts_step : (seen : List X) (x : X) (xs : List X)
       → firsts same seen (x ∷ xs) ≡ cond (list_any (same x) seen) (firsts same seen xs) (x ∷ firsts same (seen ++ x ∷ []) xs)
   unfolding firsts
   firsts_step seen x xs = refl
@@ -77,6 +77,11 @@ module _ (rows : List IpAddress) (d : IpAddress) where
   all_more [] p h k = (k, tt)
   all_more (q ∷ seen) p h k = (h.0, all_more seen p h.1 k)
 
+  picked : (t : Bool) (p : Place) (a b : List Place) (c e : List IpAddress) → map (row_at_place rows d) a ≡ c → map (row_at_place rows d) b ≡ e
+      → map (row_at_place rows d) (cond t a (p ∷ b)) ≡ cond t c (row_at_place rows d p ∷ e)
+  picked true p a b c e one other = one
+  picked false p a b c e one other = ap (λ (rs : List IpAddress). row_at_place rows d p ∷ rs) other
+
   pub firsts_named : (seen places : List Place) → AllByRecursion (IsPlaceIn rows) seen → AllByRecursion (IsPlaceIn rows) places
       → map (row_at_place rows d) (firsts (are_twins rows) seen places)
       ≡ firsts have_one_record (map (row_at_place rows d) seen) (map (row_at_place rows d) places)
@@ -84,24 +89,16 @@ module _ (rows : List IpAddress) (d : IpAddress) where
       ap (map (row_at_place rows d)) (firsts_end (are_twins rows) seen) ∙ sym (firsts_end have_one_record (map (row_at_place rows d) seen))
   firsts_named seen (p ∷ ps) h k =
       ap (map (row_at_place rows d)) (firsts_step (are_twins rows) seen p ps)
-      ∙ go (list_any (are_twins rows p) seen) (firsts_named seen ps h k.1)
+      ∙ picked (list_any (are_twins rows p) seen) p (firsts (are_twins rows) seen ps) (firsts (are_twins rows) (seen ++ p ∷ []) ps)
+      (firsts have_one_record (map (row_at_place rows d) seen) (map (row_at_place rows d) ps))
+      (firsts have_one_record (map (row_at_place rows d) seen ++ row_at_place rows d p ∷ []) (map (row_at_place rows d) ps))
+      (firsts_named seen ps h k.1)
       (firsts_named (seen ++ p ∷ []) ps (all_more seen p h k.0) k.1
       ∙ ap (λ (rs : List IpAddress). firsts have_one_record rs (map (row_at_place rows d) ps)) (map-append (row_at_place rows d) seen (p ∷ [])))
-      ∙ ap (λ (t : Bool). cond t one (row_at_place rows d p ∷ other)) (any_named p seen k.0 h)
+      ∙ ap (λ (t : Bool). cond t (firsts have_one_record (map (row_at_place rows d) seen) (map (row_at_place rows d) ps))
+      (row_at_place rows d p ∷ firsts have_one_record (map (row_at_place rows d) seen ++ row_at_place rows d p ∷ []) (map (row_at_place rows d) ps)))
+      (any_named p seen k.0 h)
       ∙ sym (firsts_step have_one_record (map (row_at_place rows d) seen) (row_at_place rows d p) (map (row_at_place rows d) ps))
-    where
-      abbrev one : List IpAddress
-      one = firsts have_one_record (map (row_at_place rows d) seen) (map (row_at_place rows d) ps)
-
-      abbrev other : List IpAddress
-      other = firsts have_one_record (map (row_at_place rows d) seen ++ row_at_place rows d p ∷ []) (map (row_at_place rows d) ps)
-
-      go : (t : Bool) → map (row_at_place rows d) (firsts (are_twins rows) seen ps) ≡ one
-          → map (row_at_place rows d) (firsts (are_twins rows) (seen ++ p ∷ []) ps) ≡ other
-          → map (row_at_place rows d) (cond t (firsts (are_twins rows) seen ps) (p ∷ firsts (are_twins rows) (seen ++ p ∷ []) ps))
-          ≡ cond t one (row_at_place rows d p ∷ other)
-      go true a b = a
-      go false a b = ap (λ (rs : List IpAddress). row_at_place rows d p ∷ rs) b
 
 -- ---- how they are found: of sorted places only those with the last address may have the record of the next
 
@@ -156,8 +153,8 @@ module _ (rows : List IpAddress) (p : Place) where
 
 -- where the start is now
 record IsStart (kept : List Place) (start last address now : ℕ) : Type 0 where
-  few : now ≤ length kept
-  low : AllByRecursion (λ (p : Place). p.address < address) (take now kept)
+  pub few : now ≤ length kept
+  pub low : AllByRecursion (λ (p : Place). p.address < address) (take now kept)
 
 whole : (kept : List Place) → take (length kept) kept ≡ kept
 whole [] = refl
@@ -181,6 +178,11 @@ is_start kept start last address now few le low most is = go (nat_lt last addres
           low = subst (λ (n : ℕ). AllByRecursion (λ (p : Place). p.address < n) (take now kept)) same
               (subst (λ (n : ℕ). AllByRecursion (λ (p : Place). p.address < last) (take n kept)) (sym is) low);
         }
+
+within_both : (ps : List Place) (n : ℕ) (a b : Place) → n < length ps → get_or ps n a ≡ get_or ps n b
+within_both [] n a b h = absurd (omega arith)
+within_both (q ∷ ps) zero a b h = refl
+within_both (q ∷ ps) (suc n) a b h = within_both ps n a b (omega arith)
 
 one_on : (n : ℕ) → suc n ≡ n + 1
 one_on n = omega arith
@@ -223,18 +225,10 @@ module _ (rows : List IpAddress) (places : List Place) (sorted : IsSortedByKey k
             (all_added (λ (q : Place). q.address ≤ p.address) kept p (list_any (are_twins rows p) (drop now kept))
             (all_below last p.address kept grown are.most) (omega arith));
         next = λ e more.
-            subst (λ (q : Place). q.address ≤ (get_or places (count + 1) e).address) (sym (is ∙ at_both e less))
+            subst (λ (q : Place). q.address ≤ (get_or places (count + 1) e).address) (sym (is ∙ within_both places count d e less))
             (risen (key_of (get_or places count e)) (key_of (get_or places (count + 1) e))
             (no_less (key_of (get_or places count e)) (key_of (get_or places (count + 1) e)) (sorted count e (omega arith) (omega arith))));
       }
-    where
-      within_both : (ps : List Place) (n : ℕ) (a b : Place) → n < length ps → get_or ps n a ≡ get_or ps n b
-      within_both [] n a b h = absurd (omega arith)
-      within_both (q ∷ ps) zero a b h = refl
-      within_both (q ∷ ps) (suc n) a b h = within_both ps n a b (omega arith)
-
-      at_both : (e : Place) → count < length places → get_or places count d ≡ get_or places count e
-      at_both e h = within_both places count d e h
 
 pub all_kept : (rows : List IpAddress) (places kept : List Place) (count start last : ℕ) → length places ≤ count → AreKept rows places count kept start last
     → kept ≡ firsts (are_twins rows) [] places

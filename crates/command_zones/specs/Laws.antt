@@ -1,5 +1,6 @@
 -- What follows of runs of the two commands: one text or one refusal, and exact statuses if nothing fails.
 use Rattle.std.specs.Prelude.{◌≡◌, ℕ, ◌⊎◌, List, IfSome, IsSome}
+use Rattle.ipam_data.specs.declared.address.IpAddress.{IpAddress}
 use Rattle.ipam_data.specs.State.{State}
 use Rattle.stored_tables.specs.declared.opening.OpenFault.{OpenFault}
 use Rattle.command_words.specs.declared.asked.Store.{Store}
@@ -9,9 +10,14 @@ use Rattle.command_store.specs.Opening.{found_tables, IsLoaded, IsBadStore}
 use Rattle.command_words.specs.declared.asked.ReverseAsked.{ReverseAsked}
 use Rattle.command_zones.specs.declared.zone.ZoneRefusal.{ZoneRefusal}
 use Rattle.command_zones.specs.declared.pairs.ReadRefusal.{ReadRefusal}
+use Rattle.command_zones.specs.Once.{once, HasEachOnce}
 use Rattle.command_zones.specs.Zone.{IsTextOf, IsZoneRefusal}
 use Rattle.command_zones.specs.Reverse.{IsZoneText, IsRefusedSo, IsReverse}
 use Rattle.command_zones.specs.Pairs.{IsReadRefusal, IsReverseRead}
+
+-- a zone file has each record of the rows once, and no other
+abbrev pub EachRecordOnce : Type 0
+EachRecordOnce = (rows : List IpAddress) → HasEachOnce rows (once rows)
 
 -- a state and a prefix have one text or one refusal, and not both; so have a store whose tables are known and a prefix
 pub record ReverseHasOneAnswer : Type 0 where

@@ -1,6 +1,6 @@
 -- Records that are written once: a row whose record is that of an earlier row is left out.
-use Rattle.std.specs.Prelude.{ℕ, ◌&&◌, ◌==◌, Bool, Option, option_map, unwrap_or, List, [], ◌∷◌, ◌++◌, bytes_eq, slice_get, if◌then◌else◌}
-use Rattle.std.specs.List.{list_any}
+use Rattle.std.specs.Prelude.{◌≡◌, ℕ, ◌&&◌, ◌==◌, Bool, true, false, Option, option_map, unwrap_or, List, [], ◌∷◌, ◌++◌, bytes_eq, slice_get, if◌then◌else◌}
+use Rattle.std.specs.List.{AllByRecursion, list_all, list_any}
 use Rattle.ipam_data.specs.declared.address.IpAddress.{IpAddress}
 use Rattle.reverse_zone.specs.Zones.{row_name_of}
 use Rattle.command_zones.specs.declared.zone.Place.{Place}
@@ -21,6 +21,17 @@ have_one_record row other = (row.host.addr.value == other.host.addr.value) && by
 -- each record once, where it is first
 abbrev pub once : List IpAddress → List IpAddress
 once rows = firsts have_one_record [] rows
+
+-- no two of these have one record
+abbrev pub AreApart : List IpAddress → Type 0
+AreApart [] = Unit {0}
+AreApart (row ∷ rows) = AllByRecursion (λ other. have_one_record other row ≡ false) rows × AreApart rows
+
+-- of some rows, these have each record once, and no other
+pub record HasEachOnce (rows written : List IpAddress) : Type 0 where
+  pub each : AllByRecursion (λ row. list_any (have_one_record row) written ≡ true) rows
+  pub apart : AreApart written
+  pub others : (test : IpAddress → Bool) → list_all test rows ≡ true → list_all test written ≡ true
 
 -- the name of the row at a place
 abbrev pub name_at : List IpAddress → Place → List ℕ

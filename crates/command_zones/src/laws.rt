@@ -1,6 +1,11 @@
 //! Laws of the commands on reverse zones: each function is empty, and its contract is the law.
 
-ghost use Rattle.command_zones.specs.Laws.{ReverseHasOneAnswer, ReverseIsExact, ReverseReadIsExact};
+ghost use Rattle.command_zones.specs.Laws.{EachRecordOnce, ReverseHasOneAnswer, ReverseIsExact, ReverseReadIsExact};
+
+/// A zone file has each record once, and no other.
+pub fn zone_has_each_record_once()
+    ensures { EachRecordOnce }
+{}
 
 /// A state and a prefix have one text or one refusal, and so have a store whose tables are known and a prefix.
 pub fn reverse_has_one_answer()
