@@ -123,7 +123,7 @@ fn is_named_child(prefix: &Prefix, row: &IpAddress) -> bool
 
 /// Whether a row is one of those that are asked for: owners in a zone end with its suffix.
 fn is_chosen(prefix: &Prefix, suffix: Option<&[u8]>, row: &IpAddress) -> bool
-    ensures { result ≡ is_chosen prefix.now (option_map (λ s. s.now) suffix) row.now }
+    ensures { result ≡ is_chosen prefix.now (option_map (λ s. s.now) suffix.entry) row.now }
 {
     match suffix {
         Some(suffix) => is_named_child(prefix, row) && has_owner_in(row.host.addr(), suffix),
@@ -133,7 +133,7 @@ fn is_chosen(prefix: &Prefix, suffix: Option<&[u8]>, row: &IpAddress) -> bool
 
 /// Whether the name of a row fits: the DNS can hold it, and in a zone it is a host's too.
 fn has_fit_name(suffix: Option<&[u8]>, row: &IpAddress) -> bool
-    ensures { result ≡ is_fit (option_map (λ s. s.now) suffix) (name_of row.now) }
+    ensures { result ≡ is_fit (option_map (λ s. s.now) suffix.entry) (name_of row.now) }
 {
     let name = name_of(row);
     match suffix {
@@ -150,9 +150,9 @@ fn add_row(
     row: &IpAddress,
     index: u32,
 ) -> Result<(), ZoneStop>
-    ensures items { OnOk result (places.new.items ≡ places.old.items ++ places_at prefix.now (option_map (λ s. s.now) suffix) index row.now) }
-    ensures fits { OnOk result (is_unfit prefix.now (option_map (λ s. s.now) suffix) row.now ≡ false) }
-    ensures stop { IfErr result (IsRowStop prefix.now (option_map (λ s. s.now) suffix) row.now) }
+    ensures items { OnOk result (places.new.items ≡ places.old.items ++ places_at prefix.now (option_map (λ s. s.now) suffix.entry) index row.now) }
+    ensures fits { OnOk result (is_unfit prefix.now (option_map (λ s. s.now) suffix.entry) row.now ≡ false) }
+    ensures stop { IfErr result (IsRowStop prefix.now (option_map (λ s. s.now) suffix.entry) row.now) }
 {
     if !is_chosen(prefix, suffix, row) {
         return Ok(());
@@ -186,8 +186,8 @@ fn zone_places(
     prefix: &Prefix,
     suffix: Option<&[u8]>,
 ) -> Result<Vec<Place>, ZoneStop>
-    ensures places { IfOk result (λ v. ArePlaces addresses.now.rows prefix.now (option_map (λ s. s.now) suffix) addresses.now.rows v.items) }
-    ensures stop { IfErr result (IsRowsStop prefix.now (option_map (λ s. s.now) suffix) addresses.now.rows) }
+    ensures places { IfOk result (λ v. ArePlaces addresses.now.rows prefix.now (option_map (λ s. s.now) suffix.entry) addresses.now.rows v.items) }
+    ensures stop { IfErr result (IsRowsStop prefix.now (option_map (λ s. s.now) suffix.entry) addresses.now.rows) }
 {
     let mut places = Vec::new(alloc);
     let count = addresses.len();
@@ -233,7 +233,7 @@ fn written(
     asked: &ReverseAsked,
 ) -> Result<Vec<Place>, AllocError>
     requires { IsSortedByKey key_of key_cmp places.items }
-    ensures { IfOk result (λ v. v.items ≡ places_written addresses.now.rows asked.now.head places.entry.items) }
+    ensures { IfOk result (λ v. v.items ≡ places_written addresses.now.rows asked.now.head places.items) }
 {
     match &asked.head {
         Some(_) => once(alloc, addresses, places.as_slice()),
