@@ -6,3 +6,5 @@ pub mod Pairings
 pub mod Readback
 pub mod Bares
 pub mod ZoneOrder
+pub mod Mails
+pub mod Servers

@@ -4,3 +4,5 @@ pub mod Records
 pub mod Inputs
 pub mod Laws
 pub mod Zones
+pub mod Hosts
+pub mod Heads

@@ -1,7 +1,8 @@
 //! The owner of an address's PTR record: the address as labels, the low-order octet or nibble first.
 
-ghost use Rattle.std.specs.Prelude.{◌≡◌, ◌≢◌, ℕ, ◌+◌, ◌^◌, ◌<◌, ◌≤◌, [], ◌∷◌, ◌++◌, length, IfSome, IfNone};
+ghost use Rattle.std.specs.Prelude.{◌≡◌, ◌≢◌, ℕ, ◌+◌, ◌^◌, ◌<◌, ◌≤◌, [], ◌∷◌, ◌++◌, length, nat_eq, IfSome, IfNone};
 ghost use Rattle.std.specs.Char.{digit_char};
+ghost use Rattle.std.specs.List.{ends_with};
 ghost use Rattle.arrayvec.specs.ArrayVec.{array_vec_len};
 ghost use Rattle.inet_num.specs.Net.{Address, IsAddress, width_of};
 ghost use Rattle.inet_num.specs.declared.Family.TheVariants.{V4, V6};
@@ -30,7 +31,7 @@ fn base(family: Family) -> u128
 }
 
 /// How many octets or nibbles an address has.
-fn label_count(family: Family) -> u8
+pub(crate) fn label_count(family: Family) -> u8
     ensures value { result ≡ label_count_of family }
     ensures few { result ≤ 32 }
 {
@@ -158,7 +159,7 @@ fn read_label(family: Family, label: &[u8]) -> Option<u8>
 }
 
 /// The number that so many labels before the zone spell, the low-order one first.
-fn read_labels(family: Family, count: u8, text: &[u8]) -> Option<u128>
+pub(crate) fn read_labels(family: Family, count: u8, text: &[u8]) -> Option<u128>
     requires { count ≤ label_count_of family }
     ensures some { IfSome result (λ number. text.now ≡ labels_of family count number) }
     ensures small { IfSome result (λ number. number < base_of family ^ count) }
@@ -193,4 +194,13 @@ pub(crate) fn read_owner(text: &[u8]) -> Option<Addr>
         Some(host) => Some(host),
         None => read_owner_of(Family::V6, text),
     }
+}
+
+/// Whether the owner of the host's record ends with these bytes. It takes no memory.
+pub fn has_owner_in(host: Addr, suffix: &[u8]) -> bool
+    ensures { result ≡ ends_with nat_eq (owner_of host) suffix.now }
+{
+    let mut owner = ArrayVec::new();
+    push_owner(&mut owner, host);
+    owner.as_slice().ends_with(suffix)
 }
