@@ -1,5 +1,5 @@
 -- Names of hosts that servers take by default (RFC 952, RFC 1123 2.1), in lower case and without a final period, and mail addresses, whose
--- names have a backslash before each period of what stands before the @ (RFC 1035 8).
+-- names have a backslash before each period of the local part (RFC 1035 8).
 use Rattle.std.specs.Prelude.{◌≡◌, ◌≢◌, ℕ, ◌-◌, ◌==◌, ◌||◌, ◌&&◌, not, nat_le, nat_eq, Bool, false, List, [], ◌∷◌, ◌++◌, length, codes, slice_index, IsTrue, if◌then◌else◌}
 use Rattle.std.specs.Char.{is_ascii_alphanumeric, is_ascii_digit, is_ascii_lowercase}
 use Rattle.std.specs.List.{list_all, slice_split, ends_with, AllByRecursion}
@@ -28,7 +28,7 @@ is_host name = nat_le (length name) 253 && list_all is_host_label (slice_split i
 abbrev pub is_comma : ℕ → Bool
 is_comma c = c == 44
 
--- a name server of a reverse zone is a host that is in no reverse zone, where it would need an address
+-- a name server of a reverse zone is a host that is in no reverse zone: there it would need an address
 abbrev pub is_server : List ℕ → Bool
 is_server name = is_host name && not (ends_with nat_eq name (codes ".arpa"))
 
@@ -42,11 +42,11 @@ is_atom_byte c = is_ascii_alphanumeric c || c == 95 || c == 43 || c == 45
 abbrev pub is_atom : List ℕ → Bool
 is_atom part = nat_le 1 (length part) && list_all is_atom_byte part
 
--- what stands before the @ is one label: letters, digits, `_`, `+` and `-`, and single periods between them
+-- the local part, before the @, is one label: letters, digits, `_`, `+` and `-`, and single periods between them
 abbrev pub is_mail_local : List ℕ → Bool
 is_mail_local local = nat_le (length local) 63 && list_all is_atom (slice_split is_dot local)
 
--- a mail address: what stands before its first @, and a host
+-- a mail address: a local part, the first @, and a host
 pub record IsMail (mail : List ℕ) : Type 0 where
   pub local : List ℕ
   pub domain : List ℕ

@@ -47,7 +47,7 @@ pub fn is_zone_text(text: &[u8]) -> bool
         || spells_labels(Family::V6, label_count(Family::V6) - 1, text)
 }
 
-/// Appends a byte of what stands before the `@`.
+/// Appends a byte of a local part.
 fn push_escaped(out: &mut Vec<u8>, byte: u8) -> Result<(), AllocError>
     ensures { OnOk result (out.new.items ≡ out.old.items ++ escaped byte) }
 {
@@ -58,7 +58,7 @@ fn push_escaped(out: &mut Vec<u8>, byte: u8) -> Result<(), AllocError>
     Ok(())
 }
 
-/// Appends what stands before the `@`.
+/// Appends the local part of a mail address, before the `@`.
 fn push_local(out: &mut Vec<u8>, local: &[u8]) -> Result<(), AllocError>
     ensures { OnOk result (out.new.items ≡ out.old.items ++ flat_map escaped local.now) }
 {
@@ -118,7 +118,7 @@ fn start_text(alloc: Global, head: &Head) -> Result<Vec<u8>, AllocError>
     Ok(text)
 }
 
-/// The SOA record behind that name.
+/// The SOA record after that name.
 fn times_text(alloc: Global, serial: u32) -> Result<String, AllocError>
     ensures { IfOk result (λ s. string_bytes s ≡ codes ". " ++ decimal serial ++ codes " 7200 3600 1209600 3600\n") }
 {

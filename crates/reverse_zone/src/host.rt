@@ -9,6 +9,7 @@ use crate::words::cut_at;
 
 /// How many bytes a label may have, and a name without its final period (RFC 1035 2.3.4).
 const MOST_LABEL_BYTES: usize = 63;
+
 const MOST_NAME_BYTES: usize = 253;
 
 /// Whether the byte may be in a host's name.
@@ -54,7 +55,8 @@ fn is_host_label(label: &[u8]) -> bool
 fn are_host_labels(name: &[u8]) -> bool
     ensures { result ≡ list_all is_host_label (slice_split is_dot name.now) }
 {
-    name.split(|byte| *byte == b'.').all(|label| is_host_label(label))
+    name.split(|byte| *byte == b'.')
+        .all(|label| is_host_label(label))
 }
 
 /// Whether servers take the name for a host (RFC 952, RFC 1123 2.1): labels of letters, digits and hyphens, in lower case and without a final
@@ -78,7 +80,9 @@ fn is_server(name: &[u8]) -> bool
 pub fn are_servers(names: &[u8]) -> bool
     ensures { result ≡ are_servers names.now }
 {
-    names.split(|byte| *byte == b',').all(|name| is_server(name))
+    names
+        .split(|byte| *byte == b',')
+        .all(|name| is_server(name))
 }
 
 /// Whether the byte may be before the `@`, periods apart.

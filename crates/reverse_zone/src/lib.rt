@@ -2,6 +2,8 @@
 #![tactic(auto)]
 
 mod head;
+#[cfg(test)]
+mod head_tests;
 mod host;
 mod input;
 pub mod laws;
