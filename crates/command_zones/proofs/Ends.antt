@@ -1,7 +1,11 @@
 -- What the output has where the lines of a zone were printed, or were not.
-use Rattle.std.proofs.Common.{◌≡◌, ℕ, List, ◌++◌, Result, Ok, Err, refl, sym, ap, subst, ◌∙◌}
+use Rattle.std.proofs.Common.{◌≡◌, ℕ, List, ◌++◌, Option, Result, Ok, Err, refl, sym, ap, subst, ◌∙◌}
 use Rattle.std.specs.List.{All}
 use Rattle.std.specs.Result.{IsErrAnd}
+use Rattle.std.specs.Io.KnownBytes.{Appends}
+use Rattle.std.proofs.KnownBytes.{Appends-trans}
+use Rattle.ipam_edge.specs.Writing.{WritesAll}
+use Rattle.ipam_edge.proofs.WritingLemmas.{appends_front_after}
 use Rattle.ipam_data.specs.declared.address.IpAddress.{IpAddress}
 use Rattle.ipam_data.specs.State.{State}
 use Rattle.command_streams.specs.Streams.{Told, Gains, GainsFront, Failed}
@@ -15,6 +19,12 @@ use Rattle.command_zones.specs.Zone.{front_of, lines_at, IsPlaceIn, IsZone, IsZo
 pub passed_on : {T E : Type 0} (P : Result T E → Type 0) (r : Result T E) (e : E) → IsErrAnd r (λ y. y ≡ e) → P (Err e) → P r
 passed_on P (Ok x) e h p = absurd h
 passed_on {T} {E} P (Err y) e h p = subst (λ (z : E). P (Err z)) (sym h) p
+
+-- a text was written whole, and what follows it whole or in part
+pub written_after : {E : Type 0} (a b c : Option (List ℕ)) (front text : List ℕ) (r : Result (Unit {0}) E) → Appends a b front → WritesAll b c r text
+    → WritesAll a c r (front ++ text)
+written_after a b c front text (Ok done) h k = Appends-trans a b c front text h k
+written_after a b c front text (Err e) h k = appends_front_after a b c front text h k
 
 -- nothing was written
 pub stopped : (s : State) (asked : ReverseAsked) (stop : ZoneStop) (told : Told) → IsZoneStop s asked stop → IsZoneEnd s asked told told (Err stop)
