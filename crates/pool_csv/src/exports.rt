@@ -4,8 +4,10 @@ ghost use Rattle.std.specs.Prelude.{◌≡◌, ◌∷◌, [], Some, IfOk};
 ghost use Rattle.csv.specs.Records.{fields_of};
 ghost use Rattle.csv.specs.Writing.{default_writer, row_text};
 ghost use Rattle.number_pools.specs.Steps.{of_kind};
-ghost use Rattle.pool_csv.specs.Exports.{line_in, member_fields, member_header, member_line, members_text, range_fields, range_header, range_line, ranges_text};
+ghost use Rattle.pool_csv.specs.Exports.{line_in, member_fields, member_line, members_text, range_fields, range_line, ranges_text};
+ghost use Rattle.pool_csv.specs.Imports.{header_of};
 
+use crate::sheets::Form;
 use csv::StringRecord;
 use csv_import::line_of;
 use number_pools::{Member, NumberRange, PoolKind};
@@ -45,11 +47,22 @@ fn line_of_range(alloc: Global, kind: PoolKind, range: &NumberRange) -> Result<V
     }
 }
 
-/// The header of ranges.
-fn header_of_ranges(alloc: Global) -> Result<Vec<u8>, AllocError>
-    ensures { IfOk result (λ v. v.items ≡ row_text default_writer range_header) }
+/// The columns of a form. `Err` means out of memory.
+pub(crate) fn header_fields(alloc: Global, form: Form) -> Result<StringRecord, AllocError>
+    ensures { IfOk result (λ r. fields_of r ≡ header_of form) }
 {
-    let names = three(alloc, "name", "start", "end")?;
+    match form {
+        Form::Ranges => three(alloc, "name", "start", "end"),
+        Form::Members(PoolKind::Asn) => three(alloc, "range", "asn", "name"),
+        Form::Members(PoolKind::Vlan) => three(alloc, "group", "vid", "name"),
+    }
+}
+
+/// The header of a form.
+fn header_line(alloc: Global, form: Form) -> Result<Vec<u8>, AllocError>
+    ensures { IfOk result (λ v. v.items ≡ row_text default_writer (header_of form)) }
+{
+    let names = header_fields(alloc, form)?;
     line_of(alloc, &names)
 }
 
@@ -61,23 +74,12 @@ pub fn ranges_text(
 ) -> Result<Vec<u8>, AllocError>
     ensures { IfOk result (λ v. v.items ≡ ranges_text kind ranges.now) }
 {
-    let mut text = header_of_ranges(alloc)?;
+    let mut text = header_line(alloc, Form::Ranges)?;
     for range in ranges {
         let own = line_of_range(alloc, kind, range)?;
         text.extend_from_slice(&own)?;
     }
     Ok(text)
-}
-
-/// The header of members of a kind.
-fn header_of_members(alloc: Global, kind: PoolKind) -> Result<Vec<u8>, AllocError>
-    ensures { IfOk result (λ v. v.items ≡ row_text default_writer (member_header kind)) }
-{
-    let names = match kind {
-        PoolKind::Asn => three(alloc, "range", "asn", "name")?,
-        PoolKind::Vlan => three(alloc, "group", "vid", "name")?,
-    };
-    line_of(alloc, &names)
 }
 
 /// The fields of a member of a range.
@@ -133,7 +135,7 @@ fn line_of_member(
 pub fn members_text(alloc: Global, kind: PoolKind, rows: &PoolRows) -> Result<Vec<u8>, AllocError>
     ensures { IfOk result (λ v. v.items ≡ members_text kind rows.now.pools) }
 {
-    let mut text = header_of_members(alloc, kind)?;
+    let mut text = header_line(alloc, Form::Members(kind))?;
     for member in rows.members() {
         let own = line_of_member(alloc, kind, rows, member)?;
         text.extend_from_slice(&own)?;

@@ -43,7 +43,7 @@ pub fn empty_tables(alloc: Global) -> PoolTables
 }
 
 /// The same ranges again. `Err` means out of memory.
-pub(crate) fn copy_ranges(
+pub fn copy_ranges(
     alloc: Global,
     rows: &[NumberRange],
 ) -> Result<Vec<NumberRange>, AllocError>
@@ -57,7 +57,7 @@ pub(crate) fn copy_ranges(
 }
 
 /// The same members again. `Err` means out of memory.
-pub(crate) fn copy_members(alloc: Global, rows: &[Member]) -> Result<Vec<Member>, AllocError>
+pub fn copy_members(alloc: Global, rows: &[Member]) -> Result<Vec<Member>, AllocError>
     ensures { IfOk result (λ v. v.items ≡ rows.now) }
 {
     let mut items = Vec::with_capacity(alloc, rows.len())?;

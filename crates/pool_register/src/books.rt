@@ -121,6 +121,13 @@ impl Books {
         let _rows = &self.rows;
     }
 
+    /// The rows, to be read.
+    pub(crate) fn rows(&self) -> &PoolRows
+        ensures { result.now.pools ≡ self.now }
+    {
+        &self.rows
+    }
+
     /// What a call leads to. `Err` means out of memory.
     pub fn plan(&self, alloc: Global, call: &PoolCall) -> Result<Planned, AllocError>
         ensures { IfOk result (λ p. IsPlanned self.now call.now p) }

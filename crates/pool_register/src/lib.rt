@@ -15,5 +15,5 @@ mod record;
 mod stop;
 
 pub use machine::SeenPools;
-pub use opening::open;
+pub use opening::{open, pools_of};
 pub use pools::{Pools, begin};

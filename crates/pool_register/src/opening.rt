@@ -72,3 +72,12 @@ pub fn open<K: PoolKeeper + Drop>(alloc: Global, keeper: K) -> Result<Pools<K>, 
         Err(refused) => Err(refused),
     }
 }
+
+/// Pools of the rows of lawful pools, over a keeper whose tables, if they are known, are theirs. It takes no memory.
+pub fn pools_of<K: PoolKeeper>(alloc: Global, rows: PoolRows, keeper: K) -> Pools<K>
+    requires lawful { IsLawfulPools rows.pools }
+    requires tells { Tells (K.told keeper) rows.pools }
+    ensures { result ≡ record { opening = rows.pools; state = rows.pools; log = []; keeper = keeper } }
+{
+    Pools::over(alloc, Books::of(rows), keeper)
+}

@@ -17,6 +17,7 @@ use crate::planned::{Planned, Update};
 use crate::stop::Stop;
 use number_pools::{PoolCall, PoolRefusal, PoolReply};
 use pool_keeper::keeper::PoolKeeper;
+use pool_rows::PoolRows;
 use std::alloc::{AllocError, Global};
 use std::marker::Model;
 use std::snapshot::Snapshot;
@@ -70,6 +71,13 @@ impl<K: PoolKeeper> Pools<K> {
         ensures few { length self.now.log < 2 ^ 63 }
     {
         self.log.as_slice()
+    }
+
+    /// The rows of the pools, to be read.
+    pub fn rows(&self) -> &PoolRows
+        ensures { result.now.pools ≡ self.now.state }
+    {
+        self.books.rows()
     }
 
     /// The keeper again. It takes no memory.

@@ -4,10 +4,10 @@ use Rattle.clap.specs.Simple.{App}
 use Rattle.clap.specs.Walk.{Row}
 use Rattle.command_grammar.specs.Grammar.{Takes, given}
 use Rattle.pool_words.specs.declared.asked.Command.{Command}
-use Rattle.pool_words.specs.declared.asked.Command.TheVariants.{Session, Serve, Print, About}
+use Rattle.pool_words.specs.declared.asked.Command.TheVariants.{Session, Serve, Import, Print, About}
 use Rattle.pool_words.specs.declared.asked.Listing.TheVariants.{Rows, Report}
 use Rattle.pool_words.specs.declared.asked.Topic.TheVariants as topic
-use Rattle.pool_words.specs.Grammar.{export_app, report_app, session_app}
+use Rattle.pool_words.specs.Grammar.{export_app, import_app, report_app, session_app}
 use Rattle.pool_words.specs.declared.asked.CommandName.{CommandName}
 use Rattle.pool_words.specs.Asked.{Asks, IsFile, IsNoCommand, IsReadAs, command_word, name_in, name_of}
 use Rattle.word_values.specs.Values.{main_name}
@@ -42,6 +42,7 @@ none_named first main words m h none = λ c asks. none (name_in c) (m ∙ named_
 
 none_asked : (words : List (List ℕ)) (rows : List Row) → rows ≡ given session_app words → ((d : Option (List ℕ)) → ¬ IsFile rows d) → (c : Command) → name_of c ≡ codes "session" → ¬ Asks words c
 none_asked words rows is none (Session d) same asks = none d (subst (λ (r : List Row). IsFile r d) (sym is) asks.values)
+none_asked words rows is none (Import sheet d) same asks = let e = ap sum same in absurd (omega arith)
 none_asked words rows is none (Serve s) same asks = let e = ap sum same in absurd (omega arith)
 none_asked words rows is none (Print (Rows sheet) d) same asks = let e = ap sum same in absurd (omega arith)
 none_asked words rows is none (Print Report d) same asks = let e = ap sum same in absurd (omega arith)
@@ -49,10 +50,21 @@ none_asked words rows is none (About topic.Version) same asks = let e = ap sum s
 none_asked words rows is none (About topic.Commands) same asks = let e = ap sum same in absurd (omega arith)
 none_asked words rows is none (About (topic.Command n)) same asks = let e = ap sum same in absurd (omega arith)
 
+none_imported : (words : List (List ℕ)) (rows : List Row) → rows ≡ given import_app words → ((d : Option (List ℕ)) → ¬ IsFile rows d) → (c : Command) → name_of c ≡ codes "import" → ¬ Asks words c
+none_imported words rows is none (Import sheet d) same asks = none d (subst (λ (r : List Row). IsFile r d) (sym is) asks.values.1)
+none_imported words rows is none (Print (Rows sheet) d) same asks = let e = ap sum same in absurd (omega arith)
+none_imported words rows is none (Print Report d) same asks = let e = ap sum same in absurd (omega arith)
+none_imported words rows is none (Session d) same asks = let e = ap sum same in absurd (omega arith)
+none_imported words rows is none (Serve s) same asks = let e = ap sum same in absurd (omega arith)
+none_imported words rows is none (About topic.Version) same asks = let e = ap sum same in absurd (omega arith)
+none_imported words rows is none (About topic.Commands) same asks = let e = ap sum same in absurd (omega arith)
+none_imported words rows is none (About (topic.Command n)) same asks = let e = ap sum same in absurd (omega arith)
+
 none_exported : (words : List (List ℕ)) (rows : List Row) → rows ≡ given export_app words → ((d : Option (List ℕ)) → ¬ IsFile rows d) → (c : Command) → name_of c ≡ codes "export" → ¬ Asks words c
 none_exported words rows is none (Print (Rows sheet) d) same asks = none d (subst (λ (r : List Row). IsFile r d) (sym is) asks.values.1)
 none_exported words rows is none (Print Report d) same asks = let e = ap sum same in absurd (omega arith)
 none_exported words rows is none (Session d) same asks = let e = ap sum same in absurd (omega arith)
+none_exported words rows is none (Import sheet d) same asks = let e = ap sum same in absurd (omega arith)
 none_exported words rows is none (Serve s) same asks = let e = ap sum same in absurd (omega arith)
 none_exported words rows is none (About topic.Version) same asks = let e = ap sum same in absurd (omega arith)
 none_exported words rows is none (About topic.Commands) same asks = let e = ap sum same in absurd (omega arith)
@@ -62,6 +74,7 @@ none_reported : (words : List (List ℕ)) (rows : List Row) → rows ≡ given r
 none_reported words rows is none (Print Report d) same asks = none d (subst (λ (r : List Row). IsFile r d) (sym is) asks.values)
 none_reported words rows is none (Print (Rows sheet) d) same asks = let e = ap sum same in absurd (omega arith)
 none_reported words rows is none (Session d) same asks = let e = ap sum same in absurd (omega arith)
+none_reported words rows is none (Import sheet d) same asks = let e = ap sum same in absurd (omega arith)
 none_reported words rows is none (Serve s) same asks = let e = ap sum same in absurd (omega arith)
 none_reported words rows is none (About topic.Version) same asks = let e = ap sum same in absurd (omega arith)
 none_reported words rows is none (About topic.Commands) same asks = let e = ap sum same in absurd (omega arith)
@@ -82,6 +95,12 @@ pub no_session : {M : Type 0} (words : List (List ℕ)) (rows_of : M → List Ro
     → MatchOption found ((d : Option (List ℕ)) → ¬ IsFile (rows_of m) d) (λ d. IsFile (rows_of m) d) → (c : Command) → name_of c ≡ codes "session" → ¬ Asks words c
 no_session words rows_of app took m found same is taken none read =
     let h = no_file words rows_of session_app app took m found same is taken none read in none_asked words (rows_of m) h.0 h.1
+
+pub no_import : {M : Type 0} (words : List (List ℕ)) (rows_of : M → List Row) (app : App) (took : Option M) (m : M) (found : Option (Option (List ℕ))) → app ≡ import_app → took ≡ Some m
+    → MatchOption took (¬ Takes app words) (λ n. Takes app words × (rows_of n ≡ given app words)) → found ≡ None
+    → MatchOption found ((d : Option (List ℕ)) → ¬ IsFile (rows_of m) d) (λ d. IsFile (rows_of m) d) → (c : Command) → name_of c ≡ codes "import" → ¬ Asks words c
+no_import words rows_of app took m found same is taken none read =
+    let h = no_file words rows_of import_app app took m found same is taken none read in none_imported words (rows_of m) h.0 h.1
 
 pub no_export : {M : Type 0} (words : List (List ℕ)) (rows_of : M → List Row) (app : App) (took : Option M) (m : M) (found : Option (Option (List ℕ))) → app ≡ export_app → took ≡ Some m
     → MatchOption took (¬ Takes app words) (λ n. Takes app words × (rows_of n ≡ given app words)) → found ≡ None

@@ -1,7 +1,7 @@
 -- Each command is one of those that clap's definition speaks of.
 use Rattle.std.proofs.Common.{refl}
 use Rattle.command_grammar.specs.Grammar.{IsPlainCommand}
-use Rattle.pool_words.specs.Grammar.{export_app, report_app, serve_app, session_app}
+use Rattle.pool_words.specs.Grammar.{export_app, import_app, report_app, serve_app, session_app}
 
 pub session_is_plain : IsPlainCommand session_app
 unfolding IsPlainCommand session_app
@@ -18,3 +18,7 @@ export_is_plain = (refl, refl)
 pub report_is_plain : IsPlainCommand report_app
 unfolding IsPlainCommand report_app
 report_is_plain = (refl, refl)
+
+pub import_is_plain : IsPlainCommand import_app
+unfolding IsPlainCommand import_app
+import_is_plain = (refl, refl)

@@ -7,7 +7,7 @@ use Rattle.word_values.specs.Values.{main_name, most_connections, most_workers}
 use Rattle.word_values.proofs.Unique.{one_number, one_number_or, one_text, same_first}
 use Rattle.pool_words.specs.declared.asked.Serving.{Serving}
 use Rattle.pool_words.specs.declared.asked.Command.{Command}
-use Rattle.pool_words.specs.declared.asked.Command.TheVariants.{Session, Serve, Print, About}
+use Rattle.pool_words.specs.declared.asked.Command.TheVariants.{Session, Serve, Import, Print, About}
 use Rattle.pool_words.specs.declared.asked.Listing.{Listing}
 use Rattle.pool_words.specs.declared.asked.Listing.TheVariants.{Rows, Report}
 use Rattle.pool_words.specs.declared.asked.Sheet.{Sheet}
@@ -32,6 +32,7 @@ one_serving rows s t h k =
 one_command : (n m : CommandName) → sum (command_word n) ≡ sum (command_word m) → n ≡ m
 one_command names.Session names.Session e = refl
 one_command names.Serve names.Serve e = refl
+one_command names.Import names.Import e = refl
 one_command names.Export names.Export e = refl
 one_command names.Report names.Report e = refl
 one_command names.Version names.Version e = refl
@@ -69,6 +70,11 @@ one_named : (words : List (List ℕ)) (one other : Command) → sum (name_of one
     → HasValues (given (app_for other) words) other → one ≡ other
 one_named words (Session d) (Session e) same h k = ap Session (h.text.0 ∙ sym k.text.0)
 one_named words (Serve s) (Serve t) same h k = ap Serve (one_serving _ s t h k)
+one_named words (Import s d) (Import t e) same h k = ap₂ Import (sheets_are_one _ s t h.0 k.0) (h.1.text.0 ∙ sym k.1.text.0)
+one_named words (Import s d) (Session e) same h k = absurd (omega arith)
+one_named words (Session d) (Import t e) same h k = absurd (omega arith)
+one_named words (Import s d) (Serve t) same h k = absurd (omega arith)
+one_named words (Serve s) (Import t e) same h k = absurd (omega arith)
 one_named words (Print (Rows s) d) (Print (Rows t) e) same h k = ap₂ (λ (x : Sheet). Print (Rows x)) (sheets_are_one _ s t h.0 k.0) (h.1.text.0 ∙ sym k.1.text.0)
 one_named words (Print Report d) (Print Report e) same h k = ap (Print Report) (h.text.0 ∙ sym k.text.0)
 one_named words (Print (Rows s) d) (Print Report e) same h k = absurd (omega arith)

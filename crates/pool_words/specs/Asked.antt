@@ -7,7 +7,7 @@ use Rattle.command_grammar.specs.Grammar.{Takes, given, help_app, version_app}
 use Rattle.word_values.specs.Values.{IsNumberOr, IsNumberValue, IsTextOrNone, IsTextValue, main_name, most_connections, most_workers}
 use Rattle.pool_words.specs.declared.asked.Serving.{Serving}
 use Rattle.pool_words.specs.declared.asked.Command.{Command}
-use Rattle.pool_words.specs.declared.asked.Command.TheVariants.{Session, Serve, Print, About}
+use Rattle.pool_words.specs.declared.asked.Command.TheVariants.{Session, Serve, Import, Print, About}
 use Rattle.pool_words.specs.declared.asked.Listing.TheVariants.{Rows, Report}
 use Rattle.pool_words.specs.declared.asked.Sheet.{Sheet}
 use Rattle.pool_words.specs.declared.asked.Sheet.TheVariants.{AsnRanges, VlanGroups, Asns, Vlans}
@@ -15,12 +15,13 @@ use Rattle.pool_words.specs.declared.asked.CommandName.{CommandName}
 use Rattle.pool_words.specs.declared.asked.CommandName.TheVariants as names
 use Rattle.pool_words.specs.declared.asked.Topic.{Topic}
 use Rattle.pool_words.specs.declared.asked.Topic.TheVariants.{Version, Commands, Command as OfCommand}
-use Rattle.pool_words.specs.Grammar.{export_app, report_app, serve_app, session_app}
+use Rattle.pool_words.specs.Grammar.{export_app, import_app, report_app, serve_app, session_app}
 
 -- the name of a command
 abbrev pub command_word : CommandName → List ℕ
 command_word names.Session = codes "session"
 command_word names.Serve = codes "serve"
+command_word names.Import = codes "import"
 command_word names.Export = codes "export"
 command_word names.Report = codes "report"
 command_word names.Version = codes "version"
@@ -30,6 +31,7 @@ command_word names.Help = codes "help"
 abbrev pub name_in : Command → CommandName
 name_in (Session db) = names.Session
 name_in (Serve serving) = names.Serve
+name_in (Import sheet db) = names.Import
 name_in (Print (Rows sheet) db) = names.Export
 name_in (Print Report db) = names.Report
 name_in (About Version) = names.Version
@@ -43,6 +45,7 @@ name_of command = command_word (name_in command)
 abbrev pub app_of_name : CommandName → App
 app_of_name names.Session = session_app
 app_of_name names.Serve = serve_app
+app_of_name names.Import = import_app
 app_of_name names.Export = export_app
 app_of_name names.Report = report_app
 app_of_name names.Version = version_app
@@ -82,6 +85,7 @@ pub record IsServing (rows : List Row) (serving : Serving) : Type 0 where
 abbrev pub HasValues : List Row → Command → Type 0
 HasValues rows (Session db) = IsFile rows db
 HasValues rows (Serve serving) = IsServing rows serving
+HasValues rows (Import sheet db) = IsSheetValue (first_of (codes "kind") rows) sheet × IsFile rows db
 HasValues rows (Print (Rows sheet) db) = IsSheetValue (first_of (codes "kind") rows) sheet × IsFile rows db
 HasValues rows (Print Report db) = IsFile rows db
 HasValues rows (About Version) = Unit {0}

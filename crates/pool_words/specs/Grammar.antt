@@ -16,6 +16,10 @@ serve_app = with_rule (with_rule (with_rule (with_rule (command_app (codes "serv
 unfoldable pub report_app : App
 report_app = with_rule (command_app (codes "report")) (option_rule (codes "db"))
 
+-- `import KIND`
+unfoldable pub import_app : App
+import_app = with_rule (with_rule (command_app (codes "import")) (place_rule (codes "kind"))) (option_rule (codes "db"))
+
 -- `export KIND`
 unfoldable pub export_app : App
 export_app = with_rule (with_rule (command_app (codes "export")) (place_rule (codes "kind"))) (option_rule (codes "db"))

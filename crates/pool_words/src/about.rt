@@ -17,6 +17,7 @@ pub(crate) fn command_named(text: &str) -> Option<CommandName>
     match text {
         text if is_word(text, "session") => Some(CommandName::Session),
         text if is_word(text, "serve") => Some(CommandName::Serve),
+        text if is_word(text, "import") => Some(CommandName::Import),
         text if is_word(text, "export") => Some(CommandName::Export),
         text if is_word(text, "report") => Some(CommandName::Report),
         text if is_word(text, "version") => Some(CommandName::Version),

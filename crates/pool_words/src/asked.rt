@@ -38,6 +38,7 @@ pub enum Listing {
 pub enum CommandName {
     Session,
     Serve,
+    Import,
     Export,
     Report,
     Version,
@@ -62,6 +63,8 @@ pub enum Command {
     Session(Option<WordText>),
     /// Sessions with all that connect.
     Serve(Serving),
+    /// The rows of the input, into the pools of this file, if any.
+    Import(Sheet, Option<WordText>),
     /// A text about the pools of this file, if any: `export` and `report`.
     Print(Listing, Option<WordText>),
     /// A text about the program: `version` and `help`.

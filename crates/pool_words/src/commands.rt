@@ -3,7 +3,7 @@
 ghost use Rattle.std.specs.Prelude.{◌≡◌, codes, false, IfOk};
 ghost use Rattle.clap.specs.Words.{app_of, rule_of};
 ghost use Rattle.command_grammar.specs.Grammar.{place_rule};
-ghost use Rattle.pool_words.specs.Grammar.{export_app, report_app, serve_app, session_app};
+ghost use Rattle.pool_words.specs.Grammar.{export_app, import_app, report_app, serve_app, session_app};
 
 use clap::{Arg, ArgAction};
 use command_grammar::{needed, option, plain_command, with};
@@ -36,6 +36,15 @@ fn kind_place<'a>(alloc: Global) -> Arg<'a>
     Arg::new(alloc, "kind")
         .required(true)
         .action(ArgAction::Set)
+}
+
+/// `import KIND`. `Err` means out of memory.
+#[tactic(auto, unfolding(crate::specs::Grammar::import_app))]
+pub(crate) fn import_command<'a>(alloc: Global) -> Result<clap::Command<'a>, AllocError>
+    ensures { IfOk result (λ c. app_of c ≡ import_app) }
+{
+    let command = with(plain_command(alloc, "import"), kind_place(alloc))?;
+    with(command, option(alloc, "db"))
 }
 
 /// `export KIND`. `Err` means out of memory.

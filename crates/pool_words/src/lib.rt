@@ -11,7 +11,7 @@ mod readers;
 
 use about::{command_named, read_help, read_version};
 pub use asked::{Command, CommandName, Listing, Serving, Sheet, Topic};
-use readers::{read_export, read_report, read_serve, read_session};
+use readers::{read_export, read_import, read_report, read_serve, read_session};
 use std::alloc::{AllocError, Global};
 use word_values::{first_word, main_name};
 
@@ -28,6 +28,7 @@ pub fn read_words<'a>(alloc: Global, words: &'a [&'a str]) -> Result<Option<Comm
     match name {
         CommandName::Session => read_session(alloc, words),
         CommandName::Serve => read_serve(alloc, words),
+        CommandName::Import => read_import(alloc, words),
         CommandName::Export => read_export(alloc, words),
         CommandName::Report => read_report(alloc, words),
         CommandName::Version => read_version(alloc, words),

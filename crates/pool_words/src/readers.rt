@@ -6,7 +6,7 @@ ghost use Rattle.clap.specs.Words.{found_of, rows_of};
 ghost use Rattle.pool_words.specs.Asked.{IsFile, IsReadAs, IsServing, IsSheetValue, sheet_word};
 
 use crate::asked::{Command, Listing, Serving, Sheet};
-use crate::commands::{export_command, report_command, serve_command, session_command};
+use crate::commands::{export_command, import_command, report_command, serve_command, session_command};
 use clap::ArgMatches;
 use command_grammar::{parse, value};
 use std::alloc::{AllocError, Global};
@@ -115,6 +115,27 @@ fn sheet_value(text: Option<&str>) -> Option<Sheet>
         Some(text) => sheet_named(text),
         None => None,
     }
+}
+
+/// Reads the words of `import`. `Err` means out of memory.
+#[tactic(auto, using(crate::proofs::Plain::import_is_plain))]
+pub(crate) fn read_import<'a>(
+    alloc: Global,
+    words: &'a [&'a str],
+) -> Result<Option<Command>, AllocError>
+    ensures { IfOk result (λ found. IsReadAs (codes "import") (map (λ w. w.now) words.entry.now) found) }
+{
+    let command = import_command(alloc)?;
+    let Some(matches) = parse(command, words)? else {
+        return Ok(None);
+    };
+    let Some(sheet) = sheet_value(value(&matches, "kind")) else {
+        return Ok(None);
+    };
+    let Some(db) = file_value(alloc, &matches)? else {
+        return Ok(None);
+    };
+    Ok(Some(Command::Import(sheet, db)))
 }
 
 /// Reads the words of `export`. `Err` means out of memory.

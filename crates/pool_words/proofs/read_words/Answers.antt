@@ -20,3 +20,6 @@ returns-in-Export c = read_is_asked (codes "export") _ _ _ c.read_export.result 
 
 pub returns-in-Report : goal.returns-in-Report
 returns-in-Report c = read_is_asked (codes "report") _ _ _ c.read_report.result (word_of _ _ names.Report c.in-Report.is c.in-Some-command_named.ensures) c.main_name.ensures c.in-Some.ensures c.read_report.ensures
+
+pub returns-in-Import : goal.returns-in-Import
+returns-in-Import c = read_is_asked (codes "import") _ _ _ c.read_import.result (word_of _ _ names.Import c.in-Import.is c.in-Some-command_named.ensures) c.main_name.ensures c.in-Some.ensures c.read_import.ensures
