@@ -5,12 +5,13 @@ use Rattle.pool_words.specs.declared.asked.CommandName.{CommandName}
 use Rattle.pool_words.specs.declared.asked.CommandName.TheVariants as names
 use Rattle.pool_words.specs.declared.asked.Topic.{Topic}
 use Rattle.pool_words.specs.declared.asked.Topic.TheVariants.{Version, Commands, Command}
-use Rattle.pool_command.specs.declared.about.TheConstants.{COMMANDS, SESSION, SERVE, EXPORT, REPORT, VERSION_HELP, HELP}
+use Rattle.pool_command.specs.declared.about.TheConstants.{COMMANDS, SESSION, SERVE, IMPORT, EXPORT, REPORT, VERSION_HELP, HELP}
 
 -- what the command of this name takes
 abbrev pub usage_of : CommandName → List ℕ
 usage_of names.Session = SESSION.now
 usage_of names.Serve = SERVE.now
+usage_of names.Import = IMPORT.now
 usage_of names.Export = EXPORT.now
 usage_of names.Report = REPORT.now
 usage_of names.Version = VERSION_HELP.now

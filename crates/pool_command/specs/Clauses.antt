@@ -22,7 +22,7 @@ use Rattle.pool_store.specs.Meaning.{pool_opener}
 use Rattle.pool_store.specs.Opening.{AreSame, IsLoaded}
 use Rattle.pool_words.specs.Asked.{Asks, IsNoCommand}
 use Rattle.pool_words.specs.declared.asked.Command.{Command}
-use Rattle.pool_words.specs.declared.asked.Command.TheVariants.{Session, Serve, Print, About}
+use Rattle.pool_words.specs.declared.asked.Command.TheVariants.{Session, Serve, Import, Print, About}
 use Rattle.pool_words.specs.declared.asked.Listing.{Listing}
 use Rattle.pool_words.specs.declared.asked.Topic.{Topic}
 use Rattle.pool_words.specs.declared.asked.Serving.{Serving}
@@ -61,6 +61,7 @@ AnyFailed old new = SomeFailed old.streams new.streams ⊎ StoreFailed old new
 abbrev pub ListenerFailed : Command → ListenerView → ListenerView → Type 0
 ListenerFailed (Session db) before after = ⊥
 ListenerFailed (Serve s) before after = ListeningFailed before after
+ListenerFailed (Import sheet db) before after = ⊥
 ListenerFailed (Print listing db) before after = ⊥
 ListenerFailed (About topic) before after = ⊥
 

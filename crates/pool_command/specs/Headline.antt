@@ -22,7 +22,7 @@ use Rattle.pool_service.specs.Protocol.{pool_protocol}
 use Rattle.pool_store.specs.Opening.{AreSame, Holds, IsLoaded}
 use Rattle.pool_words.specs.Asked.{Asks}
 use Rattle.pool_words.specs.declared.asked.Command.{Command}
-use Rattle.pool_words.specs.declared.asked.Command.TheVariants.{Session, Serve, Print, About}
+use Rattle.pool_words.specs.declared.asked.Command.TheVariants.{Session, Serve, Import, Print, About}
 use Rattle.pool_command.specs.Clauses.{IsUnused}
 use Rattle.pool_command.specs.Runs.{PoolOutside}
 
@@ -96,6 +96,7 @@ abbrev pub HasHeadline : Command → PoolOutside → PoolOutside → ListenerVie
 HasHeadline (Session db) old new before after status = (status ≡ 0 → Alone db old new) × (Alone db old new ⊎ IsUnused old new)
 HasHeadline (Serve s) old new before after status = (status ≡ 0 → ServedCounted s.db old new before after)
     × (Served s.db old new before after ⊎ ((new.streams.output ≡ old.streams.output) × NobodyCame before after × AreSame old.stores.stored new.stores.stored))
+HasHeadline (Import sheet db) old new before after status = Unit {0}
 HasHeadline (Print listing db) old new before after status = Unit {0}
 HasHeadline (About topic) old new before after status = Unit {0}
 

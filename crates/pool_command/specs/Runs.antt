@@ -6,6 +6,7 @@ use Rattle.machine_command.specs.Session.{IsSession}
 use Rattle.machine_serving.specs.Serve.{IsServe, serving}
 use Rattle.machine_serving.specs.Views.{ListenerView}
 use Rattle.pool_keeper.specs.declared.tables.PoolTables.{PoolTables}
+use Rattle.pool_texts.specs.Import.{IsImport}
 use Rattle.pool_texts.specs.Print.{IsPrint}
 use Rattle.pool_service.specs.Protocol.{pool_protocol}
 use Rattle.pool_store.specs.Meaning.{pool_opener}
@@ -13,7 +14,7 @@ use Rattle.pool_words.specs.Asked.{Asks, IsNoCommand}
 use Rattle.pool_command.specs.About.{topic_text}
 use Rattle.program_entry.specs.About.{IsPrinted}
 use Rattle.pool_words.specs.declared.asked.Command.{Command}
-use Rattle.pool_words.specs.declared.asked.Command.TheVariants.{Session, Serve, Print, About}
+use Rattle.pool_words.specs.declared.asked.Command.TheVariants.{Session, Serve, Import, Print, About}
 
 -- what is seen of the objects that a command is given
 abbrev pub PoolOutside : Type 0
@@ -23,6 +24,7 @@ PoolOutside = Outside PoolTables
 abbrev pub Answers : Command → PoolOutside → PoolOutside → ListenerView → ListenerView → ℕ → Type 0
 Answers (Session db) old new before after status = IsSession pool_protocol pool_opener db old new status × (after ≡ before)
 Answers (Serve s) old new before after status = IsServe pool_protocol pool_opener s.db (serving s.bind s.workers s.connections) old new before after status
+Answers (Import sheet db) old new before after status = IsImport sheet db old new status × (after ≡ before)
 Answers (Print listing db) old new before after status = IsPrint listing db old new status × (after ≡ before)
 Answers (About topic) old new before after status = IsPrinted (topic_text topic) old.streams new.streams status × (new.stores ≡ old.stores) × (after ≡ before)
 

@@ -13,6 +13,7 @@ use program_entry::{print_text, version_line};
 const COMMANDS: &str = "usage: poold COMMAND [OPTIONS]
   session         one HTTP session over standard input and output
   serve           HTTP for all that connect
+  import KIND     ranges, groups, AS numbers or VLANs from a CSV file
   export KIND     ranges, groups, AS numbers or VLANs as a CSV file
   report          a line for each range: what is taken and what is free
   version         the version of this program
@@ -32,6 +33,13 @@ Serves HTTP/1.1 for all that connect.
   --bind HOST:PORT       where to listen
   --workers N            how many connections are served at the same time, 1 to 32
   --connections N        each worker ends after so many connections (1000000000)
+  --db FILE              the SQLite file of the pools; without it empty pools in memory
+";
+
+/// What `import` takes.
+const IMPORT: &str = "usage: poold import KIND [--db FILE]
+Puts the rows of the CSV file on standard input into the pools: all of them, or none.
+  KIND                   asn-ranges, vlan-groups, asns or vlans
   --db FILE              the SQLite file of the pools; without it empty pools in memory
 ";
 
@@ -65,6 +73,7 @@ fn usage_of(name: CommandName) -> &'static str
     match name {
         CommandName::Session => SESSION,
         CommandName::Serve => SERVE,
+        CommandName::Import => IMPORT,
         CommandName::Export => EXPORT,
         CommandName::Report => REPORT,
         CommandName::Version => VERSION_HELP,

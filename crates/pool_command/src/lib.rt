@@ -4,6 +4,7 @@
 
 mod about;
 mod entry;
+mod import;
 mod laws;
 mod print;
 mod run;

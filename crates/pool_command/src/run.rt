@@ -9,6 +9,7 @@ ghost use Rattle.pool_command.specs.Headline.{HasHeadlines};
 ghost use Rattle.pool_command.specs.Runs.{Answers, IsUsage, Runs};
 
 use crate::about::run_about;
+use crate::import::import_words;
 use crate::print::print_words;
 use crate::session::{run_session, serve_words};
 use command_streams::{MEMORY, USAGE, end_with};
@@ -58,6 +59,9 @@ fn run_command<
         (listener_view L.bound L.lanes L.returned L.faults listener.old) (listener_view L.bound L.lanes L.returned L.faults listener.new) result }
 {
     match command {
+        Command::Import(sheet, db) => {
+            import_words(alloc, *sheet, db, input, output, errors, opener)
+        }
         Command::Print(listing, db) => {
             print_words(alloc, *listing, db, output, errors, opener)
         }

@@ -68,6 +68,13 @@ pub record IsBadLine (form : Form) (lines : List (List (List ℕ))) (n : ℕ) : 
   pub split : lines ≡ before ++ line ∷ after
   pub place : n ≡ length before + 1
 
+-- why lines give no rows
+abbrev pub IsLinesStop : Form → List (List (List ℕ)) → SheetStop → Type 0
+IsLinesStop form lines TooLarge = ⊥
+IsLinesStop form lines Header = ⊥
+IsLinesStop form lines (Row n) = IsBadLine form lines n
+IsLinesStop form lines Memory = Unit {0}
+
 -- the records have the header, and their lines after it are these rows
 pub record IsTable (form : Form) (records : List (List (List ℕ))) (rows : List SheetRow) : Type 0 where
   pub lines : List (List (List ℕ))

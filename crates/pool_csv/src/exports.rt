@@ -48,7 +48,7 @@ fn line_of_range(alloc: Global, kind: PoolKind, range: &NumberRange) -> Result<V
 }
 
 /// The columns of a form. `Err` means out of memory.
-pub(crate) fn header_fields(alloc: Global, form: Form) -> Result<StringRecord, AllocError>
+fn header_fields(alloc: Global, form: Form) -> Result<StringRecord, AllocError>
     ensures { IfOk result (λ r. fields_of r ≡ header_of form) }
 {
     match form {

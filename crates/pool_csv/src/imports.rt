@@ -1,23 +1,46 @@
 //! The rows of a file.
 
-ghost use Rattle.std.specs.Prelude.{◌≡◌, ◌<◌, ◌^◌, IfOk, IfErr, IsTrue, length, map};
-ghost use Rattle.csv.specs.Records.{fields_of};
-ghost use Rattle.pool_csv.specs.Imports.{AreRows, IsBadLine, IsSheet, IsSheetStop, IsTable, IsTableStop, header_of};
+ghost use Rattle.std.specs.Prelude.{◌≡◌, ◌↔◌, ◌+◌, ◌<◌, ◌^◌, ◌∷◌, [], Some, IfOk, IfErr, IsTrue, length, map};
+ghost use Rattle.csv.specs.Records.{field_at, fields_of};
+ghost use Rattle.pool_csv.specs.Imports.{AreRows, IsLinesStop, IsSheet, IsSheetStop, IsTable, IsTableStop, header_of};
 
-use crate::exports::header_fields;
 use crate::rows::read_row;
 use crate::sheets::{Form, SheetRow, SheetStop};
 use csv::ByteRecord;
 use csv_import::files::MOST_BYTES;
 use csv_import::records;
-use std::alloc::{AllocError, Global};
+use number_pools::PoolKind;
+use std::alloc::Global;
 
-/// Whether a line is the header of a form. `Err` means out of memory.
-fn is_header(alloc: Global, form: Form, line: &ByteRecord) -> Result<bool, AllocError>
-    ensures { IfOk result (λ b. IsTrue b ↔ (fields_of line.now ≡ header_of form)) }
+/// Whether the field at this place of a line is this text.
+fn has_field(line: &ByteRecord, i: usize, text: &str) -> bool
+    ensures { IsTrue result ↔ (field_at (fields_of line.now) i ≡ Some text.now) }
 {
-    let wanted = header_fields(alloc, form)?;
-    Ok(line == wanted.as_byte_record())
+    match line.get(i) {
+        Some(field) => text.as_bytes() == field,
+        None => false,
+    }
+}
+
+/// Whether a line has just these fields.
+fn has_three(line: &ByteRecord, one: &str, two: &str, last: &str) -> bool
+    ensures { IsTrue result ↔ (fields_of line.now ≡ one.now ∷ two.now ∷ last.now ∷ []) }
+{
+    line.len() == 3
+        && has_field(line, 0, one)
+        && has_field(line, 1, two)
+        && has_field(line, 2, last)
+}
+
+/// Whether a line is the header of a form.
+fn is_header(form: Form, line: &ByteRecord) -> bool
+    ensures { IsTrue result ↔ (fields_of line.now ≡ header_of form) }
+{
+    match form {
+        Form::Ranges => has_three(line, "name", "start", "end"),
+        Form::Members(PoolKind::Asn) => has_three(line, "range", "asn", "name"),
+        Form::Members(PoolKind::Vlan) => has_three(line, "group", "vid", "name"),
+    }
 }
 
 /// The rows of lines, the first of which has the number 1; or the number of the first line that is none.
@@ -60,17 +83,17 @@ fn read_table(
         return Err(SheetStop::Header);
     }
     let header = lines.remove(0);
-    match is_header(alloc, form, &header) {
-        Ok(true) => read_lines(alloc, form, lines),
-        Ok(false) => Err(SheetStop::Header),
-        Err(_) => Err(SheetStop::Memory),
+    if !is_header(form, &header) {
+        return Err(SheetStop::Header);
     }
+    read_lines(alloc, form, lines)
 }
 
 /// The rows of the bytes of a file. `TooLarge` is returned if there are more than 4,194,304 bytes, `Header` if its first line is not the header of
 /// its form, `Row(n)` if line n after it is the first that is none of the form, and `Memory` may be returned in place of any answer.
 pub fn read_sheet(alloc: Global, form: Form, bytes: &[u8]) -> Result<Vec<SheetRow>, SheetStop>
     ensures ok { IfOk result (λ v. IsSheet form bytes.now v.items) }
+    ensures few { IfOk result (λ v. length v.items + 1 < 2 ^ 32) }
     ensures err { IfErr result (IsSheetStop form bytes.now) }
 {
     if bytes.len() > MOST_BYTES {

@@ -65,6 +65,14 @@ print_sum : (l : Listing) (d : Option (List ℕ)) → (sum (name_of (Print l d))
 print_sum (Rows s) d = inl refl
 print_sum Report d = inr refl
 
+no_about : (l : Listing) (d : Option (List ℕ)) (t : Topic) → ¬ (sum (name_of (Print l d)) ≡ sum (name_of (About t)))
+no_about (Rows s) d topic.Version same = absurd (omega arith)
+no_about (Rows s) d topic.Commands same = absurd (omega arith)
+no_about (Rows s) d (topic.Command n) same = absurd (omega arith)
+no_about Report d topic.Version same = absurd (omega arith)
+no_about Report d topic.Commands same = absurd (omega arith)
+no_about Report d (topic.Command n) same = absurd (omega arith)
+
 -- with one name they are one
 one_named : (words : List (List ℕ)) (one other : Command) → sum (name_of one) ≡ sum (name_of other) → HasValues (given (app_for one) words) one
     → HasValues (given (app_for other) words) other → one ≡ other
@@ -85,6 +93,8 @@ one_named words (About topic.Commands) (About (topic.Command n)) same h k = absu
 one_named words (About (topic.Command n)) (About topic.Commands) same h k = absurd (none_given _ (command_word n) k h)
 one_named words (About (topic.Command n)) (About (topic.Command m)) same h k =
     ap (λ (x : CommandName). About (topic.Command x)) (one_command n m (ap sum (one_of_two (command_word n) (command_word m) (sym h ∙ k))))
+one_named words (Print l d) (About t) same h k = absurd (no_about l d t same)
+one_named words (About t) (Print l d) same h k = absurd (no_about l d t (sym same))
 one_named words (About t) other same h k = absurd (elim (about_sum t) [ inl i ↦ omega arith | inr i ↦ omega arith ])
 one_named words one (About t) same h k = absurd (elim (about_sum t) [ inl i ↦ omega arith | inr i ↦ omega arith ])
 one_named words (Session d) (Serve t) same h k = absurd (omega arith)

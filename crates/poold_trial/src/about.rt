@@ -13,6 +13,7 @@ use std::thread::Threads;
 /// Each command, with its places and options as its manual page has them.
 const COMMANDS: &str = "session --db
 serve --bind --workers --connections --db
+import KIND --db
 export KIND --db
 report --db
 version

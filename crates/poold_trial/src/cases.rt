@@ -57,6 +57,8 @@ const CASES: [&str; 10] = [
 2|session --db a --db a|usage: poold COMMAND
 2|session --global-unique yes|usage: poold COMMAND
 2|session --help|usage: poold COMMAND
+2|import|usage: poold COMMAND
+2|import asn|usage: poold COMMAND
 2|export|usage: poold COMMAND
 2|export --db a|usage: poold COMMAND
 2|export asn|usage: poold COMMAND

@@ -14,6 +14,8 @@ mod exchanges;
 #[cfg(test)]
 mod exports;
 #[cfg(test)]
+mod imports;
+#[cfg(test)]
 mod running;
 #[cfg(test)]
 mod stores;
