@@ -37,6 +37,7 @@ fn text_of(alloc: Global, text: &str) -> Result<Text, AllocError>
 }
 
 /// The range of a line.
+#[tactic(auto, using(crate::proofs::Readings::no_range_name, crate::proofs::Readings::no_first, crate::proofs::Readings::no_last))]
 fn range_row(
     alloc: Global,
     name: &str,
@@ -60,6 +61,7 @@ fn range_row(
 }
 
 /// The member of a line.
+#[tactic(auto, using(crate::proofs::Readings::no_member_range, crate::proofs::Readings::no_member_name, crate::proofs::Readings::no_number))]
 fn member_row(
     alloc: Global,
     kind: PoolKind,
@@ -70,7 +72,10 @@ fn member_row(
     requires { AllText (range.now ∷ number.now ∷ name.now ∷ []) }
     ensures { IfOk result (λ found. IsRead (Form.Members kind) (range.now ∷ number.now ∷ name.now ∷ []) found) }
 {
-    if !is_name(range) || !is_member_name(kind, name) {
+    if !is_name(range) {
+        return Ok(None);
+    }
+    if !is_member_name(kind, name) {
         return Ok(None);
     }
     let Some(number) = number_of(number, LAST_ASN) else {
@@ -91,6 +96,7 @@ fn row_of_text(
     form: Form,
     line: &StringRecord,
 ) -> Result<Option<SheetRow>, AllocError>
+    requires { AllText (fields_of line.now) }
     ensures { IfOk result (λ found. IsRead form (fields_of line.now) found) }
 {
     if line.len() != 3 {
