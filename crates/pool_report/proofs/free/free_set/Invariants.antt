@@ -1,5 +1,4 @@
 use Rattle.std.proofs.Common.{◌≡◌, ℕ, ◌↔◌, IsTrue, take}
-use Rattle.std.specs.List.{list_any}
 use Rattle.inet_num.specs.declared.Family.TheVariants.{V4}
 use Rattle.number_pools.specs.Free.{is_held}
 use Rattle.span_set.specs.Runs.{IsBetween}
