@@ -24,3 +24,4 @@ mod weights;
 
 pub use exports::{line_of, write_rows};
 pub use files::read_rows;
+pub use records::records;

@@ -9,7 +9,7 @@ use csv::{ByteRecord, ReaderBuilder};
 use std::alloc::{AllocError, Global};
 
 /// Every record of a file, the header first; there are no more of them than bytes, and one. The only error means out of memory.
-pub(crate) fn records(alloc: Global, text: &[u8]) -> Result<Vec<ByteRecord>, AllocError>
+pub fn records(alloc: Global, text: &[u8]) -> Result<Vec<ByteRecord>, AllocError>
     ensures records { IfOk result (λ v. AreRecords default_config st.StartRecord (strip_bom text.now) (map fields_of v.items)) }
     ensures few { IfOk result (λ v. length v.items ≤ length text.now + 1) }
 {
