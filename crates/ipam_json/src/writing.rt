@@ -76,11 +76,7 @@ pub(crate) fn put_reference(
 }
 
 /// Writes a member that is a link, or null if there is none. `Err` means out of memory.
-pub fn put_link(
-    writer: &mut Writer,
-    name: &str,
-    link: &Option<Text>,
-) -> Result<(), AllocError>
+pub fn put_link(writer: &mut Writer, name: &str, link: &Option<Text>) -> Result<(), AllocError>
     ensures { Puts result writer.old writer.new (Token.key name.now ∷ pieces_of (text_data link.now)) }
 {
     writer.key(name)?;

@@ -8,8 +8,8 @@ pub mod laws;
 mod rows;
 
 pub use calls::{
-    Chosen, Listed, MOST_CLAIMED, MOST_MEMBERS, MOST_RANGES, MemberQuery, PoolCall, PoolRefusal, PoolReply,
-    Quantity,
+    Chosen, Listed, MOST_CLAIMED, MOST_MEMBERS, MOST_RANGES, MemberQuery, PoolCall, PoolRefusal,
+    PoolReply, Quantity,
 };
 pub use claim::{Short, free_in, free_numbers, plan_claim, pool_of};
 pub use rows::{LAST_ASN, LAST_VLAN, MOST_HELD, Member, NumberRange, PoolKind};

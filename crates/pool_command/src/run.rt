@@ -58,9 +58,7 @@ fn run_command<
         (listener_view L.bound L.lanes L.returned L.faults listener.old) (listener_view L.bound L.lanes L.returned L.faults listener.new) result }
 {
     match command {
-        Command::Print(listing, db) => {
-            print_words(alloc, *listing, db, output, errors, opener)
-        }
+        Command::Print(listing, db) => { print_words(alloc, *listing, db, output, errors, opener) }
         Command::About(topic) => run_about(*topic, output),
         Command::Session(db) => run_session(alloc, db, input, output, errors, opener),
         Command::Serve(serving) => {

@@ -91,12 +91,7 @@ fn link_query(
 }
 
 /// The target of a page.
-fn link(
-    alloc: Global,
-    kind: PoolKind,
-    query: &MemberQuery,
-    offset: u64,
-) -> Result<Text, AllocError>
+fn link(alloc: Global, kind: PoolKind, query: &MemberQuery, offset: u64) -> Result<Text, AllocError>
     ensures { IfOk result (λ t. t ≡ link_text kind query.now offset) }
 {
     let query = link_query(alloc, kind, query, offset)?;

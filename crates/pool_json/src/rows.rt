@@ -13,11 +13,7 @@ use number_pools::{Member, NumberRange, PoolKind};
 use std::alloc::AllocError;
 
 /// Writes a member that is a number.
-pub(crate) fn put_number(
-    writer: &mut Writer,
-    name: &str,
-    number: u32,
-) -> Result<(), AllocError>
+pub(crate) fn put_number(writer: &mut Writer, name: &str, number: u32) -> Result<(), AllocError>
     ensures { Puts result writer.old writer.new (Token.key name.now ∷ Token.number (decimal number) ∷ []) }
 {
     writer.key(name)?;

@@ -348,7 +348,11 @@ fn reply(alloc: Global, number: u32) -> Result<PoolReply, AllocError> {
         25 => PoolReply::ChangedMember(member(alloc, 64512)?),
         26 => PoolReply::OneRange(range(alloc)?),
         27 => PoolReply::OneMember(member(alloc, 64512)?),
-        28 => page(alloc, asked(Some(64512), None, Some(text(alloc, "a b&c")?), 1, 1), 3)?,
+        28 => page(
+            alloc,
+            asked(Some(64512), None, Some(text(alloc, "a b&c")?), 1, 1),
+            3,
+        )?,
         29 => page(alloc, asked(None, Some(1), None, 50, 20), 21)?,
         30 => PoolReply::Page {
             query: asked(None, None, None, 1000, 0),
