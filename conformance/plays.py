@@ -62,8 +62,10 @@ ABSENT = {("ip-addresses", 3): None, ("ip-addresses", 5): None, ("ip-addresses",
 NOT_FOUND = '{"detail":"Not found."}'
 # What does not work, by the task of conformance/plays/refused.yml, and a part of what the task says.
 REFUSED = {
-    "tags": NOT_FOUND, "tenant": NOT_FOUND, "site": NOT_FOUND, "vlan": NOT_FOUND, "import_targets": NOT_FOUND, "assigned_object": NOT_FOUND,
+    "tags": NOT_FOUND, "tenant": NOT_FOUND, "site": NOT_FOUND, "import_targets": NOT_FOUND, "assigned_object": NOT_FOUND,
     "other kinds": NOT_FOUND,
+    # these plays run without poold
+    "vlan": '{"detail":"the register did not answer',
     "comments": "the register has no comments here", "custom_fields": "the register has no custom_fields here",
     "nat_inside": "the register has no nat_inside here",
     "comments of a new record": '{"comments":["the register has no comments here"]}',
