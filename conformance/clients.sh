@@ -1,7 +1,7 @@
 #!/usr/bin/env bash
 # The scripts of examples/ and the pictures of docs/: curl's
 # day; pynetbox over poold; the moves from NetBox, phpIPAM and a spreadsheet, with what they print and the CSV files that they write; those of AS numbers and
-# VLANs into pools, with what `poold export` prints of them (the CSV files were written by hand); and that docs/layers.svg
+# VLANs into pools, with what `poold export` prints of them (the CSV files were written by hand), and what the moves leave out; and that docs/layers.svg
 # and docs/tree.svg are still what their scripts draw. Each has a register of its own. What runs behind nginx (pynetbox, Ansible) is in conformance/netbox.py.
 #     conformance/run clients [PORT]
 set -euo pipefail
@@ -71,6 +71,13 @@ move_numbers() {
     done
 }
 
+# what a move says that it leaves out
+left_out() {
+    local said
+    said=$(python3 "$top/examples/move.py" "$1" "$2" "${@:4}" | sed -n 's/^left out: //p')
+    [ "$said" = "$3" ] || fail "left out of $2: $said"
+}
+
 # a client by pynetbox: its words; its last line is said
 client() {
     /usr/bin/python3 "$top/examples/$1" "${@:2}" > "$folder/out" 2>&1 || fail "$1: $(cat "$folder/out")"
@@ -97,5 +104,29 @@ printf 'group,vid,name\nDepot,10,LAN 1\nother,20,Phones\n' > "$folder/sheet/vlan
 move_numbers netbox "$top/examples/netbox" "$top/examples/netbox/csv" 0 "made 11, present 0, refused 0" "made 0, present 11, refused 0" none --group other --asn-range private
 move_numbers phpipam "$top/examples/phpipam" "$top/examples/phpipam/csv" 1 "made 5, present 0, refused 1" "made 0, present 5, refused 1" "default,10,old office"
 move_numbers spreadsheet "$folder/sheet.csv" "$folder/sheet" 0 "made 7, present 0, refused 0" "made 0, present 7, refused 0" none --group other --asn-range edges
+# a group and a range that the pools have under the names of the options keep their bounds
+printf 'vlan,name,asn\n20,phones,\n,edge,64530\n' > "$folder/named.csv"
+program=$pools start --db "$folder/named-pools.db"
+curl -sf -d '{"name":"office","start":10,"end":99}' "$url/api/ipam/vlan-groups/" > "$folder/out"
+curl -sf -d '{"name":"edges","start":64512,"end":65534}' "$url/api/ipam/asn-ranges/" > "$folder/out"
+python3 "$top/examples/move.py" spreadsheet "$folder/named.csv" --pools "$url" --group office --asn-range edges > "$folder/out" || fail "named pools: $(cat "$folder/out")"
+stop
+[ "$(tail -n 1 "$folder/out")" = "pools: made 2, present 2, refused 0" ] || fail "named pools: $(cat "$folder/out")"
+for line in "vlan-groups office,10,99" "asn-ranges edges,64512,65534" "vlans office,20,phones" "asns edges,64530,edge"; do
+    [ "$("$pools" export "${line%% *}" --db "$folder/named-pools.db" | tail -n +2)" = "${line#* }" ] || fail "named pools: not $line"
+done
+left_out netbox "$top/examples/netbox" "gap of vid_ranges of 1, rir of 3, status of a VLAN of 1, tags of 2, tenant of 2" --group other --asn-range private
+left_out netbox "$top/examples/netbox" "AS number without a range of 2, VLAN without a group of 1, gap of vid_ranges of 1, rir of 3, status of a VLAN of 1, tags of 2, tenant of 2"
+left_out phpipam "$top/examples/phpipam" "description of 2, folder of 1, mac of 2"
+printf 'vlan,name,site,asn,contact,remark\n10,a,Depot,,anna,old\n20,b,,,,\n,c,Depot,64530,,\n' > "$folder/odd.csv"
+left_out spreadsheet "$folder/odd.csv" "AS number without a range of 1, VLAN without a group of 1, contact of 1, remark of 1, site of 1"
+mkdir "$folder/odd"
+for kind in prefixes ip-addresses; do echo '{"results":[]}' > "$folder/odd/$kind.json"; done
+long=$(printf 'n%.0s' $(seq 101))
+echo '{"results":[{"id":1,"name":"Étage 1","slug":"etage-1","start":1,"end":9,"rir":{"id":1}},{"id":2,"name":"b","slug":"c","start":10,"end":19,"rir":null}]}' > "$folder/odd/asn-ranges.json"
+echo "{\"results\":[{\"asn\":5,\"description\":\"$long\",\"comments\":\"x\"}]}" > "$folder/odd/asns.json"
+echo '{"results":[{"id":7,"name":"g","slug":"g","min_vid":5,"max_vid":9,"scope":{"id":1}}]}' > "$folder/odd/vlan-groups.json"
+echo '{"results":[{"vid":5,"name":"v","status":{"value":"active"},"group":{"id":7},"site":{"name":"Depot"},"role":{"id":1},"qinq_svlan":{"id":3}}]}' > "$folder/odd/vlans.json"
+left_out netbox "$folder/odd" "comments of 1, end of a name of 1, qinq_svlan of 1, rir of 1, role of 1, scope of 1, site of a VLAN of 1, slug of 1" --asn-range b
 python3 "$top/docs/layers.py" --check
 echo "clients: three moves and three of numbers, twice each, and both pictures as they should be"

@@ -31,6 +31,7 @@ from tools.wire import Asker, listens
 TOP = os.path.abspath(os.path.join(os.path.dirname(os.path.abspath(__file__)), ".."))
 COPY = os.path.join(TOP, "examples/copy_register.py")
 FROM = os.path.join(TOP, "examples/ipamd-from")
+POOLS = os.environ.get("POOLD", os.path.join(TOP, "crates/poold/out/poold"))
 KINDS = ["vrfs", "rirs", "roles", "aggregates", "prefixes", "ip-ranges", "ip-addresses"]
 CLIENTS = 4
 
@@ -400,18 +401,27 @@ def with_next(program, port, folder, live):
 LISTED = ("prefix-list", "--table", "global", "--family", "4", "--style", "plain", "--name", "OFFICE")
 
 
+def cron_lines(has_pools):
+    """The commands of cron in docs/OPERATING.md; that of the pools only if they are served."""
+    with open(os.path.join(TOP, "docs/OPERATING.md")) as page:
+        lines = re.findall(r"^    (?:[\d*]+ ){2}\* \* \* root (.*)$", page.read(), re.M)
+    if not has_pools:
+        print("   poold is not built: no copy of pools")
+    return [line for line in lines if has_pools or " --pools " not in line]
+
+
 def cron(program, port, folder):
-    """The lines of cron in docs/OPERATING.md, as they are written but for the folders and the port."""
+    """The lines of cron in docs/OPERATING.md, as they are written but for the folders and the ports."""
     place = f"{folder}/backups"
     os.makedirs(f"{folder}/bin")
     os.makedirs(place)
     os.symlink(program, f"{folder}/bin/ipamd")
     shutil.copy(COPY, f"{folder}/bin/copy_register.py")
     os.chmod(f"{folder}/bin/copy_register.py", 0o755)
-    with open(os.path.join(TOP, "docs/OPERATING.md")) as page:
-        lines = re.findall(r"^    (?:[\d*]+ ){2}\* \* \* root (.*)$", page.read(), re.M)
-    old, kept = f"{place}/register-2000-01-01.db", f"{place}/other.db"
-    for path in (old, kept):
+    pools = Server(POOLS, port + 2, f"{folder}/pools.db", 2) if os.access(POOLS, os.X_OK) else None
+    lines = cron_lines(pools is not None)
+    old, kept = [f"{place}/register-2000-01-01.db", f"{place}/pools-2000-01-01.db"], f"{place}/other.db"
+    for path in (*old, kept):
         open(path, "w").close()
         os.utime(path, (0, 0))
     for line in lines:
@@ -423,17 +433,21 @@ def cron(program, port, folder):
             store = sqlite3.connect(f"{place}/hour.db")
             line = line.replace("--prefix 1", f"--prefix {store.execute('SELECT min(id) FROM prefixes').fetchone()[0]}")
             store.close()
-        for mine, ours in ((r"\%", "%"), ("/var/backups", place), ("127.0.0.1:8080", f"127.0.0.1:{port}"), ("/run/ipamd.hold", f"{folder}/cron_hold")):
+        for mine, ours in ((r"\%", "%"), ("/var/backups", place), ("127.0.0.1:8080", f"127.0.0.1:{port}"),
+                           ("127.0.0.1:8081", f"127.0.0.1:{port + 2}"), ("/run/ipamd.hold", f"{folder}/cron_hold")):
             line = line.replace(mine, ours)
         done = subprocess.run(["sh", "-c", line], env={"PATH": f"{folder}/bin:{os.path.dirname(sys.executable)}:/usr/bin:/bin"}, capture_output=True, text=True)
         if done.returncode != 0 or done.stdout or done.stderr:
             fail(f"{line}: status {done.returncode}, {done.stdout}{done.stderr}")
+    if pools is not None:
+        pools.end()
+        output(POOLS, "session", "--db", f"{place}/pools-{time.strftime('%F')}.db")
     copied = f"{place}/register-{time.strftime('%F')}.db"
     for name, words in (("utilization.txt", ("report", "utilization")), ("prefixes.csv", ("export", "prefixes"))):
         with open(f"{place}/{name}", "rb") as file:
             if file.read() != output(program, *words, "--db", copied):
                 fail(f"{name} has not what the copy has")
-    if os.path.exists(old) or not os.path.exists(kept):
+    if any(os.path.exists(path) for path in old) or not os.path.exists(kept):
         fail("the old copies")
     if not os.path.exists(f"{place}/names.txt"):
         fail("no names")

@@ -5,12 +5,12 @@
                                          vlan-groups.json and vlans.json, if there are any
     move.py phpipam DIR [OPTIONS]        DIR has vrf.json, subnets.json and addresses.json, as phpIPAM's API answers them, and l2domains.json and
                                          vlans.json, if there are any
-    move.py spreadsheet FILE [OPTIONS]   a CSV with the columns network, mask, name, use, status, remark, and vlan, site and asn, if there are any
+    move.py spreadsheet FILE [OPTIONS]   a CSV with some of the columns network, mask, name, use, status, remark, vlan, site, asn
 
 --csv DIR writes a CSV file of each kind. --to URL makes the rows in the register that is served at URL, as http://127.0.0.1:8080, and --pools URL those of
 the pools in what `poold` serves there: each row that is not there yet. What is refused is named on standard error, and the rest goes on; the status is 1
 then. The same command again makes what is still missing. A VLAN without a group goes into one that is named for its site, else into --group NAME. AS numbers
-go into --asn-range NAME.
+go into --asn-range NAME. If the pools have a group or a range of this name, it keeps its bounds.
 """
 import argparse
 import csv
@@ -121,6 +121,9 @@ def read_phpipam(office, folder):
 
 # ---- a spreadsheet: a line is a network, or one address where its mask is empty
 
+SHEET = ("network", "mask", "name", "use", "status", "remark", "vlan", "site", "asn")
+# The columns that say nothing of an AS number or a VLAN.
+OF_A_NETWORK = {"mask", "use", "status", "remark"}
 STATUSES = {"": "active", "used": "active", "reserved": "reserved", "old": "deprecated"}
 
 
@@ -129,22 +132,29 @@ def read_spreadsheet(office, path):
     with open(path, newline="", encoding="utf-8-sig") as file:
         lines = list(csv.DictReader(file))
     for line in lines:
-        line = {name.strip().lower(): (value or "").strip() for name, value in line.items()}
-        status, words = STATUSES[line["status"].lower()], text_of(line["remark"])
+        line = dict.fromkeys(SHEET, "") | {name.strip().lower(): (value or "").strip() for name, value in line.items()}
+        for name in {*line} - {*SHEET} | (set() if line["network"] else OF_A_NETWORK) | (set() if line["vlan"] else {"site"}):
+            if line[name]:
+                office.leave_out(name)
         move_pools.read_line(office.numbers, line)
-        if not line["network"]:
-            continue
-        if line["mask"]:
-            # a mask is a length or a netmask; an address of the network stands often where its first one should
-            network = ipaddress.ip_network(f"{line['network']}/{line['mask']}", strict=False)
-            networks.append(network)
-            role = office.name("roles", line["use"], slug=slug_of(line["use"]))
-            office.add("prefixes", prefix=str(network), status=status, role=role, description=text_of(f"{line['name']} {words}"))
-            continue
-        address = ipaddress.ip_address(line["network"])
-        around = max((one for one in networks if address in one), key=lambda one: one.prefixlen, default=None)
-        length = around.prefixlen if around else address.max_prefixlen
-        office.add("ip-addresses", address=f"{address}/{length}", status=status, dns_name=line["name"], description=words)
+        if line["network"]:
+            read_network(office, line, networks)
+
+
+def read_network(office, line, networks):
+    """A line of a spreadsheet that has a network or an address; `networks` are those of the lines before."""
+    status, words = STATUSES[line["status"].lower()], text_of(line["remark"])
+    if line["mask"]:
+        # a mask is a length or a netmask; an address of the network stands often where its first one should
+        network = ipaddress.ip_network(f"{line['network']}/{line['mask']}", strict=False)
+        networks.append(network)
+        role = office.name("roles", line["use"], slug=slug_of(line["use"]))
+        office.add("prefixes", prefix=str(network), status=status, role=role, description=text_of(f"{line['name']} {words}"))
+        return
+    address = ipaddress.ip_address(line["network"])
+    around = max((one for one in networks if address in one), key=lambda one: one.prefixlen, default=None)
+    length = around.prefixlen if around else address.max_prefixlen
+    office.add("ip-addresses", address=f"{address}/{length}", status=status, dns_name=line["name"], description=words)
 
 
 # ---- what is done with it

@@ -2,7 +2,9 @@
 how they get into pools that `poold` serves."""
 import csv
 import os
+import re
 import sys
+import unicodedata
 
 from register import Refused
 
@@ -22,28 +24,44 @@ def name_of(value):
     return " ".join(str(value or "").split())[:LONGEST_NAME]
 
 
+def slug_of(name):
+    """The slug that NetBox makes of a name, as its form of the pools does (netbox/pool_rows.js)."""
+    plain = unicodedata.normalize("NFKD", name).encode("ascii", "ignore").decode().lower()
+    return re.sub(r"[ -]+", "-", re.sub(r"[^a-z0-9_ -]", "", plain)).strip("-_")
+
+
 class Numbers:
     """Rows by kind, with names in place of references. `leave_out` counts what has no place."""
 
     def __init__(self, leave_out, group=None, asn_range=None):
         self.rows = {kind: [] for kind in COLUMNS}
         self.leave_out, self.group, self.asn_range = leave_out, name_of(group), name_of(asn_range)
+        # ranges and groups that the source does not have, by kind and name: one of this name in the pools keeps its bounds
+        self.made_up = set()
 
     def named(self, kind, name):
         return next((row for row in self.rows[kind] if row["name"] == name), None)
 
+    def name_of(self, value):
+        if len(str(value or "")) > LONGEST_NAME:
+            self.leave_out("end of a name")
+        return name_of(value)
+
     def add_range(self, kind, name, start, end):
         """A range or a group, and its name. NetBox may have two groups of one name, of two sites: the second is told apart by its number."""
-        name, number = name_of(name), 2
+        name, number = self.name_of(name), 2
         while self.named(kind, name):
             name, number = f"{name_of(name.rsplit(' #', 1)[0])[:90]} #{number}", number + 1
         self.rows[kind].append({"name": name, "start": start, "end": end})
         return name
 
+    def make_up(self, kind, name, start, end):
+        self.made_up.add((kind, self.add_range(kind, name, start, end)))
+
     def add_member(self, kind, within, number, name):
         """A member, once: a spreadsheet has a VLAN on the line of each of its networks."""
         _, owner, numbered = MEMBERS[kind]
-        row = {owner: within, numbered: int(number), "name": name_of(name)}
+        row = {owner: within, numbered: int(number), "name": self.name_of(name)}
         if row not in self.rows[kind]:
             self.rows[kind].append(row)
 
@@ -54,7 +72,7 @@ class Numbers:
             self.leave_out("VLAN without a group")
             return
         if not self.named("vlan-groups", group):
-            self.add_range("vlan-groups", group, 1, LAST_VLAN)
+            self.make_up("vlan-groups", group, 1, LAST_VLAN)
         self.add_member("vlans", group, vid, name or f"VLAN {vid}")
 
     def add_asn(self, number, name):
@@ -67,7 +85,7 @@ class Numbers:
         """The range that was asked for, if the source has none of its name: from the least of its numbers to the greatest."""
         numbers = [row["asn"] for row in self.rows["asns"]]
         if numbers and not self.named("asn-ranges", self.asn_range):
-            self.add_range("asn-ranges", self.asn_range, min(numbers), max(numbers))
+            self.make_up("asn-ranges", self.asn_range, min(numbers), max(numbers))
 
 
 # ---- what each source has
@@ -76,7 +94,7 @@ NO_PLACE = {
     "asn-ranges": ["rir", "tenant", "description", "comments", "tags", "custom_fields"],
     "asns": ["rir", "tenant", "comments", "tags", "custom_fields"],
     "vlan-groups": ["scope", "tenant", "description", "comments", "tags", "custom_fields"],
-    "vlans": ["tenant", "role", "qinq_role", "description", "l2vpn_termination", "comments", "tags", "custom_fields"],
+    "vlans": ["tenant", "role", "qinq_role", "qinq_svlan", "description", "l2vpn_termination", "comments", "tags", "custom_fields"],
 }
 
 
@@ -93,6 +111,8 @@ def read_netbox(numbers, rows_of):
             for field in fields:
                 if row.get(field):
                     numbers.leave_out(field)
+            if row.get("slug") and row["slug"] != slug_of(row["name"]):
+                numbers.leave_out("slug")
     for row in rows_of("asn-ranges"):
         numbers.add_range("asn-ranges", row["name"], row["start"], row["end"])
     groups = {}
@@ -106,15 +126,19 @@ def read_netbox(numbers, rows_of):
     for row in rows_of("vlans"):
         if row["status"]["value"] != "active":
             numbers.leave_out("status of a VLAN")
+        if row["group"] and row["site"]:
+            numbers.leave_out("site of a VLAN")
         numbers.add_vlan(row["vid"], row["name"], row["group"] and groups[row["group"]["id"]], row["site"] and row["site"]["name"])
 
 
 def read_phpipam(numbers, rows_of):
     """Of phpIPAM: a group for each of its L2 domains."""
+    for row in [*rows_of("l2domains"), *rows_of("vlans")]:
+        for field in ("description", "customer_id"):
+            if row.get(field):
+                numbers.leave_out(field)
     domains = {row["id"]: numbers.add_range("vlan-groups", row["name"], 1, LAST_VLAN) for row in rows_of("l2domains")}
     for row in rows_of("vlans"):
-        if row.get("description"):
-            numbers.leave_out("description")
         numbers.add_vlan(row["number"], row["name"], domains.get(row["domainId"]))
 
 
@@ -145,9 +169,9 @@ class Making:
     def __init__(self, register):
         self.register, self.made, self.present, self.refused = register, 0, 0, 0
 
-    def make(self, path, row, there):
-        """The row that was made; or the one that is there, if it is the same."""
-        if any(row.items() <= other.items() for other in there):
+    def make(self, path, row, there, sought):
+        """Makes the row, unless one that has what is sought is there."""
+        if any(sought.items() <= other.items() for other in there):
             self.present += 1
             return
         try:
@@ -167,7 +191,8 @@ class Making:
         path = f"{owners}/{ids[owners][row[owner]]}/{kind}/"
         if path not in there:
             there[path] = [{"name": "", **one} for one in self.register.ask("GET", path)]
-        self.make(path, {number: row[number], "name": row["name"]}, there[path])
+        member = {number: row[number], "name": row["name"]}
+        self.make(path, member, there[path], member)
 
 
 def make_all(numbers, register):
@@ -175,7 +200,8 @@ def make_all(numbers, register):
     for kind in ("asn-ranges", "vlan-groups"):
         rows = register.ask("GET", f"{kind}/")
         for row in numbers.rows[kind]:
-            making.make(f"{kind}/", row, rows)
+            sought = {"name": row["name"]} if (kind, row["name"]) in numbers.made_up else row
+            making.make(f"{kind}/", row, rows, sought)
         ids[kind] = {row["name"]: row["id"] for row in rows}
     for kind in MEMBERS:
         for row in numbers.rows[kind]:
