@@ -14,7 +14,7 @@ printf 'anna:%s\n' "$(openssl passwd -apr1 secret)" > "$folder/register.users"
 openssl rand -hex 20 > "$folder/token"
 printf '"Token %s" bert;\n' "$(cat "$folder/token")" > "$folder/register.tokens"
 sed "s|127.0.0.1:8080|127.0.0.1:$inner|; s|listen 443|listen 127.0.0.1:$outer|; s|/etc/ssl/certs/|$folder/|; s|/etc/ssl/private/|$folder/|
-    s|/etc/nginx/|$folder/|; s|/var/log/nginx/|$folder/|; s|/run/ipamd.hold|$folder/hold|; s|/usr/share/ipamd/|$top/|
+    s|/etc/nginx/|$folder/|; s|/var/log/nginx/|$folder/|; s|/run/ipamd.hold|$folder/hold|g; s|/usr/share/ipamd/|$top/|
     s|proxy_read_timeout 60s|proxy_read_timeout ${READ_TIMEOUT:-60s}|; s|127.0.0.1:8081|127.0.0.1:${POOLS:-8081}|" \
     "$top/examples/nginx-ipamd.conf" > "$folder/ipamd.conf"
 [ -z "${POOLS:-}" ] || sed -i "/^geo .has_pools/,/^}/ s|default false|default true|" "$folder/ipamd.conf"

@@ -66,6 +66,12 @@ def requests(front):
     assert "detail" in front.want(409, "PATCH", "vlan-groups/2/", {"vid_ranges": [[10, 19]]})
     assert "detail" in front.want(409, "DELETE", "vlan-groups/2/")
     assert front.want(400, "POST", "vlans/", [{"vid": 40, "name": "x", "group": 2}, {"vid": 41, "name": "x", "group": 2}])["detail"]
+    inner = front.want(201, "POST", "asn-ranges/", {"name": "inner", "start": 64530, "end": 64539})
+    for asn, owner in ((64535, "inner"), (64540, "private")):
+        made = front.want(201, "POST", "asns/", {"asn": asn})
+        assert made["range"]["name"] == owner, made
+        front.want(204, "DELETE", f"asns/{made['id']}/")
+    front.want(204, "DELETE", f"asn-ranges/{inner['id']}/")
     one, = front.want(201, "POST", "vlans/", [{"vid": 40, "name": "x", "group": 2}])
     front.want(204, "DELETE", f"vlans/{one['id']}/")
     front.want(404, "GET", f"vlans/{one['id']}/")
@@ -135,9 +141,11 @@ def plays(port):
     """Groups and VLANs by Ansible: made, changed and removed, and a second run of each changes nothing."""
     with Front(port, pools=True) as front:
         words = ["-e", f"url={front.base}", "-e", f"token={front.token}"]
-        for play, changed, left in (("pools", 4, [("office", 10, "voice"), ("office", 20, "data")]), ("pools_changed", 2, [("office", 10, "phones")])):
+        for play, changed, groups, left in (("pools", 4, ["office", "Second floor"], [("office", 10, "voice"), ("office", 20, "data")]),
+                                            ("pools_changed", 3, ["office"], [("office", 10, "phones")])):
             for expected in (changed, 0):
                 said = run(["ansible-playbook", f"conformance/plays/{play}.yml", *words], front)[-2:]
                 assert any(f"changed={expected} " in line and "failed=0" in line for line in said), (play, said)
             vlans = front.want(200, "GET", "vlans/")["results"]
             assert [(one["group"]["name"], one["vid"], one["name"]) for one in vlans] == left, vlans
+            assert [one["name"] for one in front.want(200, "GET", "vlan-groups/")["results"]] == groups

@@ -111,7 +111,7 @@ def own_refusals(front):
         pass
     made = front.breaker.changes
     for method in ("POST", "PUT", "PATCH", "DELETE"):
-        for path in ("/api/ipam/prefixes/1/", "/register/api/ipam/prefixes/1/"):
+        for path in ("/api/ipam/prefixes/1/", "/api/ipam/vlans/1/", "/register/api/ipam/prefixes/1/", "/register/pools/api/ipam/vlans/1/"):
             answer = front.link.ask(method, path, {})
             assert answer.status == 503 and "detail" in answer.value and answer.headers["Retry-After"] == "2", (method, path, answer.status)
     assert front.ask("GET", "prefixes/1/").status == 200 and front.breaker.changes == made

@@ -20,6 +20,12 @@ KINDS = [
      {"mark_utilized": True}),
     ("ip_addresses", {"address": "10.20.0.1/24", "vrf": {"name": "guests"}, "role": "vip"}, "10.20.0.1/24", {"dns_name": "gw.example.net"}),
 ]
+# of each kind one to be deleted
+REMOVED = [
+    ("vrfs", {"name": "old"}), ("rirs", {"name": "old", "slug": "old"}), ("roles", {"name": "old", "slug": "old"}),
+    ("aggregates", {"prefix": "192.0.2.0/24", "rir": {"slug": "ripe-ncc"}}), ("prefixes", {"prefix": "192.0.2.0/24"}),
+    ("ip_ranges", {"start_address": "192.0.2.10/24", "end_address": "192.0.2.19/24"}), ("ip_addresses", {"address": "192.0.2.1/24"}),
+]
 
 
 def raises(what, call):
@@ -53,7 +59,7 @@ def version(nb, url):
 
 
 def records(ipam):
-    """Each kind: create, get, all, filter, count, str, update, save, update of a list, delete of a list."""
+    """Each kind: create, get, all, filter, count, str, update, save, update of a list."""
     for kind, made, shown, change in KINDS:
         endpoint = getattr(ipam, kind)
         record = endpoint.create(made)
@@ -152,6 +158,19 @@ def pages(ipam):
     print(f"pages: all() and filter() give {there} and {MANY} addresses")
 
 
+def deleted(ipam):
+    """Of each kind a record is deleted by itself and by its endpoint, and no other record with it."""
+    for kind, made in REMOVED:
+        endpoint = getattr(ipam, kind)
+        before = {name: getattr(ipam, name).count() for name, _ in REMOVED}
+        record = endpoint.create(made)
+        assert endpoint.count() == before[kind] + 1 and record.delete() is True and endpoint.get(record.id) is None
+        record = endpoint.create(made)
+        assert endpoint.delete([record]) and endpoint.get(record.id) is None
+        assert {name: getattr(ipam, name).count() for name, _ in REMOVED} == before, kind
+    print("delete() of each kind: that record and no other")
+
+
 def main():
     if len(sys.argv) != 3:
         sys.exit("usage: client_netbox.py URL TOKEN")
@@ -165,6 +184,7 @@ def main():
     found(nb.ipam)
     refused(nb.ipam)
     pages(nb.ipam)
+    deleted(nb.ipam)
     print(f"client_netbox: all as it should be, with pynetbox {pynetbox.__version__}")
 
 

@@ -53,7 +53,10 @@ def numbers(ipam, private, floor):
     assert ipam.vlans.create(vid=12, name="last", group=floor.id)
     raises(pynetbox.AllocationError, lambda: floor.available_vlans.create({"name": "none is free"}))
     assert all(one.delete() for one in ipam.vlans.all()) and ipam.vlans.count() == 0 and ipam.vlan_groups.count() == 1
-    assert edge.delete() and [one.asn for one in ipam.asns.all()] == [64512, 64514]
+    edge.description = "edge 2"
+    assert edge.save() and ipam.asns.get(asn=64513).description == "edge 2" and ipam.asns.update([{"id": edge.id, "description": "edge"}])
+    assert edge.delete() and [one.asn for one in ipam.asns.all()] == [64512, 64514] and ipam.asns.count() == 2
+    assert all(one.delete() for one in (*ipam.asns.all(), private, floor)) and ipam.asn_ranges.count() == ipam.vlan_groups.count() == 0
     print("numbers: recorded, listed, claimed, renamed and given back; delete() of a VLAN leaves its group")
 
 
