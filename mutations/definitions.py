@@ -18,25 +18,11 @@ import subprocess
 import sys
 import tempfile
 
+sys.path.insert(0, os.path.dirname(os.path.dirname(os.path.abspath(__file__))))
+from tools.over import command, crates_below, lines_of_crates
+
 TOP = os.path.abspath(os.path.join(os.path.dirname(os.path.abspath(__file__)), ".."))
 FOLDER = os.path.join(TOP, "mutations", "definitions")
-
-
-def lines_of_crates():
-    """What each crate depends on."""
-    with open(f"{TOP}/crates.txt", encoding="utf-8") as file:
-        lines = [line.strip() for line in file if ":" in line and not line.startswith("#")]
-    return {line.split()[0].rstrip(":"): line.split(":", 1)[1].split() for line in lines}
-
-
-def crates_below(crate, lines):
-    """The crates of the repository that the crate rests on, lowest first."""
-    found, rest = set(), [crate]
-    while rest:
-        new = [name for name in lines[rest.pop()] if name in lines and name not in found]
-        found.update(new)
-        rest += new
-    return [name for name in lines if name in found]
 
 
 def read_edit(path):
@@ -54,22 +40,6 @@ def read_edit(path):
             elif word == "new":
                 pairs[-1][1] = rest
     return law.split("::") + [file, pairs]
-
-
-def command(copy, crate, law):
-    """The check of one law, with the crates below taken as sources."""
-    lines = lines_of_crates()
-    below = crates_below(crate, lines)
-    home = os.path.dirname(subprocess.run(["rt", "doc"], capture_output=True, text=True, check=True).stdout.split()[-1])
-    outside = sorted({name for used in below + [crate] for name in lines[used] if name not in lines} | {"core"})
-    said = [f"{home}/bin/rattle", "check", "--crate-name", crate, "src/lib.rt"]
-    said += ["--extern", f"std={home}/rlibs/std.rlib", "-L", f"dependency={home}/rlibs"]
-    for name in outside:
-        said += ["--extern", f"{name}={home}/rlibs/{name}.rlib"]
-    for name in below:
-        said += ["--lib", f"{name}:{','.join(['core', 'std'] + lines[name])}={copy}/crates/{name}/src/lib.rt"]
-    return said + ["--antt-project", f"{home}/rattle/logic/antt-project.json", "--logic-built", f"{home}/logic_built",
-                   "--links", f"{crate}=", "--jobs", "1", "--only", f"{crate}::{law}"]
 
 
 def refused_for(crate, told):
@@ -93,7 +63,8 @@ def try_edit(copy, path):
         after = after.replace(old, new)
     with open(at, "w", encoding="utf-8") as text:
         text.write(after)
-    ran = subprocess.run(command(copy, crate, law), cwd=f"{copy}/crates/{crate}", capture_output=True, text=True, errors="replace")
+    words = command(copy, crate, [f"{crate}::{law}"], "--jobs", "1")
+    ran = subprocess.run(words, cwd=f"{copy}/crates/{crate}", capture_output=True, text=True, errors="replace")
     with open(at, "w", encoding="utf-8") as text:
         text.write(before)
     told = ran.stdout + ran.stderr
